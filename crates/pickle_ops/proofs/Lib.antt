@@ -1,0 +1,7 @@
+pub mod TableLemmas
+pub mod Measures
+pub mod Lines
+pub mod Decimals
+pub mod Fronts
+pub mod ReadLemmas
+pub mod Devices

@@ -1,0 +1,7 @@
+pub mod Table
+pub mod Shape
+pub mod Spelling
+pub mod Sizes
+pub mod Device
+pub mod Wrapped
+pub mod Text

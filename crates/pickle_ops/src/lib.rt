@@ -1,0 +1,21 @@
+//! The opcodes of a pickle: one opcode from bytes, the text of its argument, and where texts go.
+#![tactic(auto)]
+
+mod argument;
+mod fault;
+mod form;
+mod laws;
+mod op;
+mod opcode;
+mod read;
+mod sink;
+mod to_write;
+
+pub use fault::{OpFault, ValueFault};
+pub use form::Form;
+pub use laws::{no_shape_begins_another, one_front};
+pub use op::Op;
+pub use opcode::Opcode;
+pub use read::read_op;
+pub use sink::{Failed, Sink, write_all};
+pub use to_write::ToWrite;
