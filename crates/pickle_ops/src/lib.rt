@@ -9,6 +9,7 @@ mod op;
 mod opcode;
 mod read;
 mod sink;
+mod text;
 mod to_write;
 
 pub use fault::{OpFault, ValueFault};
@@ -18,4 +19,5 @@ pub use op::Op;
 pub use opcode::Opcode;
 pub use read::read_op;
 pub use sink::{Failed, Sink, write_all};
+pub use text::{write_arg_text, write_decimal};
 pub use to_write::ToWrite;

@@ -1,0 +1,10 @@
+pub mod State
+pub mod Row
+pub mod Move
+pub mod Run
+pub mod Document
+pub mod Next
+pub mod Column
+pub mod Line
+pub mod Listing
+pub mod Program
