@@ -5,3 +5,5 @@ pub mod Decimals
 pub mod Fronts
 pub mod ReadLemmas
 pub mod Devices
+pub mod Pieces
+pub mod ArgTexts

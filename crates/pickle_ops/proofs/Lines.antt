@@ -40,3 +40,24 @@ line_size-None s h = elim (cases_lt (position_or_len is_newline s) (length s)) [
   | inl low ↦ let e : None ≡ Some (position_or_len is_newline s) = rw (lt-ltb _ _ low) at h in cc
   | inr high ↦ sym (no_place s high)
 ]
+
+within : (s : List ℕ) → position_or_len is_newline s ≤ length s
+within [] = omega arith
+within (b ∷ bs) = elim (cases_Bool (is_newline b)) [
+  | inl hit ↦ rw hit (omega arith)
+  | inr miss ↦ rw miss (omega (arith, within bs))
+]
+
+-- the place of the newline, or the end
+pub position_or_len-Some : (s : List ℕ) (n : ℕ) → Some n ≡ position is_newline s → n ≡ position_or_len is_newline s
+position_or_len-Some s n h = elim (cases_lt (position_or_len is_newline s) (length s)) [
+  | inl low ↦
+      let e : Some n ≡ Some (position_or_len is_newline s) = rw (lt-ltb _ _ low) at h in cc
+  | inr high ↦ let e = rw (le-ltb _ _ high) at h in cc
+]
+
+pub position_or_len-None : (s : List ℕ) → None ≡ position is_newline s → length s ≡ position_or_len is_newline s
+position_or_len-None s h = elim (cases_lt (position_or_len is_newline s) (length s)) [
+  | inl low ↦ let e : None ≡ Some (position_or_len is_newline s) = rw (lt-ltb _ _ low) at h in cc
+  | inr high ↦ omega (arith, within s)
+]

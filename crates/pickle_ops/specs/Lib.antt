@@ -1,5 +1,6 @@
 pub mod Table
 pub mod Shape
+pub mod Argument
 pub mod Spelling
 pub mod Sizes
 pub mod Device

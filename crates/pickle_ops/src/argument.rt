@@ -19,7 +19,7 @@ fn fixed_len(n: usize, bytes: &[u8]) -> Option<usize>
 }
 
 /// Where the first newline stands.
-fn newline(bytes: &[u8]) -> Option<usize>
+pub(crate) fn newline(bytes: &[u8]) -> Option<usize>
     ensures { result ≡ position is_newline bytes.now }
 {
     bytes.iter().position(|b| *b == b'\n')

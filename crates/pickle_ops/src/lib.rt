@@ -11,6 +11,7 @@ mod read;
 mod sink;
 mod text;
 mod to_write;
+mod value;
 
 pub use fault::{OpFault, ValueFault};
 pub use form::Form;
@@ -19,5 +20,5 @@ pub use op::Op;
 pub use opcode::Opcode;
 pub use read::read_op;
 pub use sink::{Failed, Sink, write_all};
-pub use text::{write_arg_text, write_decimal};
+pub use text::{write_arg_text, write_decimal, write_hex, write_quoted};
 pub use to_write::ToWrite;

@@ -1,5 +1,6 @@
 //! An opcode with its argument.
 
+use crate::form::Form;
 use crate::opcode::Opcode;
 use std::alloc::{AllocError, Global};
 use std::marker::Model;
@@ -27,8 +28,9 @@ impl Model for Op {
 }
 
 impl Op {
-    ghost use Rattle.std.specs.Prelude.{◌≡◌, ◌<◌, length, IfOk, OnErr};
+    ghost use Rattle.std.specs.Prelude.{◌≡◌, ◌<◌, length, is_some, IfOk, OnErr};
     ghost use Rattle.pickle_ops.specs.Spelling.{IsSpelled, size_of};
+    ghost use Rattle.pickle_ops.specs.Text.{arg_text};
 
     /// The operation of this argument, whose bytes are copied.
     pub(crate) fn new(alloc: Global, opcode: Opcode, arg: &[u8]) -> Result<Op, AllocError>
@@ -62,6 +64,14 @@ impl Op {
             None => &[],
             Some(bytes) => bytes.as_slice(),
         }
+    }
+
+    /// Whether its argument has a text.
+    #[tactic(auto, unfolding(crate::specs::Text::arg_text))]
+    pub fn has_arg_text(&self) -> bool
+        ensures { result ≡ is_some (arg_text self.now) }
+    {
+        !matches!(self.opcode.form(), Form::Empty)
     }
 
     /// How many bytes spell it.
