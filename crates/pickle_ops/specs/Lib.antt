@@ -5,4 +5,5 @@ pub mod Spelling
 pub mod Sizes
 pub mod Device
 pub mod Wrapped
+pub mod Trial
 pub mod Text

@@ -2,23 +2,31 @@
 #![tactic(auto)]
 
 mod argument;
+mod drip;
 mod fault;
 mod form;
+mod from_read;
 mod laws;
 mod op;
 mod opcode;
 mod read;
 mod sink;
+mod sip;
+mod source;
 mod text;
 mod to_write;
 mod value;
 
+pub use drip::Drip;
 pub use fault::{OpFault, ValueFault};
 pub use form::Form;
+pub use from_read::FromRead;
 pub use laws::{no_shape_begins_another, one_front};
 pub use op::Op;
 pub use opcode::Opcode;
 pub use read::read_op;
 pub use sink::{Failed, Sink, write_all};
+pub use sip::Sip;
+pub use source::Source;
 pub use text::{write_arg_text, write_decimal, write_hex, write_quoted};
 pub use to_write::ToWrite;
