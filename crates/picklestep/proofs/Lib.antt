@@ -6,3 +6,5 @@ pub mod Moves
 pub mod Places
 pub mod Listings
 pub mod Programs
+pub mod WordLemmas
+pub mod Sessions

@@ -46,6 +46,11 @@ pub is_refused : (r : Refusal) (found : Option Refusal) → r ≢ refusal.Memory
 is_refused refusal.Memory found h p = absurd (h refl)
 is_refused refusal.Underflow found h p = p
 
+-- a step finds no memory only where nothing else refuses it
+pub not_refused : (r : Refusal) (found : Option Refusal) → r ≡ refusal.Memory → Refuses r found → found ≡ None
+not_refused refusal.Memory found h p = p
+not_refused refusal.Underflow found h p = absurd cc
+
 pub refused_move : (o : Operation) (place : ℕ) (s : State) (r : Refusal) → refusal_at o s ≡ Some r → move o place s ≡ Err r
 refused_move o place s r e = rw e refl
 

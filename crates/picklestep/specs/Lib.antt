@@ -8,3 +8,10 @@ pub mod Column
 pub mod Line
 pub mod Listing
 pub mod Program
+pub mod Script
+pub mod Words
+pub mod Session
+pub mod Reply
+pub mod Transcript
+pub mod Conversation
+pub mod Progress

@@ -2,6 +2,7 @@
 #![tactic(auto)]
 
 mod column;
+mod command;
 mod document;
 mod laws;
 mod line;
@@ -9,8 +10,12 @@ mod list;
 mod machine;
 mod next;
 mod object;
+mod pending;
 mod refusal;
+mod reply;
 mod row;
+mod session;
 mod stop;
+mod words;
 
 fn main() {}
