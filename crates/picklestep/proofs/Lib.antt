@@ -8,3 +8,8 @@ pub mod Listings
 pub mod Programs
 pub mod WordLemmas
 pub mod Sessions
+pub mod Stacks
+pub mod Refusals
+pub mod Cuts
+pub mod Feeding
+pub mod Endings

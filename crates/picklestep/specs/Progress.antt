@@ -19,11 +19,11 @@ pub record Pending : Type 0 where
   pub refused : Bool
 
 -- of a line, as many bytes are kept as tell that it is too long
-abbrev pub kept : List ℕ → List ℕ
+unfoldable pub kept : List ℕ → List ℕ
 kept line = take (longest + 1) line
 
 -- one byte more, unless the line is too long already
-abbrev pub longer : List ℕ → ℕ → List ℕ
+unfoldable pub longer : List ℕ → ℕ → List ℕ
 longer line byte = if nat_le (length line) longest then line ++ byte ∷ [] else line
 
 -- the text that a line gives was written, and the answer is whether it refuses

@@ -68,7 +68,7 @@ pub fn write_item<S: Sink>(op: &Op, offset: usize, marks: usize, sink: &mut S) -
 
 /// Why a step was refused.
 #[tactic(auto, unfolding(crate::specs::Line::refusal_text))]
-fn refusal_words(refusal: Refusal) -> &'static str
+pub fn refusal_words(refusal: Refusal) -> &'static str
     ensures { result.now ≡ refusal_text refusal }
 {
     match refusal {
@@ -118,7 +118,7 @@ fn write_fault_byte<S: Sink>(fault: TailFault, sink: &mut S) -> Result<(), Faile
 
 /// Writes what a fault is called.
 #[tactic(auto, using(pickle_ops::proofs::Devices::text_steps), unfolding(crate::specs::Line::fault_text))]
-fn write_fault_text<S: Sink>(fault: TailFault, sink: &mut S) -> Result<(), Failed>
+pub fn write_fault_text<S: Sink>(fault: TailFault, sink: &mut S) -> Result<(), Failed>
     ensures takes { Takes (S.taken sink.old) (S.taken sink.new) result (fault_text fault) }
     ensures rises { S.failures sink.old ≤ S.failures sink.new }
     ensures failed { OnErr result (HasFailed (S.failures sink.old) (S.failures sink.new)) }

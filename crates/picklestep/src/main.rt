@@ -3,6 +3,7 @@
 
 mod column;
 mod command;
+mod converse;
 mod document;
 mod laws;
 mod line;
@@ -13,6 +14,7 @@ mod object;
 mod pending;
 mod refusal;
 mod reply;
+mod reply_text;
 mod row;
 mod session;
 mod stop;

@@ -40,6 +40,7 @@ impl Pending {
     }
 
     /// Adds a byte to the line.
+    #[tactic(auto, unfolding(crate::specs::Progress::longer))]
     pub fn push(&mut self, byte: u8)
         ensures { self.new ≡ record self.old { line = longer self.old.line byte } }
     {
