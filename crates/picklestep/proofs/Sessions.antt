@@ -1,5 +1,5 @@
 -- The parts of a session, and what its commands answer.
-use Rattle.std.proofs.Common.{◌≡◌, ℕ, suc, ◌+◌, ◌-◌, ◌^◌, ◌<◌, ◌≤◌, List, [], ◌∷◌, ◌++◌, length, get_or, Option, Some, None, Result, Ok, Err, refl, sym, ap, subst, ◌∙◌, length-append, add-one, inl, inr, arith}
+use Rattle.std.proofs.Common.{◌≡◌, ℕ, ◌+◌, ◌-◌, ◌^◌, ◌<◌, ◌≤◌, List, length, get_or, Some, None, Ok, refl, sym, ap, ◌∙◌, length-append, add-one, inl, inr, arith}
 use Rattle.std.specs.Prelude.{slice_get}
 use Rattle.std.proofs.lemmas.Option.{slice_get-get_or}
 use Rattle.pickle_ops.specs.Spelling.{Operation}
@@ -11,7 +11,7 @@ use Rattle.picklestep.specs.declared.reply.Reply.TheVariants as reply
 use Rattle.picklestep.specs.State.{State, empty}
 use Rattle.picklestep.specs.Move.{move, refusal_at}
 use Rattle.picklestep.specs.Run.{run}
-use Rattle.picklestep.specs.Document.{Contents, Reads, bytes_of, sizes}
+use Rattle.picklestep.specs.Document.{Contents, Reads, bytes_of}
 use Rattle.picklestep.specs.Session.{Session, IsReached, Answers, goes_to}
 use Rattle.picklestep.proofs.Moves.{move_heap}
 use Rattle.picklestep.proofs.Places.{length-bytes_of, length-sizes, run-suc}

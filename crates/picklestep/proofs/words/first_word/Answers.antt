@@ -1,4 +1,4 @@
-use Rattle.std.proofs.Common.{◌≡◌, ◌<◌, ◌≤◌, length, arith, rules}
+use Rattle.std.proofs.Common.{◌≡◌, ◌<◌, length, arith}
 use Rattle.picklestep.proofs.WordLemmas.{prefix_len-within, no_word, one_word}
 use Rattle.picklestep.proofs.words.first_word.Goals as goal
 

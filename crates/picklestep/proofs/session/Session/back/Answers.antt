@@ -1,4 +1,4 @@
-use Rattle.std.proofs.Common.{◌≤◌, length, ap, arith}
+use Rattle.std.proofs.Common.{arith}
 use Rattle.picklestep.proofs.Places.{length-sizes}
 use Rattle.picklestep.proofs.session.Session.back.Goals as goal
 

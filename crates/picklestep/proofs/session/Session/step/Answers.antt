@@ -1,4 +1,4 @@
-use Rattle.std.proofs.Common.{◌≡◌, ◌<◌, length, get_or, Some, None, rules, subst}
+use Rattle.std.proofs.Common.{◌≡◌, None, rules}
 use Rattle.picklestep.specs.Move.{refusal_at}
 use Rattle.picklestep.proofs.Moves.{is_refused, not_refused}
 use Rattle.picklestep.proofs.Sessions.{few_objects, IsReached-more, stepped, refused, lacking}
