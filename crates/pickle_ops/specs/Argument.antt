@@ -1,6 +1,6 @@
 -- What a whole argument says: the number that it is, the bytes that it holds, the texts of its lines.
 -- Source: the argument descriptors of Python's `pickletools`. Which bytes are a payload is this project's own rule.
-use Rattle.std.specs.Prelude.{ℕ, ℤ, List, [], drop}
+use Rattle.std.specs.Prelude.{ℕ, ℤ, Bool, true, false, List, [], length, drop}
 use Rattle.std.specs.List.{before_first, after_first}
 use Rattle.byteorder.specs.Endian.{little_number, twos_complement}
 use Rattle.pickle_ops.specs.declared.form.Form.{Form}
@@ -15,6 +15,14 @@ number_of form.U4 arg = little_number 4 arg
 number_of form.U8 arg = little_number 8 arg
 number_of form.Decimal arg = value_of (text_of arg)
 number_of _ arg = 0
+
+abbrev pub has_number : Form → Bool
+has_number form.U1 = true
+has_number form.U2 = true
+has_number form.U4 = true
+has_number form.U8 = true
+has_number form.Decimal = true
+has_number _ = false
 
 -- the number of four bytes in two's complement, the lowest first
 abbrev pub signed_of : List ℕ → ℤ
@@ -31,6 +39,21 @@ payload form.B4 arg = drop 4 arg
 payload form.B8 arg = drop 8 arg
 payload form.Bs4 arg = drop 4 arg
 payload _ arg = []
+
+abbrev pub has_payload : Form → Bool
+has_payload form.R8 = true
+has_payload form.Line = true
+has_payload form.Quoted = true
+has_payload form.Decimal = true
+has_payload form.B1 = true
+has_payload form.B4 = true
+has_payload form.B8 = true
+has_payload form.Bs4 = true
+has_payload _ = false
+
+-- the number of any count of bytes in two's complement, the lowest first; no bytes are 0
+abbrev pub long_of : List ℕ → ℤ
+long_of bytes = twos_complement (length bytes) (little_number (length bytes) bytes)
 
 -- the texts of two lines, without their newlines
 abbrev pub first_text : List ℕ → List ℕ

@@ -1,7 +1,7 @@
 -- How an opcode is spelled, and what stands at the front of bytes.
 -- Source: the opcode table of Python's `pickletools`. These speak of whole byte strings, and not of a reader
 -- that walks over them.
-use Rattle.std.specs.Prelude.{◌≡◌, ◌≢◌, ℕ, ◌+◌, ◌<◌, List, [], ◌∷◌, ◌++◌, length, Option, Some, None}
+use Rattle.std.specs.Prelude.{◌≡◌, ◌≢◌, ℕ, ◌+◌, ◌<◌, ◌≤◌, List, [], ◌∷◌, ◌++◌, length, take, Option, Some, None}
 use Rattle.std.specs.Option.{option_map}
 use Rattle.pickle_ops.specs.declared.opcode.Opcode.{Opcode}
 use Rattle.pickle_ops.specs.declared.fault.OpFault.{OpFault}
@@ -69,7 +69,31 @@ HasFault bytes f = (front : Front) × IsFront bytes front × (front_fault front 
 abbrev pub BeginsWith : List ℕ → Operation → Type 0
 BeginsWith bytes op = IsSpelled op × ((rest : List ℕ) × (bytes ≡ spelling op ++ rest))
 
--- ---- what a reader of one opcode answers
+-- ---- bytes as one whole argument
+
+-- where there is no other fault, no bytes may be left over
+abbrev pub or_too_long : List ℕ → Option OpFault → Option OpFault
+or_too_long rest (Some f) = Some f
+or_too_long [] None = None
+or_too_long (byte ∷ rest) None = Some fault.TooLong
+
+-- the fault of a front behind which nothing may come
+abbrev pub alone_fault : Front → Option OpFault
+alone_fault Ended = front_fault Ended
+alone_fault (Unknown byte) = front_fault (Unknown byte)
+alone_fault (Cut op) = front_fault (Cut op)
+alone_fault (Whole op arg rest) = or_too_long rest (front_fault (Whole op arg rest))
+
+-- the fault of bytes as one argument of an opcode: the first that applies
+abbrev pub HasArgFault : Opcode → List ℕ → OpFault → Type 0
+HasArgFault o bytes f = (front : Front) × IsFront (code_of o ∷ bytes) front × (alone_fault front ≡ Some f)
+
+-- ---- what readers of one opcode answer
+
+-- the first n bytes are an argument of the opcode that passes the checks
+pub record BeginsWithArg (o : Opcode) (bytes : List ℕ) (n : ℕ) : Type 0 where
+  pub within : n ≤ length bytes
+  pub spelled : IsSpelled (record { opcode = o; arg = take n bytes })
 
 -- the first n bytes are the spelling of this operation
 pub record Reads (bytes : List ℕ) (op : Operation) (n : ℕ) : Type 0 where
@@ -82,6 +106,12 @@ abbrev pub FailsSo : List ℕ → OpFault → Type 0
 FailsSo bytes fault.Memory = (op : Operation) × BeginsWith bytes op × (0 < length op.arg)
 FailsSo bytes f = HasFault bytes f
 
+-- a fault is the one of the bytes as an argument of the opcode; memory runs out only where an argument with bytes is
+-- kept
+abbrev pub FailsAsArg : Opcode → List ℕ → OpFault → Type 0
+FailsAsArg o bytes fault.Memory = IsSpelled (record { opcode = o; arg = bytes }) × (0 < length bytes)
+FailsAsArg o bytes f = HasArgFault o bytes f
+
 -- ---- laws
 
 -- no shape begins another
@@ -91,3 +121,10 @@ NoShapeBeginsAnother = (o p : Opcode) (a b x y : List ℕ) → IsShape o a → I
 -- at the front of any bytes stands one thing, and so one fault or one spelling
 abbrev pub OneFront : Type 0
 OneFront = (bytes : List ℕ) → (front : Front) × IsFront bytes front × ((other : Front) → IsFront bytes other → front ≡ other)
+
+-- bytes that begin with a spelling begin with no other, whatever follows it, and have no fault at their front
+abbrev pub SpellingsAreReadAgain : Type 0
+SpellingsAreReadAgain = (op : Operation) (rest : List ℕ) → IsSpelled op
+    → Reads (spelling op ++ rest) op (size_of op)
+    × ((other : Operation) (n : ℕ) → Reads (spelling op ++ rest) other n → (other ≡ op) × (n ≡ size_of op))
+    × ((f : OpFault) → ¬ HasFault (spelling op ++ rest) f)

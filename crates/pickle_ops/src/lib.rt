@@ -13,6 +13,8 @@ mod read;
 mod sink;
 mod sip;
 mod source;
+#[cfg(test)]
+mod tests;
 mod text;
 mod to_write;
 mod value;
@@ -21,12 +23,14 @@ pub use drip::Drip;
 pub use fault::{OpFault, ValueFault};
 pub use form::Form;
 pub use from_read::FromRead;
-pub use laws::{no_shape_begins_another, one_front};
+pub use laws::{no_shape_begins_another, one_front, spellings_are_read_again};
 pub use op::Op;
 pub use opcode::Opcode;
-pub use read::read_op;
+pub use read::{op_of, read_op};
 pub use sink::{Failed, Sink, write_all};
 pub use sip::Sip;
 pub use source::Source;
-pub use text::{write_arg_text, write_decimal, write_hex, write_quoted};
+pub use text::{
+    write_arg_text, write_decimal, write_float, write_hex, write_long, write_quoted, write_signed,
+};
 pub use to_write::ToWrite;

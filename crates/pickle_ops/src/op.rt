@@ -2,6 +2,7 @@
 
 use crate::form::Form;
 use crate::opcode::Opcode;
+use crate::value::{first_text, number_of, payload, second_text, signed_of};
 use std::alloc::{AllocError, Global};
 use std::marker::Model;
 use std::rc::RcSlice;
@@ -28,8 +29,10 @@ impl Model for Op {
 }
 
 impl Op {
-    ghost use Rattle.std.specs.Prelude.{◌≡◌, ◌<◌, length, is_some, IfOk, OnErr};
+    ghost use Rattle.std.specs.Prelude.{◌≡◌, ◌<◌, length, is_some, IsTrue, IfOk, OnErr};
+    ghost use Rattle.pickle_ops.specs.Argument.{has_number, number_of, signed_of, has_payload, payload, first_text, second_text};
     ghost use Rattle.pickle_ops.specs.Spelling.{IsSpelled, size_of};
+    ghost use Rattle.pickle_ops.specs.Table.{form_of};
     ghost use Rattle.pickle_ops.specs.Text.{arg_text};
 
     /// The operation of this argument, whose bytes are copied.
@@ -64,6 +67,40 @@ impl Op {
             None => &[],
             Some(bytes) => bytes.as_slice(),
         }
+    }
+
+    /// The number of an argument of the forms `U1`, `U2`, `U4`, `U8` and `Decimal`.
+    pub fn number(&self) -> u64
+        requires { IsTrue (has_number (form_of self.now.opcode)) }
+        ensures { result ≡ number_of (form_of self.now.opcode) self.now.arg }
+    {
+        number_of(self.opcode().form(), self.arg())
+    }
+
+    /// The number of an argument of the form `S4`.
+    pub fn signed(&self) -> i32
+        requires { form_of self.now.opcode ≡ Form.S4 }
+        ensures { result ≡ signed_of self.now.arg }
+    {
+        signed_of(self.arg())
+    }
+
+    /// The bytes that the argument holds: those behind a length, a line without its newline, or those of a float.
+    pub fn payload(&self) -> &[u8]
+        requires { IsTrue (has_payload (form_of self.now.opcode)) }
+        ensures { result.now ≡ payload (form_of self.now.opcode) self.now.arg }
+    {
+        payload(self.opcode().form(), self.arg())
+    }
+
+    /// The texts of an argument of the form `Two`, a module and a name, without their newlines.
+    pub fn texts(&self) -> (&[u8], &[u8])
+        requires { form_of self.now.opcode ≡ Form.Two }
+        ensures first { result.0.now ≡ first_text self.now.arg }
+        ensures second { result.1.now ≡ second_text self.now.arg }
+    {
+        let arg = self.arg();
+        (first_text(arg), second_text(arg))
     }
 
     /// Whether its argument has a text.

@@ -1,16 +1,17 @@
 //! Texts, written piece by piece.
 
-ghost use Rattle.std.specs.Prelude.{◌≡◌, ◌≤◌, ◌∷◌, [], None, OnErr, decimal, unwrap_or};
+ghost use Rattle.std.specs.Prelude.{◌≡◌, ◌≤◌, ◌∷◌, [], None, OnErr, codes, decimal, unwrap_or};
 ghost use Rattle.std.specs.Fmt.{signed_decimal};
 ghost use Rattle.pickle_ops.specs.Argument.{signed_of};
 ghost use Rattle.pickle_ops.specs.Device.{Takes, HasFailed};
 ghost use Rattle.pickle_ops.specs.Shape.{IsArg, value_fault};
-ghost use Rattle.pickle_ops.specs.Text.{hexadecimal, escaped, quoted_byte, quoted_bytes, quoted, float_text, two_texts, form_text, arg_text};
+ghost use Rattle.pickle_ops.specs.Text.{◌⧺◌, hexadecimal, escaped, quoted_byte, quoted_bytes, quoted, float_text, long_text, two_texts, form_text, is_long, arg_text};
 
 use crate::form::Form;
 use crate::op::Op;
+use crate::opcode::Opcode;
 use crate::sink::{Failed, Sink, write_all};
-use crate::value::{first_text, number_of, payload, second_text, signed_of};
+use crate::value::{first_text, long_of, number_of, payload, second_text, signed_of};
 use itoa::Buffer;
 
 /// Writes a number in decimal digits.
@@ -23,7 +24,7 @@ pub fn write_decimal<S: Sink>(number: u64, sink: &mut S) -> Result<(), Failed>
 }
 
 /// Writes a number in decimal digits, behind a minus where it is below 0.
-fn write_signed<S: Sink>(number: i128, sink: &mut S) -> Result<(), Failed>
+pub fn write_signed<S: Sink>(number: i128, sink: &mut S) -> Result<(), Failed>
     ensures takes { Takes (S.taken sink.old) (S.taken sink.new) result (signed_decimal number) }
     ensures rises { S.failures sink.old ≤ S.failures sink.new }
     ensures failed { OnErr result (HasFailed (S.failures sink.old) (S.failures sink.new)) }
@@ -109,15 +110,41 @@ pub fn write_quoted<S: Sink>(text: &[u8], sink: &mut S) -> Result<(), Failed>
     write_all(sink, b"'")
 }
 
-/// Writes the bytes of a float.
+/// Writes the bytes of a float as they stand: `f8:` and two hexadecimal digits a byte.
 #[tactic(auto, using(crate::proofs::Devices::text_steps), unfolding(crate::specs::Text::float_text))]
-fn write_float<S: Sink>(bytes: &[u8], sink: &mut S) -> Result<(), Failed>
+pub fn write_float<S: Sink>(bytes: &[u8], sink: &mut S) -> Result<(), Failed>
     ensures takes { Takes (S.taken sink.old) (S.taken sink.new) result (float_text bytes.now) }
     ensures rises { S.failures sink.old ≤ S.failures sink.new }
     ensures failed { OnErr result (HasFailed (S.failures sink.old) (S.failures sink.new)) }
 {
     write_all(sink, b"f8:")?;
     write_hex(bytes, sink)
+}
+
+/// Writes bytes as they stand: `le:` and two hexadecimal digits a byte.
+#[tactic(auto, using(crate::proofs::Devices::text_steps))]
+fn write_long_bytes<S: Sink>(bytes: &[u8], sink: &mut S) -> Result<(), Failed>
+    ensures takes { Takes (S.taken sink.old) (S.taken sink.new) result (codes "le:" ⧺ hexadecimal bytes.now) }
+    ensures rises { S.failures sink.old ≤ S.failures sink.new }
+    ensures failed { OnErr result (HasFailed (S.failures sink.old) (S.failures sink.new)) }
+{
+    write_all(sink, b"le:")?;
+    write_hex(bytes, sink)
+}
+
+/// Writes the bytes of a long number, the lowest first: up to sixteen as the decimal number that they are in two's
+/// complement (no bytes are 0), more as `le:` and two hexadecimal digits a byte.
+#[tactic(auto, unfolding(crate::specs::Text::long_text))]
+pub fn write_long<S: Sink>(bytes: &[u8], sink: &mut S) -> Result<(), Failed>
+    ensures takes { Takes (S.taken sink.old) (S.taken sink.new) result (long_text bytes.now) }
+    ensures rises { S.failures sink.old ≤ S.failures sink.new }
+    ensures failed { OnErr result (HasFailed (S.failures sink.old) (S.failures sink.new)) }
+{
+    if bytes.len() <= 16 {
+        write_signed(long_of(bytes), sink)
+    } else {
+        write_long_bytes(bytes, sink)
+    }
 }
 
 /// Writes two lines in quotes, and a blank between them.
@@ -159,6 +186,13 @@ fn write_form_text<S: Sink>(form: Form, arg: &[u8], sink: &mut S) -> Result<(), 
     }
 }
 
+/// Whether the payload of the opcode is a number.
+fn is_long(opcode: Opcode) -> bool
+    ensures { result ≡ is_long opcode }
+{
+    matches!(opcode, Opcode::Long1 | Opcode::Long4)
+}
+
 /// Writes the text of the argument: nothing where there is none. It takes no memory.
 #[tactic(auto, unfolding(crate::specs::Text::arg_text))]
 pub fn write_arg_text<S: Sink>(op: &Op, sink: &mut S) -> Result<(), Failed>
@@ -166,5 +200,11 @@ pub fn write_arg_text<S: Sink>(op: &Op, sink: &mut S) -> Result<(), Failed>
     ensures rises { S.failures sink.old ≤ S.failures sink.new }
     ensures failed { OnErr result (HasFailed (S.failures sink.old) (S.failures sink.new)) }
 {
-    write_form_text(op.opcode().form(), op.arg(), sink)
+    let opcode = op.opcode();
+    let form = opcode.form();
+    if is_long(opcode) {
+        write_long(payload(form, op.arg()), sink)
+    } else {
+        write_form_text(form, op.arg(), sink)
+    }
 }

@@ -1,9 +1,9 @@
 //! What whole arguments say.
 
-ghost use Rattle.std.specs.Prelude.{◌≡◌, ◌+◌, ◌<◌, length, None, true};
+ghost use Rattle.std.specs.Prelude.{◌≡◌, ◌+◌, ◌<◌, ◌≤◌, length, None, true};
 ghost use Rattle.std.specs.List.{position_or_len};
 ghost use Rattle.pickle_ops.specs.Shape.{IsArg, is_newline, text_of, value_of, value_fault, is_decimal};
-ghost use Rattle.pickle_ops.specs.Argument.{number_of, signed_of, payload, first_text, second_text};
+ghost use Rattle.pickle_ops.specs.Argument.{number_of, signed_of, long_of, payload, first_text, second_text};
 
 use crate::argument::newline;
 use crate::form::Form;
@@ -54,6 +54,18 @@ pub(crate) fn signed_of(arg: &[u8]) -> i32
     ensures { result ≡ signed_of arg.now }
 {
     LittleEndian::read_i32(arg)
+}
+
+/// The number of up to sixteen bytes in two's complement, the lowest first; 0 where there are none.
+pub(crate) fn long_of(bytes: &[u8]) -> i128
+    requires { length bytes.now ≤ 16 }
+    ensures { result ≡ long_of bytes.now }
+{
+    if bytes.is_empty() {
+        0
+    } else {
+        LittleEndian::read_int128(bytes, bytes.len())
+    }
 }
 
 /// The bytes that an argument holds, none where its form holds none.

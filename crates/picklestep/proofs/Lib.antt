@@ -1,5 +1,6 @@
 pub mod Blanks
 pub mod Names
+pub mod Tails
 pub mod Reading
 pub mod OneDocument
 pub mod Moves

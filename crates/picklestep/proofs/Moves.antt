@@ -24,6 +24,7 @@ pop_heap true s t u e f = e
 pop_heap false s t u e f = f
 
 next_heap : (r : Row) (k : Kind) (place : ℕ) (s : State) → length (next_of r k place s).heap ≤ length s.heap + 1
+next_heap row.Nothing k place s = omega arith
 next_heap row.Push k place s = one_more _ s.heap
 next_heap (row.Take t) k place s = one_more _ s.heap
 next_heap row.Pop k place s =
@@ -62,6 +63,7 @@ none_taken false = refl
 
 no_mark : (r : Row) (s : State) → s.marked ≡ [] → mark_taken r s ≡ None
 no_mark row.Pop s e = rw e (none_taken (ltb 0 (length s.top)))
+no_mark row.Nothing s e = refl
 no_mark row.Push s e = refl
 no_mark (row.Take t) s e = refl
 no_mark row.Dup s e = refl

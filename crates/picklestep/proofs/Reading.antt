@@ -3,9 +3,10 @@ use Rattle.std.proofs.Common.{◌≡◌, ◌+◌, ◌≤◌, ℕ, Bool, true, fa
 use Rattle.std.specs.List.{AllByRecursion}
 use Rattle.std.proofs.lemmas.List.{append-nil, drop_at}
 use Rattle.pickle_ops.specs.Spelling.{Operation, spelling, size_of, IsSpelled, Reads}
+use Rattle.picklestep.specs.Known.{is_known}
 use Rattle.picklestep.specs.declared.document.TailFault.{TailFault}
 use Rattle.picklestep.specs.declared.document.End.TheVariants as end
-use Rattle.picklestep.specs.Document.{bytes_of, is_stop, stops, OnlyLastStops, HasTailFault, IsDocument, IsEnd, Reads as ReadsAs}
+use Rattle.picklestep.specs.Document.{bytes_of, is_stop, stops, OnlyLastStops, HasTailFault, IsItem, IsDocument, IsEnd, Reads as ReadsAs}
 
 -- none of the operations is STOP
 abbrev pub GoesOn : List Operation → Type 0
@@ -15,11 +16,11 @@ GoesOn (o ∷ ops) = (is_stop o.opcode ≡ false) × GoesOn ops
 -- items that were read from the front of the bytes, none of them STOP, and the bytes behind them
 pub record SoFar (bytes : List ℕ) (items : List Operation) (rest : List ℕ) : Type 0 where
   pub whole : bytes_of items ++ rest ≡ bytes
-  pub spelled : AllByRecursion IsSpelled items
+  pub items_are : AllByRecursion IsItem items
   pub goes_on : GoesOn items
 
 pub none_yet : (bytes : List ℕ) → SoFar bytes [] bytes
-none_yet bytes = record { whole = refl; spelled = tt; goes_on = tt }
+none_yet bytes = record { whole = refl; items_are = tt; goes_on = tt }
 
 bytes_push : (items : List Operation) (o : Operation) (rest : List ℕ) → bytes_of (items ++ (o ∷ [])) ++ rest ≡ bytes_of items ++ (spelling o ++ rest)
 bytes_push [] o rest = ap (λ (xs : List ℕ). xs ++ rest) (append-nil (spelling o))
@@ -28,9 +29,9 @@ bytes_push (p ∷ items) o rest =
     ∙ ap (λ (xs : List ℕ). spelling p ++ xs) (bytes_push items o rest)
     ∙ sym (append_assoc (spelling p) (bytes_of items) (spelling o ++ rest))
 
-spelled_push : (items : List Operation) (o : Operation) → AllByRecursion IsSpelled items → IsSpelled o → AllByRecursion IsSpelled (items ++ (o ∷ []))
-spelled_push [] o h s = (s, tt)
-spelled_push (p ∷ items) o h s = (h.0, spelled_push items o h.1 s)
+items_push : (items : List Operation) (o : Operation) → AllByRecursion IsItem items → IsItem o → AllByRecursion IsItem (items ++ (o ∷ []))
+items_push [] o h s = (s, tt)
+items_push (p ∷ items) o h s = (h.0, items_push items o h.1 s)
 
 goes_push : (items : List Operation) (o : Operation) → GoesOn items → is_stop o.opcode ≡ false → GoesOn (items ++ (o ∷ []))
 goes_push [] o h s = (s, tt)
@@ -56,22 +57,22 @@ whole_push bytes rest items o size s r =
     ∙ ap (λ (xs : List ℕ). bytes_of items ++ xs) (sym r.front.1)
     ∙ s.whole
 
-pub one_more : (bytes rest : List ℕ) (items : List Operation) (o : Operation) (size : ℕ) → SoFar bytes items rest → Reads rest o size → is_stop o.opcode ≡ false
+pub one_more : (bytes rest : List ℕ) (items : List Operation) (o : Operation) (size : ℕ) → SoFar bytes items rest → Reads rest o size → is_known o.opcode ≡ true → is_stop o.opcode ≡ false
     → SoFar bytes (items ++ (o ∷ [])) (drop size rest)
-one_more bytes rest items o size s r goes = record {
+one_more bytes rest items o size s r known goes = record {
   whole = whole_push bytes rest items o size s r;
-  spelled = spelled_push items o s.spelled r.spelled;
+  items_are = items_push items o s.items_are (record { spelled = r.spelled; known = known });
   goes_on = goes_push items o s.goes_on goes;
 }
 
-pub stopped : (bytes rest : List ℕ) (items : List Operation) (o : Operation) (size : ℕ) → SoFar bytes items rest → Reads rest o size → is_stop o.opcode ≡ true
+pub stopped : (bytes rest : List ℕ) (items : List Operation) (o : Operation) (size : ℕ) → SoFar bytes items rest → Reads rest o size → is_known o.opcode ≡ true → is_stop o.opcode ≡ true
     → ReadsAs bytes (record { items = items ++ (o ∷ []); tail = drop size rest; finish = end.Stopped })
-stopped bytes rest items o size s r last =
+stopped bytes rest items o size s r known last =
     let l = last_push items o s.goes_on in
     record {
       whole = whole_push bytes rest items o size s r;
       document = record {
-        spelled = spelled_push items o s.spelled r.spelled;
+        items = items_push items o s.items_are (record { spelled = r.spelled; known = known });
         last_stops = l.0;
         finish = rw (l.1, last) tt;
       };
@@ -83,7 +84,7 @@ faulty bytes rest items f s h =
     let l = no_stop items s.goes_on in
     record {
       whole = s.whole;
-      document = record { spelled = s.spelled; last_stops = l.0; finish = rw l.1 h };
+      document = record { items = s.items_are; last_stops = l.0; finish = rw l.1 h };
     }
 
 pub within : (rest : List ℕ) (o : Operation) (size : ℕ) → Reads rest o size → (size ≤ length rest) × (1 ≤ size)

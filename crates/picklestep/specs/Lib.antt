@@ -1,3 +1,4 @@
+pub mod Known
 pub mod State
 pub mod Row
 pub mod Move

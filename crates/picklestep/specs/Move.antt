@@ -61,6 +61,7 @@ abbrev pub if_deep : ℕ → State → Option Refusal
 if_deep n s = unless (nat_le n (length s.top)) refusal.Underflow
 
 abbrev pub refusal_of : Row → State → Option Refusal
+refusal_of row.Nothing s = None
 refusal_of row.Push s = None
 refusal_of (row.Take t) s = if_deep (count_of t) s
 refusal_of row.Pop s = if nat_lt 0 (length s.top) then None else unless (nat_lt 0 (length s.marked)) refusal.Underflow
@@ -72,6 +73,7 @@ refusal_of row.Stop s = if_deep 1 s
 
 -- the state after a row that is not refused; k is the kind of the object that it makes, place that of its item
 abbrev pub next_of : Row → Kind → ℕ → State → State
+next_of row.Nothing k place s = s
 next_of row.Push k place s = push k [] s
 next_of (row.Take t) k place s = push k (last_of (count_of t) s) (without (count_of t) s)
 next_of row.Pop k place s = if nat_lt 0 (length s.top) then without 1 s else cut s

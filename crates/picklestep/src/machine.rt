@@ -68,7 +68,7 @@ impl Machine {
         ensures told { IfSome result (λ e. e ≢ Refusal.Memory) }
     {
         let needed = match row {
-            Row::Push => 0,
+            Row::Nothing | Row::Push => 0,
             Row::Take(taking) => taking.count(),
             Row::Pop | Row::Dup | Row::Put(_) | Row::Stop => 1,
         };
@@ -141,6 +141,7 @@ impl Machine {
             return Err(refusal);
         }
         match row {
+            Row::Nothing => {}
             Row::Push => self.push(alloc, Kind::of(op))?,
             Row::Take(taking) => self.gather(alloc, taking.count(), Kind::of(op))?,
             Row::Pop => self.take_top(),
