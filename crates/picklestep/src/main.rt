@@ -4,8 +4,10 @@
 mod column;
 mod command;
 mod converse;
+mod debug;
 mod document;
 mod file;
+mod grammar;
 mod laws;
 mod line;
 mod list;
@@ -19,7 +21,6 @@ mod reply_text;
 mod row;
 mod session;
 mod stop;
-mod words;
 
 use clap::error::ErrorKind;
 use clap::{Arg, ArgAction, ArgMatches, Command};
@@ -36,19 +37,27 @@ const OUTPUT_ROOM: usize = 65_536;
 /// The status where nothing was answered: the words are no task, or a `Stop`.
 const NO_ANSWER: u8 = 2;
 
-/// What the program takes on its command line.
-fn command_line<'a>(alloc: Global) -> Result<Command<'a>, AllocError> {
-    let file = Arg::new(alloc, "FILE")
+/// The argument of a task that is done on one file.
+fn file_argument<'a>(alloc: Global) -> Arg<'a> {
+    Arg::new(alloc, "FILE")
         .help("the pickle")
         .required(true)
-        .action(ArgAction::Set);
+        .action(ArgAction::Set)
+}
+
+/// What the program takes on its command line.
+fn command_line<'a>(alloc: Global) -> Result<Command<'a>, AllocError> {
     let listing = Command::new(alloc, "list")
         .about("Lists the opcodes of FILE with their offsets and arguments")
-        .arg(file)?;
+        .arg(file_argument(alloc))?;
+    let debugging = Command::new(alloc, "debug")
+        .about("Obeys the lines of standard input on FILE: step, back, stack, quit")
+        .arg(file_argument(alloc))?;
     Command::new(alloc, "picklestep")
         .about("Shows what a Python pickle would import, call and build, and runs nothing of it")
         .subcommand_required(true)
-        .subcommand(listing)
+        .subcommand(listing)?
+        .subcommand(debugging)
 }
 
 /// Lists the file on standard output, and answers the status.
@@ -70,13 +79,16 @@ fn list_file(rt: &HostRuntime, path: &str) -> Result<u8, Stop> {
 
 /// Carries out what the words ask for, and answers the status.
 fn run(rt: &HostRuntime, matches: &ArgMatches<'_>) -> Result<u8, Stop> {
-    let Some((_, task)) = matches.subcommand() else {
+    let Some((name, task)) = matches.subcommand() else {
         return Ok(NO_ANSWER);
     };
     let Some(path) = task.get_str("FILE") else {
         return Ok(NO_ANSWER);
     };
-    list_file(rt, path)
+    match name {
+        "debug" => debug::debug_file(rt, path),
+        _ => list_file(rt, path),
+    }
 }
 
 /// Writes the one line of a stop on standard error.

@@ -1,7 +1,7 @@
 //! What a conversation keeps between two bytes.
 
 use crate::command::{Line, Syntax};
-use crate::words::{LONGEST, read_command};
+use crate::grammar::{LONGEST, read_command};
 use std::alloc::{AllocError, Global};
 use std::marker::Model;
 
