@@ -1,0 +1,4 @@
+pub mod Opcodes
+pub mod Fits
+pub mod Units
+pub mod Back
