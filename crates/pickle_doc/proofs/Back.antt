@@ -1,6 +1,5 @@
 -- Items that follow one another from the left are those of a document.
-use Rattle.std.proofs.Common.{◌≡◌, ◌+◌, ◌-◌, ◌<◌, ◌≤◌, ℕ, true, false, List, [], ◌∷◌, ◌++◌, length, refl, ap, ◌∙◌, inl, inr, arith}
-use Rattle.std.specs.Prelude.{MatchBool}
+use Rattle.std.proofs.Common.{◌≡◌, ◌+◌, ◌-◌, ◌≤◌, ℕ, true, false, List, [], ◌∷◌, ◌++◌, length, refl, ap, ◌∙◌, inl, inr, arith}
 use Rattle.std.specs.List.{AllByRecursion}
 use Rattle.std.proofs.lemmas.Bool.{cases_Bool, cases_lt, lt-ltb}
 use Rattle.byteorder.specs.Endian.{little_bytes}
@@ -8,10 +7,10 @@ use Rattle.pickle_ops.specs.Spelling.{Operation}
 use Rattle.pickle_doc.specs.declared.item.Item.{Item}
 use Rattle.pickle_doc.specs.declared.fault.Finish.{Finish}
 use Rattle.pickle_doc.specs.declared.fault.Finish.TheVariants as finish
-use Rattle.pickle_doc.specs.DocUnit.{DocUnit, Loose, Frame, is_frame, is_stop, item_size, sizes, frame_item, frame_op, flat, operations, bytes_of}
+use Rattle.pickle_doc.specs.DocUnit.{DocUnit, Loose, Frame, is_frame, is_stop, item_size, sizes, frame_item, frame_op, flat, operations}
 use Rattle.pickle_doc.specs.Document.{IsPlain, IsUnit, open_of, OnlyLastOpen, stops, OnlyLastStops, IsFinish, IsFormed}
 use Rattle.pickle_doc.specs.Grouping.{frame_number, Grouped, open_frame, add_member, add_loose, grouped, contents_of}
-use Rattle.pickle_doc.specs.Fitting.{Fits, IsLast, left_behind}
+use Rattle.pickle_doc.specs.Fitting.{Fits, IsLast}
 use Rattle.pickle_doc.proofs.Opcodes.{frame_opcode, frame_no_stop}
 
 -- how much of a frame is left behind the units

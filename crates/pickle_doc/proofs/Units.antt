@@ -1,6 +1,5 @@
 -- Units and the items that they lie in: a document is read from the left, and its items are grouped into its units.
 use Rattle.std.proofs.Common.{◌≡◌, ◌+◌, ◌-◌, ◌^◌, ◌<◌, ◌≤◌, ℕ, Bool, true, false, List, [], ◌∷◌, ◌++◌, length, refl, ap, sym, ◌∙◌, arith, subst, length-append}
-use Rattle.std.specs.Prelude.{MatchBool}
 use Rattle.std.specs.List.{AllByRecursion}
 use Rattle.std.proofs.lemmas.Bool.{lt-ltb}
 use Rattle.std.proofs.lemmas.List.{append-nil}
@@ -11,7 +10,7 @@ use Rattle.pickle_doc.specs.declared.fault.Finish.{Finish}
 use Rattle.pickle_doc.specs.declared.fault.Finish.TheVariants as finish
 use Rattle.pickle_doc.specs.DocUnit.{DocUnit, Loose, Frame, is_stop, item_size, sizes, frame_item, flat, operations, bytes_of}
 use Rattle.pickle_doc.specs.Document.{Contents, items_of, document_bytes, IsPlain, IsUnit, open_of, OnlyLastOpen, stops, OnlyLastStops, IsFinish, IsFormed}
-use Rattle.pickle_doc.specs.Grouping.{frame_number, open_frame, grouped}
+use Rattle.pickle_doc.specs.Grouping.{open_frame, grouped}
 use Rattle.pickle_doc.specs.Fitting.{Fits, Stands}
 use Rattle.pickle_doc.proofs.Opcodes.{number-frame}
 

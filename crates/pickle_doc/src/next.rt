@@ -1,8 +1,9 @@
 //! What stands at the front of bytes, behind an unfinished frame or none.
 
 ghost use Rattle.std.specs.Prelude.{◌≡◌, ◌<◌, IfOk, IsTrue};
-ghost use Rattle.pickle_ops.specs.Spelling.{Reads};
+ghost use Rattle.pickle_ops.specs.Spelling.{Reads, HasFault};
 ghost use Rattle.pickle_doc.specs.DocUnit.{is_frame, is_stop};
+ghost use Rattle.pickle_doc.specs.Tail.{HasTailFault};
 ghost use Rattle.pickle_doc.specs.Grouping.{frame_number};
 ghost use Rattle.pickle_doc.specs.Fitting.{left_behind};
 ghost use Rattle.pickle_doc.specs.Next.{IsNext};
@@ -72,8 +73,11 @@ fn placed(op: Op, size: usize, bytes: &[u8], left: u64) -> Next
     Next::Item(op, size)
 }
 
-/// The fault of bytes that end inside their first opcode's argument: a FRAME in a frame, even so, or cut short.
-fn cut_fault(bytes: &[u8], left: u64) -> TailFault {
+/// The fault of bytes that end inside the argument of their first opcode. Even so a FRAME stands in a frame.
+fn cut_fault(bytes: &[u8], left: u64) -> TailFault
+    requires { HasFault bytes.now OpFault.Truncated }
+    ensures { HasTailFault left bytes.now result }
+{
     if left > 0 && bytes[0] == Opcode::Frame.code() {
         TailFault::FrameInFrame
     } else {
