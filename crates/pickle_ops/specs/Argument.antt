@@ -1,6 +1,6 @@
 -- What a whole argument says: the number that it is, the bytes that it holds, the texts of its lines.
 -- Source: the argument descriptors of Python's `pickletools`. Which bytes are a payload is this project's own rule.
-use Rattle.std.specs.Prelude.{ℕ, ℤ, Bool, true, false, List, [], length, drop}
+use Rattle.std.specs.Prelude.{ℕ, ℤ, pos, Bool, true, false, List, [], length, drop}
 use Rattle.std.specs.List.{before_first, after_first}
 use Rattle.byteorder.specs.Endian.{little_number, twos_complement}
 use Rattle.pickle_ops.specs.declared.form.Form.{Form}
@@ -28,6 +28,21 @@ has_number _ = false
 abbrev pub signed_of : List ℕ → ℤ
 signed_of arg = twos_complement 4 (little_number 4 arg)
 
+-- the number of a small form, signed or not
+abbrev pub integer_of : Form → List ℕ → ℤ
+integer_of form.U1 arg = pos (number_of form.U1 arg)
+integer_of form.U2 arg = pos (number_of form.U2 arg)
+integer_of form.U4 arg = pos (number_of form.U4 arg)
+integer_of form.S4 arg = signed_of arg
+integer_of _ arg = pos 0
+
+abbrev pub has_integer : Form → Bool
+has_integer form.U1 = true
+has_integer form.U2 = true
+has_integer form.U4 = true
+has_integer form.S4 = true
+has_integer _ = false
+
 -- the bytes that a form holds, if it holds some: those of a float, a line without its newline, those behind a length
 abbrev pub payload : Form → List ℕ → List ℕ
 payload form.R8 arg = arg
@@ -39,6 +54,14 @@ payload form.B4 arg = drop 4 arg
 payload form.B8 arg = drop 8 arg
 payload form.Bs4 arg = drop 4 arg
 payload _ arg = []
+
+-- how many bytes of length stand in front of it
+abbrev pub length_bytes : Form → ℕ
+length_bytes form.B1 = 1
+length_bytes form.B4 = 4
+length_bytes form.B8 = 8
+length_bytes form.Bs4 = 4
+length_bytes _ = 0
 
 abbrev pub has_payload : Form → Bool
 has_payload form.R8 = true

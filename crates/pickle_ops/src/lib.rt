@@ -4,9 +4,11 @@
 mod argument;
 mod fault;
 mod form;
+mod integer;
 mod laws;
 mod op;
 mod opcode;
+mod payload;
 mod read;
 mod sink;
 #[cfg(test)]
@@ -20,6 +22,7 @@ pub use form::Form;
 pub use laws::{no_shape_begins_another, one_front, spellings_are_read_again};
 pub use op::Op;
 pub use opcode::Opcode;
+pub use payload::Payload;
 pub use read::{op_of, read_op};
 pub use sink::{Failed, Sink, write_all};
 pub use text::{

@@ -12,7 +12,7 @@ use std::rc::RcSlice;
 #[derive(Debug, Drop)]
 pub struct Op {
     opcode: Opcode,
-    arg: Option<RcSlice<u8>>,
+    pub(crate) arg: Option<RcSlice<u8>>,
 }
 
 impl Model for Op {

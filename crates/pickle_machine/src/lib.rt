@@ -1,0 +1,19 @@
+//! The machine that the opcodes of a pickle run, forwards and backwards. It calls nothing and imports nothing: objects
+//! stand in the place of what a loader would build.
+#![tactic(auto)]
+
+mod check;
+mod kind;
+mod machine;
+mod object;
+mod record;
+mod refusal;
+mod row;
+mod stack;
+mod table;
+
+pub use kind::Kind;
+pub use machine::Machine;
+pub use object::{Change, ObjId, Object};
+pub use record::StepRecord;
+pub use refusal::Refusal;
