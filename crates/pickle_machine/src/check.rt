@@ -10,7 +10,7 @@ use pickle_ops::Op;
 impl Machine {
     ghost use Rattle.std.specs.Prelude.{◌≡◌, ◌≢◌, ◌<◌, ◌≤◌, length, IfSome};
     ghost use Rattle.pickle_machine.specs.Row.{row_of};
-    ghost use Rattle.pickle_machine.specs.Move.{object_meets, refusal_of, taking_refusal, cutting_refusal, count_of, refusal_at, takes_mark};
+    ghost use Rattle.pickle_machine.specs.Move.{deep, object_meets, refusal_of, taking_refusal, cutting_refusal, count_of, refusal_at, takes_mark};
 
     /// Whether the object of this number is there and meets a demand.
     pub(crate) fn meets(&self, id: ObjId, demand: Demand) -> bool
@@ -22,34 +22,41 @@ impl Machine {
         }
     }
 
+    /// The object at this depth of the top section, 0 for the top.
+    pub(crate) fn deep(&self, depth: usize) -> ObjId
+        requires { depth < length self.now.state.top }
+        ensures { result ≡ deep depth self.now.state.top }
+    {
+        let top = self.stack.top();
+        top[top.len() - 1 - depth]
+    }
+
     /// What is asked of the object of which a view is made.
     fn view_refusal(&self) -> Option<Refusal>
         ensures first { result ≡ refusal_of Row.ReadOnly self.now.state }
         ensures told { IfSome result (λ e. e ≢ Refusal.Memory) }
     {
-        let top = self.stack.top();
-        if top.is_empty() {
+        if self.stack.top().is_empty() {
             return Some(Refusal::Underflow);
         }
-        let id = top[top.len() - 1];
+        let id = self.deep(0);
         if !self.meets(id, Demand::ReadOnly) && !self.meets(id, Demand::Writable) {
             return Some(Refusal::WrongKind(id));
         }
         None
     }
 
-    /// What is asked of two names.
+    /// What is asked of two names, of the upper one first.
     fn names_refusal(&self) -> Option<Refusal>
         requires { 2 ≤ length self.now.state.top }
         ensures first { result ≡ taking_refusal Taking.Names self.now.state }
         ensures told { IfSome result (λ e. e ≢ Refusal.Memory) }
     {
-        let top = self.stack.top();
-        let name = top[top.len() - 1];
-        let module = top[top.len() - 2];
+        let name = self.deep(0);
         if !self.meets(name, Demand::Text) {
             return Some(Refusal::NotText(name));
         }
+        let module = self.deep(1);
         if !self.meets(module, Demand::Text) {
             return Some(Refusal::NotText(module));
         }
@@ -62,12 +69,11 @@ impl Machine {
         ensures first { result ≡ taking_refusal Taking.Call self.now.state }
         ensures told { IfSome result (λ e. e ≢ Refusal.Memory) }
     {
-        let top = self.stack.top();
-        let called = top[top.len() - 2];
-        let arguments = top[top.len() - 1];
+        let called = self.deep(1);
         if !self.meets(called, Demand::Callable) {
             return Some(Refusal::NotCallable(called));
         }
+        let arguments = self.deep(0);
         if !self.meets(arguments, Demand::Arguments) {
             return Some(Refusal::NotArguments(arguments));
         }
@@ -80,16 +86,15 @@ impl Machine {
         ensures first { result ≡ taking_refusal Taking.CallWith self.now.state }
         ensures told { IfSome result (λ e. e ≢ Refusal.Memory) }
     {
-        let top = self.stack.top();
-        let called = top[top.len() - 3];
-        let arguments = top[top.len() - 2];
-        let keywords = top[top.len() - 1];
+        let called = self.deep(2);
         if !self.meets(called, Demand::Callable) {
             return Some(Refusal::NotCallable(called));
         }
+        let arguments = self.deep(1);
         if !self.meets(arguments, Demand::Arguments) {
             return Some(Refusal::NotArguments(arguments));
         }
+        let keywords = self.deep(0);
         if !self.meets(keywords, Demand::Keywords) {
             return Some(Refusal::NotKeywords(keywords));
         }
@@ -147,11 +152,10 @@ impl Machine {
         ensures told { IfSome result (λ e. e ≢ Refusal.Memory) }
     {
         let values = filling.values();
-        let top = self.stack.top();
-        if top.len() < values + 1 {
+        if self.stack.top().len() < values + 1 {
             return Some(Refusal::Underflow);
         }
-        let target = top[top.len() - 1 - values];
+        let target = self.deep(values);
         if !self.meets(target, Demand::Target(filling)) {
             return Some(Refusal::WrongKind(target));
         }
