@@ -5,7 +5,6 @@ use Rattle.std.specs.Io.KnownBytes.{Appends}
 use Rattle.std.proofs.KnownBytes.{Appends-nil, Appends-trans}
 use Rattle.std.proofs.lemmas.List.{take_more}
 use Rattle.std.proofs.lemmas.Option.{get_or_from_slice_get, slice_get_past, slice_get_cases, slice_get_read}
-use Rattle.std.proofs.lemmas.List.{get_or_append_right}
 use Rattle.pickle_ops.specs.Text.{◌⧺◌}
 use Rattle.pickle_ops.specs.Device.{AppendsFront}
 use Rattle.pickle_ops.specs.Table.{protocol_of}

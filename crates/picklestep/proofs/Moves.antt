@@ -15,7 +15,7 @@ use Rattle.pickle_machine.specs.declared.object.Change.{Change}
 use Rattle.pickle_machine.specs.declared.kind.Demand.TheVariants as demand
 use Rattle.pickle_machine.specs.State.{Object, Marked, State}
 use Rattle.pickle_machine.specs.Row.{row_of, kind_of}
-use Rattle.pickle_machine.specs.Move.{next_of, refusal_of, refusal_at, next, outcome, move, cut, deeper, without, changed, unless, deep, object_meets, last_of as last_objects, push}
+use Rattle.pickle_machine.specs.Move.{next_of, refusal_of, refusal_at, next, outcome, move, cut, deeper, without, changed, unless, deep, object_meets, last_of as last_objects, push, change_top, changes_of, values_of}
 use Rattle.picklestep.specs.Listing.{offset_of}
 use Rattle.picklestep.specs.Marks.{followed, mark_offsets, last_of}
 
@@ -28,6 +28,9 @@ changed_length heap id more = go (slice_get heap id)
     go : (o : Option Object) → length (option_map_or (λ (o : Object). slice_set heap id (record o { changes = o.changes ++ more })) o heap) ≡ length heap
     go None = refl
     go (Some o) = length-set heap id _
+
+change_heap : (more : List Change) (s : State) → length (change_top more s).heap ≡ length s.heap
+change_heap more s = changed_length s.heap (deep 0 s.top) more
 
 by_either : (b : Bool) (s t u : State) → length t.heap ≤ length s.heap + 1 → length u.heap ≤ length s.heap + 1 → length (cond b t u).heap ≤ length s.heap + 1
 by_either true s t u p q = p
@@ -42,8 +45,8 @@ next_heap row.Buffer k place s = one_more _ s.heap
 next_heap row.ReadOnly k place s = by_either (object_meets demand.ReadOnly s (deep 0 s.top)) s s _ (omega arith) (one_more _ s.heap)
 next_heap (row.Take t) k place s = one_more _ s.heap
 next_heap (row.Cut c) k place s = one_more _ s.heap
-next_heap (row.Change f) k place s = omega (arith, changed_length s.heap _ _)
-next_heap (row.CutChange f) k place s = omega (arith, changed_length s.heap _ _)
+next_heap (row.Change f) k place s = omega (arith, change_heap (changes_of f (last_objects (values_of f) s)) (without (values_of f) s))
+next_heap (row.CutChange f) k place s = omega (arith, change_heap (changes_of f s.top) (cut s))
 next_heap row.Pop k place s = by_either (ltb 0 (length s.top)) s (without 1 s) (cut s) (omega arith) (omega arith)
 next_heap row.PopMark k place s = omega arith
 next_heap row.Dup k place s = omega arith

@@ -1,11 +1,8 @@
-pub mod Known
-pub mod State
-pub mod Row
-pub mod Move
-pub mod Run
-pub mod Document
-pub mod Next
 pub mod Column
 pub mod Line
 pub mod Listing
+pub mod Marks
 pub mod Program
+pub mod Known
+pub mod Document
+pub mod Next

@@ -6,7 +6,7 @@ ghost use Rattle.pickle_ops.specs.Device.{Takes, AppendsFront, HasFailed};
 ghost use Rattle.pickle_ops.specs.Text.{◌⧺◌};
 ghost use Rattle.pickle_doc.specs.Document.{document_bytes};
 ghost use Rattle.picklestep.specs.Line.{raised, protocol_line};
-ghost use Rattle.picklestep.specs.Listing.{listing, end_lines, end_status, note_with};
+ghost use Rattle.picklestep.specs.Listing.{listing, end_lines, end_status, note_with, note_unless};
 ghost use Rattle.picklestep.specs.Marks.{last_of, followed};
 ghost use Rattle.picklestep.specs.Program.{IsListed, BeginsListing};
 
@@ -14,7 +14,7 @@ use crate::line::{write_fault, write_item, write_protocol, write_refused_end, wr
 use crate::note::Note;
 use crate::stop::Stop;
 use pickle_doc::{DocFault, Document, End, LIMIT};
-use pickle_machine::Machine;
+use pickle_machine::{Machine, Refusal};
 use pickle_ops::{Failed, Op, Opcode, Sink};
 use std::alloc::{AllocError, Global};
 
@@ -28,7 +28,17 @@ fn raise(highest: Option<u8>, protocol: u8) -> Option<u8>
     }
 }
 
-/// The note of an operation that is not refused; `opened` has the offsets of the open marks, the topmost last.
+/// The note of an operation with this refusal, if any; `opened` has the offsets of the open marks, the topmost last.
+fn note_unless_refused(refusal: Option<Refusal>, op: &Op, machine: &Machine, opened: &[u64]) -> Option<Note>
+    ensures { result ≡ note_unless refusal (note_with op.now machine.now.state (last_of opened.now)) }
+{
+    match refusal {
+        None => note_of(op, machine, opened),
+        Some(_) => None,
+    }
+}
+
+/// The note of an operation that is not refused.
 fn note_of(op: &Op, machine: &Machine, opened: &[u64]) -> Option<Note>
     ensures { result ≡ note_with op.now machine.now.state (last_of opened.now) }
 {
@@ -111,10 +121,7 @@ fn write_listing<S: Sink>(alloc: Global, document: &Document, sink: &mut S) -> R
     'items: while let Some(op) = document.item(place) {
         let marks = machine.marks_len();
         let refusal = machine.check(op);
-        let note = match refusal {
-            None => note_of(op, &machine, opened.as_slice()),
-            Some(_) => None,
-        };
+        let note = note_unless_refused(refusal, op, &machine, opened.as_slice());
         write_item(op, offset, marks, note, sink)?;
         highest = raise(highest, op.opcode().protocol());
         if let Some(refusal) = refusal {
