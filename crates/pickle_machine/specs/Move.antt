@@ -74,12 +74,18 @@ pairs_of [] = []
 pairs_of (k ∷ []) = []
 pairs_of (k ∷ v ∷ rest) = change.SetItem k v ∷ pairs_of rest
 
--- objects as changes of the object that they go into
+-- one object as a change of the one that it goes into
+abbrev pub change_of : Filling → ℕ → Change
+change_of filling.Append id = change.Append id
+change_of filling.Add id = change.Add id
+change_of _ id = change.Build id
+
+-- objects as changes of the one that they go into
 abbrev pub changes_of : Filling → List ℕ → List Change
-changes_of filling.Append items = map (λ x. change.Append x) items
+changes_of filling.Append items = map (change_of filling.Append) items
 changes_of filling.SetItem items = pairs_of items
-changes_of filling.Add items = map (λ x. change.Add x) items
-changes_of filling.Build items = map (λ x. change.Build x) items
+changes_of filling.Add items = map (change_of filling.Add) items
+changes_of filling.Build items = map (change_of filling.Build) items
 
 -- the memo maps the key to the top
 abbrev pub put : ℕ → State → State

@@ -2,6 +2,7 @@
 //! stand in the place of what a loader would build.
 #![tactic(auto)]
 
+mod act;
 mod check;
 mod kind;
 mod machine;

@@ -1,7 +1,9 @@
 //! The shapes of steps: what an opcode does to the machine.
 
 ghost use Rattle.std.specs.Prelude.{◌≡◌};
-ghost use Rattle.pickle_machine.specs.Move.{count_of, values_of};
+ghost use Rattle.pickle_machine.specs.Move.{count_of, values_of, change_of};
+
+use crate::object::{Change, ObjId};
 
 /// What an opcode with its argument does.
 #[derive(Clone, Copy)]
@@ -106,6 +108,17 @@ impl Filling {
         match self {
             Filling::SetItem => 2,
             Filling::Append | Filling::Add | Filling::Build => 1,
+        }
+    }
+
+    /// One object as a change of the one that it goes into; keys and values go in pairs.
+    pub(crate) fn change(self, id: ObjId) -> Change
+        ensures { result ≡ change_of self id }
+    {
+        match self {
+            Filling::Append => Change::Append(id),
+            Filling::Add => Change::Add(id),
+            Filling::SetItem | Filling::Build => Change::Build(id),
         }
     }
 }
