@@ -11,6 +11,7 @@ mod record;
 mod refusal;
 mod row;
 mod stack;
+mod step;
 mod table;
 
 pub use kind::Kind;

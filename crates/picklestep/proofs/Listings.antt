@@ -11,7 +11,7 @@ use Rattle.pickle_ops.specs.Table.{protocol_of}
 use Rattle.pickle_ops.specs.Spelling.{Operation, size_of}
 use Rattle.pickle_ops.proofs.Devices.{AppendsFront-then, AppendsFront-more, AppendsFront-all}
 use Rattle.pickle_doc.specs.DocUnit.{bytes_of}
-use Rattle.pickle_doc.specs.Document.{Contents}
+use Rattle.pickle_doc.specs.Document.{Contents, document_bytes}
 use Rattle.pickle_machine.specs.declared.refusal.Refusal.{Refusal}
 use Rattle.pickle_machine.specs.State.{State, Marked, empty}
 use Rattle.pickle_machine.specs.Move.{move, refusal_at}
@@ -213,3 +213,6 @@ offset_within a b ops k offset o s opened highest p e = let next = offset_next o
 
 pub place_within : (ops : List Operation) (k : ℕ) (o : Operation) → slice_get ops k ≡ Some o → k < length (bytes_of ops)
 place_within ops k o e = omega (arith, within ops k o e, length-bytes_of ops)
+
+pub ops_within : (d : Contents) → length (bytes_of (ops_of d)) ≤ length (document_bytes d)
+ops_within d = omega (arith, length-append (bytes_of (ops_of d)) d.tail)

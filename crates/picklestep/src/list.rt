@@ -29,7 +29,12 @@ fn raise(highest: Option<u8>, protocol: u8) -> Option<u8>
 }
 
 /// The note of an operation with this refusal, if any; `opened` has the offsets of the open marks, the topmost last.
-fn note_unless_refused(refusal: Option<Refusal>, op: &Op, machine: &Machine, opened: &[u64]) -> Option<Note>
+fn note_unless_refused(
+    refusal: Option<Refusal>,
+    op: &Op,
+    machine: &Machine,
+    opened: &[u64],
+) -> Option<Note>
     ensures { result ≡ note_unless refusal (note_with op.now machine.now.state (last_of opened.now)) }
 {
     match refusal {
@@ -73,7 +78,12 @@ fn write_finish<S: Sink>(document: &Document, machine: &Machine, sink: &mut S) -
 
 /// Writes the lines behind all items, and the greatest protocol.
 #[tactic(auto, using(pickle_ops::proofs::Devices::text_steps))]
-fn write_end<S: Sink>(document: &Document, machine: &Machine, highest: Option<u8>, sink: &mut S) -> Result<(), Failed>
+fn write_end<S: Sink>(
+    document: &Document,
+    machine: &Machine,
+    highest: Option<u8>,
+    sink: &mut S,
+) -> Result<(), Failed>
     ensures takes { Takes (S.taken sink.old) (S.taken sink.new) result (end_lines document.now document.now.finish machine.now.state ⧺ protocol_line highest) }
     ensures rises { S.failures sink.old ≤ S.failures sink.new }
     ensures failed { OnErr result (HasFailed (S.failures sink.old) (S.failures sink.new)) }
@@ -93,7 +103,12 @@ fn status_of(document: &Document) -> u8
 }
 
 /// What becomes of the offsets of the open marks when a step left so many.
-fn follow_marks(opened: &mut Vec<u64>, before: usize, after: usize, offset: u64) -> Result<(), AllocError>
+fn follow_marks(
+    opened: &mut Vec<u64>,
+    before: usize,
+    after: usize,
+    offset: u64,
+) -> Result<(), AllocError>
     ensures ok { OnOk result (opened.new.items ≡ followed opened.old.items before after offset) }
 {
     if before < after {
@@ -128,8 +143,9 @@ fn write_listing<S: Sink>(alloc: Global, document: &Document, sink: &mut S) -> R
             write_refused_end(refusal, highest, sink)?;
             return Ok(1);
         }
-        if machine.step(alloc, op, place).is_err() {
-            return Err(Stop::Memory);
+        match machine.step(alloc, op, place) {
+            Ok(_) => {}
+            Err(_) => return Err(Stop::Memory),
         }
         follow_marks(&mut opened, marks, machine.marks_len(), offset)?;
         offset += op.size() as u64;

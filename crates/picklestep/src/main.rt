@@ -3,6 +3,7 @@
 
 mod column;
 mod document;
+mod file;
 mod laws;
 mod line;
 mod list;
@@ -11,3 +12,6 @@ mod note;
 mod stop;
 
 fn main() {}
+
+#[cfg(test)]
+mod tests;
