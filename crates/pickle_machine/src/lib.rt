@@ -11,7 +11,6 @@ mod record;
 mod refusal;
 mod row;
 mod stack;
-mod step;
 mod table;
 
 pub use kind::Kind;
