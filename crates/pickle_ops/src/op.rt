@@ -69,7 +69,7 @@ impl Op {
         }
     }
 
-    /// The number of an argument of the forms `U1`, `U2`, `U4`, `U8` and `Decimal`.
+    /// The number that an argument of the forms `U1`, `U2`, `U4`, `U8` and `Decimal` spells.
     pub fn number(&self) -> u64
         requires { IsTrue (has_number (form_of self.now.opcode)) }
         ensures { result ≡ number_of (form_of self.now.opcode) self.now.arg }
@@ -77,7 +77,7 @@ impl Op {
         number_of(self.opcode().form(), self.arg())
     }
 
-    /// The number of an argument of the form `S4`.
+    /// The number that an argument of the form `S4` spells.
     pub fn signed(&self) -> i32
         requires { form_of self.now.opcode ≡ Form.S4 }
         ensures { result ≡ signed_of self.now.arg }
