@@ -1,7 +1,7 @@
 -- What a whole argument says: the number that it is, the bytes that it holds, the texts of its lines.
 -- Source: the argument descriptors of Python's `pickletools`. Which bytes are a payload is this project's own rule.
-use Rattle.std.specs.Prelude.{ℕ, ℤ, Bool, true, false, List, [], length, drop}
-use Rattle.std.specs.List.{before_first, after_first}
+use Rattle.std.specs.Prelude.{◌≡◌, ℕ, ℤ, Bool, true, false, List, [], ◌∷◌, ◌++◌, length, drop}
+use Rattle.std.specs.List.{before_first, after_first, list_any}
 use Rattle.byteorder.specs.Endian.{little_number, twos_complement}
 use Rattle.pickle_ops.specs.declared.form.Form.{Form}
 use Rattle.pickle_ops.specs.declared.form.Form.TheVariants as form
@@ -61,3 +61,9 @@ first_text arg = before_first is_newline arg
 
 abbrev pub second_text : List ℕ → List ℕ
 second_text arg = text_of (after_first is_newline arg)
+
+-- an argument is two lines of these texts
+pub record AreTextsOf (arg first second : List ℕ) : Type 0 where
+  pub first_clean : list_any is_newline first ≡ false
+  pub second_clean : list_any is_newline second ≡ false
+  pub whole : arg ≡ (first ++ 10 ∷ []) ++ (second ++ 10 ∷ [])

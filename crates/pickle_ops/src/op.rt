@@ -30,7 +30,7 @@ impl Model for Op {
 
 impl Op {
     ghost use Rattle.std.specs.Prelude.{◌≡◌, ◌<◌, length, is_some, IsTrue, IfOk, OnErr};
-    ghost use Rattle.pickle_ops.specs.Argument.{has_number, number_of, signed_of, has_payload, payload, first_text, second_text};
+    ghost use Rattle.pickle_ops.specs.Argument.{has_number, number_of, signed_of, has_payload, payload, first_text, second_text, AreTextsOf};
     ghost use Rattle.pickle_ops.specs.Spelling.{IsSpelled, size_of};
     ghost use Rattle.pickle_ops.specs.Table.{form_of};
     ghost use Rattle.pickle_ops.specs.Text.{arg_text};
@@ -98,6 +98,7 @@ impl Op {
         requires { form_of self.now.opcode ≡ Form.Two }
         ensures first { result.0.now ≡ first_text self.now.arg }
         ensures second { result.1.now ≡ second_text self.now.arg }
+        ensures lines { AreTextsOf self.now.arg result.0.now result.1.now }
     {
         let arg = self.arg();
         (first_text(arg), second_text(arg))
