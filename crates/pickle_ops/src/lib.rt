@@ -1,4 +1,5 @@
-//! The opcodes of a pickle: one opcode from bytes, the text of its argument, and where texts go.
+//! The opcodes of a pickle: one opcode from bytes or from its argument, what the argument says, its text, and where texts
+//! go.
 #![tactic(auto)]
 
 mod argument;
