@@ -156,3 +156,6 @@ impl Document {
         write_all(sink, &self.tail)
     }
 }
+
+#[cfg(test)]
+mod tests;
