@@ -11,7 +11,9 @@ mod record;
 mod refusal;
 mod row;
 mod stack;
+mod step;
 mod table;
+mod unstep;
 
 pub use kind::Kind;
 pub use machine::Machine;
