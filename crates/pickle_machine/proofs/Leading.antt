@@ -61,7 +61,7 @@ changed_by heap id more (Some o) e =
     let x : Object = record o { changes = o.changes ++ more } in
     let one : changed heap id more ≡ set heap id x = ap (λ (g : Option Object). option_map_or (λ (o : Object). set heap id (record o { changes = o.changes ++ more })) g heap) e in
     let two : shortened (set heap id x) id (length more) ≡ set (set heap id x) id (record x { changes = take (length x.changes - length more) x.changes }) =
-        ap (λ (g : Option Object). option_map_or (λ (o : Object). set (set heap id x) id (record o { changes = take (length o.changes - length more) o.changes })) g (set heap id x)) (get_set heap id o x e) in
+    ap (λ (g : Option Object). option_map_or (λ (o : Object). set (set heap id x) id (record o { changes = take (length o.changes - length more) o.changes })) g (set heap id x)) (get_set heap id o x e) in
     ap (λ h. shortened h id (length more)) one ∙ two ∙ ap (λ y. set (set heap id x) id y) (object_back o more) ∙ set_back heap id o x e
 
 pub changed_back : (heap : List Object) (id : ℕ) (more : List Change) → shortened (changed heap id more) id (length more) ≡ heap
@@ -115,7 +115,7 @@ made_leads k parts rest s e =
     let given_back : last_parts (s.heap ++ o ∷ []) ++ [] ≡ parts = append-nil _ ∙ last_parts-append s.heap o in
     let left : take (length (rest ++ length s.heap ∷ []) - 1) (rest ++ length s.heap ∷ []) ≡ rest = take_but_last rest (length s.heap) in
     let top : take (length (rest ++ length s.heap ∷ []) - 1) (rest ++ length s.heap ∷ []) ++ (last_parts (s.heap ++ o ∷ []) ++ []) ≡ s.top =
-        ap (λ l. l ++ (last_parts (s.heap ++ o ∷ []) ++ [])) left ∙ ap (λ l. rest ++ l) given_back ∙ e in
+    ap (λ l. l ++ (last_parts (s.heap ++ o ∷ []) ++ [])) left ∙ ap (λ l. rest ++ l) given_back ∙ e in
     record {
       possible = record { marked = λ h. absurd cc; pushed = λ _. omega (arith, length-append rest (length s.heap ∷ [])); memo = tt };
       leads = state_is s _ _ s.marked s.memo heap top refl refl;

@@ -88,13 +88,19 @@ impl Machine {
         record.pushed = true;
         self.stack.make_room()?;
         let id = self.objects.len() as u32;
-        self.objects.push(Object::new(alloc, kind, Vec::new(alloc)))?;
+        self.objects
+            .push(Object::new(alloc, kind, Vec::new(alloc)))?;
         self.stack.put(id);
         Ok(record)
     }
 
     /// The last n objects of the top section become the parts of a new object.
-    pub(crate) fn gather(&mut self, alloc: Global, n: usize, kind: Kind) -> Result<StepRecord, AllocError>
+    pub(crate) fn gather(
+        &mut self,
+        alloc: Global,
+        n: usize,
+        kind: Kind,
+    ) -> Result<StepRecord, AllocError>
         requires heap { length self.old.state.heap < 2 ^ 32 - 1 }
         requires deep { n ≤ length self.old.state.top }
         ensures ok { OnOk result (self.new.state ≡ push kind (last_of n self.old.state) (without n self.old.state)) }
@@ -176,7 +182,11 @@ impl Machine {
     }
 
     /// The objects above the topmost mark go as changes into the one below it, and the mark goes.
-    pub(crate) fn fill_cut(&mut self, alloc: Global, filling: Filling) -> Result<StepRecord, AllocError>
+    pub(crate) fn fill_cut(
+        &mut self,
+        alloc: Global,
+        filling: Filling,
+    ) -> Result<StepRecord, AllocError>
         requires marked { 0 < length self.old.state.marked }
         requires below { 0 < length (cut self.old.state).top }
         ensures ok { OnOk result (self.new.state ≡ change_top (changes_of filling self.old.state.top) (cut self.old.state)) }

@@ -5,6 +5,7 @@
 mod act;
 mod check;
 mod kind;
+mod laws;
 mod machine;
 mod object;
 mod record;
@@ -16,6 +17,7 @@ mod table;
 mod unstep;
 
 pub use kind::Kind;
+pub use laws::step_and_back;
 pub use machine::Machine;
 pub use object::{Change, ObjId, Object};
 pub use record::StepRecord;

@@ -39,7 +39,13 @@ impl Machine {
     }
 
     /// A row that is not refused.
-    fn perform(&mut self, alloc: Global, row: Row, op: &Op, place: usize) -> Result<StepRecord, AllocError>
+    fn perform(
+        &mut self,
+        alloc: Global,
+        row: Row,
+        op: &Op,
+        place: usize,
+    ) -> Result<StepRecord, AllocError>
         requires heap { length self.old.state.heap < 2 ^ 32 - 1 }
         requires good { refusal_of row self.old.state ≡ None }
         ensures ok { OnOk result (self.new.state ≡ next_of row (kind_of op.now) place self.old.state) }
