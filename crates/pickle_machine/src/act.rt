@@ -78,7 +78,7 @@ impl Machine {
     pub(crate) fn push(&mut self, alloc: Global, kind: Kind) -> Result<StepRecord, AllocError>
         requires { length self.old.state.heap < 2 ^ 32 - 1 }
         ensures ok { OnOk result (self.new.state ≡ push kind [] self.old.state) }
-        ensures record { IfOk result (λ r. r ≡ made None self.old.state) }
+        ensures kept { IfOk result (λ r. r ≡ made None self.old.state) }
         ensures err { OnErr result (self.new.state ≡ self.old.state) }
         ensures rooms { KeepsRooms self.old self.new }
         ensures moves { self.new.moves ≡ self.old.moves }
@@ -88,17 +88,23 @@ impl Machine {
         record.pushed = true;
         self.stack.make_room()?;
         let id = self.objects.len() as u32;
-        self.objects.push(Object::new(alloc, kind, Vec::new(alloc)))?;
+        self.objects
+            .push(Object::new(alloc, kind, Vec::new(alloc)))?;
         self.stack.put(id);
         Ok(record)
     }
 
     /// The last n objects of the top section become the parts of a new object.
-    pub(crate) fn gather(&mut self, alloc: Global, n: usize, kind: Kind) -> Result<StepRecord, AllocError>
+    pub(crate) fn gather(
+        &mut self,
+        alloc: Global,
+        n: usize,
+        kind: Kind,
+    ) -> Result<StepRecord, AllocError>
         requires heap { length self.old.state.heap < 2 ^ 32 - 1 }
         requires deep { n ≤ length self.old.state.top }
         ensures ok { OnOk result (self.new.state ≡ push kind (last_of n self.old.state) (without n self.old.state)) }
-        ensures record { IfOk result (λ r. r ≡ made None self.old.state) }
+        ensures kept { IfOk result (λ r. r ≡ made None self.old.state) }
         ensures err { OnErr result (self.new.state ≡ self.old.state) }
         ensures rooms { KeepsRooms self.old self.new }
         ensures moves { self.new.moves ≡ self.old.moves }
@@ -121,7 +127,7 @@ impl Machine {
         requires heap { length self.old.state.heap < 2 ^ 32 - 1 }
         requires marked { 0 < length self.old.state.marked }
         ensures ok { OnOk result (self.new.state ≡ push kind self.old.state.top (cut self.old.state)) }
-        ensures record { IfOk result (λ r. r ≡ made (Some (place_of self.old.state.marked)) self.old.state) }
+        ensures kept { IfOk result (λ r. r ≡ made (Some (place_of self.old.state.marked)) self.old.state) }
         ensures err { OnErr result (self.new.state ≡ self.old.state) }
         ensures rooms { KeepsRooms self.old self.new }
         ensures moves { self.new.moves ≡ self.old.moves }
@@ -159,7 +165,7 @@ impl Machine {
     pub(crate) fn fill(&mut self, filling: Filling) -> Result<StepRecord, AllocError>
         requires { values_of filling < length self.old.state.top }
         ensures ok { OnOk result (self.new.state ≡ change_top (changes_of filling (last_of (values_of filling) self.old.state)) (without (values_of filling) self.old.state)) }
-        ensures record { IfOk result (λ r. r ≡ filled (deep (values_of filling) self.old.state.top) (length (changes_of filling (last_of (values_of filling) self.old.state))) (last_of (values_of filling) self.old.state) None self.old.state) }
+        ensures kept { IfOk result (λ r. r ≡ filled (deep (values_of filling) self.old.state.top) (length (changes_of filling (last_of (values_of filling) self.old.state))) (last_of (values_of filling) self.old.state) None self.old.state) }
         ensures err { OnErr result (self.new.state ≡ self.old.state) }
         ensures rooms { KeepsRooms self.old self.new }
         ensures moves { self.new.moves ≡ self.old.moves }
@@ -176,11 +182,15 @@ impl Machine {
     }
 
     /// The objects above the topmost mark go as changes into the one below it, and the mark goes.
-    pub(crate) fn fill_cut(&mut self, alloc: Global, filling: Filling) -> Result<StepRecord, AllocError>
+    pub(crate) fn fill_cut(
+        &mut self,
+        alloc: Global,
+        filling: Filling,
+    ) -> Result<StepRecord, AllocError>
         requires marked { 0 < length self.old.state.marked }
         requires below { 0 < length (cut self.old.state).top }
         ensures ok { OnOk result (self.new.state ≡ change_top (changes_of filling self.old.state.top) (cut self.old.state)) }
-        ensures record { IfOk result (λ r. r ≡ filled (deep 0 (cut self.old.state).top) (length (changes_of filling self.old.state.top)) self.old.state.top (Some (place_of self.old.state.marked)) self.old.state) }
+        ensures kept { IfOk result (λ r. r ≡ filled (deep 0 (cut self.old.state).top) (length (changes_of filling self.old.state.top)) self.old.state.top (Some (place_of self.old.state.marked)) self.old.state) }
         ensures err { OnErr result (self.new.state ≡ self.old.state) }
         ensures rooms { KeepsRooms self.old self.new }
         ensures moves { self.new.moves ≡ self.old.moves }
@@ -202,7 +212,7 @@ impl Machine {
     pub(crate) fn pop(&mut self) -> StepRecord
         requires { 0 < length self.old.state.top }
         ensures after { self.new ≡ record self.old { state = without 1 self.old.state } }
-        ensures record { result ≡ lost (last_of 1 self.old.state) None self.old.state }
+        ensures kept { result ≡ lost (last_of 1 self.old.state) None self.old.state }
     {
         let mut record = self.unchanged();
         record.taken = Taken::One(self.deep(0));
@@ -215,7 +225,7 @@ impl Machine {
         requires empty { self.old.state.top ≡ [] }
         requires marked { 0 < length self.old.state.marked }
         ensures after { self.new ≡ record self.old { state = cut self.old.state } }
-        ensures record { result ≡ lost [] (Some (place_of self.old.state.marked)) self.old.state }
+        ensures kept { result ≡ lost [] (Some (place_of self.old.state.marked)) self.old.state }
     {
         let mut record = self.unchanged();
         record.cut = Some(self.stack.place());
@@ -227,7 +237,7 @@ impl Machine {
     pub(crate) fn lose_cut(&mut self, alloc: Global) -> Result<StepRecord, AllocError>
         requires { 0 < length self.old.state.marked }
         ensures ok { OnOk result (self.new.state ≡ cut self.old.state) }
-        ensures record { IfOk result (λ r. r ≡ lost self.old.state.top (Some (place_of self.old.state.marked)) self.old.state) }
+        ensures kept { IfOk result (λ r. r ≡ lost self.old.state.top (Some (place_of self.old.state.marked)) self.old.state) }
         ensures err { OnErr result (self.new.state ≡ self.old.state) }
         ensures rooms { KeepsRooms self.old self.new }
         ensures moves { self.new.moves ≡ self.old.moves }
@@ -242,7 +252,7 @@ impl Machine {
     /// An object that is there stands on the top section.
     pub(crate) fn repeat(&mut self, id: ObjId) -> Result<StepRecord, AllocError>
         ensures ok { OnOk result (self.new.state ≡ put_on id self.old.state) }
-        ensures record { IfOk result (λ r. r ≡ repeated self.old.state) }
+        ensures kept { IfOk result (λ r. r ≡ repeated self.old.state) }
         ensures err { OnErr result (self.new.state ≡ self.old.state) }
         ensures full { OnErr result (stack_size self.old.state ≡ self.old.cells) }
         ensures rooms { KeepsRooms self.old self.new }
@@ -258,7 +268,7 @@ impl Machine {
     /// A new section begins above a mark.
     pub(crate) fn set_mark(&mut self, place: usize) -> Result<StepRecord, AllocError>
         ensures ok { OnOk result (self.new.state ≡ record self.old.state { top = []; marked = record { section = self.old.state.top; place = place } ∷ self.old.state.marked }) }
-        ensures record { IfOk result (λ r. r ≡ record (unchanged self.old.state) { marked = true }) }
+        ensures kept { IfOk result (λ r. r ≡ record (unchanged self.old.state) { marked = true }) }
         ensures err { OnErr result (self.new.state ≡ self.old.state) }
         ensures full { OnErr result (length self.old.state.marked ≡ self.old.marks) }
         ensures rooms { KeepsRooms self.old self.new }
@@ -275,7 +285,7 @@ impl Machine {
     pub(crate) fn store(&mut self, key: u64) -> Result<StepRecord, AllocError>
         requires { 0 < length self.old.state.top }
         ensures ok { OnOk result (self.new.state ≡ put key self.old.state) }
-        ensures record { IfOk result (λ r. r ≡ stored key self.old.state) }
+        ensures kept { IfOk result (λ r. r ≡ stored key self.old.state) }
         ensures err { OnErr result (self.new.state ≡ self.old.state) }
         ensures rooms { KeepsRooms self.old self.new }
         ensures moves { self.new.moves ≡ self.old.moves }

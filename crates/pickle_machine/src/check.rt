@@ -192,8 +192,16 @@ impl Machine {
     {
         match row {
             Row::Nothing => None,
-            Row::Protocol(n) => if n > 5 { Some(Refusal::BadProtocol(n)) } else { None },
-            Row::Extension(n) => if n <= 0 { Some(Refusal::BadExtension(n)) } else { None },
+            Row::Protocol(n) => if n > 5 {
+                Some(Refusal::BadProtocol(n))
+            } else {
+                None
+            },
+            Row::Extension(n) => if n <= 0 {
+                Some(Refusal::BadExtension(n))
+            } else {
+                None
+            },
             Row::Push => None,
             Row::Buffer => None,
             Row::ReadOnly => self.view_refusal(),

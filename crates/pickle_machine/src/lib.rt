@@ -5,15 +5,19 @@
 mod act;
 mod check;
 mod kind;
+mod laws;
 mod machine;
 mod object;
 mod record;
 mod refusal;
 mod row;
 mod stack;
+mod step;
 mod table;
+mod unstep;
 
 pub use kind::Kind;
+pub use laws::step_and_back;
 pub use machine::Machine;
 pub use object::{Change, ObjId, Object};
 pub use record::StepRecord;
