@@ -1,3 +1,4 @@
+-- The definitions that contracts cite.
 pub mod Table
 pub mod Shape
 pub mod Argument

@@ -36,6 +36,69 @@ fn line_len(bytes: &[u8]) -> Option<usize>
     }
 }
 
+/// Two lines, one behind the other.
+fn two_lines_len(bytes: &[u8]) -> Option<usize>
+    ensures size { result ≡ arg_size Form.Two bytes.now }
+    ensures within { IfSome result (λ n. n ≤ length bytes.now) }
+{
+    let first = line_len(bytes)?;
+    let second = line_len(&bytes[first..])?;
+    Some(first + second)
+}
+
+/// A length of one byte, and as many bytes as it says.
+fn counted_by_one_len(bytes: &[u8]) -> Option<usize>
+    ensures size { result ≡ arg_size Form.B1 bytes.now }
+    ensures within { IfSome result (λ n. n ≤ length bytes.now) }
+{
+    if bytes.is_empty() {
+        return None;
+    }
+    fixed_len(1 + bytes[0] as usize, bytes)
+}
+
+/// A length of four bytes, and as many bytes as it says.
+fn counted_by_four_len(bytes: &[u8]) -> Option<usize>
+    ensures size { result ≡ arg_size Form.B4 bytes.now }
+    ensures within { IfSome result (λ n. n ≤ length bytes.now) }
+{
+    if bytes.len() < 4 {
+        return None;
+    }
+    fixed_len(4 + LittleEndian::read_u32(bytes) as usize, bytes)
+}
+
+/// A length of eight bytes, and as many bytes as it says.
+fn counted_by_eight_len(bytes: &[u8]) -> Option<usize>
+    ensures size { result ≡ arg_size Form.B8 bytes.now }
+    ensures within { IfSome result (λ n. n ≤ length bytes.now) }
+{
+    if bytes.len() < 8 {
+        return None;
+    }
+    let count = LittleEndian::read_u64(bytes) as usize;
+    if count <= bytes.len() - 8 {
+        Some(8 + count)
+    } else {
+        None
+    }
+}
+
+/// A signed length of four bytes, and as many bytes as it says; the length alone where it is below 0.
+fn counted_by_signed_len(bytes: &[u8]) -> Option<usize>
+    ensures size { result ≡ arg_size Form.Bs4 bytes.now }
+    ensures within { IfSome result (λ n. n ≤ length bytes.now) }
+{
+    if bytes.len() < 4 {
+        return None;
+    }
+    let count = LittleEndian::read_u32(bytes);
+    if count >= NEGATIVE {
+        return Some(4);
+    }
+    fixed_len(4 + count as usize, bytes)
+}
+
 /// How many bytes the argument of this form takes at the front; none where the bytes end inside it.
 pub(crate) fn arg_len(form: Form, bytes: &[u8]) -> Option<usize>
     ensures size { result ≡ arg_size form bytes.now }
@@ -52,45 +115,11 @@ pub(crate) fn arg_len(form: Form, bytes: &[u8]) -> Option<usize>
         Form::Line => line_len(bytes),
         Form::Quoted => line_len(bytes),
         Form::Decimal => line_len(bytes),
-        Form::Two => {
-            let first = line_len(bytes)?;
-            let second = line_len(&bytes[first..])?;
-            Some(first + second)
-        }
-        Form::B1 => {
-            if bytes.is_empty() {
-                return None;
-            }
-            fixed_len(1 + bytes[0] as usize, bytes)
-        }
-        Form::B4 => {
-            if bytes.len() < 4 {
-                return None;
-            }
-            fixed_len(4 + LittleEndian::read_u32(bytes) as usize, bytes)
-        }
-        Form::B8 => {
-            if bytes.len() < 8 {
-                return None;
-            }
-            let count = LittleEndian::read_u64(bytes) as usize;
-            if count <= bytes.len() - 8 {
-                Some(8 + count)
-            } else {
-                None
-            }
-        }
-        Form::Bs4 => {
-            if bytes.len() < 4 {
-                return None;
-            }
-            let count = LittleEndian::read_u32(bytes);
-            if count >= NEGATIVE {
-                Some(4)
-            } else {
-                fixed_len(4 + count as usize, bytes)
-            }
-        }
+        Form::Two => two_lines_len(bytes),
+        Form::B1 => counted_by_one_len(bytes),
+        Form::B4 => counted_by_four_len(bytes),
+        Form::B8 => counted_by_eight_len(bytes),
+        Form::Bs4 => counted_by_signed_len(bytes),
     }
 }
 

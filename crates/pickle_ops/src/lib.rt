@@ -1,4 +1,5 @@
-//! The opcodes of a pickle: one opcode from bytes, the text of its argument, and where texts go.
+//! The opcodes of a pickle: one opcode from bytes or from its argument, what the argument says, its text, and where texts
+//! go.
 #![tactic(auto)]
 
 mod argument;
@@ -6,9 +7,11 @@ mod drip;
 mod fault;
 mod form;
 mod from_read;
+mod integer;
 mod laws;
 mod op;
 mod opcode;
+mod payload;
 mod read;
 mod sink;
 mod sip;
@@ -26,6 +29,7 @@ pub use from_read::FromRead;
 pub use laws::{no_shape_begins_another, one_front, spellings_are_read_again};
 pub use op::Op;
 pub use opcode::Opcode;
+pub use payload::Payload;
 pub use read::{op_of, read_op};
 pub use sink::{Failed, Sink, write_all};
 pub use sip::Sip;

@@ -12,7 +12,7 @@ use std::rc::RcSlice;
 #[derive(Debug, Drop)]
 pub struct Op {
     opcode: Opcode,
-    arg: Option<RcSlice<u8>>,
+    pub(crate) arg: Option<RcSlice<u8>>,
 }
 
 impl Model for Op {
@@ -30,7 +30,7 @@ impl Model for Op {
 
 impl Op {
     ghost use Rattle.std.specs.Prelude.{◌≡◌, ◌<◌, length, is_some, IsTrue, IfOk, OnErr};
-    ghost use Rattle.pickle_ops.specs.Argument.{has_number, number_of, signed_of, has_payload, payload, first_text, second_text};
+    ghost use Rattle.pickle_ops.specs.Argument.{has_number, number_of, signed_of, has_payload, payload, first_text, second_text, AreTextsOf};
     ghost use Rattle.pickle_ops.specs.Spelling.{IsSpelled, size_of};
     ghost use Rattle.pickle_ops.specs.Table.{form_of};
     ghost use Rattle.pickle_ops.specs.Text.{arg_text};
@@ -69,7 +69,7 @@ impl Op {
         }
     }
 
-    /// The number of an argument of the forms `U1`, `U2`, `U4`, `U8` and `Decimal`.
+    /// The number that an argument of the forms `U1`, `U2`, `U4`, `U8` and `Decimal` spells.
     pub fn number(&self) -> u64
         requires { IsTrue (has_number (form_of self.now.opcode)) }
         ensures { result ≡ number_of (form_of self.now.opcode) self.now.arg }
@@ -77,7 +77,7 @@ impl Op {
         number_of(self.opcode().form(), self.arg())
     }
 
-    /// The number of an argument of the form `S4`.
+    /// The number that an argument of the form `S4` spells.
     pub fn signed(&self) -> i32
         requires { form_of self.now.opcode ≡ Form.S4 }
         ensures { result ≡ signed_of self.now.arg }
@@ -98,6 +98,7 @@ impl Op {
         requires { form_of self.now.opcode ≡ Form.Two }
         ensures first { result.0.now ≡ first_text self.now.arg }
         ensures second { result.1.now ≡ second_text self.now.arg }
+        ensures lines { AreTextsOf self.now.arg result.0.now result.1.now }
     {
         let arg = self.arg();
         (first_text(arg), second_text(arg))

@@ -1,4 +1,4 @@
-//! Texts, written piece by piece.
+//! Texts, written piece by piece. Where the sink fails, a front of the text was written, as by `write_all`.
 
 ghost use Rattle.std.specs.Prelude.{◌≡◌, ◌≤◌, ◌∷◌, [], None, OnErr, codes, decimal, unwrap_or};
 ghost use Rattle.std.specs.Fmt.{signed_decimal};
@@ -14,7 +14,7 @@ use crate::sink::{Failed, Sink, write_all};
 use crate::value::{first_text, long_of, number_of, payload, second_text, signed_of};
 use itoa::Buffer;
 
-/// Writes a number in decimal digits.
+/// Writes a number in decimal digits, without leading zeros. Where the sink fails, a front of them was written.
 pub fn write_decimal<S: Sink>(number: u64, sink: &mut S) -> Result<(), Failed>
     ensures takes { Takes (S.taken sink.old) (S.taken sink.new) result (decimal number) }
     ensures rises { S.failures sink.old ≤ S.failures sink.new }
@@ -23,7 +23,8 @@ pub fn write_decimal<S: Sink>(number: u64, sink: &mut S) -> Result<(), Failed>
     write_all(sink, Buffer::new().format(number).as_bytes())
 }
 
-/// Writes a number in decimal digits, behind a minus where it is below 0.
+/// Writes a number in decimal digits, behind a minus where it is below 0. Where the sink fails, a front of the text was
+/// written.
 pub fn write_signed<S: Sink>(number: i128, sink: &mut S) -> Result<(), Failed>
     ensures takes { Takes (S.taken sink.old) (S.taken sink.new) result (signed_decimal number) }
     ensures rises { S.failures sink.old ≤ S.failures sink.new }
@@ -42,7 +43,7 @@ fn hex_digits(byte: u8) -> [u8; 2]
     digits
 }
 
-/// Writes bytes in hexadecimal, two lower case digits each.
+/// Writes bytes in hexadecimal, two lower case digits each. Where the sink fails, a front of the text was written.
 #[tactic(auto, using(crate::proofs::Pieces::piece_steps))]
 pub fn write_hex<S: Sink>(bytes: &[u8], sink: &mut S) -> Result<(), Failed>
     ensures takes { Takes (S.taken sink.old) (S.taken sink.new) result (hexadecimal bytes.now) }
@@ -98,7 +99,7 @@ fn write_quoted_bytes<S: Sink>(text: &[u8], sink: &mut S) -> Result<(), Failed>
 }
 
 /// Writes a text in single quotes, on one line: `\\` for a backslash, `\'` for a quote, `\x` and two lower case
-/// digits for a byte outside 0x20 to 0x7e.
+/// digits for a byte outside 0x20 to 0x7e. Where the sink fails, a front of the text was written.
 #[tactic(auto, using(crate::proofs::Devices::text_steps), unfolding(crate::specs::Text::quoted))]
 pub fn write_quoted<S: Sink>(text: &[u8], sink: &mut S) -> Result<(), Failed>
     ensures takes { Takes (S.taken sink.old) (S.taken sink.new) result (quoted text.now) }
@@ -110,7 +111,8 @@ pub fn write_quoted<S: Sink>(text: &[u8], sink: &mut S) -> Result<(), Failed>
     write_all(sink, b"'")
 }
 
-/// Writes the bytes of a float as they stand: `f8:` and two hexadecimal digits a byte.
+/// Writes the bytes of a float as they stand: `f8:` and two hexadecimal digits a byte. Where the sink fails, a front of
+/// the text was written.
 #[tactic(auto, using(crate::proofs::Devices::text_steps), unfolding(crate::specs::Text::float_text))]
 pub fn write_float<S: Sink>(bytes: &[u8], sink: &mut S) -> Result<(), Failed>
     ensures takes { Takes (S.taken sink.old) (S.taken sink.new) result (float_text bytes.now) }
@@ -133,7 +135,8 @@ fn write_long_bytes<S: Sink>(bytes: &[u8], sink: &mut S) -> Result<(), Failed>
 }
 
 /// Writes the bytes of a long number, the lowest first: up to sixteen as the decimal number that they are in two's
-/// complement (no bytes are 0), more as `le:` and two hexadecimal digits a byte.
+/// complement (no bytes are 0), more as `le:` and two hexadecimal digits a byte. Where the sink fails, a front of the text
+/// was written.
 #[tactic(auto, unfolding(crate::specs::Text::long_text))]
 pub fn write_long<S: Sink>(bytes: &[u8], sink: &mut S) -> Result<(), Failed>
     ensures takes { Takes (S.taken sink.old) (S.taken sink.new) result (long_text bytes.now) }
@@ -193,7 +196,8 @@ fn is_long(opcode: Opcode) -> bool
     matches!(opcode, Opcode::Long1 | Opcode::Long4)
 }
 
-/// Writes the text of the argument: nothing where there is none. It takes no memory.
+/// Writes the text of the argument: nothing where there is none. It takes no memory. Where the sink fails, a front of the
+/// text was written.
 #[tactic(auto, unfolding(crate::specs::Text::arg_text))]
 pub fn write_arg_text<S: Sink>(op: &Op, sink: &mut S) -> Result<(), Failed>
     ensures takes { Takes (S.taken sink.old) (S.taken sink.new) result (unwrap_or (arg_text op.now) []) }

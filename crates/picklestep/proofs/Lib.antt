@@ -1,12 +1,11 @@
 pub mod Blanks
 pub mod Names
-pub mod Tails
-pub mod Reading
-pub mod OneDocument
 pub mod Moves
 pub mod Places
 pub mod Listings
 pub mod Programs
+pub mod SessionMoves
+pub mod SessionPlaces
 pub mod WordLemmas
 pub mod Sessions
 pub mod Stacks
@@ -14,3 +13,6 @@ pub mod Refusals
 pub mod Cuts
 pub mod Feeding
 pub mod Endings
+pub mod Tails
+pub mod Reading
+pub mod OneDocument

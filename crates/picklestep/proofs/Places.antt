@@ -8,31 +8,30 @@ use Rattle.std.proofs.lemmas.List.{append-nil}
 use Rattle.pickle_ops.specs.Text.{◌⧺◌}
 use Rattle.pickle_ops.specs.Table.{protocol_of}
 use Rattle.pickle_ops.specs.Spelling.{Operation, spelling, size_of}
-use Rattle.picklestep.specs.State.{State}
-use Rattle.picklestep.specs.Move.{move}
-use Rattle.picklestep.specs.Run.{run, after}
-use Rattle.picklestep.specs.Document.{Contents, sizes, bytes_of}
+use Rattle.std.specs.List.{flat_map}
+use Rattle.pickle_doc.specs.DocUnit.{bytes_of}
+use Rattle.pickle_machine.specs.State.{State}
+use Rattle.pickle_machine.specs.Move.{move}
+use Rattle.pickle_machine.specs.Run.{run, after}
 use Rattle.picklestep.specs.Line.{raised, highest_protocol}
 use Rattle.picklestep.specs.Listing.{line_at, lines, reached}
 
 -- ---- sizes
 
-pub length-bytes_of : (ops : List Operation) → length (bytes_of ops) ≡ sizes ops
-length-bytes_of [] = refl
-length-bytes_of (o ∷ ops) = length-append (spelling o) (bytes_of ops) ∙ omega (arith, length-bytes_of ops)
+pub bytes_of-push : (ops : List Operation) (o : Operation) → length (bytes_of (ops ++ (o ∷ []))) ≡ length (bytes_of ops) + size_of o
+bytes_of-push [] o = ap length (append-nil (spelling o)) ∙ omega arith
+bytes_of-push (p ∷ ops) o =
+    omega (arith, length-append (spelling p) (bytes_of (ops ++ (o ∷ []))), length-append (spelling p) (bytes_of ops), bytes_of-push ops o)
 
-pub sizes-push : (ops : List Operation) (o : Operation) → sizes (ops ++ (o ∷ [])) ≡ sizes ops + size_of o
-sizes-push [] o = omega arith
-sizes-push (p ∷ ops) o = omega (arith, sizes-push ops o)
+pub length-bytes_of : (ops : List Operation) → length ops ≤ length (bytes_of ops)
+length-bytes_of [] = omega arith
+length-bytes_of (o ∷ ops) = omega (arith, length-append (spelling o) (bytes_of ops), length-bytes_of ops)
 
-pub length-sizes : (ops : List Operation) → length ops ≤ sizes ops
-length-sizes [] = omega arith
-length-sizes (o ∷ ops) = omega (arith, length-sizes ops)
-
-pub sizes-take : (ops : List Operation) (k : ℕ) → sizes (take k ops) ≤ sizes ops
-sizes-take ops zero = omega arith
-sizes-take [] (suc k) = omega arith
-sizes-take (o ∷ ops) (suc k) = omega (arith, sizes-take ops k)
+pub bytes_of-take : (ops : List Operation) (k : ℕ) → length (bytes_of (take k ops)) ≤ length (bytes_of ops)
+bytes_of-take ops zero = omega arith
+bytes_of-take [] (suc k) = omega arith
+bytes_of-take (o ∷ ops) (suc k) =
+    omega (arith, length-append (spelling o) (bytes_of (take k ops)), length-append (spelling o) (bytes_of ops), bytes_of-take ops k)
 
 -- ---- protocols
 

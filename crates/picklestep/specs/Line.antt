@@ -3,12 +3,15 @@
 use Rattle.std.specs.Prelude.{ℕ, ◌*◌, max, List, [], ◌∷◌, decimal, codes, Option, None, Some, ◌==◌, ◌&&◌, if◌then◌else◌}
 use Rattle.pickle_ops.specs.declared.opcode.Opcode.{Opcode}
 use Rattle.pickle_ops.specs.Spelling.{Operation}
+use Rattle.std.specs.Fmt.{signed_decimal}
 use Rattle.pickle_ops.specs.Table.{code_of, name_of, protocol_of}
 use Rattle.pickle_ops.specs.Text.{arg_text, ◌⧺◌}
-use Rattle.picklestep.specs.declared.document.TailFault.{TailFault}
-use Rattle.picklestep.specs.declared.document.TailFault.TheVariants as tail
-use Rattle.picklestep.specs.declared.refusal.Refusal.{Refusal}
-use Rattle.picklestep.specs.declared.refusal.Refusal.TheVariants as refusal
+use Rattle.pickle_doc.specs.declared.fault.TailFault.{TailFault}
+use Rattle.pickle_doc.specs.declared.fault.TailFault.TheVariants as tail
+use Rattle.pickle_machine.specs.declared.refusal.Refusal.{Refusal}
+use Rattle.pickle_machine.specs.declared.refusal.Refusal.TheVariants as refusal
+use Rattle.picklestep.specs.declared.note.Note.{Note}
+use Rattle.picklestep.specs.declared.note.Note.TheVariants as note
 use Rattle.picklestep.specs.Column.{blanks, right, left, hex_byte, code_text, newline}
 
 -- ---- the line of an item
@@ -21,29 +24,65 @@ offset_column offset = right 5 (decimal offset) ⧺ codes ": "
 unfoldable pub code_column : Opcode → List ℕ
 code_column o = left 4 (code_text (code_of o)) ⧺ codes " "
 
+-- what an opcode that takes a mark or counts the memo says besides: where that mark was set, or under which key the memo
+-- gets the top
+unfoldable pub mark_text : ℕ → List ℕ
+mark_text offset = codes "(MARK at " ⧺ decimal offset ⧺ codes ")"
+
+unfoldable pub as_text : ℕ → List ℕ
+as_text key = codes "(as " ⧺ decimal key ⧺ codes ")"
+
+abbrev pub note_text : Note → List ℕ
+note_text (note.MarkAt offset) = mark_text offset
+note_text (note.As key) = as_text key
+
 -- the name; where there is an argument text or a note, the name fills ten places and each stands behind a blank
-abbrev pub described : List ℕ → Option (List ℕ) → Option (List ℕ) → List ℕ
+abbrev pub described : List ℕ → Option (List ℕ) → Option Note → List ℕ
 described name None None = name
 described name (Some arg) None = left 10 name ⧺ codes " " ⧺ arg
-described name None (Some note) = left 10 name ⧺ codes " " ⧺ note
-described name (Some arg) (Some note) = left 10 name ⧺ codes " " ⧺ arg ⧺ codes " " ⧺ note
+described name None (Some n) = left 10 name ⧺ codes " " ⧺ note_text n
+described name (Some arg) (Some n) = left 10 name ⧺ codes " " ⧺ arg ⧺ codes " " ⧺ note_text n
 
-unfoldable pub named : Operation → Option (List ℕ) → List ℕ
-named o note = described (name_of o.opcode) (arg_text o) note
+unfoldable pub named : Operation → Option Note → List ℕ
+named o n = described (name_of o.opcode) (arg_text o) n
 
 -- the line of an item at this offset, with four blanks for each open mark
-unfoldable pub item_line : Operation → ℕ → ℕ → Option (List ℕ) → List ℕ
-item_line o offset marks note = offset_column offset ⧺ code_column o.opcode ⧺ blanks (4 * marks) ⧺ named o note ⧺ newline
-
--- the note of an opcode that takes the mark at this offset
-unfoldable pub mark_note : ℕ → List ℕ
-mark_note offset = codes "(MARK at " ⧺ decimal offset ⧺ codes ")"
+unfoldable pub item_line : Operation → ℕ → ℕ → Option Note → List ℕ
+item_line o offset marks n = offset_column offset ⧺ code_column o.opcode ⧺ blanks (4 * marks) ⧺ named o n ⧺ newline
 
 -- ---- the closing lines
 
+-- the words of a refusal, and the number that stands behind them
+unfoldable pub refusal_words : Refusal → List ℕ
+refusal_words refusal.NoMark = codes "S1 no mark"
+refusal_words refusal.Underflow = codes "S2 stack underflow"
+refusal_words (refusal.NoMemoEntry key) = codes "S3 no memo entry "
+refusal_words refusal.OddItems = codes "S4 odd number of items"
+refusal_words (refusal.WrongKind id) = codes "S5 wrong kind #"
+refusal_words (refusal.BadProtocol n) = codes "S6 bad protocol "
+refusal_words (refusal.BadExtension n) = codes "S7 bad extension "
+refusal_words (refusal.NotText id) = codes "S8 not a text #"
+refusal_words (refusal.NotCallable id) = codes "S9 not callable #"
+refusal_words (refusal.NotArguments id) = codes "S10 not arguments #"
+refusal_words (refusal.NotKeywords id) = codes "S11 not keywords #"
+refusal_words refusal.Memory = codes "M out of memory"
+
+unfoldable pub refusal_number : Refusal → List ℕ
+refusal_number refusal.NoMark = []
+refusal_number refusal.Underflow = []
+refusal_number (refusal.NoMemoEntry key) = decimal key
+refusal_number refusal.OddItems = []
+refusal_number (refusal.WrongKind id) = decimal id
+refusal_number (refusal.BadProtocol n) = decimal n
+refusal_number (refusal.BadExtension n) = signed_decimal n
+refusal_number (refusal.NotText id) = decimal id
+refusal_number (refusal.NotCallable id) = decimal id
+refusal_number (refusal.NotArguments id) = decimal id
+refusal_number (refusal.NotKeywords id) = decimal id
+refusal_number refusal.Memory = []
+
 unfoldable pub refusal_text : Refusal → List ℕ
-refusal_text refusal.Underflow = codes "S2 stack underflow"
-refusal_text refusal.Memory = codes "M out of memory"
+refusal_text r = refusal_words r ⧺ refusal_number r
 
 unfoldable pub refused_line : Refusal → List ℕ
 refused_line r = codes "refused: " ⧺ refusal_text r ⧺ newline
@@ -55,6 +94,9 @@ fault_words (tail.UnknownOpcode byte) = codes "F2 unknown opcode 0x"
 fault_words tail.Truncated = codes "F3 truncated"
 fault_words tail.NegativeLength = codes "F4 negative length"
 fault_words tail.BadArgument = codes "F5 bad argument"
+fault_words tail.FrameInFrame = codes "F6 frame in a frame"
+fault_words tail.FramePastEnd = codes "F7 frame past the end"
+fault_words tail.FrameCrossed = codes "F8 frame crossed"
 
 unfoldable pub fault_byte : TailFault → List ℕ
 fault_byte (tail.UnknownOpcode byte) = hex_byte byte
@@ -62,6 +104,9 @@ fault_byte tail.Ended = []
 fault_byte tail.Truncated = []
 fault_byte tail.NegativeLength = []
 fault_byte tail.BadArgument = []
+fault_byte tail.FrameInFrame = []
+fault_byte tail.FramePastEnd = []
+fault_byte tail.FrameCrossed = []
 
 unfoldable pub fault_text : TailFault → List ℕ
 fault_text f = fault_words f ⧺ fault_byte f

@@ -1,27 +1,13 @@
-//! The items of a pickle, read from bytes.
+//! Documents without frames, of the opcodes that the session knows.
 
 ghost use Rattle.std.specs.Prelude.{◌≡◌};
 ghost use Rattle.picklestep.specs.Document.{is_stop};
 
 use crate::next::{Next, next_item};
+use pickle_doc::TailFault;
 use pickle_ops::{Op, Opcode};
 use std::alloc::{AllocError, Global};
 use std::marker::Model;
-
-/// Why the bytes of a tail are no further items: the first that applies, in this order.
-#[derive(Clone, Copy, Debug, PartialEq, Eq)]
-pub enum TailFault {
-    /// There is no byte.
-    Ended,
-    /// The first byte is no opcode's code.
-    UnknownOpcode(u8),
-    /// The bytes end inside the argument.
-    Truncated,
-    /// The argument's length is below 0.
-    NegativeLength,
-    /// The argument is a line that the opcode does not take.
-    BadArgument,
-}
 
 /// Why reading ended.
 #[derive(Clone, Copy, Debug, PartialEq, Eq)]

@@ -1,7 +1,7 @@
 //! A file, read whole.
 
-use crate::list::LIMIT;
 use crate::stop::Stop;
+use pickle_doc::LIMIT;
 use std::fs::File;
 use std::io::{ErrorKind, Read};
 

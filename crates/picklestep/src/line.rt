@@ -1,19 +1,22 @@
 //! The lines of a listing.
 
-ghost use Rattle.std.specs.Prelude.{◌≡◌, ◌≤◌, ◌<◌, ◌^◌, ◌*◌, ◌++◌, length, None, OnErr};
+ghost use Rattle.std.specs.Prelude.{◌≡◌, ◌≤◌, ◌<◌, ◌^◌, ◌*◌, ◌++◌, length, None, Some, OnErr};
+ghost use Rattle.std.specs.Fmt.{signed_decimal};
+ghost use Rattle.pickle_ops.specs.Table.{name_of};
 ghost use Rattle.pickle_ops.specs.Device.{Takes, HasFailed};
-ghost use Rattle.pickle_ops.specs.Text.{◌⧺◌};
-ghost use Rattle.picklestep.specs.Line.{offset_column, code_column, named, item_line, refused_line, refusal_text, fault_words, fault_byte, fault_text, fault_line, left_text, left_line, kept_text, kept_line, kept_words, protocol_words, protocol_text, protocol_line};
+ghost use Rattle.pickle_ops.specs.Text.{◌⧺◌, arg_text};
+ghost use Rattle.picklestep.specs.Line.{offset_column, code_column, mark_text, as_text, note_text, described, named, item_line, refused_line, refusal_words, refusal_number, refusal_text, fault_words, fault_byte, fault_text, fault_line, left_text, left_line, kept_text, kept_line, kept_words, protocol_words, protocol_text, protocol_line};
 
 use crate::column::{hex, write_blanks, write_code, write_left, write_right};
-use crate::document::TailFault;
-use crate::refusal::Refusal;
+use crate::note::Note;
 use itoa::Buffer;
+use pickle_doc::TailFault;
+use pickle_machine::Refusal;
 use pickle_ops::{Failed, Op, Opcode, Sink, write_all, write_arg_text, write_decimal};
 
 /// Writes where an item stands.
 #[tactic(auto, using(pickle_ops::proofs::Devices::text_steps), unfolding(crate::specs::Line::offset_column))]
-fn write_offset<S: Sink>(offset: usize, sink: &mut S) -> Result<(), Failed>
+fn write_offset<S: Sink>(offset: u64, sink: &mut S) -> Result<(), Failed>
     ensures takes { Takes (S.taken sink.old) (S.taken sink.new) result (offset_column offset) }
     ensures rises { S.failures sink.old ≤ S.failures sink.new }
     ensures failed { OnErr result (HasFailed (S.failures sink.old) (S.failures sink.new)) }
@@ -34,10 +37,46 @@ fn write_opcode<S: Sink>(opcode: Opcode, sink: &mut S) -> Result<(), Failed>
     write_all(sink, b" ")
 }
 
+/// Writes where the mark was set that an opcode takes.
+#[tactic(auto, using(pickle_ops::proofs::Devices::text_steps), unfolding(crate::specs::Line::mark_text))]
+fn write_mark<S: Sink>(offset: u64, sink: &mut S) -> Result<(), Failed>
+    ensures takes { Takes (S.taken sink.old) (S.taken sink.new) result (mark_text offset) }
+    ensures rises { S.failures sink.old ≤ S.failures sink.new }
+    ensures failed { OnErr result (HasFailed (S.failures sink.old) (S.failures sink.new)) }
+{
+    write_all(sink, b"(MARK at ")?;
+    write_decimal(offset, sink)?;
+    write_all(sink, b")")
+}
+
+/// Writes under which key the memo gets the top.
+#[tactic(auto, using(pickle_ops::proofs::Devices::text_steps), unfolding(crate::specs::Line::as_text))]
+fn write_as<S: Sink>(key: u64, sink: &mut S) -> Result<(), Failed>
+    ensures takes { Takes (S.taken sink.old) (S.taken sink.new) result (as_text key) }
+    ensures rises { S.failures sink.old ≤ S.failures sink.new }
+    ensures failed { OnErr result (HasFailed (S.failures sink.old) (S.failures sink.new)) }
+{
+    write_all(sink, b"(as ")?;
+    write_decimal(key, sink)?;
+    write_all(sink, b")")
+}
+
+/// Writes a note.
+fn write_note<S: Sink>(note: Note, sink: &mut S) -> Result<(), Failed>
+    ensures takes { Takes (S.taken sink.old) (S.taken sink.new) result (note_text note) }
+    ensures rises { S.failures sink.old ≤ S.failures sink.new }
+    ensures failed { OnErr result (HasFailed (S.failures sink.old) (S.failures sink.new)) }
+{
+    match note {
+        Note::MarkAt(offset) => write_mark(offset, sink),
+        Note::As(key) => write_as(key, sink),
+    }
+}
+
 /// Writes the name of an operation, and its argument where that has a text.
-#[tactic(auto, using(pickle_ops::proofs::Devices::text_steps, crate::proofs::Names::name_steps), unfolding(crate::specs::Line::named))]
-fn write_named<S: Sink>(op: &Op, sink: &mut S) -> Result<(), Failed>
-    ensures takes { Takes (S.taken sink.old) (S.taken sink.new) result (named op.now None) }
+#[tactic(auto, using(pickle_ops::proofs::Devices::text_steps, crate::proofs::Names::name_steps))]
+fn write_name<S: Sink>(op: &Op, sink: &mut S) -> Result<(), Failed>
+    ensures takes { Takes (S.taken sink.old) (S.taken sink.new) result (described (name_of op.now.opcode) (arg_text op.now) None) }
     ensures rises { S.failures sink.old ≤ S.failures sink.new }
     ensures failed { OnErr result (HasFailed (S.failures sink.old) (S.failures sink.new)) }
 {
@@ -51,30 +90,123 @@ fn write_named<S: Sink>(op: &Op, sink: &mut S) -> Result<(), Failed>
     }
 }
 
-/// Writes the line of an item at this offset, before which so many marks are open. It has no note.
+/// Writes the name of an operation, its argument where that has a text, and a note.
+#[tactic(auto, using(pickle_ops::proofs::Devices::text_steps, crate::proofs::Names::name_steps))]
+fn write_noted<S: Sink>(op: &Op, note: Note, sink: &mut S) -> Result<(), Failed>
+    ensures takes { Takes (S.taken sink.old) (S.taken sink.new) result (described (name_of op.now.opcode) (arg_text op.now) (Some note)) }
+    ensures rises { S.failures sink.old ≤ S.failures sink.new }
+    ensures failed { OnErr result (HasFailed (S.failures sink.old) (S.failures sink.new)) }
+{
+    let name = op.opcode().name().as_bytes();
+    if op.has_arg_text() {
+        write_left(10, name, sink)?;
+        write_all(sink, b" ")?;
+        write_arg_text(op, sink)?;
+        write_all(sink, b" ")?;
+        write_note(note, sink)
+    } else {
+        write_left(10, name, sink)?;
+        write_all(sink, b" ")?;
+        write_note(note, sink)
+    }
+}
+
+/// Writes the name of an operation, its argument where that has a text, and a note where there is one.
+#[tactic(auto, unfolding(crate::specs::Line::named))]
+fn write_named<S: Sink>(op: &Op, note: Option<Note>, sink: &mut S) -> Result<(), Failed>
+    ensures takes { Takes (S.taken sink.old) (S.taken sink.new) result (named op.now note) }
+    ensures rises { S.failures sink.old ≤ S.failures sink.new }
+    ensures failed { OnErr result (HasFailed (S.failures sink.old) (S.failures sink.new)) }
+{
+    match note {
+        None => write_name(op, sink),
+        Some(note) => write_noted(op, note, sink),
+    }
+}
+
+/// Writes the line of an item at this offset, before which so many marks are open, with its note.
 #[tactic(auto, using(pickle_ops::proofs::Devices::text_steps), unfolding(crate::specs::Line::item_line))]
-pub fn write_item<S: Sink>(op: &Op, offset: usize, marks: usize, sink: &mut S) -> Result<(), Failed>
+pub fn write_item<S: Sink>(
+    op: &Op,
+    offset: u64,
+    marks: usize,
+    note: Option<Note>,
+    sink: &mut S,
+) -> Result<(), Failed>
     requires { marks < 2 ^ 32 }
-    ensures takes { Takes (S.taken sink.old) (S.taken sink.new) result (item_line op.now offset marks None) }
+    ensures takes { Takes (S.taken sink.old) (S.taken sink.new) result (item_line op.now offset marks note) }
     ensures rises { S.failures sink.old ≤ S.failures sink.new }
     ensures failed { OnErr result (HasFailed (S.failures sink.old) (S.failures sink.new)) }
 {
     write_offset(offset, sink)?;
     write_opcode(op.opcode(), sink)?;
     write_blanks(4 * marks, sink)?;
-    write_named(op, sink)?;
+    write_named(op, note, sink)?;
     write_all(sink, b"\n")
 }
 
-/// Why a step was refused.
-#[tactic(auto, unfolding(crate::specs::Line::refusal_text))]
-pub fn refusal_words(refusal: Refusal) -> &'static str
-    ensures { result.now ≡ refusal_text refusal }
+/// What a refusal is called.
+#[tactic(auto, unfolding(crate::specs::Line::refusal_words))]
+fn words_of_refusal(refusal: Refusal) -> &'static str
+    ensures { result.now ≡ refusal_words refusal }
 {
     match refusal {
+        Refusal::NoMark => "S1 no mark",
         Refusal::Underflow => "S2 stack underflow",
+        Refusal::NoMemoEntry(_) => "S3 no memo entry ",
+        Refusal::OddItems => "S4 odd number of items",
+        Refusal::WrongKind(_) => "S5 wrong kind #",
+        Refusal::BadProtocol(_) => "S6 bad protocol ",
+        Refusal::BadExtension(_) => "S7 bad extension ",
+        Refusal::NotText(_) => "S8 not a text #",
+        Refusal::NotCallable(_) => "S9 not callable #",
+        Refusal::NotArguments(_) => "S10 not arguments #",
+        Refusal::NotKeywords(_) => "S11 not keywords #",
         Refusal::Memory => "M out of memory",
     }
+}
+
+/// Writes a number, behind a minus where it is below 0.
+fn write_signed<S: Sink>(number: i64, sink: &mut S) -> Result<(), Failed>
+    ensures takes { Takes (S.taken sink.old) (S.taken sink.new) result (signed_decimal number) }
+    ensures rises { S.failures sink.old ≤ S.failures sink.new }
+    ensures failed { OnErr result (HasFailed (S.failures sink.old) (S.failures sink.new)) }
+{
+    write_all(sink, Buffer::new().format(number).as_bytes())
+}
+
+/// Writes the number that a refusal names: a key, a protocol, an extension or an object.
+#[tactic(auto, using(pickle_ops::proofs::Devices::text_steps), unfolding(crate::specs::Line::refusal_number))]
+fn write_refusal_number<S: Sink>(refusal: Refusal, sink: &mut S) -> Result<(), Failed>
+    ensures takes { Takes (S.taken sink.old) (S.taken sink.new) result (refusal_number refusal) }
+    ensures rises { S.failures sink.old ≤ S.failures sink.new }
+    ensures failed { OnErr result (HasFailed (S.failures sink.old) (S.failures sink.new)) }
+{
+    match refusal {
+        Refusal::NoMark => Ok(()),
+        Refusal::Underflow => Ok(()),
+        Refusal::NoMemoEntry(key) => write_decimal(key, sink),
+        Refusal::OddItems => Ok(()),
+        Refusal::WrongKind(id) => write_decimal(u64::from(id), sink),
+        Refusal::BadProtocol(protocol) => write_decimal(protocol, sink),
+        Refusal::BadExtension(code) => write_signed(code, sink),
+        Refusal::NotText(id) => write_decimal(u64::from(id), sink),
+        Refusal::NotCallable(id) => write_decimal(u64::from(id), sink),
+        Refusal::NotArguments(id) => write_decimal(u64::from(id), sink),
+        Refusal::NotKeywords(id) => write_decimal(u64::from(id), sink),
+        Refusal::Memory => Ok(()),
+    }
+}
+
+/// Writes why a step is refused.
+#[tactic(auto, using(pickle_ops::proofs::Devices::text_steps), unfolding(crate::specs::Line::refusal_text))]
+pub fn write_refusal<S: Sink>(refusal: Refusal, sink: &mut S) -> Result<(), Failed>
+    ensures takes { Takes (S.taken sink.old) (S.taken sink.new) result (refusal_text refusal) }
+    ensures rises { S.failures sink.old ≤ S.failures sink.new }
+    ensures failed { OnErr result (HasFailed (S.failures sink.old) (S.failures sink.new)) }
+{
+    write_all(sink, words_of_refusal(refusal).as_bytes())?;
+    write_refusal_number(refusal, sink)
 }
 
 /// Writes the line of a refused step.
@@ -85,7 +217,7 @@ fn write_refused<S: Sink>(refusal: Refusal, sink: &mut S) -> Result<(), Failed>
     ensures failed { OnErr result (HasFailed (S.failures sink.old) (S.failures sink.new)) }
 {
     write_all(sink, b"refused: ")?;
-    write_all(sink, refusal_words(refusal).as_bytes())?;
+    write_refusal(refusal, sink)?;
     write_all(sink, b"\n")
 }
 
@@ -100,6 +232,9 @@ fn words_of_fault(fault: TailFault) -> &'static str
         TailFault::Truncated => "F3 truncated",
         TailFault::NegativeLength => "F4 negative length",
         TailFault::BadArgument => "F5 bad argument",
+        TailFault::FrameInFrame => "F6 frame in a frame",
+        TailFault::FramePastEnd => "F7 frame past the end",
+        TailFault::FrameCrossed => "F8 frame crossed",
     }
 }
 
@@ -129,7 +264,7 @@ pub fn write_fault_text<S: Sink>(fault: TailFault, sink: &mut S) -> Result<(), F
 
 /// Writes the line of a fault of the tail at this offset.
 #[tactic(auto, using(pickle_ops::proofs::Devices::text_steps), unfolding(crate::specs::Line::fault_line))]
-pub fn write_fault<S: Sink>(fault: TailFault, offset: usize, sink: &mut S) -> Result<(), Failed>
+pub fn write_fault<S: Sink>(fault: TailFault, offset: u64, sink: &mut S) -> Result<(), Failed>
     ensures takes { Takes (S.taken sink.old) (S.taken sink.new) result (fault_line fault offset) }
     ensures rises { S.failures sink.old ≤ S.failures sink.new }
     ensures failed { OnErr result (HasFailed (S.failures sink.old) (S.failures sink.new)) }
@@ -137,7 +272,7 @@ pub fn write_fault<S: Sink>(fault: TailFault, offset: usize, sink: &mut S) -> Re
     write_all(sink, b"fault: ")?;
     write_fault_text(fault, sink)?;
     write_all(sink, b" at ")?;
-    write_decimal(offset as u64, sink)?;
+    write_decimal(offset, sink)?;
     write_all(sink, b"\n")
 }
 

@@ -1,24 +1,22 @@
 //! The listing of an input.
 
-ghost use Rattle.std.specs.Prelude.{◌≡◌, ◌≢◌, ◌≤◌, ◌<◌, ◌↔◌, length, OnErr, IfOk, IfErr};
+ghost use Rattle.std.specs.Prelude.{◌≡◌, ◌≢◌, ◌≤◌, ◌<◌, ◌↔◌, length, OnOk, OnErr, IfOk, IfErr};
 ghost use Rattle.std.specs.Io.KnownBytes.{Appends};
 ghost use Rattle.pickle_ops.specs.Device.{Takes, AppendsFront, HasFailed};
 ghost use Rattle.pickle_ops.specs.Text.{◌⧺◌};
-ghost use Rattle.picklestep.specs.Document.{sizes};
+ghost use Rattle.pickle_doc.specs.Document.{document_bytes};
 ghost use Rattle.picklestep.specs.Line.{raised, protocol_line};
-ghost use Rattle.picklestep.specs.Listing.{listing, end_lines, end_status, offset_of};
+ghost use Rattle.picklestep.specs.Listing.{listing, end_lines, end_status, note_with, note_unless};
+ghost use Rattle.picklestep.specs.Marks.{last_of, followed};
 ghost use Rattle.picklestep.specs.Program.{IsListed, BeginsListing};
 
-use crate::document::{Document, End};
 use crate::line::{write_fault, write_item, write_protocol, write_refused_end, write_stopped};
-use crate::machine::Machine;
-use crate::refusal::Refusal;
+use crate::note::Note;
 use crate::stop::Stop;
-use pickle_ops::{Failed, Sink};
-use std::alloc::Global;
-
-/// The most bytes that a pickle may have.
-pub const LIMIT: usize = 268_435_456;
+use pickle_doc::{DocFault, Document, End, LIMIT};
+use pickle_machine::{Machine, Refusal};
+use pickle_ops::{Failed, Op, Opcode, Sink};
+use std::alloc::{AllocError, Global};
 
 /// The greatest protocol so far, with one more.
 fn raise(highest: Option<u8>, protocol: u8) -> Option<u8>
@@ -30,60 +28,100 @@ fn raise(highest: Option<u8>, protocol: u8) -> Option<u8>
     }
 }
 
-/// The status of a listing whose items all have a move.
-fn status_of(finish: End) -> u8
-    ensures { result ≡ end_status finish }
+/// The note of an operation with this refusal, if any; `opened` has the offsets of the open marks, the topmost last.
+fn note_unless_refused(
+    refusal: Option<Refusal>,
+    op: &Op,
+    machine: &Machine,
+    opened: &[u64],
+) -> Option<Note>
+    ensures { result ≡ note_unless refusal (note_with op.now machine.now.state (last_of opened.now)) }
 {
-    match finish {
-        End::Stopped => 0,
-        End::Fault(_) => 1,
+    match refusal {
+        None => note_of(op, machine, opened),
+        Some(_) => None,
     }
 }
 
-/// Writes the lines behind all items: what is left, or the fault of the tail at this offset.
-fn write_finish<S: Sink>(
-    document: &Document<'_>,
-    machine: &Machine,
-    offset: usize,
-    sink: &mut S,
-) -> Result<(), Failed>
-    requires { offset ≡ offset_of document.now.items (length document.now.items) }
-    ensures takes { Takes (S.taken sink.old) (S.taken sink.new) result (end_lines document.now document.now.finish machine.now) }
+/// The note of an operation that is not refused.
+fn note_of(op: &Op, machine: &Machine, opened: &[u64]) -> Option<Note>
+    ensures { result ≡ note_with op.now machine.now.state (last_of opened.now) }
+{
+    if machine.takes_mark(op) {
+        match opened.last() {
+            Some(offset) => Some(Note::MarkAt(*offset)),
+            None => None,
+        }
+    } else if matches!(op.opcode(), Opcode::Memoize) {
+        Some(Note::As(machine.memo_len() as u64))
+    } else {
+        None
+    }
+}
+
+/// Writes the lines behind all items: what is left, or the fault of the tail.
+fn write_finish<S: Sink>(document: &Document, machine: &Machine, sink: &mut S) -> Result<(), Failed>
+    ensures takes { Takes (S.taken sink.old) (S.taken sink.new) result (end_lines document.now document.now.finish machine.now.state) }
     ensures rises { S.failures sink.old ≤ S.failures sink.new }
     ensures failed { OnErr result (HasFailed (S.failures sink.old) (S.failures sink.new)) }
 {
-    match document.finish() {
+    match document.end() {
         End::Stopped => write_stopped(
-            machine.stack().len(),
+            machine.stack_len(),
             machine.marks_len(),
             document.tail().len(),
             sink,
         ),
-        End::Fault(fault) => write_fault(fault, offset, sink),
+        End::Fault(fault, offset) => write_fault(fault, offset, sink),
     }
 }
 
 /// Writes the lines behind all items, and the greatest protocol.
 #[tactic(auto, using(pickle_ops::proofs::Devices::text_steps))]
 fn write_end<S: Sink>(
-    document: &Document<'_>,
+    document: &Document,
     machine: &Machine,
-    offset: usize,
     highest: Option<u8>,
     sink: &mut S,
 ) -> Result<(), Failed>
-    requires { offset ≡ offset_of document.now.items (length document.now.items) }
-    ensures takes { Takes (S.taken sink.old) (S.taken sink.new) result (end_lines document.now document.now.finish machine.now ⧺ protocol_line highest) }
+    ensures takes { Takes (S.taken sink.old) (S.taken sink.new) result (end_lines document.now document.now.finish machine.now.state ⧺ protocol_line highest) }
     ensures rises { S.failures sink.old ≤ S.failures sink.new }
     ensures failed { OnErr result (HasFailed (S.failures sink.old) (S.failures sink.new)) }
 {
-    write_finish(document, machine, offset, sink)?;
+    write_finish(document, machine, sink)?;
     write_protocol(highest, sink)
 }
 
+/// The status of a listing whose items all have a move.
+fn status_of(document: &Document) -> u8
+    ensures { result ≡ end_status document.now.finish }
+{
+    match document.end() {
+        End::Stopped => 0,
+        End::Fault(_, _) => 1,
+    }
+}
+
+/// What becomes of the offsets of the open marks when a step left so many.
+fn follow_marks(
+    opened: &mut Vec<u64>,
+    before: usize,
+    after: usize,
+    offset: u64,
+) -> Result<(), AllocError>
+    ensures ok { OnOk result (opened.new.items ≡ followed opened.old.items before after offset) }
+{
+    if before < after {
+        opened.push(offset)?;
+    } else if after < before {
+        opened.pop();
+    }
+    Ok(())
+}
+
 /// Writes the listing of a document, and answers its status.
-fn write_listing<S: Sink>(alloc: Global, document: &Document<'_>, sink: &mut S) -> Result<u8, Stop>
-    requires { sizes document.now.items ≤ LIMIT }
+fn write_listing<S: Sink>(alloc: Global, document: &Document, sink: &mut S) -> Result<u8, Stop>
+    requires { length (document_bytes document.now) ≤ LIMIT }
     ensures ok { IfOk result (λ status. Appends (S.taken sink.old) (S.taken sink.new) (listing document.now).text × (status ≡ (listing document.now).status)) }
     ensures err { OnErr result (AppendsFront (S.taken sink.old) (S.taken sink.new) (listing document.now).text) }
     ensures stop { IfErr result (λ e. (e ≢ Stop.Read) × (e ≢ Stop.TooLarge)) }
@@ -91,25 +129,30 @@ fn write_listing<S: Sink>(alloc: Global, document: &Document<'_>, sink: &mut S) 
     ensures failed { result ≡ Err Stop.Write → HasFailed (S.failures sink.old) (S.failures sink.new) }
 {
     let mut machine = Machine::new(alloc);
+    let mut opened = Vec::new(alloc);
     let mut offset = 0;
     let mut highest = None;
-    for (place, op) in document.items().iter().enumerate() {
-        write_item(op, offset, machine.marks_len(), sink)?;
+    let mut place = 0;
+    'items: while let Some(op) = document.item(place) {
+        let marks = machine.marks_len();
+        let refusal = machine.check(op);
+        let note = note_unless_refused(refusal, op, &machine, opened.as_slice());
+        write_item(op, offset, marks, note, sink)?;
         highest = raise(highest, op.opcode().protocol());
-        offset += op.size();
-        match machine.step(alloc, op, place) {
-            Ok(()) => {}
-            Err(refusal) => {
-                if refusal == Refusal::Memory {
-                    return Err(Stop::Memory);
-                }
-                write_refused_end(refusal, highest, sink)?;
-                return Ok(1);
-            }
+        if let Some(refusal) = refusal {
+            write_refused_end(refusal, highest, sink)?;
+            return Ok(1);
         }
+        match machine.step(alloc, op, place) {
+            Ok(_) => {}
+            Err(_) => return Err(Stop::Memory),
+        }
+        follow_marks(&mut opened, marks, machine.marks_len(), offset)?;
+        offset += op.size() as u64;
+        place += 1;
     }
-    write_end(document, &machine, offset, highest, sink)?;
-    Ok(status_of(document.finish()))
+    write_end(document, &machine, highest, sink)?;
+    Ok(status_of(document))
 }
 
 /// Writes the listing of the pickle that the bytes are, and answers its status: 1 where an item is refused or the
@@ -127,9 +170,10 @@ pub fn list<S: Sink>(alloc: Global, bytes: &[u8], sink: &mut S) -> Result<u8, St
     ensures rises { S.failures sink.old ≤ S.failures sink.new }
     ensures failed { result ≡ Err Stop.Write → HasFailed (S.failures sink.old) (S.failures sink.new) }
 {
-    if bytes.len() > LIMIT {
-        return Err(Stop::TooLarge);
-    }
-    let document = Document::read(alloc, bytes)?;
+    let document = match Document::read(alloc, bytes) {
+        Ok(document) => document,
+        Err(DocFault::TooLarge) => return Err(Stop::TooLarge),
+        Err(DocFault::Memory) => return Err(Stop::Memory),
+    };
     write_listing(alloc, &document, sink)
 }

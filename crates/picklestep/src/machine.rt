@@ -1,7 +1,7 @@
 //! The machine that the opcodes of a pickle run. It calls and imports nothing.
 
 use crate::object::{Kind, Object};
-use crate::refusal::Refusal;
+use pickle_machine::Refusal;
 use crate::row::Row;
 use pickle_ops::Op;
 use std::alloc::{AllocError, Global};
@@ -31,7 +31,6 @@ impl Machine {
     ghost use Rattle.std.specs.Prelude.{◌≡◌, ◌≢◌, ◌<◌, ◌≤◌, ◌-◌, ◌^◌, [], length, OnOk, OnErr, IfOk, IfErr, IfSome, Ok};
     ghost use Rattle.picklestep.specs.State.{empty};
     ghost use Rattle.picklestep.specs.Move.{refusal_of, refusal_at, push, put_on, put, deep, last_of, without, move, Refuses};
-    ghost use Rattle.picklestep.specs.Listing.{stack_size};
 
     /// The machine that has done nothing.
     pub fn new(alloc: Global) -> Machine
@@ -47,8 +46,7 @@ impl Machine {
 
     /// The objects of the stack, from the bottom.
     pub fn stack(&self) -> &[u32]
-        ensures top { result.now ≡ self.now.top }
-        ensures all { length result.now ≡ stack_size self.now }
+        ensures { result.now ≡ self.now.top }
     {
         self.stack.as_slice()
     }

@@ -11,15 +11,15 @@ mod grammar;
 mod laws;
 mod line;
 mod list;
-mod machine;
 mod next;
+mod machine;
 mod object;
 mod pending;
-mod refusal;
 mod reply;
 mod reply_text;
 mod row;
 mod session;
+mod note;
 mod stop;
 
 use clap::error::ErrorKind;

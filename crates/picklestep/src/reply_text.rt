@@ -6,9 +6,9 @@ ghost use Rattle.picklestep.specs.Reply.{end_text, at_end_text, item_text, comma
 
 use crate::command::{Query, Syntax};
 use crate::document::End;
-use crate::line::{refusal_words, write_fault_text};
+use crate::line::{write_fault_text, write_refusal};
 use crate::machine::Machine;
-use crate::refusal::Refusal;
+use pickle_machine::Refusal;
 use crate::reply::{Fault, Reply};
 use pickle_ops::{Failed, Sink, write_all, write_decimal};
 
@@ -50,7 +50,7 @@ fn write_refused_item<S: Sink>(place: usize, refusal: Refusal, sink: &mut S) -> 
     write_all(sink, b"C3 item ")?;
     write_decimal(place as u64, sink)?;
     write_all(sink, b": ")?;
-    write_all(sink, refusal_words(refusal).as_bytes())
+    write_refusal(refusal, sink)
 }
 
 /// Writes why a command is refused.

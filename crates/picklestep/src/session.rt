@@ -5,9 +5,9 @@ ghost use Rattle.picklestep.specs.Run.{run};
 
 use crate::command::Command;
 use crate::document::Document;
-use crate::list::LIMIT;
+use pickle_doc::LIMIT;
 use crate::machine::Machine;
-use crate::refusal::Refusal;
+use pickle_machine::Refusal;
 use crate::reply::{Fault, Reply};
 use crate::stop::Stop;
 use pickle_ops::Op;

@@ -1,7 +1,6 @@
 //! Listings over memory. The expected texts are what `pickletools.dis` prints for these bytes, in this program's form
-//! of arguments and closing lines.
+//! of arguments, notes and closing lines.
 
-use crate::laws::one_document;
 use crate::list::list;
 use crate::stop::{Stop, line_of};
 use pickle_ops::{Failed, Sink, ToWrite};
@@ -15,8 +14,15 @@ const PAIR: (&[u8], &str, u8) = (
     0,
 );
 
-const ROWS: [(&[u8], &str, u8); 8] = [
+/// Whole listings.
+const ROWS: [(&[u8], &str, u8); 18] = [
     PAIR,
+    // The usual dump of a list.
+    (
+        b"\x80\x04\x95\x06\x00\x00\x00\x00\x00\x00\x00]\x94K\x01a.",
+        "    0: \\x80 PROTO      4\n    2: \\x95 FRAME      6\n   11: ]    EMPTY_LIST\n   12: \\x94 MEMOIZE    (as 0)\n   13: K    BININT1    1\n   15: a    APPEND\n   16: .    STOP\nhighest protocol among opcodes = 4\n",
+        0,
+    ),
     (b"", "fault: F1 ended at 0\n", 1),
     (
         b"0.",
@@ -30,8 +36,8 @@ const ROWS: [(&[u8], &str, u8); 8] = [
         0,
     ),
     (
-        b"N]",
-        "    0: N    NONE\nfault: F2 unknown opcode 0x5d at 1\nhighest protocol among opcodes = 0\n",
+        b"N\x7f",
+        "    0: N    NONE\nfault: F2 unknown opcode 0x7f at 1\nhighest protocol among opcodes = 0\n",
         1,
     ),
     (
@@ -43,6 +49,70 @@ const ROWS: [(&[u8], &str, u8); 8] = [
         b"K\x01K\x02.",
         "    0: K    BININT1    1\n    2: K    BININT1    2\n    4: .    STOP\nleft: 1 objects, 0 marks\nhighest protocol among opcodes = 1\n",
         0,
+    ),
+    (
+        b"(N.",
+        "    0: (    MARK\n    1: N        NONE\n    2: .        STOP\nleft: 0 objects, 1 marks\nhighest protocol among opcodes = 0\n",
+        0,
+    ),
+    // A list appended to itself by way of the memo.
+    (
+        b"]q\x00(h\x00h\x00e.",
+        "    0: ]    EMPTY_LIST\n    1: q    BINPUT     0\n    3: (    MARK\n    4: h        BINGET     0\n    6: h        BINGET     0\n    8: e        APPENDS    (MARK at 3)\n    9: .    STOP\nhighest protocol among opcodes = 1\n",
+        0,
+    ),
+    // POP drops a mark.
+    (
+        b"N(0.",
+        "    0: N    NONE\n    1: (    MARK\n    2: 0        POP        (MARK at 1)\n    3: .    STOP\nhighest protocol among opcodes = 0\n",
+        0,
+    ),
+    (b"X\x05\x00\x00\x00ab", "fault: F3 truncated at 0\n", 1),
+    // Frames that lie.
+    (
+        b"\x95\x09\x00\x00\x00\x00\x00\x00\x00N.",
+        "fault: F7 frame past the end at 0\n",
+        1,
+    ),
+    (
+        b"\x95\x0b\x00\x00\x00\x00\x00\x00\x00N\x95\x00\x00\x00\x00\x00\x00\x00\x00.",
+        "    0: \\x95 FRAME      11\n    9: N    NONE\nfault: F6 frame in a frame at 10\nhighest protocol among opcodes = 4\n",
+        1,
+    ),
+    (
+        b"\x95\x02\x00\x00\x00\x00\x00\x00\x00NK\x01.",
+        "    0: \\x95 FRAME      2\n    9: N    NONE\nfault: F8 frame crossed at 10\nhighest protocol among opcodes = 4\n",
+        1,
+    ),
+    (
+        b"g007\n.",
+        "    0: g    GET        7\nrefused: S3 no memo entry 7\nhighest protocol among opcodes = 0\n",
+        1,
+    ),
+    // A call.
+    (
+        b"cos\ngetcwd\n)R.",
+        "    0: c    GLOBAL     'os' 'getcwd'\n   11: )    EMPTY_TUPLE\n   12: R    REDUCE\n   13: .    STOP\nhighest protocol among opcodes = 1\n",
+        0,
+    ),
+];
+
+/// First lines of listings: the texts of arguments.
+const FIRST_LINES: [(&[u8], &str); 6] = [
+    (b"\x8a\x02\xff\x00.", "    0: \\x8a LONG1      255\n"),
+    (b"\x8a\x00.", "    0: \\x8a LONG1      0\n"),
+    (b"\x8a\x01\xff.", "    0: \\x8a LONG1      -1\n"),
+    (
+        b"\x8a\x11\x01\x00\x00\x00\x00\x00\x00\x00\x00\x00\x00\x00\x00\x00\x00\x00\x00.",
+        "    0: \\x8a LONG1      le:0100000000000000000000000000000000\n",
+    ),
+    (
+        b"G\x3f\xf0\x00\x00\x00\x00\x00\x00.",
+        "    0: G    BINFLOAT   f8:3ff0000000000000\n",
+    ),
+    (
+        b"U\x04'\\\x0aA.",
+        "    0: U    SHORT_BINSTRING '\\'\\\\\\x0aA'\n",
     ),
 ];
 
@@ -60,7 +130,49 @@ fn rows(rt: HostRuntime) -> Result<(), Fail> {
         assert_eq!(rt; found.0.as_slice(), text.as_bytes());
         assert_eq!(rt; found.1, status);
     }
-    one_document();
+    for (bytes, text) in FIRST_LINES {
+        let found = listed(rt.alloc(), bytes)?;
+        assert!(rt; found.0.starts_with(text.as_bytes()));
+    }
+    Ok(())
+}
+
+/// The refusal of the last opcode of each of these.
+const REFUSALS: [(&[u8], &str); 23] = [
+    (b"e", "S1 no mark"),
+    (b"(a", "S2 stack underflow"),
+    (b"]N(a", "S2 stack underflow"),
+    (b"((e", "S2 stack underflow"),
+    (b"(Nu", "S2 stack underflow"),
+    (b"(Nd", "S4 odd number of items"),
+    (b"N(Nu", "S4 odd number of items"),
+    (b"N(Ne", "S5 wrong kind #0"),
+    (b"N\x98", "S5 wrong kind #0"),
+    (b")Na", "S5 wrong kind #0"),
+    (b"\x84\xff\xff\xff\xff", "S7 bad extension -1"),
+    (b"NN\x93", "S8 not a text #1"),
+    (b"N\x8c\x01a\x93", "S8 not a text #0"),
+    (b"NNR", "S9 not callable #0"),
+    (b"c\n\nNR", "S10 not arguments #1"),
+    (b"c\n\n)N\x92", "S11 not keywords #2"),
+    (b"(o", "S2 stack underflow"),
+    (b"(No", "S9 not callable #0"),
+    (b"\x98", "S2 stack underflow"),
+    (b"\x80\x06", "S6 bad protocol 6"),
+    (b"\x82\x00", "S7 bad extension 0"),
+    (b"h\x07", "S3 no memo entry 7"),
+    (b".", "S2 stack underflow"),
+];
+
+#[test]
+fn refusals(rt: HostRuntime) -> Result<(), Fail> {
+    for (bytes, why) in REFUSALS {
+        let found = listed(rt.alloc(), bytes)?;
+        let line = format!(in rt.alloc(); "\nrefused: {why}\nhighest")?;
+        let text = String::from_utf8(found.0)?;
+        assert!(rt; text.as_str().contains(line.as_str()));
+        assert_eq!(rt; found.1, 1);
+    }
     Ok(())
 }
 
@@ -71,7 +183,6 @@ fn words_of_stops(rt: HostRuntime) {
     assert_eq!(rt; line_of(&Stop::TooLarge), "too large");
     assert_eq!(rt; line_of(&Stop::Memory), "out of memory");
 }
-
 /// Run with each request for memory refused in turn: the answer is want of memory, or a write that failed where the
 /// sink's own growth was refused; what was written is a beginning, and asked again it succeeds.
 #[test]

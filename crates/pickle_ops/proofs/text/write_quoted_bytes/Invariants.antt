@@ -1,3 +1,4 @@
+-- What the loop over the bytes keeps.
 use Rattle.std.proofs.Common.{◌≤◌, take}
 use Rattle.std.specs.Io.KnownBytes.{Appends}
 use Rattle.pickle_ops.specs.Text.{quoted_bytes}

@@ -1,0 +1,11 @@
+pub mod Opcodes
+pub mod Fits
+pub mod Units
+pub mod Back
+pub mod Placed
+pub mod Readings
+pub mod Identities
+pub mod Existence
+pub mod Walks
+pub mod Writing
+pub mod Readers

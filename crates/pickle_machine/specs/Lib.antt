@@ -1,0 +1,9 @@
+pub mod State
+pub mod Kind
+pub mod Row
+pub mod Move
+pub mod Run
+pub mod Sections
+pub mod Held
+pub mod Back
+pub mod Records

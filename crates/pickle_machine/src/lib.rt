@@ -1,0 +1,24 @@
+//! The machine that the opcodes of a pickle run, forwards and backwards. It calls nothing and imports nothing: objects
+//! stand in the place of what a loader would build.
+#![tactic(auto)]
+
+mod act;
+mod check;
+mod kind;
+mod laws;
+mod machine;
+mod object;
+mod record;
+mod refusal;
+mod row;
+mod stack;
+mod step;
+mod table;
+mod unstep;
+
+pub use kind::Kind;
+pub use laws::step_and_back;
+pub use machine::Machine;
+pub use object::{Change, ObjId, Object};
+pub use record::StepRecord;
+pub use refusal::Refusal;
