@@ -65,11 +65,6 @@ move_heap o place s t e =
     let same = moved (refusal_at o s) (next o place s) t e in
     subst (λ (u : State). length u.heap ≤ length s.heap + 1) same.1 (next_heap (row_of o) (kind_of o) place s)
 
--- a step finds no memory only where nothing else refuses it
-pub not_refused : (r : Refusal) (found : Option Refusal) → r ≡ refusal.Memory → Refuses r found → found ≡ None
-not_refused refusal.Memory found h p = p
-not_refused refusal.Underflow found h p = absurd cc
-
 pub refused_move : (o : Operation) (place : ℕ) (s : State) (r : Refusal) → refusal_at o s ≡ Some r → move o place s ≡ Err r
 refused_move o place s r e = rw e refl
 

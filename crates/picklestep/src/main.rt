@@ -11,15 +11,15 @@ mod grammar;
 mod laws;
 mod line;
 mod list;
-mod next;
 mod machine;
+mod next;
+mod note;
 mod object;
 mod pending;
 mod reply;
 mod reply_text;
 mod row;
 mod session;
-mod note;
 mod stop;
 
 use clap::error::ErrorKind;
