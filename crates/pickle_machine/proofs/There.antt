@@ -34,7 +34,7 @@ pick_length : (b : Bool) (s t : State) (n : ℕ) → length s.heap ≤ n → len
 pick_length true s t n h g = h
 pick_length false s t n h g = g
 
-next_length : (r : Row) (k : Kind) (place : ℕ) (s : State) → length (next_of r k place s).heap ≤ length s.heap + 1
+pub next_length : (r : Row) (k : Kind) (place : ℕ) (s : State) → length (next_of r k place s).heap ≤ length s.heap + 1
 next_length row.Nothing k place s = omega arith
 next_length (row.Protocol n) k place s = omega arith
 next_length (row.Extension n) k place s = omega (arith, push_length k [] s)
