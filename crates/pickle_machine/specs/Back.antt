@@ -11,6 +11,7 @@ use Rattle.pickle_machine.specs.declared.record.MemoStep.TheVariants as memo
 use Rattle.pickle_machine.specs.declared.record.Taken.{Taken}
 use Rattle.pickle_machine.specs.declared.record.Taken.TheVariants as taken
 use Rattle.pickle_machine.specs.State.{Object, State}
+use Rattle.pickle_machine.specs.Held.{Held, Fits}
 use Rattle.pickle_machine.specs.Move.{cut, without}
 
 -- the record of a step: what it did to the heap; whether it put an object on the top section; which objects it took,
@@ -99,3 +100,13 @@ pub record CanGoBack (r : Record) (s : State) : Type 0 where
 pub record Leads (r : Record) (after before : State) : Type 0 where
   pub possible : CanGoBack r after
   pub leads : back r after ≡ before
+
+-- the state before steps, the latest record first
+abbrev pub back_all : List Record → State → State
+back_all [] s = s
+back_all (r ∷ rs) s = back_all rs (back r s)
+
+-- records, the latest first, can go back step by step, and a machine has room for each state on the way
+abbrev pub CanAllGoBack : List Record → Held → State → Type 0
+CanAllGoBack [] m s = ⊤
+CanAllGoBack (r ∷ rs) m s = CanGoBack r s × Fits (back r s) m × CanAllGoBack rs m (back r s)

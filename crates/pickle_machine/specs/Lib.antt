@@ -7,3 +7,4 @@ pub mod Sections
 pub mod Held
 pub mod Back
 pub mod Records
+pub mod Laws

@@ -17,7 +17,7 @@ mod table;
 mod unstep;
 
 pub use kind::Kind;
-pub use laws::step_and_back;
+pub use laws::{step_and_back, there_and_back};
 pub use machine::Machine;
 pub use object::{Change, ObjId, Object};
 pub use record::StepRecord;

@@ -9,7 +9,7 @@ use pickle_ops::Op;
 use std::alloc::{AllocError, Global};
 
 impl Machine {
-    ghost use Rattle.std.specs.Prelude.{◌≡◌, ◌≢◌, ◌<◌, ◌-◌, ◌^◌, length, OnOk, OnErr, IfOk, IfErr, None, Some, Ok, true, false, is_ok, if◌then◌else◌};
+    ghost use Rattle.std.specs.Prelude.{◌≡◌, ◌≢◌, ◌+◌, ◌<◌, ◌≤◌, ◌-◌, ◌^◌, length, OnOk, OnErr, IfOk, IfErr, None, Some, Ok, true, false, is_ok, if◌then◌else◌};
     ghost use Rattle.pickle_machine.specs.Row.{row_of, kind_of};
     ghost use Rattle.pickle_machine.specs.Move.{refusal_of, refusal_at, next_of, move};
     ghost use Rattle.pickle_machine.specs.Held.{KeepsRooms, Fits, is_free, counted};
@@ -126,6 +126,9 @@ impl Machine {
         ensures refused { IfErr result (λ e. e ≢ Refusal.Memory → refusal_at op.now self.old.state ≡ Some e) }
         ensures err { OnErr result (self.new.state ≡ self.old.state) }
 
+        // What is refused for another reason than memory leaves the machine as it was, and took no memory.
+        ensures same { IfErr result (λ e. e ≢ Refusal.Memory → self.new ≡ self.old) }
+
         // Want of memory comes only where the operation has a move, and never of a free step.
         ensures memory { IfErr result (λ e. e ≡ Refusal.Memory → refusal_at op.now self.old.state ≡ None) }
         ensures free { is_free (row_of op.now) self.old ≡ true → IfErr result (λ e. e ≢ Refusal.Memory) }
@@ -134,6 +137,9 @@ impl Machine {
         ensures leads { IfOk result (λ r. Leads r self.new.state self.old.state) }
         ensures fits { Fits self.old.state self.new }
         ensures rooms { KeepsRooms self.old self.new }
+
+        // There is one object more at most.
+        ensures objects { length self.new.state.heap ≤ length self.old.state.heap + 1 }
 
         // Accepted steps are counted.
         ensures moves { self.new.moves ≡ (if is_ok result then counted self.old.moves 1 else self.old.moves) }
