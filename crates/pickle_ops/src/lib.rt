@@ -9,6 +9,8 @@ mod op;
 mod opcode;
 mod read;
 mod sink;
+#[cfg(test)]
+mod tests;
 mod text;
 mod to_write;
 mod value;

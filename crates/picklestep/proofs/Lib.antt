@@ -1,0 +1,9 @@
+pub mod Blanks
+pub mod Names
+pub mod Tails
+pub mod Reading
+pub mod OneDocument
+pub mod Moves
+pub mod Places
+pub mod Listings
+pub mod Programs

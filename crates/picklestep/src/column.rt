@@ -1,0 +1,66 @@
+//! Texts in columns, written piece by piece.
+
+ghost use Rattle.std.specs.Prelude.{◌≡◌, ◌≤◌, OnErr};
+ghost use Rattle.pickle_ops.specs.Device.{Takes, HasFailed};
+ghost use Rattle.picklestep.specs.Column.{blanks, right, left, hex_byte, code_text};
+
+use pickle_ops::{Failed, Sink, write_all};
+
+/// Writes this many blanks.
+#[tactic(auto, using(crate::proofs::Blanks::blank_steps))]
+pub fn write_blanks<S: Sink>(count: usize, sink: &mut S) -> Result<(), Failed>
+    ensures takes { Takes (S.taken sink.old) (S.taken sink.new) result (blanks count) }
+    ensures rises { S.failures sink.old ≤ S.failures sink.new }
+    ensures failed { OnErr result (HasFailed (S.failures sink.old) (S.failures sink.new)) }
+{
+    for _ in 0..count {
+        write_all(sink, b" ")?;
+    }
+    Ok(())
+}
+
+/// Writes a text at the right of a column.
+#[tactic(auto, using(pickle_ops::proofs::Devices::text_steps), unfolding(crate::specs::Column::right))]
+pub fn write_right<S: Sink>(width: usize, text: &[u8], sink: &mut S) -> Result<(), Failed>
+    ensures takes { Takes (S.taken sink.old) (S.taken sink.new) result (right width text.now) }
+    ensures rises { S.failures sink.old ≤ S.failures sink.new }
+    ensures failed { OnErr result (HasFailed (S.failures sink.old) (S.failures sink.new)) }
+{
+    write_blanks(width.saturating_sub(text.len()), sink)?;
+    write_all(sink, text)
+}
+
+/// Writes a text at the left of a column.
+#[tactic(auto, using(pickle_ops::proofs::Devices::text_steps), unfolding(crate::specs::Column::left))]
+pub fn write_left<S: Sink>(width: usize, text: &[u8], sink: &mut S) -> Result<(), Failed>
+    ensures takes { Takes (S.taken sink.old) (S.taken sink.new) result (left width text.now) }
+    ensures rises { S.failures sink.old ≤ S.failures sink.new }
+    ensures failed { OnErr result (HasFailed (S.failures sink.old) (S.failures sink.new)) }
+{
+    write_all(sink, text)?;
+    write_blanks(width.saturating_sub(text.len()), sink)
+}
+
+/// The two hexadecimal digits of a byte.
+pub fn hex(byte: u8) -> [u8; 2]
+    ensures { result ≡ hex_byte byte }
+{
+    let mut digits = [0u8; 2];
+    let _ = hex::encode_to_slice([byte].as_slice(), &mut digits);
+    digits
+}
+
+/// Writes a code at the left of a column of four: the character itself where it is visible.
+#[tactic(auto, unfolding(crate::specs::Column::left))]
+pub fn write_code<S: Sink>(code: u8, sink: &mut S) -> Result<(), Failed>
+    ensures takes { Takes (S.taken sink.old) (S.taken sink.new) result (left 4 (code_text code)) }
+    ensures rises { S.failures sink.old ≤ S.failures sink.new }
+    ensures failed { OnErr result (HasFailed (S.failures sink.old) (S.failures sink.new)) }
+{
+    if code > b' ' && code < 0x7f {
+        write_left(4, &[code], sink)
+    } else {
+        let [high, low] = hex(code);
+        write_left(4, &[b'\\', b'x', high, low], sink)
+    }
+}
