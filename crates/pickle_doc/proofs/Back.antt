@@ -51,7 +51,11 @@ one_more : (i : Item) (items : List Item) (left left' : ℕ) (g g' : Grouped) (t
     → Fill (sizes g'.members) g'.units left' → OnlyLastOpen g'.units → rest_of left' g' ≡ rest_of left g → Back left items g tail e
     → Back left' (i ∷ items) g' tail e
 one_more i items left left' g g' tail e goes joined plain units fill last_open rest b = record {
-  joined = joined; plain = plain; units = units; fill = fill; last_open = last_open;
+  joined = joined;
+  plain = plain;
+  units = units;
+  fill = fill;
+  last_open = last_open;
   last_stops = only_before i items goes b.last_stops;
   finish = rw (stops_behind i items goes, rest) b.finish;
   reach = rw rest b.reach;
@@ -90,9 +94,9 @@ frame_back i items g tail e hit exact b =
     let same : frame_item i.id (frame_number i.op) ≡ i = same_item (frame_item i.id (frame_number i.op)) i refl (same_frame i.op (frame_number i.op) hit exact) in
     let first : frame_item i.id (sizes g.members + (frame_number i.op - sizes g.members)) ≡ i = ap (frame_item i.id) whole ∙ same in
     one_more i items (frame_number i.op) 0 g (open_frame i.id (frame_number i.op) g) tail e (frame_no_stop i.op.opcode hit)
-        (ap (λ (j : Item). j ∷ (g.members ++ flat g.units)) first ∙ ap (λ (js : List Item). i ∷ js) b.joined)
-        tt (b.plain, b.units) refl (frame_open i.id g.members g.units (frame_number i.op) b.fill b.last_open)
-        (frame_rest i.id g.members g.units (frame_number i.op)) b
+    (ap (λ (j : Item). j ∷ (g.members ++ flat g.units)) first ∙ ap (λ (js : List Item). i ∷ js) b.joined)
+    tt (b.plain, b.units) refl (frame_open i.id g.members g.units (frame_number i.op) b.fill b.last_open)
+    (frame_rest i.id g.members g.units (frame_number i.op)) b
 
 member_rest : (size left : ℕ) (members : List Item) (units : List DocUnit) → at_end units (left - (size + sizes members)) ≡ at_end units (left - size - sizes members)
 member_rest size left members [] = omega arith
@@ -102,7 +106,7 @@ member_back : (i : Item) (items : List Item) (left : ℕ) (g : Grouped) (tail : 
     → Back (left - item_size i) items g tail e → Back left (i ∷ items) (add_member i g) tail e
 member_back i items left g tail e plain goes fits b =
     one_more i items (left - item_size i) left g (add_member i g) tail e goes (ap (λ (js : List Item). i ∷ js) b.joined) (plain, b.plain) b.units
-        (fill_add (item_size i) (sizes g.members) g.units left fits b.fill) b.last_open (member_rest (item_size i) left g.members g.units) b
+    (fill_add (item_size i) (sizes g.members) g.units left fits b.fill) b.last_open (member_rest (item_size i) left g.members g.units) b
 
 no_members : (members : List Item) → sizes members ≤ 0 → members ≡ []
 no_members [] h = refl
@@ -122,7 +126,7 @@ loose_back i items g tail e plain goes b =
     let none = no_members g.members (fill_le (sizes g.members) g.units 0 b.fill) in
     let joined : flat g.units ≡ items = rw none at b.joined in
     one_more i items 0 0 g (add_loose i g) tail e goes (ap (λ (js : List Item). i ∷ js) joined) tt (plain, b.units)
-        refl (loose_open i g.units b.last_open) (loose_rest i (sizes g.members) g.units) b
+    refl (loose_open i g.units b.last_open) (loose_rest i (sizes g.members) g.units) b
 
 by_stop : (e : Finish) (left : ℕ) (tail : List ℕ) → e ≡ finish.Stopped → IsFinish true left tail e
 by_stop e left tail h = rw h tt
@@ -131,15 +135,27 @@ by_stop e left tail h = rw h tt
 last_member : (i : Item) (left : ℕ) (tail : List ℕ) (e : Finish) → IsPlain i → is_stop i.op.opcode ≡ true → item_size i ≤ left
     → e ≡ finish.Stopped → left - item_size i ≤ length tail → Back left (i ∷ []) (record { members = i ∷ []; units = [] }) tail e
 last_member i left tail e plain last fits h r = record {
-  joined = refl; plain = (plain, tt); units = tt; fill = omega arith; last_open = tt; last_stops = tt;
-  finish = rw last (by_stop e (left - sizes (i ∷ [])) tail h); reach = omega arith;
+  joined = refl;
+  plain = (plain, tt);
+  units = tt;
+  fill = omega arith;
+  last_open = tt;
+  last_stops = tt;
+  finish = rw last (by_stop e (left - sizes (i ∷ [])) tail h);
+  reach = omega arith;
 }
 
 last_loose : (i : Item) (tail : List ℕ) (e : Finish) → IsPlain i → is_stop i.op.opcode ≡ true
     → e ≡ finish.Stopped → Back 0 (i ∷ []) (record { members = []; units = Loose i ∷ [] }) tail e
 last_loose i tail e plain last h = record {
-  joined = refl; plain = tt; units = (plain, tt); fill = refl; last_open = tt; last_stops = tt;
-  finish = rw last (by_stop e 0 tail h); reach = omega arith;
+  joined = refl;
+  plain = tt;
+  units = (plain, tt);
+  fill = refl;
+  last_open = tt;
+  last_stops = tt;
+  finish = rw last (by_stop e 0 tail h);
+  reach = omega arith;
 }
 
 pub no_items : (items : List Item) → operations items ≡ [] → items ≡ []
@@ -161,27 +177,27 @@ back (i ∷ items) left tail e h = elim (cases_Bool (is_frame i.op.opcode)) [
       let plain : IsPlain i = record { spelled = h.0.spelled; no_frame = miss } in
       elim (cases_lt 0 left) [
         | inl some ↦ elim (cases_Bool (is_stop i.op.opcode)) [
-            | inl last ↦
-                let f : IsLast (left - item_size i) (operations items) tail e = rw miss at (rw last at h.1) in
-                rw (no_items items f.none, miss, lt-ltb 0 left some) (last_member i left tail e plain last (h.0.inside some) f.finish f.reach)
-            | inr goes ↦
-                let next : Fits (left - item_size i) (operations items) tail e = rw miss at (rw goes at h.1) in
-                let ind = back items (left - item_size i) tail e next in
-                rw (miss, lt-ltb 0 left some) (member_back i items left _ tail e plain goes (h.0.inside some) ind)
-          ]
+          | inl last ↦
+              let f : IsLast (left - item_size i) (operations items) tail e = rw miss at (rw last at h.1) in
+              rw (no_items items f.none, miss, lt-ltb 0 left some) (last_member i left tail e plain last (h.0.inside some) f.finish f.reach)
+          | inr goes ↦
+              let next : Fits (left - item_size i) (operations items) tail e = rw miss at (rw goes at h.1) in
+              let ind = back items (left - item_size i) tail e next in
+              rw (miss, lt-ltb 0 left some) (member_back i items left _ tail e plain goes (h.0.inside some) ind)
+        ]
         | inr none ↦ elim (cases_Bool (is_stop i.op.opcode)) [
-            | inl last ↦
-                let z : left ≡ 0 = omega arith in
-                let f : IsLast (left - item_size i) (operations items) tail e = rw miss at (rw last at h.1) in
-                rw (no_items items f.none, z, miss) (last_loose i tail e plain last f.finish)
-            | inr goes ↦
-                let z : left ≡ 0 = omega arith in
-                let next : Fits (left - item_size i) (operations items) tail e = rw miss at (rw goes at h.1) in
-                let y : left - item_size i ≡ 0 = omega arith in
-                let next' : Fits 0 (operations items) tail e = rw y at next in
-                let ind = back items 0 tail e next' in
-                rw (z, miss) (loose_back i items (grouped 0 items) tail e plain goes ind)
-          ]
+          | inl last ↦
+              let z : left ≡ 0 = omega arith in
+              let f : IsLast (left - item_size i) (operations items) tail e = rw miss at (rw last at h.1) in
+              rw (no_items items f.none, z, miss) (last_loose i tail e plain last f.finish)
+          | inr goes ↦
+              let z : left ≡ 0 = omega arith in
+              let next : Fits (left - item_size i) (operations items) tail e = rw miss at (rw goes at h.1) in
+              let y : left - item_size i ≡ 0 = omega arith in
+              let next' : Fits 0 (operations items) tail e = rw y at next in
+              let ind = back items 0 tail e next' in
+              rw (z, miss) (loose_back i items (grouped 0 items) tail e plain goes ind)
+        ]
       ]
 ]
 

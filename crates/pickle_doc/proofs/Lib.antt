@@ -6,3 +6,6 @@ pub mod Placed
 pub mod Readings
 pub mod Identities
 pub mod Existence
+pub mod Walks
+pub mod Writing
+pub mod Readers

@@ -2,11 +2,15 @@
 //! that are no further item.
 #![tactic(auto)]
 
+mod document;
 mod fault;
 mod item;
 mod laws;
 mod next;
 mod read;
+mod walk;
+mod write;
 
+pub use document::Document;
 pub use fault::{DocFault, End, LIMIT, TailFault};
 pub use laws::{one_document, reads_again};
