@@ -14,6 +14,7 @@ answers are those of Python's pickletools, and where this project differs, those
 The same versions of the packages write the same bytes.
 """
 import os
+import pickletools
 import sys
 
 if os.environ.get('PYTHONHASHSEED') != '0':
@@ -37,7 +38,7 @@ KINDS = [
     ('Written by Python', written_by_python),
     ('Written by libraries', written_by_libraries),
     ("From CPython's own tests", from_cpython_tests),
-    ('Hostile, broken, or read otherwise', hostile),
+    ('Written byte by byte: hostile, broken, or read otherwise', hostile),
 ]
 
 
@@ -67,6 +68,8 @@ def main():
     (program / 'args').write_text(''.join(name + '.pickle\n' for name in names), encoding='ascii')
     (program / 'stdout').write_text(''.join(line + '\n' for line in expected), encoding='ascii')
     (ROOT / 'docs' / 'REAL_PICKLES.md').write_text(explain.page(sections), encoding='ascii')
+    listed = {read.name for _, rows in sections for row in rows for read in row[3].items}
+    assert len(listed) == len(pickletools.opcodes), 'an opcode that no pickle has'
     for kind, rows in sections:
         print('%s: %d pickles, %d bytes' % (kind, len(rows), sum(len(row[1]) for row in rows)))
 

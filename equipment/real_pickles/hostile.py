@@ -125,6 +125,11 @@ REFUSED = [
     ('objects_left_on_the_stack', b'\x80\x02' + CALL + b'(K\x01(K\x02K\x03.', 'STOP leaves objects and marks'),
 ]
 
+# opcodes that only Python 2 writes
+OLD = [
+    ('python_2_strings_by_hand', b"\x80\x02(S'line'\nU\x05shortT" + struct.pack('<i', 300) + b'long ' * 60 + b't.', 'three strings'),
+]
+
 NO_PICKLES = [
     ('empty_file', b'', 'no byte'),
     ('archive', b'PK\x03\x04\x00\x00\x08\x08\x00\x00' + b'\x00' * 20, 'the head of a zip file'),
@@ -134,5 +139,5 @@ NO_PICKLES = [
 
 def pickles():
     """Each pickle's name, bytes, and what it holds."""
-    for rows in (ATTACKS, BROKEN_FRAMES, OTHER_READINGS, REFUSED, NO_PICKLES):
+    for rows in (ATTACKS, BROKEN_FRAMES, OTHER_READINGS, REFUSED, OLD, NO_PICKLES):
         yield from rows
