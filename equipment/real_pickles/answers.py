@@ -27,6 +27,9 @@ RULES = {
     'numbers': 'PROTO asks for a protocol of at most 5, and the extension opcodes for a number above 0.',
 }
 
+# those by which this project may stop before Python does
+EARLIER = {'decimal', 'quotes', 'frames', 'marks', 'pairs', 'kinds', 'numbers'}
+
 # refusals that no answer of Python tells: the pickle's name, the opcode that is refused (the first one), the rule, the text
 OWN_REFUSALS = {
     'objects_under_a_mark': ('TUPLE2', 'marks', 'S2 stack underflow'),
@@ -150,7 +153,9 @@ class Overwritten(dict):
 
     def __init__(self, reads):
         super().__init__()
-        self.gets = iter('GET' in read.name for read in reads if 'GET' in read.name or 'PUT' in read.name or read.name == 'MEMOIZE')
+        # for each opcode of the memo, whether it gets: dis asks once for each of them
+        memo_names = [read.name for read in reads if 'GET' in read.name or 'PUT' in read.name or read.name == 'MEMOIZE']
+        self.gets = iter(['GET' in name for name in memo_names])
 
     def __contains__(self, key):
         return next(self.gets) and super().__contains__(key)
@@ -268,6 +273,9 @@ class Answer:
         if error is None and self.fault is None and refused is None:
             assert self.lines[-1] == lines[-1], name
         assert len(outlines) >= len(listed), name
+        if self.python is not None and not EARLIER.intersection(self.rules):
+            # (listed at least as far as Python)
+            assert self.python[0] <= (listed[-1].end if listed else 0), name
 
     def closing_of_stopped(self, data, behind, error):
         """The closing lines where STOP was read: what it leaves on the stack, and behind it in the file."""

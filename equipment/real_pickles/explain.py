@@ -20,11 +20,15 @@ own way. Of a file only the pickle up to the first STOP counts. Each opcode occu
 
 Offsets, names, indentation and notes come from `pickletools.genops` and `pickletools.dis` of Python 3.11, and never from this
 project. The lines `refused:`, `fault:`, `left:` and `kept:` are this project's own words for what Python answers by an error,
-or by the place where it stops.
+or by the place where it stops. Where Python stops at a check that this project does not make (the rules payloads and memo
+below), the lines behind are those of the same functions of Python with that check left out. `equipment/real_pickles/answers.py` has the
+rules, the words, and a table of the refusals that no answer of Python tells.
 
 ## Where Python and this project differ
 
 """
+
+OWN_LINES = ('refused', 'fault', 'left', 'kept')
 
 
 def code(text):
@@ -37,7 +41,7 @@ def differences(sections):
         for name, _, _, answer in pickles:
             if answer.rules:
                 python = of_python(answer) or 'reads it all'
-                closing = [line for line in answer.lines if line.startswith(('refused', 'fault', 'left'))]
+                closing = [line for line in answer.lines if line.startswith(OWN_LINES)]
                 here = ', '.join(code(line) for line in closing) or 'lists it all'
                 rows.append('| %s | %s | %s | %s |' % (name, ', '.join(answer.rules), python, here))
     return rows
@@ -57,9 +61,10 @@ def page(sections):
     lines += ['', *differences(sections), '']
     lines += ['Where Python refuses and no rule is named, this project refuses at the same offset for the same reason.', '']
     for kind, pickles in sections:
-        lines += ['## %s: %d' % (kind, len(pickles)), '', '| File | Bytes | Items | What it holds | Python refuses | Here |', '|---|---|---|---|---|---|']
+        lines += ['## %s: %d' % (kind, len(pickles)), '']
+        lines += ['| File | Bytes | Items | What it holds | Python refuses | Here |', '|---|---|---|---|---|---|']
         for name, content, what, answer in pickles:
-            closing = ', '.join(code(line) for line in answer.lines if line.startswith(('refused', 'fault', 'left', 'kept')))
+            closing = ', '.join(code(line) for line in answer.lines if line.startswith(OWN_LINES))
             lines.append('| %s | %d | %d | %s | %s | %s |' % (
                 name, len(content), len(answer.items), what, of_python(answer), closing))
         lines.append('')
