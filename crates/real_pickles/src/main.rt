@@ -1,0 +1,116 @@
+//! Reads files as documents and prints what it finds of each: its name, the offset and the name of every item, how reading
+//! ended, and whether the document writes back the bytes that it was read from. Test equipment.
+#![tactic(auto)]
+
+use pickle_doc::{DocFault, Document, End, LIMIT, TailFault};
+use pickle_ops::{Failed, ToWrite};
+use std::alloc::Global;
+use std::fs::File;
+use std::io::Read;
+use std::process::ExitCode;
+use std::{env, io};
+
+/// Why a file was not read, or nothing printed of it.
+#[derive(Debug, Drop)]
+enum Stop {
+    /// A file or a word could not be read, or a line not printed.
+    Device,
+    /// The file is too large, or there was no memory.
+    Room,
+}
+
+impl From<io::Error> for Stop {
+    fn from(_error: io::Error) -> Stop {
+        Stop::Device
+    }
+}
+
+impl From<DocFault> for Stop {
+    fn from(_fault: DocFault) -> Stop {
+        Stop::Room
+    }
+}
+
+impl From<Failed> for Stop {
+    fn from(_failed: Failed) -> Stop {
+        Stop::Room
+    }
+}
+
+/// The code of a fault, as the listing prints it.
+fn code_of(fault: TailFault) -> &'static str {
+    match fault {
+        TailFault::Ended => "F1",
+        TailFault::UnknownOpcode(_) => "F2",
+        TailFault::Truncated => "F3",
+        TailFault::NegativeLength => "F4",
+        TailFault::BadArgument => "F5",
+        TailFault::FrameInFrame => "F6",
+        TailFault::FramePastEnd => "F7",
+        TailFault::FrameCrossed => "F8",
+    }
+}
+
+/// Prints the offset and the name of each item. Offsets are added up, since `Document::offset` goes over all items before.
+fn print_items(rt: &HostRuntime, document: &Document) -> Result<(), Stop> {
+    let mut offset: u64 = 0;
+    for k in 0..document.len() {
+        if let Some(op) = document.item(k) {
+            println!(rt; "{} {}", offset, op.opcode().name())?;
+            offset = offset.saturating_add(op.size() as u64);
+        }
+    }
+    Ok(())
+}
+
+/// Prints how reading ended.
+fn print_end(rt: &HostRuntime, document: &Document) -> Result<(), Stop> {
+    match document.end() {
+        End::Stopped => println!(rt; "stopped")?,
+        End::Fault(fault, offset) => println!(rt; "not stopped: {} at {}", code_of(fault), offset)?,
+    }
+    Ok(())
+}
+
+/// The bytes that a document writes.
+fn written(alloc: Global, document: &Document) -> Result<Vec<u8>, Stop> {
+    let mut sink = ToWrite::new(Vec::new(alloc));
+    document.write_bytes(&mut sink)?;
+    Ok(sink.into_inner())
+}
+
+/// Prints what is found in one file.
+fn print_file(rt: &HostRuntime, path: &str) -> Result<(), Stop> {
+    let mut bytes = Vec::new(rt.alloc());
+    File::open(rt, path)?
+        .take(LIMIT as u64 + 1)
+        .read_to_end(&mut bytes)?;
+    let document = Document::read(rt.alloc(), &bytes)?;
+    println!(rt; "{path}")?;
+    print_items(rt, &document)?;
+    print_end(rt, &document)?;
+    if written(rt.alloc(), &document)?.as_slice() == bytes.as_slice() {
+        println!(rt; "same")?;
+    } else {
+        println!(rt; "different")?;
+    }
+    Ok(())
+}
+
+/// Prints what is found in each file that the words of the command line name.
+fn print_files(rt: &HostRuntime) -> Result<(), Stop> {
+    for path in env::args(rt)?.skip(1) {
+        print_file(rt, &path)?;
+    }
+    Ok(())
+}
+
+fn main(rt: HostRuntime) -> ExitCode {
+    match print_files(&rt) {
+        Ok(()) => ExitCode::SUCCESS,
+        Err(stop) => {
+            let _ = eprintln!(rt; "real_pickles: {:?}", stop);
+            ExitCode::FAILURE
+        }
+    }
+}
