@@ -13,7 +13,12 @@ use pickle_ops::Op;
 use std::alloc::Global;
 
 /// A step and back: the state is what it was.
-pub fn step_and_back(machine: &mut Machine, alloc: Global, op: &Op, place: usize) -> Result<(), Refusal>
+pub fn step_and_back(
+    machine: &mut Machine,
+    alloc: Global,
+    op: &Op,
+    place: usize,
+) -> Result<(), Refusal>
     requires { length machine.old.state.heap < 2 ^ 32 - 1 }
     ensures state { machine.new.state ≡ machine.old.state }
     ensures moves { machine.new.moves ≡ (if is_ok result then counted machine.old.moves 2 else machine.old.moves) }
@@ -25,7 +30,12 @@ pub fn step_and_back(machine: &mut Machine, alloc: Global, op: &Op, place: usize
 }
 
 /// Steps through operations as far as that goes, and keeps the records.
-fn step_all(machine: &mut Machine, alloc: Global, ops: &[Op], records: &mut Vec<StepRecord>) -> Result<(), Refusal>
+fn step_all(
+    machine: &mut Machine,
+    alloc: Global,
+    ops: &[Op],
+    records: &mut Vec<StepRecord>,
+) -> Result<(), Refusal>
     requires empty { records.old.items ≡ [] }
     requires counted { machine.old.moves < 2 ^ 64 }
     requires heap { length machine.old.state.heap + length ops.now < 2 ^ 32 }
@@ -61,7 +71,11 @@ fn unstep_all(machine: &mut Machine, records: Vec<StepRecord>)
 
 /// Steps through operations as far as that goes, and then takes all of these steps back: the state is what it was.
 /// Gives how many steps there were, and why there were no more, if an operation is left.
-pub fn there_and_back(machine: &mut Machine, alloc: Global, ops: &[Op]) -> (usize, Result<(), Refusal>)
+pub fn there_and_back(
+    machine: &mut Machine,
+    alloc: Global,
+    ops: &[Op],
+) -> (usize, Result<(), Refusal>)
     requires { length machine.old.state.heap + length ops.now < 2 ^ 32 }
     ensures state { machine.new.state ≡ machine.old.state }
     ensures rooms { KeepsRooms machine.old machine.new }
