@@ -14,7 +14,7 @@ them. Nobody edits these by hand; the script says at its head which packages it 
 
 Two tests read them. `rt ci` runs the program `real_pickles` (test equipment, over `pickle_doc`): of each file it prints the
 offset and the name of every item, how reading ended, and whether `write_bytes` gives the bytes back. `./test` compares
-what the built program lists with `equipment/listings` (where the file `READY` there says that the program knows all opcodes):
+what the built program lists with `equipment/listings`:
 offset, code, indentation, name, notes and closing lines; the texts of arguments are left out, since Python writes them in its
 own way. Of a file only the pickle up to the first STOP counts. Each opcode occurs in one of the files at least.
 
