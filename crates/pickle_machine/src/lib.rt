@@ -4,21 +4,16 @@
 
 mod act;
 mod check;
-mod kind;
 mod laws;
 mod machine;
-mod object;
 mod record;
 mod refusal;
-mod row;
 mod stack;
 mod step;
-mod table;
 mod unstep;
 
-pub use kind::Kind;
 pub use laws::{step_and_back, there_and_back};
 pub use machine::Machine;
-pub use object::{Change, ObjId, Object};
+pub use pickle_objects::{Change, Kind, ObjId, Object};
 pub use record::StepRecord;
 pub use refusal::Refusal;

@@ -29,7 +29,7 @@ pub struct Object {
 }
 
 impl Model for Object {
-    ghost use Rattle.pickle_machine.specs.State.{Object};
+    ghost use Rattle.pickle_objects.specs.Object.{Object};
 
     ghost Value = { Object };
 
@@ -39,8 +39,8 @@ impl Model for Object {
 impl Object {
     ghost use Rattle.std.specs.Prelude.{◌≡◌, ◌-◌, [], ◌++◌, length, take, OnOk, OnErr};
 
-    /// A new object, to which nothing was done.
-    pub(crate) fn new(alloc: Global, kind: Kind, parts: Vec<ObjId>) -> Object
+    /// A new object, to which nothing was done. A machine makes one for each step that makes an object.
+    pub fn new(alloc: Global, kind: Kind, parts: Vec<ObjId>) -> Object
         ensures { result ≡ record { kind = kind; parts = parts.items; changes = [] } }
     {
         Object {
@@ -71,8 +71,8 @@ impl Object {
         self.changes.as_slice()
     }
 
-    /// Puts changes behind the others.
-    pub(crate) fn change(&mut self, more: &[Change]) -> Result<(), AllocError>
+    /// Puts changes behind the others, for a step that puts something into it. Where memory is wanting, it stays as it was.
+    pub fn change(&mut self, more: &[Change]) -> Result<(), AllocError>
         ensures ok { OnOk result (self.new ≡ record self.old { changes = self.old.changes ++ more.now }) }
         ensures err { OnErr result (self.new ≡ self.old) }
     {
@@ -80,8 +80,8 @@ impl Object {
         Ok(())
     }
 
-    /// Takes the last changes away.
-    pub(crate) fn shorten(&mut self, count: usize)
+    /// Takes the last changes away, where a step that put them there is taken back. It takes no memory.
+    pub fn shorten(&mut self, count: usize)
         ensures { self.new ≡ record self.old { changes = take (length self.old.changes - count) self.old.changes } }
     {
         let left = self.changes.len().saturating_sub(count);

@@ -1,7 +1,7 @@
 //! The shapes of steps: what an opcode does to the machine.
 
 ghost use Rattle.std.specs.Prelude.{◌≡◌};
-ghost use Rattle.pickle_machine.specs.Move.{count_of, values_of, change_of};
+ghost use Rattle.pickle_objects.specs.Row.{count_of, values_of, change_of};
 
 use crate::object::{Change, ObjId};
 
@@ -88,8 +88,8 @@ pub enum Filling {
 }
 
 impl Taking {
-    /// How many objects are taken.
-    pub(crate) fn count(self) -> usize
+    /// How many objects are taken. A machine refuses a step that finds fewer.
+    pub fn count(self) -> usize
         ensures { result ≡ count_of self }
     {
         match self {
@@ -101,8 +101,8 @@ impl Taking {
 }
 
 impl Filling {
-    /// How many objects go into the one below them.
-    pub(crate) fn values(self) -> usize
+    /// How many objects go into the one below them. A machine looks for that one at this depth.
+    pub fn values(self) -> usize
         ensures { result ≡ values_of self }
     {
         match self {
@@ -111,8 +111,9 @@ impl Filling {
         }
     }
 
-    /// One object as a change of the one that it goes into; keys and values go in pairs.
-    pub(crate) fn change(self, id: ObjId) -> Change
+    /// One object as a change of the one that it goes into, for the machine, which puts it there; keys and values go in
+    /// pairs.
+    pub fn change(self, id: ObjId) -> Change
         ensures { result ≡ change_of self id }
     {
         match self {
