@@ -1,5 +1,5 @@
 //! The machine that the opcodes of a pickle run, forwards and backwards. It calls nothing and imports nothing: objects
-//! stand in the place of what a loader would build.
+//! stand in the place of what a loader would build. What each opcode makes and does stands in `pickle_objects`.
 #![tactic(auto)]
 
 mod act;

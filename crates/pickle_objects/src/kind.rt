@@ -180,7 +180,7 @@ impl Kind {
         }
     }
 
-    /// Whether it meets a demand. A machine asks before a step, and refuses the step where it does not.
+    /// Whether it meets a demand. A machine asks this of the objects that a step uses.
     pub fn meets(&self, demand: Demand) -> bool
         ensures { result ≡ meets demand self.now }
     {
