@@ -102,7 +102,8 @@ fn int_kind(line: Payload) -> Kind
 
 impl Kind {
     /// The kind of the object that an operation makes, for the machine that makes it. Its bytes are shared with the
-    /// operation, and not copied.
+    /// operation, and not copied. NEXT_BUFFER and READONLY_BUFFER make theirs from the state: for these, and for an
+    /// operation that makes no object, the answer says nothing.
     pub fn of(op: &Op) -> Result<Kind, AllocError>
         ensures { IfOk result (λ k. k ≡ kind_of op.now) }
     {
