@@ -1,10 +1,11 @@
 /*
- * Refuses one allocation: a shared library for LD_PRELOAD, used by ./test.
+ * Refuses one allocation, or counts them: a shared library for LD_PRELOAD, used by ./test.
  *
  * Calls of malloc, calloc and realloc are counted from 1; a Rattle program allocates by no others.
  * The call whose number the environment variable FAIL_AT gives answers NULL, and the file that
  * REFUSED_MARK names is made then, so that the caller knows that there was such a call. Later calls
  * pass again. What the loader allocates before this library is ready is not counted.
+ * To the file that the environment variable REQUESTS names, if there is one, each call adds a byte.
  */
 #include <errno.h>
 #include <fcntl.h>
@@ -18,11 +19,15 @@ void *__libc_realloc(void *old, size_t size);
 
 static unsigned long calls;
 static unsigned long refused_call; /* 0 is no call */
+static int requests = -1;          /* the file, if there is one */
 
 __attribute__((constructor)) static void begin(void)
 {
     const char *number = getenv("FAIL_AT");
+    const char *counted = getenv("REQUESTS");
 
+    if (counted)
+        requests = open(counted, O_WRONLY | O_CREAT | O_APPEND, 0600);
     calls = 0;
     refused_call = number ? strtoul(number, NULL, 10) : 0;
 }
@@ -33,6 +38,8 @@ static int is_refused(void)
     const char *mark;
     int file;
 
+    if (requests >= 0 && write(requests, ".", 1) != 1)
+        abort();
     calls++;
     if (calls != refused_call)
         return 0;
