@@ -11,10 +11,8 @@ use pickle_machine::{Machine, Refusal};
 use std::alloc::Global;
 use std::test::Fail;
 
-/// Goes the whole way of these bytes forwards and back, twice, and compares what is shown at each place with what another
-/// machine showed there. Answers the texts of the states.
-fn there_and_back(alloc: Global, bytes: &[u8]) -> Result<Noted, Fault> {
-    let noted = note_down(alloc, bytes)?;
+/// Goes a whole way forwards and back, twice, and compares what is shown at each place with what is written down.
+fn walk_twice(alloc: Global, noted: &Noted) -> Result<(), Fault> {
     let mut machine = Machine::new(alloc);
     for was_there in [false, true] {
         let way = Way {
@@ -25,16 +23,18 @@ fn there_and_back(alloc: Global, bytes: &[u8]) -> Result<Noted, Fault> {
         walk(&mut machine, alloc, &way, 0)?;
     }
     let moves = (noted.ops.len() as u64).saturating_mul(4);
-    if machine.moves() != moves {
-        return Err(Fault::Moves(noted.ops.len()));
+    if machine.moves() == moves {
+        Ok(())
+    } else {
+        Err(Fault::Moves(noted.ops.len()))
     }
-    Ok(noted)
 }
 
 /// Goes the way of a row, and compares the states that the row gives, of which the last is where its way ends.
 fn try_row(alloc: Global, row: &Row) -> Result<(), Fault> {
     let (bytes, states) = *row;
-    let noted = there_and_back(alloc, bytes)?;
+    let noted = note_down(alloc, bytes)?;
+    walk_twice(alloc, &noted)?;
     let mut last = 0;
     for (place, text) in states {
         let found = noted.notes.get(*place).map(|note| note.as_slice());
@@ -61,7 +61,7 @@ fn states_on_the_way(rt: HostRuntime) {
     assert_eq!(rt; try_row(rt.alloc(), &ALL_SHAPES), Ok(()));
 }
 
-/// Each opcode ends a row, and each ends one of its own.
+/// Each opcode ends a row, and each a row of its own.
 #[test]
 fn states_of_each_opcode(rt: HostRuntime) -> Result<(), Fail> {
     let mut met = [false; 256];
@@ -77,33 +77,49 @@ fn states_of_each_opcode(rt: HostRuntime) -> Result<(), Fail> {
 }
 
 /// A mark, a thousand objects, all of them dropped with the mark, and one more object.
-#[test]
-fn a_thousand_heights(rt: HostRuntime) -> Result<(), Fail> {
-    let mut bytes = vec![in rt.alloc(); b'N'; 1001]?;
+fn thousand(alloc: Global) -> Result<Noted, Fault> {
+    let mut bytes = vec![in alloc; b'N'; 1001]?;
     bytes[0] = b'(';
     bytes.extend_from_slice(b"1N.")?;
-    let noted = there_and_back(rt.alloc(), &bytes)?;
-    assert_eq!(rt; noted.notes.len(), 1005);
-    let mut objects = String::new(rt.alloc());
-    let mut stack = String::new(rt.alloc());
-    for k in 0..1001usize {
-        let text = format!(in rt.alloc(); "{objects}stack (0{stack}")?;
-        let found = noted.notes.get(k + 1).map(|note| note.as_slice());
-        assert_eq!(rt; found, Some(text.as_bytes()), "place {}", k + 1);
-        if k < 1000 {
-            objects = format!(in rt.alloc(); "{objects}#{k} none; ")?;
-            stack = format!(in rt.alloc(); "{stack} #{k}")?;
+    note_down(alloc, &bytes)
+}
+
+/// Whether what is written down at a place consists of these.
+fn is_note(noted: &Noted, place: usize, parts: [&[u8]; 3]) -> bool {
+    let note = noted.notes.get(place).map(|note| note.as_slice());
+    let mut rest = note.unwrap_or_default();
+    for part in parts {
+        if !rest.starts_with(part) {
+            return false;
         }
+        rest = rest.get(part.len()..).unwrap_or_default();
     }
-    for (place, end) in [
-        (1002, "stack"),
-        (1003, "#1000 none; stack #1000"),
-        (1004, "#1000 none; stack; result #1000"),
-    ] {
-        let text = format!(in rt.alloc(); "{objects}{end}")?;
-        let found = noted.notes.get(place).map(|note| note.as_slice());
-        assert_eq!(rt; found, Some(text.as_bytes()), "place {place}");
+    rest.is_empty() && place < noted.notes.len()
+}
+
+/// Whether the thousand objects come one after the other on the stack, and go together.
+fn is_thousand(alloc: Global, noted: &Noted) -> Result<bool, Fault> {
+    let mut objects = Vec::new(alloc);
+    let mut stack = Vec::new(alloc);
+    let mut is_so = is_note(noted, 1, [b"", b"stack (0", b""]);
+    for k in 0..1000usize {
+        objects.extend_from_slice(format!(in alloc; "#{k} none; ")?.as_bytes())?;
+        stack.extend_from_slice(format!(in alloc; " #{k}")?.as_bytes())?;
+        is_so &= is_note(noted, k + 2, [&objects, b"stack (0", &stack]);
     }
+    is_so &= is_note(noted, 1002, [&objects, b"stack", b""]);
+    is_so &= is_note(noted, 1003, [&objects, b"#1000 none; stack #1000", b""]);
+    let end = b"#1000 none; stack; result #1000";
+    is_so &= is_note(noted, 1004, [&objects, end, b""]);
+    Ok(is_so)
+}
+
+#[test]
+fn a_thousand_heights(rt: HostRuntime) -> Result<(), Fail> {
+    let noted = thousand(rt.alloc())?;
+    assert_eq!(rt; walk_twice(rt.alloc(), &noted), Ok(()));
+    assert_eq!(rt; noted.notes.len(), 1005);
+    assert_eq!(rt; is_thousand(rt.alloc(), &noted), Ok(true));
     Ok(())
 }
 
@@ -158,62 +174,80 @@ fn refusals(rt: HostRuntime) -> Result<(), Fail> {
     Ok(())
 }
 
-/// The way of every shape, with its operations from a place on, all of them free.
-fn all_shapes(alloc: Global) -> Result<(Noted, usize), Fault> {
-    let (bytes, states) = ALL_SHAPES;
-    let noted = note_down(alloc, bytes)?;
-    let free_from = states.first().map_or(0, |state| state.0);
-    Ok((noted, free_from))
+/// Goes the way of these bytes, where a request for memory may be refused once.
+fn insist(alloc: Global, bytes: &[u8]) -> Result<(), Fault> {
+    let noted = match note_down(alloc, bytes) {
+        Err(Fault::Memory) => note_down(alloc, bytes)?,
+        other => other?,
+    };
+    walk_twice(alloc, &noted)
 }
 
 /// Run with each request for memory refused in turn: a step that is refused for want of memory leaves every reader as it
 /// was, and asked again it succeeds; a free step is never refused so.
 #[test]
-fn refused_memory(rt: HostRuntime) -> Result<(), Fail> {
-    let noted = match note_down(rt.alloc(), ALL_SHAPES.0) {
-        Err(Fault::Memory) => note_down(rt.alloc(), ALL_SHAPES.0)?,
-        other => other?,
-    };
-    let mut machine = Machine::new(rt.alloc());
-    for was_there in [false, true] {
+fn refused_memory(rt: HostRuntime) {
+    assert_eq!(rt; insist(rt.alloc(), ALL_SHAPES.0), Ok(()));
+    for (k, (bytes, _)) in OPCODES.iter().enumerate() {
+        assert_eq!(rt; insist(rt.alloc(), bytes), Ok(()), "row {k}");
+    }
+}
+
+/// Goes a way forwards, or also back. The way back takes no memory, so both ask for as much.
+fn go(alloc: Global, noted: &Noted, and_back: bool) -> Result<(), Fault> {
+    let mut machine = Machine::new(alloc);
+    if and_back {
         let way = Way {
             ops: &noted.ops,
             notes: &noted.notes,
-            was_there,
+            was_there: false,
         };
-        assert_eq!(rt; walk(&mut machine, rt.alloc(), &way, 0), Ok(()));
+        walk(&mut machine, alloc, &way, 0)
+    } else {
+        run(&mut machine, alloc, &noted.ops)
     }
-    Ok(())
 }
 
-/// Asks for as much memory as `there_and_back_again`: every shape forwards, twice.
-#[test]
-fn forwards(rt: HostRuntime) -> Result<(), Fail> {
-    let (noted, _) = all_shapes(rt.alloc())?;
-    for _ in 0..2 {
-        let mut machine = Machine::new(rt.alloc());
-        run(&mut machine, rt.alloc(), &noted.ops)?;
-    }
-    Ok(())
-}
-
-/// Asks for no more memory than `forwards`: every shape forwards and back; and every shape forwards, where the free steps
-/// at its end are gone forwards and back three times.
-#[test]
-fn there_and_back_again(rt: HostRuntime) -> Result<(), Fail> {
-    let (noted, free_from) = all_shapes(rt.alloc())?;
+/// Goes the way of every shape forwards, and the free steps at its end forwards and back as often as is said. These take no
+/// memory, so any number asks for as much.
+fn go_freely(alloc: Global, times: usize) -> Result<(), Fault> {
+    let (bytes, states) = ALL_SHAPES;
+    let noted = note_down(alloc, bytes)?;
+    let free_from = states.first().map_or(0, |state| state.0);
     let way = Way {
         ops: &noted.ops,
         notes: &noted.notes,
-        was_there: false,
+        was_there: true,
     };
-    let mut machine = Machine::new(rt.alloc());
-    walk(&mut machine, rt.alloc(), &way, 0)?;
-    let mut machine = Machine::new(rt.alloc());
-    let (before, _) = noted.ops.split_at(free_from.min(noted.ops.len()));
-    run(&mut machine, rt.alloc(), before)?;
-    for _ in 0..3 {
-        walk(&mut machine, rt.alloc(), &way, free_from)?;
+    let mut machine = Machine::new(alloc);
+    run(&mut machine, alloc, &noted.ops)?;
+    for _ in 0..times {
+        walk(&mut machine, alloc, &way, free_from)?;
     }
     Ok(())
+}
+
+/// Goes all of these ways.
+fn go_all(alloc: Global, and_back: bool) -> Result<(), Fault> {
+    for (bytes, _) in &OPCODES {
+        let noted = note_down(alloc, bytes)?;
+        go(alloc, &noted, and_back)?;
+    }
+    let noted = thousand(alloc)?;
+    go(alloc, &noted, and_back)?;
+    let noted = note_down(alloc, ALL_SHAPES.0)?;
+    go(alloc, &noted, and_back)?;
+    go_freely(alloc, if and_back { 3 } else { 0 })
+}
+
+/// Asks for memory as often as `there_and_back_again`.
+#[test]
+fn forwards(rt: HostRuntime) {
+    assert_eq!(rt; go_all(rt.alloc(), false), Ok(()));
+}
+
+/// Asks for memory no more often than `forwards`: no step back asks for any, and no free step.
+#[test]
+fn there_and_back_again(rt: HostRuntime) {
+    assert_eq!(rt; go_all(rt.alloc(), true), Ok(()));
 }

@@ -71,7 +71,7 @@ pub fn ops_of(alloc: Global, bytes: &[u8]) -> Result<Vec<Op>, Fault> {
 
 /// The whole state of a machine as a text.
 pub fn state_of(alloc: Global, machine: &Machine) -> Result<Vec<u8>, Fault> {
-    let mut sink = ToWrite::new(Vec::new(alloc));
+    let mut sink = ToWrite::new(Vec::with_capacity(alloc, 1024)?);
     write_state(machine, &mut sink)?;
     Ok(sink.into_inner())
 }

@@ -6,48 +6,47 @@ use pickle_ops::{
     Failed, Payload, Sink, write_all, write_decimal, write_hex, write_quoted, write_signed,
 };
 
-/// Writes a word and the number of an object behind it.
-fn write_id<S: Sink>(word: &str, id: ObjId, sink: &mut S) -> Result<(), Failed> {
-    write_all(sink, word.as_bytes())?;
-    write_all(sink, b"#")?;
+/// Writes signs and the number of an object behind them.
+fn write_id<S: Sink>(signs: &str, id: ObjId, sink: &mut S) -> Result<(), Failed> {
+    write_all(sink, signs.as_bytes())?;
     write_decimal(u64::from(id), sink)
 }
 
-/// The word of a kind.
+/// The word of a kind, behind a blank.
 fn word_of(kind: &Kind) -> &'static str {
     match kind {
-        Kind::None => "none",
-        Kind::True => "true",
-        Kind::False => "false",
-        Kind::Int(_) => "int",
-        Kind::Long(_) => "long",
-        Kind::IntLine(_) => "int-line",
-        Kind::LongLine(_) => "long-line",
-        Kind::FloatLine(_) => "float-line",
-        Kind::Float(_) => "float",
-        Kind::LegacyString(_) => "string",
-        Kind::LegacyLine(_) => "string-line",
-        Kind::Text(_) => "text",
-        Kind::TextLine(_) => "text-line",
-        Kind::Bytes(_) => "bytes",
-        Kind::ByteArray(_) => "bytearray",
-        Kind::Tuple => "tuple",
-        Kind::List => "list",
-        Kind::Set => "set",
-        Kind::FrozenSet => "frozenset",
-        Kind::Dict => "dict",
-        Kind::Global(_, _) => "global",
-        Kind::StackGlobal => "stack-global",
-        Kind::Call => "call",
-        Kind::New => "new",
-        Kind::NewEx => "new-ex",
-        Kind::Inst(_, _) => "inst",
-        Kind::Obj => "obj",
-        Kind::PersistentLine(_) => "persistent",
-        Kind::Persistent => "persistent",
-        Kind::Ext(_) => "ext",
-        Kind::Buffer(_) => "buffer",
-        Kind::ReadOnly => "readonly",
+        Kind::None => " none",
+        Kind::True => " true",
+        Kind::False => " false",
+        Kind::Int(_) => " int",
+        Kind::Long(_) => " long",
+        Kind::IntLine(_) => " int-line",
+        Kind::LongLine(_) => " long-line",
+        Kind::FloatLine(_) => " float-line",
+        Kind::Float(_) => " float",
+        Kind::LegacyString(_) => " string",
+        Kind::LegacyLine(_) => " string-line",
+        Kind::Text(_) => " text",
+        Kind::TextLine(_) => " text-line",
+        Kind::Bytes(_) => " bytes",
+        Kind::ByteArray(_) => " bytearray",
+        Kind::Tuple => " tuple",
+        Kind::List => " list",
+        Kind::Set => " set",
+        Kind::FrozenSet => " frozenset",
+        Kind::Dict => " dict",
+        Kind::Global(_, _) => " global",
+        Kind::StackGlobal => " stack-global",
+        Kind::Call => " call",
+        Kind::New => " new",
+        Kind::NewEx => " new-ex",
+        Kind::Inst(_, _) => " inst",
+        Kind::Obj => " obj",
+        Kind::PersistentLine(_) => " persistent",
+        Kind::Persistent => " persistent",
+        Kind::Ext(_) => " ext",
+        Kind::Buffer(_) => " buffer",
+        Kind::ReadOnly => " readonly",
     }
 }
 
@@ -93,13 +92,13 @@ fn write_content<S: Sink>(kind: &Kind, sink: &mut S) -> Result<(), Failed> {
 /// Writes what was done to an object.
 fn write_change<S: Sink>(change: Change, sink: &mut S) -> Result<(), Failed> {
     match change {
-        Change::Append(id) => write_id(" +", id, sink),
+        Change::Append(id) => write_id(" +#", id, sink),
         Change::SetItem(key, value) => {
-            write_id(" [", key, sink)?;
-            write_id("]=", value, sink)
+            write_id(" [#", key, sink)?;
+            write_id("]=#", value, sink)
         }
-        Change::Add(id) => write_id(" &", id, sink),
-        Change::Build(id) => write_id(" !", id, sink),
+        Change::Add(id) => write_id(" &#", id, sink),
+        Change::Build(id) => write_id(" !#", id, sink),
     }
 }
 
@@ -108,7 +107,7 @@ fn write_object<S: Sink>(object: &Object, sink: &mut S) -> Result<(), Failed> {
     write_all(sink, word_of(object.kind()).as_bytes())?;
     write_content(object.kind(), sink)?;
     for (k, part) in object.parts().iter().enumerate() {
-        write_id(if k == 0 { " (" } else { " " }, *part, sink)?;
+        write_id(if k == 0 { " (#" } else { " #" }, *part, sink)?;
     }
     if !object.parts().is_empty() {
         write_all(sink, b")")?;
@@ -123,12 +122,13 @@ fn write_object<S: Sink>(object: &Object, sink: &mut S) -> Result<(), Failed> {
 fn write_objects<S: Sink>(machine: &Machine, sink: &mut S) -> Result<(), Failed> {
     for k in 0..machine.objects() {
         let id = u32::try_from(k).unwrap_or(u32::MAX);
-        write_id("", id, sink)?;
-        write_all(sink, b" ")?;
+        write_id(if k == 0 { "#" } else { "; #" }, id, sink)?;
         match machine.object(id) {
             Some(object) => write_object(object, sink)?,
-            None => write_all(sink, b"is not there")?,
+            None => write_all(sink, b" is not there")?,
         }
+    }
+    if machine.objects() > 0 {
         write_all(sink, b"; ")?;
     }
     Ok(())
@@ -159,7 +159,7 @@ fn write_stack<S: Sink>(machine: &Machine, sink: &mut S) -> Result<(), Failed> {
     let mut mark = write_marks(machine, 0, 0, sink)?;
     for k in 0..machine.stack_len() {
         match machine.stack_at(k) {
-            Some(id) => write_id(" ", id, sink)?,
+            Some(id) => write_id(" #", id, sink)?,
             None => write_all(sink, b" is not there")?,
         }
         mark = write_marks(machine, mark, k.saturating_add(1), sink)?;
@@ -178,7 +178,7 @@ fn write_memo<S: Sink>(machine: &Machine, sink: &mut S) -> Result<(), Failed> {
     for (key, id) in machine.memo_map() {
         write_all(sink, b" ")?;
         write_decimal(*key, sink)?;
-        write_id("=", *id, sink)?;
+        write_id("=#", *id, sink)?;
         if machine.memo(*key) != Some(*id) {
             write_all(sink, b" by one reader alone")?;
         }
@@ -206,7 +206,7 @@ pub fn write_state<S: Sink>(machine: &Machine, sink: &mut S) -> Result<(), Faile
         write_decimal(machine.buffers(), sink)?;
     }
     if let Some(id) = machine.result() {
-        write_id("; result ", id, sink)?;
+        write_id("; result #", id, sink)?;
     }
     if !ends(machine) {
         write_all(sink, b"; and readers past the end")?;
