@@ -6,17 +6,18 @@ use Rattle.std.specs.List.{slice_get}
 use Rattle.std.specs.Option.{option_map_or}
 use Rattle.std.specs.Result.{result_ok}
 use Rattle.pickle_ops.specs.Spelling.{Operation}
-use Rattle.pickle_machine.specs.declared.kind.Kind.{Kind}
-use Rattle.pickle_machine.specs.declared.kind.Kind.TheVariants as kind
-use Rattle.pickle_machine.specs.declared.object.Change.{Change}
+use Rattle.pickle_objects.specs.declared.kind.Kind.{Kind}
+use Rattle.pickle_objects.specs.declared.kind.Kind.TheVariants as kind
+use Rattle.pickle_objects.specs.declared.object.Change.{Change}
+use Rattle.pickle_objects.specs.declared.row.Row.{Row}
+use Rattle.pickle_objects.specs.declared.row.Row.TheVariants as row
+use Rattle.pickle_objects.specs.Object.{Object}
+use Rattle.pickle_objects.specs.Row.{count_of, values_of, row_of, kind_of}
 use Rattle.pickle_machine.specs.declared.refusal.Refusal.{Refusal}
 use Rattle.pickle_machine.specs.declared.refusal.Refusal.TheVariants.{Memory}
 use Rattle.pickle_machine.specs.Laws.{IsStopped}
-use Rattle.pickle_machine.specs.declared.row.Row.{Row}
-use Rattle.pickle_machine.specs.declared.row.Row.TheVariants as row
-use Rattle.pickle_machine.specs.State.{Object, State}
-use Rattle.pickle_machine.specs.Row.{row_of, kind_of}
-use Rattle.pickle_machine.specs.Move.{deep, changes_of, values_of, push, last_of, without, cut, count_of, next_of, next, outcome, refusal_at, move}
+use Rattle.pickle_machine.specs.State.{State}
+use Rattle.pickle_machine.specs.Move.{deep, changes_of, push, last_of, without, cut, next_of, next, outcome, refusal_at, move}
 use Rattle.pickle_machine.specs.Run.{after, run_from}
 use Rattle.pickle_machine.specs.Held.{Held, KeepsRooms, Fits}
 use Rattle.pickle_machine.specs.Back.{Record, CanAllGoBack, Leads, back, back_all}

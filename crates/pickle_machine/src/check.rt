@@ -1,16 +1,14 @@
 //! Which refusal a step meets.
 
-use crate::kind::Demand;
 use crate::machine::Machine;
-use crate::object::ObjId;
 use crate::refusal::Refusal;
-use crate::row::{Cutting, Filling, Row, Taking};
+use pickle_objects::{Cutting, Demand, Filling, ObjId, Row, Taking};
 use pickle_ops::Op;
 
 impl Machine {
     ghost use Rattle.std.specs.Prelude.{◌≡◌, ◌≢◌, ◌<◌, ◌≤◌, length, IfSome};
-    ghost use Rattle.pickle_machine.specs.Row.{row_of};
-    ghost use Rattle.pickle_machine.specs.Move.{deep, object_meets, refusal_of, taking_refusal, cutting_refusal, count_of, refusal_at, takes_mark};
+    ghost use Rattle.pickle_objects.specs.Row.{count_of, row_of};
+    ghost use Rattle.pickle_machine.specs.Move.{deep, object_meets, refusal_of, taking_refusal, cutting_refusal, refusal_at, takes_mark};
 
     /// Whether the object of this number is there and meets a demand.
     pub(crate) fn meets(&self, id: ObjId, demand: Demand) -> bool

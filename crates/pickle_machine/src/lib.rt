@@ -1,24 +1,19 @@
 //! The machine that the opcodes of a pickle run, forwards and backwards. It calls nothing and imports nothing: objects
-//! stand in the place of what a loader would build.
+//! stand in the place of what a loader would build. What each opcode makes and does stands in `pickle_objects`.
 #![tactic(auto)]
 
 mod act;
 mod check;
-mod kind;
 mod laws;
 mod machine;
-mod object;
 mod record;
 mod refusal;
-mod row;
 mod stack;
 mod step;
-mod table;
 mod unstep;
 
-pub use kind::Kind;
 pub use laws::{step_and_back, there_and_back};
 pub use machine::Machine;
-pub use object::{Change, ObjId, Object};
+pub use pickle_objects::{Change, Kind, ObjId, Object};
 pub use record::StepRecord;
 pub use refusal::Refusal;

@@ -1,7 +1,7 @@
 //! The machine, and what it shows.
 
-use crate::object::{ObjId, Object};
 use crate::stack::Stack;
+use pickle_objects::{ObjId, Object};
 use std::alloc::Global;
 use std::collections::BTreeMap;
 use std::marker::Model;

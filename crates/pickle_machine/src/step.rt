@@ -1,16 +1,15 @@
 //! One step forwards.
 
-use crate::kind::{Demand, Kind};
 use crate::machine::Machine;
 use crate::record::StepRecord;
 use crate::refusal::Refusal;
-use crate::row::Row;
+use pickle_objects::{Demand, Kind, Row};
 use pickle_ops::Op;
 use std::alloc::{AllocError, Global};
 
 impl Machine {
     ghost use Rattle.std.specs.Prelude.{◌≡◌, ◌≢◌, ◌+◌, ◌<◌, ◌≤◌, ◌-◌, ◌^◌, length, OnOk, OnErr, IfOk, IfErr, None, Some, Ok, true, false, is_ok, if◌then◌else◌};
-    ghost use Rattle.pickle_machine.specs.Row.{row_of, kind_of};
+    ghost use Rattle.pickle_objects.specs.Row.{row_of, kind_of};
     ghost use Rattle.pickle_machine.specs.Move.{refusal_of, refusal_at, next_of, move};
     ghost use Rattle.pickle_machine.specs.Held.{KeepsRooms, Fits, is_free, counted};
     ghost use Rattle.pickle_machine.specs.Back.{Leads};

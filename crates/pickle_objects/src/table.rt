@@ -1,7 +1,7 @@
 //! The table of what opcodes do.
 
 ghost use Rattle.std.specs.Prelude.{◌≡◌, IfOk};
-ghost use Rattle.pickle_machine.specs.Row.{row_of, kind_of, int_kind};
+ghost use Rattle.pickle_objects.specs.Row.{row_of, kind_of, int_kind};
 
 use crate::kind::Kind;
 use crate::row::{Cutting, Filling, Row, Taking};
@@ -9,8 +9,8 @@ use pickle_ops::{Op, Opcode, Payload};
 use std::alloc::AllocError;
 
 impl Row {
-    /// The row of an operation.
-    pub(crate) fn of(op: &Op) -> Row
+    /// The row of an operation: what a machine does at it, and what it asks before.
+    pub fn of(op: &Op) -> Row
         ensures { result ≡ row_of op.now }
     {
         match op.opcode() {
@@ -101,8 +101,10 @@ fn int_kind(line: Payload) -> Kind
 }
 
 impl Kind {
-    /// The kind of the object that an operation makes. Its bytes are shared with the operation, and not copied.
-    pub(crate) fn of(op: &Op) -> Result<Kind, AllocError>
+    /// The kind of the object that an operation makes, for the machine that makes it. Its bytes are shared with the
+    /// operation, and not copied. NEXT_BUFFER and READONLY_BUFFER make theirs from the state: for these, and for an
+    /// operation that makes no object, the answer says nothing.
+    pub fn of(op: &Op) -> Result<Kind, AllocError>
         ensures { IfOk result (λ k. k ≡ kind_of op.now) }
     {
         match op.opcode() {

@@ -79,7 +79,7 @@ pub enum Demand {
 
 impl Kind {
     ghost use Rattle.std.specs.Prelude.{◌≡◌};
-    ghost use Rattle.pickle_machine.specs.Kind.{is_opaque, is_text, is_arguments, is_keywords, is_read_only, is_writable, accepts, meets};
+    ghost use Rattle.pickle_objects.specs.Kind.{is_opaque, is_text, is_arguments, is_keywords, is_read_only, is_writable, accepts, meets};
 
     /// Whether it comes from elsewhere or from a call, so that it may be of any type.
     pub fn is_opaque(&self) -> bool
@@ -180,8 +180,8 @@ impl Kind {
         }
     }
 
-    /// Whether it meets a demand.
-    pub(crate) fn meets(&self, demand: Demand) -> bool
+    /// Whether it meets a demand. A machine asks this of the objects that a step uses.
+    pub fn meets(&self, demand: Demand) -> bool
         ensures { result ≡ meets demand self.now }
     {
         match demand {
