@@ -32,6 +32,8 @@ blanks-front a b c count left n h k q p =
     rw parts (AppendsFront-more a c (blanks (count - left) ++ blanks n) (blanks (left - n)) (AppendsFront-then a b c (blanks (count - left)) (blanks n) p q))
 
 pub blanks-all : (a b : Option (List ℕ)) (count left : ℕ) → left ≡ 0 → Appends a b (blanks (count - left)) → Appends a b (blanks count)
-blanks-all a b count left h p = rw h at p
+blanks-all a b count left h p =
+    let e : count - left ≡ count = omega (arith, h) in
+    rw e at p
 
 pub ruleset blank_steps = (blanks-none, blanks-all)

@@ -8,6 +8,7 @@ ghost use Rattle.picklestep.specs.Line.{offset_column, code_column, mark_text, a
 
 use crate::column::{hex, write_blanks, write_code, write_left, write_right};
 use crate::note::Note;
+use itoa::Buffer;
 use pickle_doc::TailFault;
 use pickle_machine::Refusal;
 use pickle_ops::{
