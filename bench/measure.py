@@ -3,6 +3,7 @@ import datetime
 import fractions
 import os
 import pickle
+import pickletools
 import platform
 import random
 import struct
@@ -58,13 +59,29 @@ def dictionaries(file, size):
     pickle.dump(made, file, 2)
 
 
+def under_marks(file, size):
+    """NONE and POP in turn above 1,000 open marks, whose lines are indented by 4,000 blanks."""
+    file.write(b'(' * 1000 + b'N0' * (size // 2) + b'N.')
+
+
+def cut_marks(file, size):
+    """MARK and POP_MARK in turn."""
+    file.write(b'(1' * (size // 2) + b'N.')
+
+
 # letter, what it is, who writes it, megabytes, whether it is also measured at twice the size
 FILES = [
     ('a', 'small integers and short strings, protocol 4', numbers_and_strings, 32, True),
-    ('b', 'text, protocol 0', text, 32, False),
+    ('b', 'text, protocol 0', text, 32, True),
     ('c', 'one-byte opcodes `N0`', one_byte_opcodes, 16, True),
     ('d', 'one BINBYTES8', one_byte_string, 128, False),
-    ('e', 'nested dictionaries with memo', dictionaries, 24, False),
+    ('e', 'nested dictionaries with memo', dictionaries, 24, True),
+]
+
+# those that are measured only once and at twice the size
+DOUBLED = [
+    ('f', '`N0` above 1,000 marks', under_marks, fractions.Fraction(1, 4)),
+    ('g', 'marks set and cut, `(1`', cut_marks, 16),
 ]
 
 
@@ -120,9 +137,28 @@ def row(letter, what, length, listing, theirs, cat):
         megabytes(theirs.memory), cat.seconds, times, FASTER[letter], holds)
 
 
+def doubled_row(letter, what, once, twice):
+    """A line of the second table."""
+    factor = twice.seconds / once.seconds
+    return '| (%s) %s | %.2f s | %.2f s | %.2f | %.1f | %s |' % (
+        letter, what, once.seconds, twice.seconds, factor, TWICE, verdict(factor <= TWICE))
+
+
+def processor():
+    """What the system says the processor is."""
+    with open('/proc/cpuinfo') as file:
+        return next((line.split(':', 1)[1].strip() for line in file if line.startswith('model name')), platform.machine())
+
+
+def opcodes_of(path):
+    """How many opcodes a file has."""
+    with open(path, 'rb') as file:
+        return sum(1 for _ in pickletools.genops(file))
+
+
 def main():
     program, scale = sys.argv[1], fractions.Fraction(sys.argv[2])
-    rows, twice, memory = [], [], None
+    rows, twice, memory = [], [], {}
     with tempfile.TemporaryDirectory() as folder:
         for letter, what, write, full, doubled in FILES:
             size = int(full * MEGABYTE * scale)
@@ -131,18 +167,19 @@ def main():
             listing = shortest([program, 'list', path])
             theirs = shortest([sys.executable, '-m', 'pickletools', path], 1)
             rows.append(row(letter, what, length, listing, theirs, shortest(['cat', path])))
-            if letter == 'c':
-                memory = listing.memory / length
+            if letter in 'ac':
+                memory[letter] = listing.memory / opcodes_of(path)
             os.unlink(path)
             if doubled:
                 path = made(folder, letter, write, 2 * size)
-                longer = shortest([program, 'list', path])
-                factor = longer.seconds / listing.seconds
-                twice.append('| (%s) | %.2f s | %.2f s | %.2f | %.1f | %s |' % (
-                    letter, listing.seconds, longer.seconds, factor, TWICE, verdict(factor <= TWICE)))
+                twice.append(doubled_row(letter, what, listing, shortest([program, 'list', path])))
                 os.unlink(path)
-    print('%s, %d processors, %s, Python %s, scale %s. Sizes and memory in MB of 1,048,576 bytes.' % (
-        datetime.date.today(), os.cpu_count(), platform.machine(), platform.python_version(), scale))
+        for letter, what, write, full in DOUBLED:
+            size = int(full * MEGABYTE * scale)
+            once, longer = (shortest([program, 'list', made(folder, letter, write, n * size)]) for n in (1, 2))
+            twice.append(doubled_row(letter, what, once, longer))
+    print('%s, %d processors (%s), Python %s, scale %s. Sizes and memory in MB of 1,048,576 bytes.' % (
+        datetime.date.today(), os.cpu_count(), processor(), platform.python_version(), scale))
     print('The shortest of %d runs of `picklestep list` and of `cat`, and one run of `python3 -m pickletools`; their output is '
           'thrown away.\n' % RUNS)
     print('| File | Size | list | its memory | pickletools | its memory | cat | times faster | bar | |')
@@ -151,7 +188,8 @@ def main():
     print('\n| Twice the file | once | twice | factor | bar | |')
     print('|---|---|---|---|---|---|')
     print('\n'.join(twice))
-    print('\nMemory on (c): %.1f bytes an opcode, bar %d: %s.' % (memory, BYTES_AN_OPCODE, verdict(memory <= BYTES_AN_OPCODE)))
+    print('\nMemory on (c): %.1f bytes an opcode, bar %d: %s. On (a): %.1f bytes an opcode, arguments included.' % (
+        memory['c'], BYTES_AN_OPCODE, verdict(memory['c'] <= BYTES_AN_OPCODE), memory['a']))
 
 
 main()

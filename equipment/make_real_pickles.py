@@ -7,6 +7,7 @@ libpython3.11-testsuite, from anywhere, without arguments. It writes
     crates/real_pickles/data/NAME.pickle    the pickles
     crates/real_pickles/args, stdout        their names, and what the program real_pickles is to print
     equipment/listings/NAME.txt             the listing of each without the texts of arguments
+    equipment/python_refusals.txt           where Python refuses, and the rules by which this project may stop before
     docs/REAL_PICKLES.md                    which pickles there are, and where Python and this project differ
 
 and removes what it wrote before under other names. Nothing of this project is run, and no hostile pickle is loaded: the
@@ -52,7 +53,7 @@ def emptied(folder, ending):
 def main():
     data = emptied(ROOT / 'crates' / 'real_pickles' / 'data', '.pickle')
     listings = emptied(ROOT / 'equipment' / 'listings', '.txt')
-    names, expected, sections = [], [], []
+    names, expected, refusals, sections = [], [], [], []
     for kind, module in KINDS:
         rows = []
         for name, content, what in module.pickles():
@@ -62,10 +63,13 @@ def main():
             (data / (name + '.pickle')).write_bytes(content)
             (listings / (name + '.txt')).write_text('\n'.join(answer.lines) + '\n', encoding='ascii')
             expected += [name + '.pickle', *answer.document_lines(), 'same']
+            if answer.python is not None:
+                refusals.append(' '.join([name, str(answer.python[0]), *answer.earlier()]))
             rows.append((name, content, what, answer))
         sections.append((kind, rows))
     program = ROOT / 'crates' / 'real_pickles'
     (program / 'args').write_text(''.join(name + '.pickle\n' for name in names), encoding='ascii')
+    (ROOT / 'equipment' / 'python_refusals.txt').write_text(''.join(line + '\n' for line in refusals), encoding='ascii')
     (program / 'stdout').write_text(''.join(line + '\n' for line in expected), encoding='ascii')
     (ROOT / 'docs' / 'REAL_PICKLES.md').write_text(explain.page(sections), encoding='ascii')
     listed = {read.name for _, rows in sections for row in rows for read in row[3].items}

@@ -22,8 +22,8 @@ RULES = {
     'marks': 'No opcode reaches below the topmost mark unless it takes the mark; in `pickletools.dis` a mark counts as an object '
              'there. OBJ asks for an object above its mark.',
     'pairs': 'DICT and SETITEMS ask for an even number of objects; `pickletools.dis` does not count them.',
-    'kinds': 'Opcodes ask for what a loader would need: a container that takes the change, a text as a name, something to call, '
-             'its arguments. `pickletools.dis` does not ask.',
+    'kinds': 'Opcodes ask for a container that takes the change, a text as a name, something that can be called, a tuple or a '
+             'list of arguments. `pickletools.dis` does not ask, and a loader may take more than this.',
     'numbers': 'PROTO asks for a protocol of at most 5, and the extension opcodes for a number above 0.',
 }
 
@@ -273,9 +273,13 @@ class Answer:
         if error is None and self.fault is None and refused is None:
             assert self.lines[-1] == lines[-1], name
         assert len(outlines) >= len(listed), name
-        if self.python is not None and not EARLIER.intersection(self.rules):
+        if self.python is not None and not self.earlier():
             # (listed at least as far as Python)
             assert self.python[0] <= (listed[-1].end if listed else 0), name
+
+    def earlier(self):
+        """The rules by which the listing may stop before Python does."""
+        return [rule for rule in self.rules if rule in EARLIER]
 
     def closing_of_stopped(self, data, behind, error):
         """The closing lines where STOP was read: what it leaves on the stack, and behind it in the file."""

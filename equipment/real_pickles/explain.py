@@ -16,7 +16,8 @@ Two tests read them. `rt ci` runs the program `real_pickles` (test equipment, ov
 offset and the name of every item, how reading ended, and whether `write_bytes` gives the bytes back. `./test` compares
 what the built program lists with `equipment/listings`:
 offset, code, indentation, name, notes and closing lines; the texts of arguments are left out, since Python writes them in its
-own way. Of a file only the pickle up to the first STOP counts. Each opcode occurs in one of the files at least.
+own way. Where Python refuses (`equipment/python_refusals.txt`), the listing goes at least as far, but for the rules named there.
+Of a file only the pickle up to the first STOP counts. Each opcode occurs in one of the files at least.
 
 Offsets, names, indentation and notes come from `pickletools.genops` and `pickletools.dis` of Python 3.11, and never from this
 project. The lines `refused:`, `fault:`, `left:` and `kept:` are this project's own words for what Python answers by an error,

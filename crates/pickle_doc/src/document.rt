@@ -40,7 +40,7 @@ impl Document {
     ghost use Rattle.pickle_doc.specs.Place.{item_at, id_at, offset_at, frame_at, end_of};
 
     /// The document that the bytes read as. Its identities count from 0. `TooLarge` comes just where there are more bytes than
-    /// `LIMIT`; bytes that are no item are no reason to refuse, they stand in the tail.
+    /// `LIMIT`, `Memory` only for want of memory; bytes that are no item are no reason to refuse, they stand in the tail.
     pub fn read(alloc: Global, bytes: &[u8]) -> Result<Document, DocFault>
         ensures read { IfOk result (ReadsAs bytes.now) }
         ensures large { (result ≡ Err DocFault.TooLarge) ↔ (LIMIT < length bytes.now) }

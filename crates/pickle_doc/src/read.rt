@@ -11,8 +11,11 @@ use std::alloc::{AllocError, Global};
 /// The items of bytes, the bytes behind them that are not read, and why reading ended.
 #[derive(Drop)]
 pub struct Parts<'a> {
+    /// The items, in their order.
     pub items: Vec<Item>,
+    /// The bytes behind the items.
     pub tail: &'a [u8],
+    /// Why reading ended.
     pub finish: Finish,
 }
 

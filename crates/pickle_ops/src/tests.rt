@@ -200,10 +200,19 @@ fn values(rt: HostRuntime) -> Result<(), Fail> {
     assert_eq!(rt; bytes.payload(), b"ab".as_slice());
     let line = op_of(rt.alloc(), Opcode::Unicode, b"ab\n")?;
     assert_eq!(rt; line.payload(), b"ab".as_slice());
+    assert_eq!(rt; int.integer(), -256);
+    let two = op_of(rt.alloc(), Opcode::BinInt2, b"\xff\xfe")?;
+    assert_eq!(rt; two.integer(), 65279);
+    let four = op_of(rt.alloc(), Opcode::LongBinGet, b"\xff\xff\xff\xff")?;
+    assert_eq!(rt; four.integer(), 4294967295);
+    assert_eq!(rt; bytes.shared_payload()?.as_slice(), b"ab".as_slice());
     let global = op_of(rt.alloc(), Opcode::Global, b"os\nsystem\n")?;
     let (module, name) = global.texts();
     assert_eq!(rt; module, b"os".as_slice());
     assert_eq!(rt; name, b"system".as_slice());
+    let (module, name) = global.shared_texts()?;
+    assert_eq!(rt; module.as_slice(), b"os".as_slice());
+    assert_eq!(rt; name.as_slice(), b"system".as_slice());
     Ok(())
 }
 

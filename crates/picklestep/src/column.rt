@@ -6,6 +6,9 @@ ghost use Rattle.picklestep.specs.Column.{blanks, right, left, hex_byte, code_te
 
 use pickle_ops::{Failed, Sink, write_all};
 
+/// Blanks that are written at once.
+const BLANKS: [u8; 64] = [b' '; 64];
+
 /// Writes this many blanks.
 #[tactic(auto, using(crate::proofs::Blanks::blank_steps))]
 pub fn write_blanks<S: Sink>(count: usize, sink: &mut S) -> Result<(), Failed>
@@ -13,8 +16,11 @@ pub fn write_blanks<S: Sink>(count: usize, sink: &mut S) -> Result<(), Failed>
     ensures rises { S.failures sink.old ≤ S.failures sink.new }
     ensures failed { OnErr result (HasFailed (S.failures sink.old) (S.failures sink.new)) }
 {
-    for _ in 0..count {
-        write_all(sink, b" ")?;
+    let mut left = count;
+    while left > 0 {
+        let n = left.min(BLANKS.len());
+        write_all(sink, &BLANKS[..n])?;
+        left -= n;
     }
     Ok(())
 }

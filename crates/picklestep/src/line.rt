@@ -1,7 +1,6 @@
 //! The lines of a listing.
 
 ghost use Rattle.std.specs.Prelude.{◌≡◌, ◌≤◌, ◌<◌, ◌^◌, ◌*◌, ◌++◌, length, None, Some, OnErr};
-ghost use Rattle.std.specs.Fmt.{signed_decimal};
 ghost use Rattle.pickle_ops.specs.Table.{name_of};
 ghost use Rattle.pickle_ops.specs.Device.{Takes, HasFailed};
 ghost use Rattle.pickle_ops.specs.Text.{◌⧺◌, arg_text};
@@ -12,7 +11,9 @@ use crate::note::Note;
 use itoa::Buffer;
 use pickle_doc::TailFault;
 use pickle_machine::Refusal;
-use pickle_ops::{Failed, Op, Opcode, Sink, write_all, write_arg_text, write_decimal};
+use pickle_ops::{
+    Failed, Op, Opcode, Sink, write_all, write_arg_text, write_decimal, write_signed,
+};
 
 /// Writes where an item stands.
 #[tactic(auto, using(pickle_ops::proofs::Devices::text_steps), unfolding(crate::specs::Line::offset_column))]
@@ -166,15 +167,6 @@ fn words_of_refusal(refusal: Refusal) -> &'static str
     }
 }
 
-/// Writes a number, behind a minus where it is below 0.
-fn write_signed<S: Sink>(number: i64, sink: &mut S) -> Result<(), Failed>
-    ensures takes { Takes (S.taken sink.old) (S.taken sink.new) result (signed_decimal number) }
-    ensures rises { S.failures sink.old ≤ S.failures sink.new }
-    ensures failed { OnErr result (HasFailed (S.failures sink.old) (S.failures sink.new)) }
-{
-    write_all(sink, Buffer::new().format(number).as_bytes())
-}
-
 /// Writes the number that a refusal names: a key, a protocol, an extension or an object.
 #[tactic(auto, using(pickle_ops::proofs::Devices::text_steps), unfolding(crate::specs::Line::refusal_number))]
 fn write_refusal_number<S: Sink>(refusal: Refusal, sink: &mut S) -> Result<(), Failed>
@@ -189,7 +181,7 @@ fn write_refusal_number<S: Sink>(refusal: Refusal, sink: &mut S) -> Result<(), F
         Refusal::OddItems => Ok(()),
         Refusal::WrongKind(id) => write_decimal(u64::from(id), sink),
         Refusal::BadProtocol(protocol) => write_decimal(protocol, sink),
-        Refusal::BadExtension(code) => write_signed(code, sink),
+        Refusal::BadExtension(code) => write_signed(i128::from(code), sink),
         Refusal::NotText(id) => write_decimal(u64::from(id), sink),
         Refusal::NotCallable(id) => write_decimal(u64::from(id), sink),
         Refusal::NotArguments(id) => write_decimal(u64::from(id), sink),
