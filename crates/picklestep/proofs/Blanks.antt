@@ -1,11 +1,13 @@
 -- Blanks, one after another.
-use Rattle.std.proofs.Common.{◌≡◌, ℕ, ◌+◌, ◌-◌, ◌≤◌, List, [], ◌++◌, replicate, Option, refl, sym, ap, ◌∙◌, append_assoc, arith}
+use Rattle.std.proofs.Common.{◌≡◌, ℕ, ◌+◌, ◌-◌, ◌≤◌, List, [], ◌∷◌, ◌++◌, ◌&&◌, false, nat_lt, slice_index_or, replicate, Option, codes, refl, sym, ap, ◌∙◌, append_assoc, arith}
 use Rattle.std.specs.Io.KnownBytes.{Appends}
 use Rattle.std.proofs.KnownBytes.{Appends-nil, Appends-trans}
 use Rattle.std.proofs.lemmas.List.{replicate-append-replicate}
 use Rattle.pickle_ops.specs.Device.{AppendsFront}
 use Rattle.pickle_ops.proofs.Devices.{AppendsFront-then, AppendsFront-more}
-use Rattle.picklestep.specs.Column.{blanks}
+use Rattle.pickle_ops.specs.Text.{◌⧺◌}
+use Rattle.hex.specs.Hex.{encode_with}
+use Rattle.picklestep.specs.Column.{blanks, left, hex_byte, code_text}
 
 blanks-add : (m n : ℕ) → blanks (m + n) ≡ blanks m ++ blanks n
 blanks-add m n = sym (replicate-append-replicate m n 32)
@@ -37,3 +39,16 @@ blanks-all a b count left h p =
     rw e at p
 
 pub ruleset blank_steps = (blanks-none, blanks-all)
+
+-- ---- a code in its column
+
+pub visible-column : (byte : ℕ) → left 4 (byte ∷ []) ⧺ codes " " ≡ byte ∷ 32 ∷ 32 ∷ 32 ∷ 32 ∷ []
+unfolding left ◌⧺◌
+visible-column byte = refl
+
+pub hidden-column : (byte : ℕ) (digits : List ℕ) → (nat_lt 32 byte && nat_lt byte 127) ≡ false → digits ≡ hex_byte byte
+    → 92 ∷ 120 ∷ slice_index_or digits 0 0 ∷ slice_index_or digits 1 0 ∷ 32 ∷ [] ≡ left 4 (code_text byte) ⧺ codes " "
+unfolding left ◌⧺◌ encode_with
+hidden-column byte digits h e = rw (h, e) refl
+
+pub ruleset column_steps = (visible-column)

@@ -1,7 +1,8 @@
 //! Texts in columns, written piece by piece.
 
-ghost use Rattle.std.specs.Prelude.{◌≡◌, ◌≤◌, OnErr};
+ghost use Rattle.std.specs.Prelude.{◌≡◌, ◌≤◌, ◌&&◌, OnErr, codes, nat_lt};
 ghost use Rattle.pickle_ops.specs.Device.{Takes, HasFailed};
+ghost use Rattle.pickle_ops.specs.Text.{◌⧺◌};
 ghost use Rattle.picklestep.specs.Column.{blanks, right, left, hex_byte, code_text};
 
 use pickle_ops::{Failed, Sink, write_all};
@@ -56,17 +57,22 @@ pub fn hex(byte: u8) -> [u8; 2]
     digits
 }
 
-/// Writes a code at the left of a column of four: the character itself where it is visible.
-#[tactic(auto, unfolding(crate::specs::Column::left))]
-pub fn write_code<S: Sink>(code: u8, sink: &mut S) -> Result<(), Failed>
-    ensures takes { Takes (S.taken sink.old) (S.taken sink.new) result (left 4 (code_text code)) }
-    ensures rises { S.failures sink.old ≤ S.failures sink.new }
-    ensures failed { OnErr result (HasFailed (S.failures sink.old) (S.failures sink.new)) }
+/// Whether a byte is a visible character of ASCII.
+fn is_visible(byte: u8) -> bool
+    ensures { result ≡ (nat_lt 32 byte && nat_lt byte 127) }
 {
-    if code > b' ' && code < 0x7f {
-        write_left(4, &[code], sink)
+    byte > b' ' && byte < 0x7f
+}
+
+/// A code at the left of a column of four, the character itself where it is visible, and a blank behind.
+#[tactic(auto, using(crate::proofs::Blanks::column_steps))]
+pub fn code_column(code: u8) -> [u8; 5]
+    ensures { result ≡ left 4 (code_text code) ⧺ codes " " }
+{
+    if is_visible(code) {
+        [code, b' ', b' ', b' ', b' ']
     } else {
         let [high, low] = hex(code);
-        write_left(4, &[b'\\', b'x', high, low], sink)
+        [b'\\', b'x', high, low, b' ']
     }
 }

@@ -6,7 +6,7 @@ ghost use Rattle.pickle_ops.specs.Device.{Takes, HasFailed};
 ghost use Rattle.pickle_ops.specs.Text.{◌⧺◌, arg_text};
 ghost use Rattle.picklestep.specs.Line.{offset_column, code_column, mark_text, as_text, note_text, described, named, item_line, refused_line, refusal_words, refusal_number, refusal_text, fault_words, fault_byte, fault_text, fault_line, left_text, left_line, kept_text, kept_line, kept_words, protocol_words, protocol_text, protocol_line};
 
-use crate::column::{hex, write_blanks, write_code, write_left, write_right};
+use crate::column::{code_column, hex, write_blanks, write_left, write_right};
 use crate::note::Note;
 use itoa::Buffer;
 use pickle_doc::TailFault;
@@ -28,14 +28,13 @@ fn write_offset<S: Sink>(offset: u64, sink: &mut S) -> Result<(), Failed>
 }
 
 /// Writes the code of an opcode.
-#[tactic(auto, using(pickle_ops::proofs::Devices::text_steps), unfolding(crate::specs::Line::code_column))]
+#[tactic(auto, unfolding(crate::specs::Line::code_column))]
 fn write_opcode<S: Sink>(opcode: Opcode, sink: &mut S) -> Result<(), Failed>
     ensures takes { Takes (S.taken sink.old) (S.taken sink.new) result (code_column opcode) }
     ensures rises { S.failures sink.old ≤ S.failures sink.new }
     ensures failed { OnErr result (HasFailed (S.failures sink.old) (S.failures sink.new)) }
 {
-    write_code(opcode.code(), sink)?;
-    write_all(sink, b" ")
+    write_all(sink, &code_column(opcode.code()))
 }
 
 /// Writes where the mark was set that an opcode takes.
