@@ -64,15 +64,15 @@ fn is_visible(byte: u8) -> bool
     byte > b' ' && byte < 0x7f
 }
 
-/// A code at the left of a column of four, the character itself where it is visible, and a blank behind.
+/// A colon and a blank, a code at the left of a column of four, the character itself where it is visible, and a blank.
 #[tactic(auto, using(crate::proofs::Blanks::column_steps))]
-pub fn code_column(code: u8) -> [u8; 5]
-    ensures { result ≡ left 4 (code_text code) ⧺ codes " " }
+pub fn code_column(code: u8) -> [u8; 7]
+    ensures { result ≡ codes ": " ⧺ left 4 (code_text code) ⧺ codes " " }
 {
     if is_visible(code) {
-        [code, b' ', b' ', b' ', b' ']
+        [b':', b' ', code, b' ', b' ', b' ', b' ']
     } else {
         let [high, low] = hex(code);
-        [b'\\', b'x', high, low, b' ']
+        [b':', b' ', b'\\', b'x', high, low, b' ']
     }
 }

@@ -16,18 +16,17 @@ use pickle_ops::{
 };
 
 /// Writes where an item stands.
-#[tactic(auto, using(pickle_ops::proofs::Devices::text_steps), unfolding(crate::specs::Line::offset_column))]
+#[tactic(auto, unfolding(crate::specs::Line::offset_column))]
 fn write_offset<S: Sink>(offset: u64, sink: &mut S) -> Result<(), Failed>
     ensures takes { Takes (S.taken sink.old) (S.taken sink.new) result (offset_column offset) }
     ensures rises { S.failures sink.old ≤ S.failures sink.new }
     ensures failed { OnErr result (HasFailed (S.failures sink.old) (S.failures sink.new)) }
 {
     let mut buffer = Buffer::new();
-    write_right(5, buffer.format(offset).as_bytes(), sink)?;
-    write_all(sink, b": ")
+    write_right(5, buffer.format(offset).as_bytes(), sink)
 }
 
-/// Writes the code of an opcode.
+/// Writes a colon and the code of an opcode.
 #[tactic(auto, unfolding(crate::specs::Line::code_column))]
 fn write_opcode<S: Sink>(opcode: Opcode, sink: &mut S) -> Result<(), Failed>
     ensures takes { Takes (S.taken sink.old) (S.taken sink.new) result (code_column opcode) }
