@@ -39,8 +39,8 @@ pub fn step_and_back(
     // What was free is free again.
     ensures again { is_free (row_of op.now) machine.old ≡ true → is_free (row_of op.now) machine.new ≡ true }
 {
-    let record = machine.step(alloc, op, place)?;
-    machine.unstep(record);
+    let step = machine.step(alloc, op, place)?;
+    machine.unstep(step);
     Ok(())
 }
 
