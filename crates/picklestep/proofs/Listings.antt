@@ -15,7 +15,7 @@ use Rattle.pickle_doc.specs.Document.{Contents, document_bytes}
 use Rattle.pickle_machine.specs.declared.refusal.Refusal.{Refusal}
 use Rattle.pickle_machine.specs.State.{State, Marked, empty}
 use Rattle.pickle_machine.specs.Move.{move, refusal_at}
-use Rattle.pickle_machine.specs.Run.{run}
+use Rattle.pickle_machine.specs.Run.{run, run_from}
 use Rattle.picklestep.specs.declared.note.Note.{Note}
 use Rattle.picklestep.specs.Line.{item_line, refused_line, protocol_line, raised, highest_protocol}
 use Rattle.picklestep.specs.Listing.{Listing, ops_of, offset_of, topmost_offset, note_with, note_unless, line_on, line_at, lines, reached, end_lines, end_status, refused_lines, listing, listing_to, listing_with}
@@ -34,7 +34,7 @@ pub record Progress (old new : Option (List ℕ)) (ops : List Operation) (k offs
   pub few : length s.marked ≤ k
 
 run-empty : (ops : List Operation) → run ops 0 ≡ Some empty
-unfolding run
+unfolding run run_from
 run-empty ops = refl
 
 pub Progress-none : (a : Option (List ℕ)) (ops : List Operation) → Progress a a ops 0 0 empty [] None
