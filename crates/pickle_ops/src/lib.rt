@@ -8,6 +8,7 @@ mod fault;
 mod form;
 mod from_read;
 mod integer;
+mod kept;
 mod laws;
 mod op;
 mod opcode;

@@ -1,31 +1,29 @@
 //! An opcode with its argument.
 
 use crate::form::Form;
+use crate::kept::Kept;
 use crate::opcode::Opcode;
 use crate::value::{first_text, number_of, payload, second_text, signed_of};
 use std::alloc::{AllocError, Global};
 use std::marker::Model;
-use std::rc::RcSlice;
 
 /// An opcode with its whole argument, length bytes and newlines among it. Its code and the argument are always a
-/// spelling. How the bytes are kept is nobody's business: an argument without bytes takes no memory.
+/// spelling. How the bytes are kept is nobody's business: an argument of at most fourteen bytes takes no memory.
 #[derive(Debug, Drop)]
 pub struct Op {
     opcode: Opcode,
-    pub(crate) arg: Option<RcSlice<u8>>,
+    pub(crate) arg: Kept,
 }
 
 impl Model for Op {
     ghost use Rattle.pickle_ops.specs.Spelling.{Operation, IsSpelled};
-    ghost use Rattle.std.specs.Prelude.{[]};
-    ghost use Rattle.std.specs.Option.{option_map_or};
-    ghost use Rattle.std.specs.Rc.{rc_slice_items};
+    ghost use Rattle.pickle_ops.specs.Kept.{kept_bytes};
 
     ghost Value = { Operation };
 
-    ghost view = { λ op. record { opcode = op.opcode; arg = option_map_or rc_slice_items op.arg [] } };
+    ghost view = { λ op. record { opcode = op.opcode; arg = kept_bytes op.arg } };
 
-    ghost invariant = { λ op. IsSpelled (record { opcode = op.opcode; arg = option_map_or rc_slice_items op.arg [] }) };
+    ghost invariant = { λ op. IsSpelled (record { opcode = op.opcode; arg = kept_bytes op.arg }) };
 }
 
 impl Op {
@@ -41,13 +39,9 @@ impl Op {
         ensures ok { IfOk result (λ op. op ≡ record { opcode = opcode; arg = arg.now }) }
         ensures err { OnErr result (0 < length arg.now) }
     {
-        if arg.is_empty() {
-            return Ok(Op { opcode, arg: None });
-        }
-        let bytes = RcSlice::from_slice(alloc, arg)?;
         Ok(Op {
             opcode,
-            arg: Some(bytes),
+            arg: Kept::of(alloc, arg)?,
         })
     }
 
@@ -63,10 +57,7 @@ impl Op {
         ensures value { result.now ≡ self.now.arg }
         ensures spelled { IsSpelled self.now }
     {
-        match &self.arg {
-            None => &[],
-            Some(bytes) => bytes.as_slice(),
-        }
+        self.arg.as_slice()
     }
 
     /// The number that an argument of the forms `U1`, `U2`, `U4`, `U8` and `Decimal` spells.
