@@ -1,0 +1,87 @@
+//! Putting an opcode in the place of an item.
+
+use crate::document::Document;
+use crate::edit::{EditFault, plain_size, resized};
+use crate::fault::LIMIT;
+use crate::item::Item;
+use crate::next::{is_frame, is_stop};
+use crate::record::{Change, EditRecord};
+use pickle_ops::Op;
+
+impl Document {
+    ghost use Rattle.std.specs.Prelude.{◌≡◌, ◌+◌, ◌^◌, ◌⊎◌, ◌==◌, ◌&&◌, ◌<◌, ◌≤◌, length, IfOk, IfErr, OnOk, OnErr, Some, None};
+    ghost use Rattle.pickle_doc.specs.DocUnit.{flat};
+    ghost use Rattle.pickle_doc.specs.Document.{items_of, IsReadAgain};
+    ghost use Rattle.pickle_doc.specs.Edit.{with_units, replaced, replace_fault};
+    ghost use Rattle.pickle_doc.specs.Turn.{Leads, place_of};
+
+    /// Why an opcode cannot stand in the place of item k; none where it can. This takes no memory.
+    pub fn replace_fault(&self, k: usize, op: &Op) -> Option<EditFault>
+        ensures { result ≡ replace_fault self.now.contents k op.now }
+    {
+        if k >= self.items.len() {
+            return Some(EditFault::NoSuchItem);
+        }
+        if is_stop(op.opcode()) {
+            return Some(EditFault::StopItem);
+        }
+        match plain_size(&self.items, k) {
+            Err(fault) => Some(fault),
+            Ok(old) => {
+                if is_frame(op.opcode()) {
+                    return Some(EditFault::FrameItem);
+                }
+                let size = op.arg().len() as u64 + 1;
+                let total = self.start - old + self.tail.len() as u64;
+                if size > LIMIT as u64 - total {
+                    return Some(EditFault::TooLarge);
+                }
+                None
+            }
+        }
+    }
+
+    /// What puts an opcode in the place of item k.
+    fn replacement(&self, k: usize, op: Op) -> EditRecord
+        requires { replace_fault self.now.contents k op ≡ None }
+        ensures place { place_of result ≡ k }
+        ensures leads { Leads result self.now.contents (with_units self.now.contents (replaced k op self.now.contents.units)) }
+        ensures room { length (flat (replaced k op self.now.contents.units)) ≡ length (items_of self.now.contents) }
+    {
+        let item = self.items.at(k);
+        let id = item.id;
+        let old = item.op.size() as u64;
+        let size = op.arg().len() as u64 + 1;
+        let frame = resized(&self.items, k, old, size);
+        EditRecord {
+            place: k,
+            change: Change::Set(Item { id, op }),
+            frame,
+            start: self.start - old + size,
+        }
+    }
+
+    /// Puts an opcode in the place of item k, which keeps its identity and its frame. The record leads back. This takes no
+    /// memory.
+    ///
+    /// The first that applies: `NoSuchItem` (E1) where there is no item k, `StopItem` (E2) where it or the opcode is STOP,
+    /// `FrameItem` (E3) where it or the opcode is FRAME, `TooLarge` (E8) where there would be more bytes than `LIMIT`. Then
+    /// nothing is changed.
+    pub fn replace(&mut self, k: usize, op: Op) -> Result<EditRecord, EditFault>
+        ensures fault { IfErr result (λ f. replace_fault self.old.contents k op ≡ Some f) }
+        ensures err { OnErr result (self.new ≡ self.old) }
+        ensures none { OnOk result (replace_fault self.old.contents k op ≡ None) }
+        ensures ok { OnOk result (self.new.contents ≡ with_units self.old.contents (replaced k op self.old.contents.units)) }
+        ensures place { IfOk result (λ r. place_of r ≡ k) }
+        ensures back { IfOk result (λ r. Leads r self.new.contents self.old.contents) }
+        ensures again { OnOk result (IsReadAgain self.new.contents) }
+        ensures total { length (items_of self.new.contents) + self.new.room ≡ length (items_of self.old.contents) + self.old.room }
+    {
+        if let Some(fault) = self.replace_fault(k, &op) {
+            return Err(fault);
+        }
+        let mut edit = self.replacement(k, op);
+        self.swap(&mut edit);
+        Ok(edit)
+    }
+}
