@@ -1,0 +1,74 @@
+-- What lists of commands keep.
+use Rattle.std.proofs.Common.{◌≡◌, ◌⊎◌, ◌<◌, ℕ, zero, suc, Bool, true, false, MatchBool, Option, Some, None, List, [], ◌∷◌, ◌++◌, MatchOption, length, refl, sym, ap, subst, ◌∙◌, inl, inr, arith, le-ltb}
+use Rattle.pickle_doc.specs.Document.{document_bytes}
+use Rattle.pickle_session.specs.declared.command.Command.{Command}
+use Rattle.pickle_session.specs.declared.command.Command.TheVariants as command
+use Rattle.pickle_session.specs.declared.reply.Fault.{Fault}
+use Rattle.pickle_session.specs.declared.reply.Fault.TheVariants as fault
+use Rattle.pickle_session.specs.declared.reply.Reply.{Reply}
+use Rattle.pickle_session.specs.declared.reply.Reply.TheVariants as reply
+use Rattle.pickle_session.specs.Session.{Was, Session, Answer, Obeys, goes_to, refuses, turn_fault, len_of, place_in, undone_by, version_of}
+use Rattle.pickle_session.specs.Allowed.{Standing, Answers}
+use Rattle.pickle_session.specs.Opening.{IsOpened}
+use Rattle.pickle_session.specs.Undo.{oldest_of, oldest, undone, version_bytes}
+use Rattle.pickle_session.specs.Reaching.{Reaches, IsReached, undos, OpenedStays}
+use Rattle.pickle_session.proofs.Oldest.{allowed}
+
+reaches_keep : (cs : List Command) (p q : Standing) → Reaches cs p q → oldest q.session ≡ oldest p.session
+reaches_keep [] p q h = ap (λ (x : Standing). oldest x.session) h
+reaches_keep (c ∷ cs) p q (r, m, a, h) = reaches_keep cs m q h ∙ allowed c p r m.session a
+
+oldest_opened : (bytes : List ℕ) (p : Standing) → IsOpened bytes p → version_bytes (oldest p.session) ≡ bytes
+oldest_opened bytes p o = rw o.past o.document.whole
+
+kept : (bytes : List ℕ) (cs : List Command) (q : Standing) → IsReached bytes cs q → version_bytes (oldest q.session) ≡ bytes
+kept bytes cs q (p, o, h) = ap version_bytes (reaches_keep cs p q h) ∙ oldest_opened bytes p o
+
+not_refused : (f : Option Fault) (s : Session) (D : Type 0) (a : Answer) → f ≡ None → MatchOption f D (λ f. a ≡ refuses f s) → D
+not_refused None s D a e x = x
+not_refused (Some f) s D a e x = absurd cc
+
+-- an Undo at the start, by what there is to undo
+undo_at : (ws : List Was) (p : Standing) (r : Reply) (t : Session) → p.session.past ≡ ws → p.session.cursor ≡ 0 → 0 < length ws → Answers command.Undo p r t
+    → (r ≡ reply.Undone (place_in ws)) × (t ≡ undone_by ws p.session)
+undo_at [] p r t e z h a = absurd (omega (arith, h))
+undo_at (w ∷ ws) p r t e z h (inl o) =
+    let b : record { reply = r; after = t } ≡ record { reply = reply.Undone (place_in p.session.past); after = undone_by p.session.past p.session } = not_refused (turn_fault fault.NothingToUndo p.session.past p.session.cursor) p.session _ _ (rw (e, z, le-ltb w.place 0 (omega arith)) refl) o in
+    (ap (λ (x : Answer). x.reply) b ∙ ap (λ (x : List Was). reply.Undone (place_in x)) e, ap (λ (x : Answer). x.after) b ∙ ap (λ (x : List Was). undone_by x p.session) e)
+undo_at (w ∷ ws) p r t e z h (inr m) = let f = m.takes in cc
+
+accepted : (p : Standing) (r : Reply) (t : Session) → p.session.cursor ≡ 0 → 0 < length p.session.past → Answers command.Undo p r t
+    → (r ≡ reply.Undone (place_in p.session.past)) × (t ≡ undone p.session)
+accepted p r t z h a = undo_at p.session.past p r t refl z h a
+
+undos_empty : (ws : List Was) (m t : Standing) → m.session.past ≡ ws → m.session.cursor ≡ 0 → Reaches (undos (length ws)) m t → t.session.past ≡ []
+undos_empty [] m t e z h = ap (λ (x : Standing). x.session.past) h ∙ e
+undos_empty (w ∷ ws) m t e z (r, n, a, h) =
+    let u : n.session ≡ undone_by (w ∷ ws) m.session = (undo_at (w ∷ ws) m r n.session e z (omega arith) a).1 in
+    undos_empty ws n t (ap (λ (s : Session). s.past) u) (ap (λ (s : Session). s.cursor) u ∙ z) h
+
+to_start : (q : Standing) (t : Session) → Answers (command.Goto 0) q (reply.At 0) t → t ≡ record q.session { cursor = 0 }
+to_start q t (inl o) =
+    let b : record { reply = reply.At 0; after = t } ≡ goes_to 0 q.session = rw (le-ltb (len_of q.session.document) 0 (omega arith), le-ltb q.session.cursor 0 (omega arith)) at o in
+    ap (λ (x : Answer). x.after) b
+to_start q t (inr m) = let f = m.reply in absurd cc
+
+oldest_left : (t : Session) → t.past ≡ [] → version_bytes (oldest t) ≡ document_bytes t.document
+oldest_left t e = rw e refl
+
+given : (bytes : List ℕ) (cs : List Command) (q m t : Standing) → IsReached bytes cs q → Answers (command.Goto 0) q (reply.At 0) m.session
+    → Reaches (undos (length q.session.past)) m t → (document_bytes t.session.document ≡ bytes) × (t.session.past ≡ [])
+given bytes cs q m t i a h =
+    let went : m.session ≡ record q.session { cursor = 0 } = to_start q m.session a in
+    let none : t.session.past ≡ [] = undos_empty q.session.past m t (ap (λ (s : Session). s.past) went) (ap (λ (s : Session). s.cursor) went) h in
+    let same : oldest t.session ≡ oldest q.session = reaches_keep (undos (length q.session.past)) m t h ∙ allowed (command.Goto 0) q (reply.At 0) m.session a in
+    (sym (oldest_left t.session none) ∙ ap version_bytes same ∙ kept bytes cs q i, none)
+
+pub opened_stays : OpenedStays
+opened_stays = record { kept = kept; accepted = accepted; given = given }
+
+-- ---- one command more
+
+pub reaches_more : (cs : List Command) (p q : Standing) (c : Command) (r : Reply) (t : Standing) → Reaches cs p q → Answers c q r t.session → Reaches (cs ++ c ∷ []) p t
+reaches_more [] p q c r t h a = (r, t, subst (λ (x : Standing). Answers c x r t.session) h a, refl)
+reaches_more (b ∷ cs) p q c r t (s, m, x, h) a = (s, m, x, reaches_more cs m q c r t h a)
