@@ -3,24 +3,22 @@
 --     Besides, place_out, place_in     all places but one
 --     place_shown          of what a `&` to all places shows, what it shows of one
 --     of_room, to_room     room for an array, place by place
-use mathlib.Core.Path.{◌≡◌, refl, sym, ap, subst, ◌∙◌}
-use Prim.Native.Nat.{ℕ, zero, suc, ◌+◌, ◌*◌, ◌<◌, ◌≤◌}
+use mathlib.Core.Path.{◌≡◌, refl}
+use Prim.Native.Nat.{ℕ, zero, suc, ◌+◌, ◌*◌, ◌<◌}
 use native.Mathlib.Omega.{arith}
 use native.Mathlib.Nat.{zero-mul, suc-mul}
 use mathlib.Core.List.{List, [], ◌∷◌}
 use lib.ListN.{length, set, get_or, replicate}
 use seplogic.Ra.Ura.{Ura}
 use base.Fraction.{full_share}
-use mir.Syntax.{Ty, ty_array}
+use mir.Syntax.{ty_array}
 use mir.Val.{Val}
-use base.Logic.{SProp, ent, sep, ex, guard}
+use base.Logic.{ent, sep, ex, guard}
 use base.Fml.{Fml, Lft, ftrue, fsep, fat, froom}
 use types.Logic.{Logic, sem}
 use types.Kit.{‵, ◌⊛◌, some, ◌$◌, ◌∵◌, !, qed, by, move, keep, drop, use1, use2, pick, split, check, show, frame, fsplit, fjoin, rewrite, done}
-use denote.RattleType.{RattleType}
 use denote.Laws.{Is, shows}
-use denote.Memory.{part_at}
-use denote.Steps.{nothing, peeks}
+use denote.Steps.{peeks}
 use borrow.Table.OneValue.{part_in, part_out}
 use Rattle.std.specs.Prelude.{Option, Some, None}
 use Rattle.std.specs.Mem.{type_size}

@@ -17,7 +17,7 @@ use prog.Wp.{Env, Wp, WpFn, after_seq, at_return}
 use contract.BorrowLft.{◌⊑◌, ⊑_trans}
 use contract.Monad.{fact, fact_i}
 use contract.Running.{tables}
-use types.Kit.{Post as After, any_q, ‵, raw, ◌⊛◌, later, prop, at_ret, ◌$◌, ◌∵◌, !, qed, by, move, keep, drop, use0, use1, use2, await, split, join, regoal, rewrite, fsplit, fjoin, flt_i}
+use types.Kit.{Post as After, any_q, ‵, raw, ◌⊛◌, later, prop, at_ret, ◌$◌, ◌∵◌, !, qed, by, move, drop, use0, use1, use2, await, split, join, regoal, rewrite, fsplit, fjoin, flt_i}
 use types.Match.{live, vrt, in_variant}
 use types.Part.{whole, agg}
 use types.Run.{stop, fld, lit, bin, size_word, align_word, of_opd, and_then, no_more, first, switches_on, exec, returns, enter}

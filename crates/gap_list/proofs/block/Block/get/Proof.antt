@@ -1,11 +1,11 @@
 -- `get` shows one item of those that a `&` to the block shows. Assumes `Logic`.
-use mathlib.Core.Path.{◌≡◌, refl, sym, ap, subst, ◌∙◌}
-use Prim.Native.Nat.{ℕ, ◌+◌, ◌*◌, ◌<◌, ◌^◌}
+use mathlib.Core.Path.{◌≡◌, refl, ◌∙◌}
+use Prim.Native.Nat.{◌+◌, ◌*◌, ◌<◌, ◌^◌}
 use native.Mathlib.Omega.{arith}
 use mathlib.Core.List.{List, [], ◌∷◌, ◌++◌}
 use lib.ListN.{length, get_or}
 use base.Fraction.{full_share}
-use mir.Syntax.{Fn, named, w64}
+use mir.Syntax.{Fn, w64}
 use mir.MapTy.{inst_fn}
 use mir.Val.{Val, vptr, vint}
 use base.Logic.{SProp, emp, never, id⊢}
@@ -14,7 +14,7 @@ use prog.Wp.{Env, WpFn}
 use contract.BorrowLft.{◌⊑◌}
 use contract.Monad.{fact, fact_i}
 use contract.Running.{tables}
-use types.Kit.{‵, raw, ◌⊛◌, prop, at_ret, ◌$◌, ◌∵◌, !, qed, by, move, keep, drop, use0, use1, use2, split, join, regoal, rewrite, fsplit, fsplit3, fjoin, fjoin3, feq_i, flt_i, flt_l}
+use types.Kit.{‵, raw, ◌⊛◌, prop, at_ret, ◌$◌, ◌∵◌, !, qed, by, move, keep, drop, use0, use1, split, join, regoal, rewrite, fsplit, fjoin, feq_i, flt_l}
 use types.Part.{whole, sub}
 use types.Run.{stop, fld, addr, bin, size_lit, of_opd, first, blocks, exec, returns, enter}
 use types.ByLocal.{alloc_all, pass_all, free_all, look_at, get, get_in, through, sets, sets_last, take_at, give_at, env}
@@ -24,7 +24,7 @@ use denote.Opens.{hide, unhide}
 use denote.Ref.{Bor}
 use denote.Param.{layout}
 use denote.RattleType.{RattleType, owns}
-use denote.RawPtr.{Ptr, block_ptr, in_a_block}
+use denote.RawPtr.{Ptr, in_a_block}
 use denote.Signature.{plain, types_at}
 use denote.Steps.{nothing, heard}
 use denote.Triple.Entry.{alive}

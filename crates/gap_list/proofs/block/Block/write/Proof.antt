@@ -1,11 +1,11 @@
 -- `write` fills the room of an empty place. Assumes `Logic`.
-use mathlib.Core.Path.{◌≡◌, refl, sym, ap, subst, ◌∙◌}
+use mathlib.Core.Path.{◌≡◌, refl, sym, subst, ◌∙◌}
 use Prim.Native.Nat.{ℕ, ◌+◌, ◌*◌, ◌<◌, ◌^◌}
 use native.Mathlib.Omega.{arith}
 use mathlib.Core.List.{List, [], ◌∷◌, ◌++◌}
 use lib.ListN.{length, set, get_or, length-set}
 use base.Fraction.{full_share}
-use mir.Syntax.{Fn, named, w64}
+use mir.Syntax.{Fn, w64}
 use mir.MapTy.{inst_fn}
 use mir.Val.{Val, vptr, vint, vunit}
 use base.Logic.{SProp, emp, never, id⊢}
@@ -17,10 +17,8 @@ use contract.Running.{tables}
 use types.Kit.{‵, raw, ◌⊛◌, prop, at_ret, ◌$◌, ◌∵◌, !, qed, by, move, keep, drop, use0, use1, use2, split, join, regoal, rewrite, fsplit, fsplit3, fjoin, fjoin3, feq_i, flt_i, flt_l}
 use types.Part.{whole, sub}
 use types.Run.{init, stop, fld, bin, size_lit, of_opd, unit_lit, assigns_last, first, blocks, exec, returns, enter}
-use types.ByLocal.{alloc_all, pass_all, free_all, look_at, get, get_in, through, sets, sets_last, take_at, give_at, env}
-use types.SemTy.{Body as Borrowed}
+use types.ByLocal.{alloc_all, pass_all, free_all, look_at, get, get_in, through, sets, take_at, give_at, env}
 use denote.Builtin.{usize}
-use denote.Memory.{mem}
 use denote.Param.{layout}
 use denote.RattleType.{RattleType, owns}
 use denote.RawPtr.{Ptr, block_ptr, in_a_block}
