@@ -53,6 +53,7 @@ impl Document {
         ensures leads { Leads result (given_one self.now.contents) (given_one (with_units self.now.contents (framed k count self.now.contents.next self.now.contents.units))) }
         ensures room { length (flat (framed k count self.now.contents.next self.now.contents.units)) ≡ length (items_of self.now.contents) + 1 }
     {
+        // that there are so many items follows from the length alone
         let _len = self.items.len();
         let first = total_size(&self.items, k);
         let number = total_size(&self.items, k + count) - first;
