@@ -1,4 +1,4 @@
-"""measure.py PROGRAM SCALE: makes big pickles in a temporary folder, runs the listings, and prints the tables."""
+"""measure.py PROGRAM PLAIN SCALE: makes big pickles in a temporary folder, runs the listings, and prints the tables."""
 import datetime
 import fractions
 import os
@@ -6,52 +6,53 @@ import pickle
 import pickletools
 import platform
 import random
+import re
 import struct
 import subprocess
 import sys
 import tempfile
 
-MEGABYTE = 1 << 20
-# the bars: how many times faster than pickletools, at least
-FASTER = {'a': 30, 'b': 30, 'c': 30, 'd': 3, 'e': 30}
-# how many times as long for twice the file, at most, and bytes of memory for each opcode of (c), at most
-TWICE, BYTES_AN_OPCODE = 2.3, 120
+# the bars: instructions for each opcode, and how many times as many for twice the file
+INSTRUCTIONS = {'a': 450, 'b': 450, 'c': 280, 'e': 350}
+TWICE = 2.05
+# how many times as long as the bare loop at most, how many times faster than pickletools at least, bytes of memory for each
+# opcode beside the file, how many times as long as a copy of the text for one long string
+AS_LONG, FASTER, BYTES_AN_OPCODE, AS_COPY = 2, 80, 3, 2.5
+# the most memory on 256 MiB of one-byte opcodes
+MOST_MEMORY = 700_000_000
+# instructions are counted on files of a twenty-fifth of the size
+SMALL = fractions.Fraction(1, 25)
 # the shortest of so many runs counts
 RUNS = 3
 
 
-# --- The files ---
+# --- The files, each of so many items or bytes ---
 
-def numbers_and_strings(file, size):
-    """A list of small integers and short strings at protocol 4, of about so many bytes."""
-    draw = random.Random(1)
-    items = size * 10 // 60
-    pickle.dump([draw.randrange(-300, 70000) if n % 2 else 's%d' % draw.randrange(100000) for n in range(items)], file, 4)
+def numbers_and_strings(file, count):
+    """A list of small integers and short strings at protocol 4."""
+    draw = random.Random(7)
+    pickle.dump([draw.randrange(-300, 70000) if n % 2 else 's%d' % draw.randrange(100000) for n in range(count)], file, 4)
 
 
-def text(file, size):
+def text(file, count):
     """Tuples at protocol 0."""
-    items = size // 71
-    pickle.dump([(n, 'name %d' % n, n * 0.5, [n, None]) for n in range(items)], file, 0)
+    pickle.dump([(n, 'name %d' % n, n * 0.5, [n, None]) for n in range(count)], file, 0)
 
 
-def one_byte_opcodes(file, size):
+def one_byte_opcodes(file, count):
     """NONE and POP in turn, and then NONE and STOP."""
-    file.write(b'N0' * (size // 2 - 1) + b'N.')
+    file.write(b'N0' * (count - 1) + b'N.')
 
 
-def one_byte_string(file, size):
+def one_string(file, count):
     """One BINBYTES8."""
-    file.write(b'\x80\x04\x8e' + struct.pack('<Q', size))
-    for _ in range(size // 65536):
-        file.write(bytes(range(256)) * 256)
-    file.write(bytes(size % 65536) + b'.')
+    file.write(b'\x80\x04\x8e' + struct.pack('<Q', count) + bytes(count) + b'.')
 
 
-def dictionaries(file, size):
+def dictionaries(file, count):
     """Dictionaries in dictionaries, which share keys and values by the memo."""
     draw, made, keys = random.Random(5), [], ['key%d' % n for n in range(40)]
-    for n in range(size // 50):
+    for n in range(count):
         table = {keys[n % 40]: n, keys[(n + 7) % 40]: {keys[n * 3 % 40]: [n], 'v': keys[n % 11]}}
         if n > 20:
             table['old'] = made[draw.randrange(n)]
@@ -59,30 +60,19 @@ def dictionaries(file, size):
     pickle.dump(made, file, 2)
 
 
-def under_marks(file, size):
+def under_marks(file, count):
     """NONE and POP in turn above 1,000 open marks, whose lines are indented by 4,000 blanks."""
-    file.write(b'(' * 1000 + b'N0' * (size // 2) + b'N.')
+    file.write(b'(' * 1000 + b'N0' * count + b'N.')
 
 
-def cut_marks(file, size):
-    """MARK and POP_MARK in turn."""
-    file.write(b'(1' * (size // 2) + b'N.')
-
-
-# letter, what it is, who writes it, megabytes, whether it is also measured at twice the size
+# letter, what it is, who writes it, how many items or bytes
 FILES = [
-    ('a', 'small integers and short strings, protocol 4', numbers_and_strings, 32, True),
-    ('b', 'text, protocol 0', text, 32, True),
-    ('c', 'one-byte opcodes `N0`', one_byte_opcodes, 16, True),
-    ('d', 'one BINBYTES8', one_byte_string, 128, False),
-    ('e', 'nested dictionaries with memo', dictionaries, 24, True),
+    ('a', 'small integers and short strings, protocol 4', numbers_and_strings, 4_125_000),
+    ('b', 'text, protocol 0', text, 340_000),
+    ('c', 'one-byte opcodes `N0`', one_byte_opcodes, 8_388_608),
+    ('e', 'nested dictionaries with memo', dictionaries, 252_500),
 ]
-
-# those that are measured only once and at twice the size
-DOUBLED = [
-    ('f', '`N0` above 1,000 marks', under_marks, fractions.Fraction(1, 4)),
-    ('g', 'marks set and cut, `(1`', cut_marks, 16),
-]
+LONG_STRING, MARKED, FULL = 50_000_000, 30_000, 134_217_728
 
 
 # --- Runs ---
@@ -98,7 +88,7 @@ def measure(command):
     """Runs a command by GNU time; its output is thrown away."""
     with tempfile.NamedTemporaryFile('r') as figures:
         status = subprocess.run(['/usr/bin/time', '-o', figures.name, '-f', '%e %M', *command],
-                                stdout=subprocess.DEVNULL).returncode
+                                stdout=subprocess.DEVNULL, stderr=subprocess.DEVNULL).returncode
         # (the last line, since GNU time writes another before it where the status is not 0)
         seconds, kibibytes = figures.read().split('\n')[-2].split()
     return Measured(max(float(seconds), 0.01), int(kibibytes) * 1024, status)
@@ -109,45 +99,18 @@ def shortest(command, runs=RUNS):
     return min((measure(command) for _ in range(runs)), key=lambda m: m.seconds)
 
 
-def made(folder, letter, write, size):
-    path = os.path.join(folder, '%s-%d.pickle' % (letter, size))
+def instructions(command):
+    """How many instructions the whole process takes, as callgrind counts them."""
+    told = subprocess.run(['valgrind', '--tool=callgrind', '--callgrind-out-file=/dev/null', *command],
+                          stdout=subprocess.DEVNULL, stderr=subprocess.PIPE, text=True).stderr
+    return int(re.search(r'Collected : (\d+)', told).group(1))
+
+
+def made(folder, letter, write, count):
+    path = os.path.join(folder, '%s-%d.pickle' % (letter, count))
     with open(path, 'wb') as file:
-        write(file, size)
+        write(file, count)
     return path
-
-
-# --- Tables ---
-
-def megabytes(count):
-    return '%.1f' % (count / MEGABYTE)
-
-
-def verdict(holds):
-    return 'holds' if holds else '**does not hold**'
-
-
-def row(letter, what, length, listing, theirs, cat):
-    """A line of the first table."""
-    times = theirs.seconds / listing.seconds
-    holds = verdict(times >= FASTER[letter])
-    if (listing.status, theirs.status) != (0, 0):
-        holds = '**status %d of picklestep, %d of pickletools**' % (listing.status, theirs.status)
-    return '| (%s) %s | %s | %.2f s | %s | %.2f s | %s | %.2f s | %.1f | %d | %s |' % (
-        letter, what, megabytes(length), listing.seconds, megabytes(listing.memory), theirs.seconds,
-        megabytes(theirs.memory), cat.seconds, times, FASTER[letter], holds)
-
-
-def doubled_row(letter, what, once, twice):
-    """A line of the second table."""
-    factor = twice.seconds / once.seconds
-    return '| (%s) %s | %.2f s | %.2f s | %.2f | %.1f | %s |' % (
-        letter, what, once.seconds, twice.seconds, factor, TWICE, verdict(factor <= TWICE))
-
-
-def processor():
-    """What the system says the processor is."""
-    with open('/proc/cpuinfo') as file:
-        return next((line.split(':', 1)[1].strip() for line in file if line.startswith('model name')), platform.machine())
 
 
 def opcodes_of(path):
@@ -156,40 +119,86 @@ def opcodes_of(path):
         return sum(1 for _ in pickletools.genops(file))
 
 
+# --- Tables ---
+
+def megabytes(count):
+    return '%.1f' % (count / 1e6)
+
+
+def verdict(holds):
+    return 'holds' if holds else '**does not hold**'
+
+
+def counted_row(folder, program, plain, letter, what, write, count):
+    """A line of the table of instructions."""
+    once, twice = made(folder, letter, write, count), made(folder, letter, write, 2 * count)
+    opcodes, listing = opcodes_of(once), instructions([program, 'list', once])
+    factor = instructions([program, 'list', twice]) / listing
+    bar = INSTRUCTIONS.get(letter)
+    good = (bar is None or listing / opcodes <= bar) and factor <= TWICE
+    return '| (%s) %s | %d | %.0f | %s | %.0f | %.3f | %s |' % (
+        letter, what, opcodes, listing / opcodes, bar or '', instructions([plain, once]) / opcodes, factor, verdict(good))
+
+
+def timed_row(folder, program, plain, letter, what, write, count):
+    """A line of the table of times and memory."""
+    path = made(folder, letter, write, count)
+    length, opcodes = os.path.getsize(path), opcodes_of(path)
+    listing, bare = shortest([program, 'list', path]), shortest([plain, path])
+    theirs = measure([sys.executable, '-m', 'pickletools', path])
+    beside = (listing.memory - length) / opcodes
+    longer, faster = listing.seconds / bare.seconds, theirs.seconds / listing.seconds
+    good = longer <= AS_LONG and faster >= FASTER and beside <= BYTES_AN_OPCODE and (listing.status, theirs.status) == (0, 0)
+    os.unlink(path)
+    return '| (%s) %s | %s | %.2f s | %.2f s | %.1f | %.1f s | %.0f | %s | %.1f | %s |' % (
+        letter, what, megabytes(length), listing.seconds, bare.seconds, longer, theirs.seconds, faster,
+        megabytes(listing.memory), beside, verdict(good))
+
+
+def long_string(folder, program, count):
+    """What is said of one long string, beside a copy of the listing's own text."""
+    path, listed = made(folder, 'd', one_string, count), os.path.join(folder, 'listed')
+    listing = shortest([program, 'list', path])
+    with open(listed, 'wb') as file:
+        subprocess.run([program, 'list', path], stdout=file, check=True)
+    copy = shortest(['sh', '-c', 'cat "$0" | cat', listed])
+    factor = listing.seconds / copy.seconds
+    os.unlink(path), os.unlink(listed)
+    return '(d) One BINBYTES8 of %s MB: %.2f s and %s MB of memory; `cat TEXT | cat` on its listing %.2f s: %.1f times, bar %s: %s.' % (
+        megabytes(count), listing.seconds, megabytes(listing.memory), copy.seconds, factor, AS_COPY, verdict(factor <= AS_COPY))
+
+
+def full_file(folder, program, count):
+    """What is said of the largest input, all of it one-byte opcodes."""
+    path = made(folder, 'n', one_byte_opcodes, count)
+    length, listing = os.path.getsize(path), measure([program, 'list', path])
+    os.unlink(path)
+    return '(n) %d bytes of `N0`: %.2f s, %s MB of memory, bar %s: %s.' % (
+        length, listing.seconds, megabytes(listing.memory), megabytes(MOST_MEMORY), verdict(listing.memory <= MOST_MEMORY))
+
+
+def processor():
+    """What the system says the processor is."""
+    with open('/proc/cpuinfo') as file:
+        return next((line.split(':', 1)[1].strip() for line in file if line.startswith('model name')), platform.machine())
+
+
 def main():
-    program, scale = sys.argv[1], fractions.Fraction(sys.argv[2])
-    rows, twice, memory = [], [], {}
+    program, plain, scale = sys.argv[1], sys.argv[2], fractions.Fraction(sys.argv[3])
+    print('%s, %d processors (%s), Python %s, scale %s, load %.1f at the start. MB of 1,000,000 bytes.\n' % (
+        datetime.date.today(), os.cpu_count(), processor(), platform.python_version(), scale, os.getloadavg()[0]))
     with tempfile.TemporaryDirectory() as folder:
-        for letter, what, write, full, doubled in FILES:
-            size = int(full * MEGABYTE * scale)
-            path = made(folder, letter, write, size)
-            length = os.path.getsize(path)
-            listing = shortest([program, 'list', path])
-            theirs = shortest([sys.executable, '-m', 'pickletools', path], 1)
-            rows.append(row(letter, what, length, listing, theirs, shortest(['cat', path])))
-            if letter in 'ac':
-                memory[letter] = listing.memory / opcodes_of(path)
-            os.unlink(path)
-            if doubled:
-                path = made(folder, letter, write, 2 * size)
-                twice.append(doubled_row(letter, what, listing, shortest([program, 'list', path])))
-                os.unlink(path)
-        for letter, what, write, full in DOUBLED:
-            size = int(full * MEGABYTE * scale)
-            once, longer = (shortest([program, 'list', made(folder, letter, write, n * size)]) for n in (1, 2))
-            twice.append(doubled_row(letter, what, once, longer))
-    print('%s, %d processors (%s), Python %s, scale %s. Sizes and memory in MB of 1,048,576 bytes.' % (
-        datetime.date.today(), os.cpu_count(), processor(), platform.python_version(), scale))
-    print('The shortest of %d runs of `picklestep list` and of `cat`, and one run of `python3 -m pickletools`; their output is '
-          'thrown away.\n' % RUNS)
-    print('| File | Size | list | its memory | pickletools | its memory | cat | times faster | bar | |')
-    print('|---|---|---|---|---|---|---|---|---|---|')
-    print('\n'.join(rows))
-    print('\n| Twice the file | once | twice | factor | bar | |')
-    print('|---|---|---|---|---|---|')
-    print('\n'.join(twice))
-    print('\nMemory on (c): %.1f bytes an opcode, bar %d: %s. On (a): %.1f bytes an opcode, arguments included.' % (
-        memory['c'], BYTES_AN_OPCODE, verdict(memory['c'] <= BYTES_AN_OPCODE), memory['a']))
+        print('| Instructions for each opcode | opcodes | list | bar | bare loop | twice the file | |')
+        print('|---|---|---|---|---|---|---|')
+        for letter, what, write, count in FILES:
+            print(counted_row(folder, program, plain, letter, what, write, int(count * scale * SMALL)), flush=True)
+        print(counted_row(folder, program, plain, 'f', '`N0` above 1,000 marks', under_marks, int(MARKED * scale)), flush=True)
+        print('\n| Time and memory | MB | list | bare loop | times as long | pickletools | times faster | memory, MB | bytes an opcode | |')
+        print('|---|---|---|---|---|---|---|---|---|---|')
+        for letter, what, write, count in FILES:
+            print(timed_row(folder, program, plain, letter, what, write, int(count * scale)), flush=True)
+        print('\n' + long_string(folder, program, int(LONG_STRING * scale)))
+        print('\n' + full_file(folder, program, int(FULL * scale)))
 
 
 main()
