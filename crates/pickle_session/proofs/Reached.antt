@@ -8,7 +8,9 @@ use Rattle.pickle_session.specs.declared.reply.Fault.TheVariants as fault
 use Rattle.pickle_session.specs.declared.reply.Reply.{Reply}
 use Rattle.pickle_session.specs.declared.reply.Reply.TheVariants as reply
 use Rattle.pickle_session.specs.Session.{Was, Session, Answer, Obeys, goes_to, refuses, turn_fault, len_of, place_in, undone_by, version_of}
-use Rattle.pickle_session.specs.Allowed.{Standing, Answers}
+use Rattle.pickle_session.specs.Allowed.{Standing, Answers, takes_memory}
+use Rattle.pickle_session.specs.Laws.{goes_back}
+use Rattle.std.specs.Prelude.{nat_lt, not}
 use Rattle.pickle_session.specs.Opening.{IsOpened}
 use Rattle.pickle_session.specs.Undo.{oldest_of, oldest, undone, version_bytes}
 use Rattle.pickle_session.specs.Reaching.{Reaches, IsReached, undos, OpenedStays}
@@ -47,19 +49,19 @@ undos_empty (w ∷ ws) m t e z (r, n, a, h) =
     let u : n.session ≡ undone_by (w ∷ ws) m.session = (undo_at (w ∷ ws) m r n.session e z (omega arith) a).1 in
     undos_empty ws n t (ap (λ (s : Session). s.past) u) (ap (λ (s : Session). s.cursor) u ∙ z) h
 
-to_start : (q : Standing) (t : Session) → Answers (command.Goto 0) q (reply.At 0) t → t ≡ record q.session { cursor = 0 }
-to_start q t (inl o) =
-    let b : record { reply = reply.At 0; after = t } ≡ goes_to 0 q.session = rw (le-ltb (len_of q.session.document) 0 (omega arith), le-ltb q.session.cursor 0 (omega arith)) at o in
+pub to_start : (q : Standing) (k : ℕ) (t : Session) → Answers (command.Goto 0) q (reply.At k) t → t ≡ record q.session { cursor = 0 }
+to_start q k t (inl o) =
+    let b : record { reply = reply.At k; after = t } ≡ goes_to 0 q.session = rw (le-ltb (len_of q.session.document) 0 (omega arith), le-ltb q.session.cursor 0 (omega arith)) at o in
     ap (λ (x : Answer). x.after) b
-to_start q t (inr m) = let f = m.reply in absurd cc
+to_start q k t (inr m) = let f = m.reply in absurd cc
 
-oldest_left : (t : Session) → t.past ≡ [] → version_bytes (oldest t) ≡ document_bytes t.document
+pub oldest_left : (t : Session) → t.past ≡ [] → version_bytes (oldest t) ≡ document_bytes t.document
 oldest_left t e = rw e refl
 
 given : (bytes : List ℕ) (cs : List Command) (q m t : Standing) → IsReached bytes cs q → Answers (command.Goto 0) q (reply.At 0) m.session
     → Reaches (undos (length q.session.past)) m t → (document_bytes t.session.document ≡ bytes) × (t.session.past ≡ [])
 given bytes cs q m t i a h =
-    let went : m.session ≡ record q.session { cursor = 0 } = to_start q m.session a in
+    let went : m.session ≡ record q.session { cursor = 0 } = to_start q 0 m.session a in
     let none : t.session.past ≡ [] = undos_empty q.session.past m t (ap (λ (s : Session). s.past) went) (ap (λ (s : Session). s.cursor) went) h in
     let same : oldest t.session ≡ oldest q.session = reaches_keep (undos (length q.session.past)) m t h ∙ allowed (command.Goto 0) q (reply.At 0) m.session a in
     (sym (oldest_left t.session none) ∙ ap version_bytes same ∙ kept bytes cs q i, none)
@@ -72,3 +74,44 @@ opened_stays = record { kept = kept; accepted = accepted; given = given }
 pub reaches_more : (cs : List Command) (p q : Standing) (c : Command) (r : Reply) (t : Standing) → Reaches cs p q → Answers c q r t.session → Reaches (cs ++ c ∷ []) p t
 reaches_more [] p q c r t h a = (r, t, subst (λ (x : Standing). Answers c x r t.session) h a, refl)
 reaches_more (b ∷ cs) p q c r t (s, m, x, h) a = (s, m, x, reaches_more cs m q c r t h a)
+
+pub reaches_none : (p : Standing) → Reaches [] p p
+reaches_none p = refl
+
+-- ---- going back
+
+not_true : (b : Bool) → not b ≡ true → b ≡ false
+not_true false h = refl
+not_true true h = absurd cc
+
+no_memory : (c : Command) (p : Standing) → p.past.limit ≡ None → goes_back c p.session ≡ true → takes_memory c p ≡ false
+no_memory command.Back p e h = rw e refl
+no_memory (command.Goto k) p e h = rw (e, not_true (nat_lt p.session.cursor k) h) refl
+no_memory (command.Clear k) p e h = refl
+no_memory command.Undo p e h = refl
+no_memory command.Redo p e h = refl
+no_memory _ p e h = absurd cc
+
+pub told_back : (c : Command) (p : Standing) (r : Reply) (t : Session) → p.past.limit ≡ None → goes_back c p.session ≡ true → Answers c p r t → Obeys c p.session (record { reply = r; after = t })
+told_back c p r t e h (inl o) = o
+told_back c p r t e h (inr m) = let x : true ≡ false = sym m.takes ∙ no_memory c p e h in absurd cc
+
+pub starts : (p : Standing) (r : Reply) (t : Session) → p.past.limit ≡ None → Answers (command.Goto 0) p r t → r ≡ reply.At 0
+starts p r t e a =
+    let o = told_back (command.Goto 0) p r t e (rw (le-ltb p.session.cursor 0 (omega arith)) refl) a in
+    let b : record { reply = r; after = t } ≡ goes_to 0 p.session = rw (le-ltb (len_of p.session.document) 0 (omega arith), le-ltb p.session.cursor 0 (omega arith)) at o in
+    ap (λ (x : Answer). x.reply) b
+
+cursor_stays : (ws : List Was) (s : Session) → (undone_by ws s).cursor ≡ s.cursor
+cursor_stays [] s = refl
+cursor_stays (w ∷ ws) s = refl
+
+pub undo_at_start : (p : Standing) (r : Reply) (t : Session) → p.session.cursor ≡ 0 → 0 < length p.session.past → Answers command.Undo p r t → t.cursor ≡ 0
+undo_at_start p r t z h a = ap (λ (s : Session). s.cursor) (undo_at p.session.past p r t refl z h a).1 ∙ cursor_stays p.session.past p.session ∙ z
+
+shorter : (ws : List Was) (s : Session) → s.past ≡ ws → 0 < length ws → length (undone_by ws s).past < length ws
+shorter [] s e h = absurd (omega (arith, h))
+shorter (w ∷ ws) s e h = omega arith
+
+pub undo_shorter : (p : Standing) (r : Reply) (t : Session) → p.session.cursor ≡ 0 → 0 < length p.session.past → Answers command.Undo p r t → length t.past < length p.session.past
+undo_shorter p r t z h a = rw (undo_at p.session.past p r t refl z h a).1 (shorter p.session.past p.session refl h)
