@@ -1,0 +1,166 @@
+//! What documents show before edits and after them.
+
+mod cost;
+mod memory;
+mod nest;
+mod rows;
+mod shown;
+
+use crate::tests::cost::edit_many;
+use crate::tests::memory::edit_with_little;
+use crate::tests::nest::put_and_back;
+use crate::tests::rows::{ACCEPTED, REFUSED};
+use crate::tests::shown::{Row, Wrong, are_alike, make, place_of, shows, written};
+use pickle_doc::{Document, EditFault, LIMIT, there_and_back};
+use pickle_ops::{Opcode, op_of};
+use std::alloc::Global;
+use std::test::Fail;
+
+/// Makes the edit of a row, takes it back, makes it again and takes it back again.
+fn try_row(alloc: Global, row: &Row) -> Result<(), Wrong> {
+    let mut document = Document::read(alloc, row.before.bytes)?;
+    shows(alloc, &document, &row.before)?;
+    let mut record = make(alloc, &mut document, &row.edit)?;
+    if record.place() != place_of(&row.edit) {
+        return Err(Wrong::Place);
+    }
+    shows(alloc, &document, &row.after)?;
+    document.swap(&mut record);
+    shows(alloc, &document, &row.before)?;
+    document.swap(&mut record);
+    shows(alloc, &document, &row.after)?;
+    document.swap(&mut record);
+    shows(alloc, &document, &row.before)
+}
+
+#[test]
+fn accepted_edits(rt: HostRuntime) {
+    for (k, row) in ACCEPTED.iter().enumerate() {
+        assert_eq!(rt; try_row(rt.alloc(), row), Ok(()), "row {k}");
+    }
+}
+
+/// A refused edit leaves the document as it was read.
+#[test]
+fn refused_edits(rt: HostRuntime) -> Result<(), Fail> {
+    for (k, (bytes, edit, fault)) in REFUSED.iter().enumerate() {
+        let opened = Document::read(rt.alloc(), bytes)?;
+        let mut document = Document::read(rt.alloc(), bytes)?;
+        let found = make(rt.alloc(), &mut document, edit).err();
+        assert_eq!(rt; found, Some(*fault), "row {k}");
+        assert_eq!(rt; are_alike(&document, &opened), Ok(()), "row {k}");
+        for j in 0..opened.len() {
+            assert_eq!(rt; document.id(j), opened.id(j), "row {k}, item {j}");
+        }
+        let bytes_now = written(rt.alloc(), &document);
+        let same = bytes_now.is_ok_and(|now| now.as_slice() == *bytes);
+        assert!(rt; same, "row {k}");
+    }
+    Ok(())
+}
+
+/// The identity of an item that was put in and taken out again is not given to another.
+#[test]
+fn identities_are_given_once(rt: HostRuntime) -> Result<(), Fail> {
+    let mut document = Document::read(rt.alloc(), b".")?;
+    let op = op_of(rt.alloc(), Opcode::None, b"")?;
+    let mut record = document.insert(0, op)?;
+    assert_eq!(rt; document.id(0), Some(1));
+    assert_eq!(rt; document.id(1), Some(0));
+    document.swap(&mut record);
+    assert_eq!(rt; document.id(0), Some(0));
+    assert_eq!(rt; document.id(1), None);
+    let mut further = document.frame(0, 1)?;
+    assert_eq!(rt; document.id(0), Some(2));
+    assert_eq!(rt; document.id(1), Some(0));
+    document.swap(&mut further);
+    let op = op_of(rt.alloc(), Opcode::None, b"")?;
+    let _last = document.insert(0, op)?;
+    assert_eq!(rt; document.id(0), Some(3));
+    Ok(())
+}
+
+/// The bytes of a frame, with a deletion at its end, back and again a thousand times.
+#[test]
+fn deletion_back_and_again(rt: HostRuntime) -> Result<(), Fail> {
+    let opened: &[u8] = b"\x80\x04\x95\x04\0\0\0\0\0\0\0N0N0N.";
+    let mut document = Document::read(rt.alloc(), opened)?;
+    let mut record = document.delete(5)?;
+    for _ in 0..1000 {
+        there_and_back(&mut document, &mut record);
+    }
+    let gone: &[u8] = b"\x80\x04\x95\x03\0\0\0\0\0\0\0N0NN.";
+    let found = written(rt.alloc(), &document);
+    assert!(rt; found.is_ok_and(|bytes| bytes.as_slice() == gone));
+    document.swap(&mut record);
+    let found = written(rt.alloc(), &document);
+    assert!(rt; found.is_ok_and(|bytes| bytes.as_slice() == opened));
+    Ok(())
+}
+
+/// A thousand opcodes are put in at the front, and taken back one after another.
+#[test]
+fn insertions_back_and_again(rt: HostRuntime) -> Result<(), Fail> {
+    let mut document = Document::read(rt.alloc(), b".")?;
+    let found = put_and_back(rt.alloc(), &mut document, 0, 1000);
+    assert_eq!(rt; found, Ok(()));
+    assert_eq!(rt; document.len(), 1);
+    Ok(())
+}
+
+/// The most bytes that a document may have: no edit makes more of them, and one that makes less is accepted.
+#[test]
+fn largest_input(rt: HostRuntime) -> Result<(), Fail> {
+    let mut bytes = vec![in rt.alloc(); 0u8; LIMIT]?;
+    let front: &[u8] = b"B\xfa\xff\xff\x0f";
+    for (byte, want) in bytes.iter_mut().zip(front) {
+        *byte = *want;
+    }
+    if let Some(last) = bytes.last_mut() {
+        *last = b'.';
+    }
+    let mut document = Document::read(rt.alloc(), &bytes)?;
+    assert_eq!(rt; document.len(), 2);
+    let op = op_of(rt.alloc(), Opcode::None, b"")?;
+    assert_eq!(rt; document.insert(0, op).err(), Some(EditFault::TooLarge));
+    assert_eq!(rt; document.frame(0, 2).err(), Some(EditFault::TooLarge));
+    let op = op_of(rt.alloc(), Opcode::None, b"")?;
+    let mut record = document.replace(0, op)?;
+    assert_eq!(rt; document.total(), 2);
+    document.swap(&mut record);
+    assert_eq!(rt; document.total(), LIMIT as u64);
+    Ok(())
+}
+
+/// Run with each request for memory refused in turn.
+#[test]
+fn refused_memory(rt: HostRuntime) {
+    let bytes: &[u8] = b"\x95\x04\0\0\0\0\0\0\0N0N0N.";
+    assert_eq!(rt; edit_with_little(rt.alloc(), bytes), Ok(()));
+}
+
+/// A million items are opened and written, and no more: what the four tests below have in common.
+#[test]
+fn a_million_items(rt: HostRuntime) {
+    assert_eq!(rt; edit_many(rt.alloc(), 0, false, false), Ok(()));
+}
+
+#[test]
+fn edits_at_one_place(rt: HostRuntime) {
+    assert_eq!(rt; edit_many(rt.alloc(), 1000, false, false), Ok(()));
+}
+
+#[test]
+fn edits_and_swaps_at_one_place(rt: HostRuntime) {
+    assert_eq!(rt; edit_many(rt.alloc(), 1000, false, true), Ok(()));
+}
+
+#[test]
+fn edits_at_random_places(rt: HostRuntime) {
+    assert_eq!(rt; edit_many(rt.alloc(), 1000, true, false), Ok(()));
+}
+
+#[test]
+fn edits_and_swaps_at_random_places(rt: HostRuntime) {
+    assert_eq!(rt; edit_many(rt.alloc(), 1000, true, true), Ok(()));
+}

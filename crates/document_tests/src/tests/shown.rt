@@ -1,0 +1,178 @@
+//! What a document shows, and edits that a table names.
+
+ghost use Rattle.std.specs.Prelude.{◌≡◌, ◌+◌, ◌≤◌, length, IfOk, OnErr};
+ghost use Rattle.pickle_doc.specs.Document.{Contents, items_of};
+ghost use Rattle.pickle_doc.specs.Turn.{Leads};
+
+use pickle_doc::{DocFault, Document, EditFault, EditRecord, End};
+use pickle_ops::{Failed, Opcode, ToWrite, op_of};
+use std::alloc::Global;
+
+/// An item: where it begins, its name, the place of the FRAME whose member it is, and its identity.
+pub type Want = (u64, &'static str, Option<usize>, u32);
+
+/// What a document shows.
+pub struct Shown {
+    pub bytes: &'static [u8],
+    pub items: &'static [Want],
+    pub tail: &'static [u8],
+    pub end: End,
+}
+
+/// An edit.
+#[derive(Clone, Copy)]
+pub enum Edit {
+    Replace(usize, Opcode, &'static [u8]),
+    Insert(usize, Opcode, &'static [u8]),
+    Delete(usize),
+    Frame(usize, usize),
+    Unframe(usize),
+}
+
+/// A document, an edit that is accepted, and the document after it.
+pub struct Row {
+    pub before: Shown,
+    pub edit: Edit,
+    pub after: Shown,
+}
+
+/// What was seen that should not be.
+#[derive(Clone, Copy, Debug, PartialEq, Eq)]
+pub enum Wrong {
+    /// A test's own memory was refused.
+    Memory,
+    /// There are other items, from this place on.
+    Items(usize),
+    /// The tail, the end or the total is another.
+    Tail,
+    /// Other bytes are written.
+    Bytes,
+    /// The bytes read as another document, from this item on.
+    Again(usize),
+    /// The edit is refused.
+    Refused(EditFault),
+    /// The record has another place.
+    Place,
+}
+
+impl From<Failed> for Wrong {
+    fn from(_failed: Failed) -> Wrong {
+        Wrong::Memory
+    }
+}
+
+impl From<DocFault> for Wrong {
+    fn from(_fault: DocFault) -> Wrong {
+        Wrong::Memory
+    }
+}
+
+impl From<EditFault> for Wrong {
+    fn from(fault: EditFault) -> Wrong {
+        Wrong::Refused(fault)
+    }
+}
+
+/// The bytes that a document writes.
+pub fn written(alloc: Global, document: &Document) -> Result<Vec<u8>, Wrong> {
+    let mut sink = ToWrite::new(Vec::new(alloc));
+    document.write_bytes(&mut sink)?;
+    Ok(sink.into_inner())
+}
+
+/// Whether item k of both documents is the same, identities apart.
+fn is_same_item(left: &Document, right: &Document, k: usize) -> bool {
+    if left.offset(k) != right.offset(k) || left.frame_of(k) != right.frame_of(k) {
+        return false;
+    }
+    match (left.item(k), right.item(k)) {
+        (Some(a), Some(b)) => a.opcode() == b.opcode() && a.arg() == b.arg(),
+        (None, None) => true,
+        _ => false,
+    }
+}
+
+/// Whether both documents show the same, identities apart.
+pub fn are_alike(left: &Document, right: &Document) -> Result<(), Wrong> {
+    for k in 0..left.len() {
+        if !is_same_item(left, right, k) {
+            return Err(Wrong::Again(k));
+        }
+    }
+    if !is_same_item(left, right, left.len()) || left.len() != right.len() {
+        return Err(Wrong::Again(left.len()));
+    }
+    if left.tail() == right.tail() && left.end() == right.end() && left.total() == right.total() {
+        Ok(())
+    } else {
+        Err(Wrong::Tail)
+    }
+}
+
+/// Whether item k of a document is this one.
+fn is_item(document: &Document, k: usize, want: &Want) -> bool {
+    let (offset, name, frame, id) = want;
+    document.item(k).map(|op| op.opcode().name()) == Some(*name)
+        && document.offset(k) == Some(*offset)
+        && document.frame_of(k) == *frame
+        && document.id(k) == Some(*id)
+}
+
+/// Whether a document shows this, and its bytes read as it.
+pub fn shows(alloc: Global, document: &Document, want: &Shown) -> Result<(), Wrong> {
+    for (k, item) in want.items.iter().enumerate() {
+        if !is_item(document, k, item) {
+            return Err(Wrong::Items(k));
+        }
+    }
+    let len = document.len();
+    let start = want.bytes.len().saturating_sub(want.tail.len()) as u64;
+    if len != want.items.len() || document.offset(len) != Some(start) {
+        return Err(Wrong::Items(len));
+    }
+    let total = want.bytes.len() as u64;
+    if document.tail() != want.tail || document.end() != want.end || document.total() != total {
+        return Err(Wrong::Tail);
+    }
+    if written(alloc, document)?.as_slice() != want.bytes {
+        return Err(Wrong::Bytes);
+    }
+    let again = Document::read(alloc, want.bytes)?;
+    are_alike(document, &again)
+}
+
+/// Makes an edit. The record leads back, and there is room for that.
+pub fn make(alloc: Global, document: &mut Document, edit: &Edit) -> Result<EditRecord, EditFault>
+    ensures back { IfOk result (λ r. (e : Contents) × Leads r document.new.contents e × (length (items_of e) ≤ length (items_of document.new.contents) + document.new.room)) }
+    ensures err { OnErr result (document.new ≡ document.old) }
+{
+    let record = match edit {
+        Edit::Replace(k, opcode, arg) => {
+            let Ok(op) = op_of(alloc, *opcode, arg) else {
+                return Err(EditFault::Memory);
+            };
+            document.replace(*k, op)?
+        }
+        Edit::Insert(k, opcode, arg) => {
+            let Ok(op) = op_of(alloc, *opcode, arg) else {
+                return Err(EditFault::Memory);
+            };
+            document.insert(*k, op)?
+        }
+        Edit::Delete(k) => document.delete(*k)?,
+        Edit::Frame(k, count) => document.frame(*k, *count)?,
+        Edit::Unframe(k) => document.unframe(*k)?,
+    };
+    Ok(record)
+}
+
+/// The place of an edit.
+pub fn place_of(edit: &Edit) -> usize {
+    match edit {
+        Edit::Replace(k, _, _) => *k,
+        Edit::Insert(k, _, _) => *k,
+        Edit::Delete(k) => *k,
+        Edit::Frame(k, _) => *k,
+        Edit::Unframe(k) => *k,
+    }
+}
