@@ -1,0 +1,287 @@
+//! What a session shows behind commands.
+
+ghost use Rattle.std.specs.Prelude.{◌≡◌, []};
+
+mod rows;
+mod script;
+mod state;
+
+use crate::tests::rows::{CYCLE, DUMP, PAIR, SCRIPTS, WALKED};
+use crate::tests::script::{
+    Script, Told, command, follow, go_home, open_whole, open_window, shows, write_session,
+};
+use crate::tests::state::Beside;
+use pickle_ops::{Opcode, ToWrite};
+use pickle_session::{Command, Past, Reply, Session, Whole, Why};
+use std::alloc::Global;
+use std::test::Fail;
+
+/// Follows a script and goes all the way back, where one request for memory may be refused; the number of rows that are as
+/// they should be, and whether the opened bytes are there again.
+fn try_whole(alloc: Global, script: &Script) -> Option<(usize, bool)> {
+    let mut session = open_whole(alloc, script.bytes)?;
+    let rows = follow(&mut session, alloc, script, true);
+    Some((rows, go_home(&mut session, alloc, script.bytes)))
+}
+
+/// The same with the two latest records alone.
+fn try_window(alloc: Global, script: &Script) -> Option<(usize, bool)> {
+    let mut session = open_window(alloc, script.bytes)?;
+    let rows = follow(&mut session, alloc, script, false);
+    Some((rows, go_home(&mut session, alloc, script.bytes)))
+}
+
+/// Run also with each request for memory refused in turn: a command that is refused so leaves every reader as it was, and
+/// told again it is answered as with ample memory. Then comes the way back to the bytes that were opened.
+#[test]
+fn refused_memory(rt: HostRuntime) {
+    for (k, script) in SCRIPTS.iter().enumerate() {
+        let all = Some((script.rows.len(), true));
+        assert_eq!(rt; try_whole(rt.alloc(), script), all, "script {k}");
+        assert_eq!(rt; try_window(rt.alloc(), script), all, "script {k} in a window");
+    }
+}
+
+/// What a session shows, as a text.
+fn note_of<P: Past>(alloc: Global, session: &Session<P>) -> Result<Vec<u8>, Fail> {
+    let mut sink = ToWrite::new(Vec::new(alloc));
+    write_session(session, &mut sink)?;
+    Ok(sink.into_inner())
+}
+
+/// What is shown at each place of some bytes that are stepped over to their end.
+fn notes_of(alloc: Global, bytes: &[u8]) -> Result<Vec<Vec<u8>>, Fail> {
+    let mut session = Session::open(alloc, Whole::new(alloc), bytes)?;
+    let mut notes = Vec::new(alloc);
+    notes.push(note_of(alloc, &session)?)?;
+    for _ in 0..session.document().len() {
+        let _reply = session.obey(alloc, &Command::Step);
+        notes.push(note_of(alloc, &session)?)?;
+    }
+    Ok(notes)
+}
+
+/// Whether a session stands at a place, and shows what is written down.
+fn stands<P: Past>(session: &Session<P>, place: usize, notes: &[Vec<u8>], bytes: &[u8]) -> bool {
+    match notes.get(place) {
+        Some(note) => session.cursor() == place && shows(session, note, bytes),
+        None => false,
+    }
+}
+
+/// Goes from one place to another, step by step.
+fn walk<P: Past>(
+    session: &mut Session<P>,
+    alloc: Global,
+    to: usize,
+    notes: &[Vec<u8>],
+    bytes: &[u8],
+) -> bool {
+    let from = session.cursor();
+    let command = if from < to {
+        Command::Step
+    } else {
+        Command::Back
+    };
+    for k in 1..=from.abs_diff(to) {
+        let place = if from < to {
+            from.saturating_add(k)
+        } else {
+            from.saturating_sub(k)
+        };
+        let reply = session.obey(alloc, &command);
+        if reply != Reply::At(place) || !stands(session, place, notes, bytes) {
+            return false;
+        }
+    }
+    true
+}
+
+/// Goes from every place to every place at once and step by step; the first pair that differs, if one does.
+fn go_everywhere<P: Past>(
+    session: &mut Session<P>,
+    alloc: Global,
+    notes: &[Vec<u8>],
+    bytes: &[u8],
+) -> Option<(usize, usize)> {
+    for from in 0..notes.len() {
+        for to in 0..notes.len() {
+            let first = session.obey(alloc, &Command::Goto(from));
+            let there = session.obey(alloc, &Command::Goto(to));
+            let is_there = stands(session, to, notes, bytes);
+            let again = session.obey(alloc, &Command::Goto(from));
+            let is_walked = walk(session, alloc, to, notes, bytes);
+            if (first, there, again) != (Reply::At(from), Reply::At(to), Reply::At(from))
+                || !is_there
+                || !is_walked
+            {
+                return Some((from, to));
+            }
+        }
+    }
+    None
+}
+
+#[test]
+fn from_every_place_to_every_place(rt: HostRuntime) -> Result<(), Fail> {
+    for (k, bytes) in WALKED.iter().enumerate() {
+        let notes = notes_of(rt.alloc(), bytes)?;
+        let mut session = Session::open(rt.alloc(), Whole::new(rt.alloc()), bytes)?;
+        assert_eq!(rt; notes.len(), session.document().len().saturating_add(1), "row {k}");
+        let found = go_everywhere(&mut session, rt.alloc(), &notes, bytes);
+        assert_eq!(rt; found, None, "row {k}");
+        let window = open_window(rt.alloc(), bytes);
+        let found = window.map(|mut session| go_everywhere(&mut session, rt.alloc(), &notes, bytes));
+        assert_eq!(rt; found, Some(None), "row {k} in a window");
+    }
+    Ok(())
+}
+
+/// A command; the reply; the cursor, the records kept and the work behind it.
+type Counts = (Command, Reply, usize, usize, u64);
+
+#[test]
+fn counts_in_a_window(rt: HostRuntime) {
+    let rows: [Counts; 6] = [
+        (Command::Goto(4), Reply::At(4), 4, 2, 4),
+        (Command::Back, Reply::At(3), 3, 1, 1),
+        (Command::Back, Reply::At(2), 2, 0, 1),
+        (Command::Back, Reply::At(1), 1, 1, 1),
+        (Command::Goto(5), Reply::At(5), 5, 2, 4),
+        (Command::Goto(0), Reply::At(0), 0, 0, 0),
+    ];
+    let mut session = open_window(rt.alloc(), PAIR).expect(&rt, "room");
+    for (k, row) in rows.iter().enumerate() {
+        let reply = session.obey(rt.alloc(), &row.0);
+        assert_eq!(rt; reply, row.1, "row {k}");
+        let found = (session.cursor(), session.kept(), session.work());
+        assert_eq!(rt; found, (row.2, row.3, row.4), "row {k}");
+    }
+}
+
+/// How many objects stand on the stack at a place of a mark, a thousand objects, the opcode that drops them and the mark, one
+/// more object and its end.
+fn height_at(place: usize) -> usize {
+    match place {
+        1..=1001 => place.saturating_sub(1),
+        1003 => 1,
+        _ => 0,
+    }
+}
+
+#[test]
+fn a_thousand_heights(rt: HostRuntime) -> Result<(), Fail> {
+    let mut bytes = vec![in rt.alloc(); b'N'; 1001]?;
+    bytes[0] = b'(';
+    bytes.extend_from_slice(b"1N.")?;
+    let mut session = Session::open(rt.alloc(), Whole::new(rt.alloc()), &bytes)?;
+    let reply = session.obey(rt.alloc(), &Command::Run);
+    assert_eq!(rt; reply, Reply::Ran(1004, Why::End));
+    assert_eq!(rt; session.work(), 1004);
+    for k in 1..=1004usize {
+        let place = 1004usize.saturating_sub(k);
+        let reply = session.obey(rt.alloc(), &Command::Back);
+        assert_eq!(rt; reply, Reply::At(place));
+        let found = (session.work(), session.kept(), session.machine().stack_len());
+        assert_eq!(rt; found, (1, place, height_at(place)), "at {place}");
+    }
+    assert_eq!(rt; session.machine().moves(), 2008);
+    assert_eq!(rt; session.machine().objects(), 0);
+    Ok(())
+}
+
+/// Whether a session's document has these bytes.
+fn has_bytes<P: Past>(session: &Session<P>, bytes: &[u8]) -> bool {
+    let mut written = Beside::new(bytes);
+    session.document().write_bytes(&mut written).is_ok() && written.is_whole()
+}
+
+#[test]
+fn undone_and_made_again_a_thousand_times(rt: HostRuntime) -> Result<(), Fail> {
+    let less: &[u8] = b"\x80\x04\x95\x05\x00\x00\x00\x00\x00\x00\x00]K\x01a.";
+    let mut session = Session::open(rt.alloc(), Whole::new(rt.alloc()), DUMP)?;
+    let reply = session.obey(rt.alloc(), &Command::Delete(3));
+    assert_eq!(rt; reply, Reply::Edited(3));
+    for k in 0..1000 {
+        assert!(rt; has_bytes(&session, less), "turn {k}");
+        let undone = session.obey(rt.alloc(), &Command::Undo);
+        assert_eq!(rt; undone, Reply::Undone(3), "turn {k}");
+        assert!(rt; has_bytes(&session, DUMP), "turn {k}");
+        let redone = session.obey(rt.alloc(), &Command::Redo);
+        assert_eq!(rt; redone, Reply::Redone(3), "turn {k}");
+    }
+    Ok(())
+}
+
+#[test]
+fn a_thousand_insertions(rt: HostRuntime) -> Result<(), Fail> {
+    let mut bytes = vec![in rt.alloc(); b'N'; 1000]?;
+    bytes.push(b'.')?;
+    let mut session = Session::open(rt.alloc(), Whole::new(rt.alloc()), b".")?;
+    for k in 0..1000 {
+        let insert = command(rt.alloc(), Told::Insert(0, Opcode::None, b"")).expect(&rt, "room");
+        let reply = session.obey(rt.alloc(), &insert);
+        assert_eq!(rt; reply, Reply::Edited(0), "insertion {k}");
+    }
+    assert!(rt; has_bytes(&session, &bytes));
+    for k in 0..1000 {
+        let reply = session.obey(rt.alloc(), &Command::Undo);
+        assert_eq!(rt; reply, Reply::Undone(0), "undo {k}");
+    }
+    assert!(rt; has_bytes(&session, b"."));
+    for k in 0..1000 {
+        let reply = session.obey(rt.alloc(), &Command::Redo);
+        assert_eq!(rt; reply, Reply::Redone(0), "redo {k}");
+    }
+    assert!(rt; has_bytes(&session, &bytes));
+    assert_eq!(rt; (session.undos(), session.redos()), (1000, 0));
+    Ok(())
+}
+
+/// The commands of a way; those behind the first few ask for no memory, and are left out where so is said.
+fn go(alloc: Global, bytes: &[u8], told: &[Told], most: usize) -> bool {
+    let Some(mut session) = open_whole(alloc, bytes) else {
+        return false;
+    };
+    for (k, told) in told.iter().enumerate() {
+        if k < most {
+            let reply = match command(alloc, *told) {
+                Some(command) => session.obey(alloc, &command),
+                None => return false,
+            };
+            if matches!(reply, Reply::Refused(_)) {
+                return false;
+            }
+        }
+    }
+    true
+}
+
+/// Ways, and how many of their commands may ask for memory: the first step over a dump is free, and so is a step that is
+/// taken again, and each way back.
+const WAYS: [(&[u8], &[Told], usize); 4] = [
+    (DUMP, &[Told::Step, Told::Back, Told::Step], 0),
+    (CYCLE, &[Told::Goto(3), Told::Back, Told::Back, Told::Step], 1),
+    (DUMP, &[Told::Run, Told::Goto(3), Told::Back, Told::Goto(2), Told::Clear(0), Told::Goto(0)], 1),
+    (
+        DUMP,
+        &[Told::Delete(3), Told::Undo, Told::Redo, Told::Undo, Told::Delete(2), Told::Undo],
+        0,
+    ),
+];
+
+/// Goes the ways as far as they may ask for memory.
+#[test]
+fn forwards(rt: HostRuntime) {
+    for (k, (bytes, told, most)) in WAYS.iter().enumerate() {
+        assert!(rt; go(rt.alloc(), bytes, told, *most), "way {k}");
+    }
+}
+
+/// Goes the ways to their end, and asks for memory as often as `forwards`.
+#[test]
+fn no_memory_for_free_steps(rt: HostRuntime) {
+    for (k, (bytes, told, _)) in WAYS.iter().enumerate() {
+        assert!(rt; go(rt.alloc(), bytes, told, told.len()), "way {k}");
+    }
+}

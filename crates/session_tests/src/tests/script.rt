@@ -1,0 +1,232 @@
+//! Commands as rows of tables, and what a session shows behind each of them.
+
+ghost use Rattle.std.specs.Prelude.{◌≡◌, [], IfOk, IfSome};
+
+use crate::tests::state::{Beside, write_state};
+use pickle_ops::{Failed, Opcode, Sink, op_of, write_all, write_decimal};
+use pickle_session::{Command, Fault, Past, Reply, Session, Whole, Window};
+use std::alloc::Global;
+
+/// A command without an `Op` of its own: an opcode and an argument in its place.
+#[derive(Clone, Copy, Debug, PartialEq, Eq)]
+pub enum Told {
+    Step,
+    Back,
+    Goto(usize),
+    Run,
+    Break(usize),
+    Clear(usize),
+    Replace(usize, Opcode, &'static [u8]),
+    Insert(usize, Opcode, &'static [u8]),
+    Delete(usize),
+    Frame(usize, usize),
+    Unframe(usize),
+    Undo,
+    Redo,
+}
+
+/// A command, the reply, the work of it where all records are kept, what is shown behind it, and the bytes.
+pub type Row = (Told, Reply, u64, &'static str, &'static [u8]);
+
+/// A script over some bytes: what is shown at first, and its rows.
+pub struct Script {
+    pub bytes: &'static [u8],
+    pub shown: &'static str,
+    pub rows: &'static [Row],
+}
+
+/// The command, or nothing where memory is refused or the opcode has no such argument.
+fn try_command(alloc: Global, told: Told) -> Option<Command> {
+    match told {
+        Told::Step => Some(Command::Step),
+        Told::Back => Some(Command::Back),
+        Told::Run => Some(Command::Run),
+        Told::Goto(k) => Some(Command::Goto(k)),
+        Told::Break(k) => Some(Command::Break(k)),
+        Told::Clear(k) => Some(Command::Clear(k)),
+        Told::Replace(k, opcode, arg) => Some(Command::Replace(k, op_of(alloc, opcode, arg).ok()?)),
+        Told::Insert(k, opcode, arg) => Some(Command::Insert(k, op_of(alloc, opcode, arg).ok()?)),
+        Told::Delete(k) => Some(Command::Delete(k)),
+        Told::Frame(k, count) => Some(Command::Frame(k, count)),
+        Told::Unframe(k) => Some(Command::Unframe(k)),
+        Told::Undo => Some(Command::Undo),
+        Told::Redo => Some(Command::Redo),
+    }
+}
+
+/// The command, where one request for memory may be refused.
+pub fn command(alloc: Global, told: Told) -> Option<Command> {
+    match try_command(alloc, told) {
+        Some(command) => Some(command),
+        None => try_command(alloc, told),
+    }
+}
+
+/// A session that keeps all records, where one request for memory may be refused.
+pub fn open_whole(alloc: Global, bytes: &[u8]) -> Option<Session<Whole>> {
+    match Session::open(alloc, Whole::new(alloc), bytes) {
+        Ok(session) => Some(session),
+        Err(_) => Session::open(alloc, Whole::new(alloc), bytes).ok(),
+    }
+}
+
+/// A session that keeps the two latest records, or nothing where memory is refused.
+fn try_window(alloc: Global, bytes: &[u8]) -> Option<Session<Window>> {
+    let window = Window::new(alloc, 2).ok()?;
+    Session::open(alloc, window, bytes).ok()
+}
+
+/// A session that keeps the two latest records, where one request for memory may be refused.
+pub fn open_window(alloc: Global, bytes: &[u8]) -> Option<Session<Window>> {
+    match try_window(alloc, bytes) {
+        Some(session) => Some(session),
+        None => try_window(alloc, bytes),
+    }
+}
+
+/// Writes a blank and a number.
+fn write_number<S: Sink>(number: usize, sink: &mut S) -> Result<(), Failed> {
+    write_all(sink, b" ")?;
+    write_decimal(number as u64, sink)
+}
+
+/// Writes what a session shows, but for its bytes, records and counters: the cursor and the number of items, how many edits
+/// can be undone and made again, the places with a breakpoint, and the state of the machine.
+pub fn write_session<P: Past, S: Sink>(session: &Session<P>, sink: &mut S) -> Result<(), Failed> {
+    write_all(sink, b"at")?;
+    write_number(session.cursor(), sink)?;
+    write_all(sink, b" of")?;
+    write_number(session.document().len(), sink)?;
+    if session.undos() > 0 || session.redos() > 0 {
+        write_all(sink, b", edits")?;
+        write_number(session.undos(), sink)?;
+        write_number(session.redos(), sink)?;
+    }
+    write_breaks(session, sink)?;
+    write_all(sink, b": ")?;
+    write_state(session.machine(), sink)
+}
+
+/// Writes the places with a breakpoint. There is none at the end.
+fn write_breaks<P: Past, S: Sink>(session: &Session<P>, sink: &mut S) -> Result<(), Failed> {
+    let mut is_first = true;
+    for place in 0..=session.document().len() {
+        if session.has_break(place) {
+            if is_first {
+                write_all(sink, b", breaks")?;
+            }
+            is_first = false;
+            write_number(place, sink)?;
+        }
+    }
+    Ok(())
+}
+
+/// Whether a session shows this. It takes no memory.
+pub fn shows<P: Past>(session: &Session<P>, shown: &[u8], bytes: &[u8]) -> bool {
+    let mut beside = Beside::new(shown);
+    let mut written = Beside::new(bytes);
+    let is_told = write_session(session, &mut beside).is_ok();
+    let is_written = session.document().write_bytes(&mut written).is_ok();
+    is_told && is_written && beside.is_whole() && written.is_whole()
+}
+
+/// What became of a row: it is as it should be, or memory was refused and nothing changed, or it is not.
+#[derive(Clone, Copy, Debug, PartialEq, Eq)]
+enum Outcome {
+    Same,
+    Lacks,
+    Differs,
+}
+
+/// What is shown before a row, and whether all records are kept.
+#[derive(Clone, Copy)]
+struct Before<'a> {
+    shown: &'a [u8],
+    bytes: &'a [u8],
+    is_whole: bool,
+}
+
+/// Whether the records and the counters are what they should be behind an accepted row.
+fn is_counted<P: Past>(session: &Session<P>, moves: u64, work: u64, is_whole: bool) -> bool {
+    if is_whole {
+        let risen = session.machine().moves().saturating_sub(moves);
+        session.kept() == session.cursor() && session.work() == work && risen == work
+    } else {
+        session.kept() <= 2
+    }
+}
+
+/// Obeys a row once.
+fn obey_row<P: Past>(
+    session: &mut Session<P>,
+    alloc: Global,
+    row: &Row,
+    before: Before<'_>,
+) -> Outcome {
+    let (told, reply, work, shown_behind, bytes_behind) = *row;
+    let Some(command) = command(alloc, told) else {
+        return Outcome::Differs;
+    };
+    let moves = session.machine().moves();
+    let kept = session.kept();
+    let found = session.obey(alloc, &command);
+    if found == reply && shows(session, shown_behind.as_bytes(), bytes_behind) {
+        return if is_counted(session, moves, work, before.is_whole) {
+            Outcome::Same
+        } else {
+            Outcome::Differs
+        };
+    }
+    let is_lacking = found == Reply::Refused(Fault::Memory);
+    if is_lacking && session.kept() == kept && shows(session, before.shown, before.bytes) {
+        Outcome::Lacks
+    } else {
+        Outcome::Differs
+    }
+}
+
+/// The first row that differs, or the number of rows. Where memory is refused a row may be tried again, once.
+pub fn follow<P: Past>(
+    session: &mut Session<P>,
+    alloc: Global,
+    script: &Script,
+    is_whole: bool,
+) -> usize {
+    let mut before = Before {
+        shown: script.shown.as_bytes(),
+        bytes: script.bytes,
+        is_whole,
+    };
+    for (k, row) in script.rows.iter().enumerate() {
+        let mut outcome = obey_row(session, alloc, row, before);
+        if outcome == Outcome::Lacks {
+            outcome = obey_row(session, alloc, row, before);
+        }
+        if outcome != Outcome::Same {
+            return k;
+        }
+        before.shown = row.3.as_bytes();
+        before.bytes = row.4;
+    }
+    script.rows.len()
+}
+
+/// Goes to the start and undoes all edits. Where memory is refused the way back may be tried again, once.
+pub fn go_home<P: Past>(session: &mut Session<P>, alloc: Global, bytes: &[u8]) -> bool {
+    let mut reply = session.obey(alloc, &Command::Goto(0));
+    if reply == Reply::Refused(Fault::Memory) && session.kept() != session.cursor() {
+        reply = session.obey(alloc, &Command::Goto(0));
+    }
+    if reply != Reply::At(0) {
+        return false;
+    }
+    for _ in 0..session.undos() {
+        let undone = session.obey(alloc, &Command::Undo);
+        if !matches!(undone, Reply::Undone(_)) {
+            return false;
+        }
+    }
+    let mut written = Beside::new(bytes);
+    session.document().write_bytes(&mut written).is_ok() && written.is_whole()
+}
