@@ -38,7 +38,11 @@ fn refused_memory(rt: HostRuntime) {
     for (k, script) in SCRIPTS.iter().enumerate() {
         let all = Some((script.rows.len(), true));
         assert_eq!(rt; try_whole(rt.alloc(), script), all, "script {k}");
-        assert_eq!(rt; try_window(rt.alloc(), script), all, "script {k} in a window");
+        assert_eq!(rt;
+            try_window(rt.alloc(), script),
+            all,
+            "script {k} in a window"
+        );
     }
 }
 
@@ -127,11 +131,20 @@ fn from_every_place_to_every_place(rt: HostRuntime) -> Result<(), Fail> {
     for (k, bytes) in WALKED.iter().enumerate() {
         let notes = notes_of(rt.alloc(), bytes)?;
         let mut session = Session::open(rt.alloc(), Whole::new(rt.alloc()), bytes)?;
-        assert_eq!(rt; notes.len(), session.document().len().saturating_add(1), "row {k}");
+        assert_eq!(rt;
+            notes.len(),
+            session.document().len().saturating_add(1),
+            "row {k}"
+        );
         let found = go_everywhere(&mut session, rt.alloc(), &notes, bytes);
         assert_eq!(rt; found, None, "row {k}");
         let window = open_window(rt.alloc(), bytes);
-        let found = window.map(|mut session| go_everywhere(&mut session, rt.alloc(), &notes, bytes));
+        let found = window.map(|mut session| go_everywhere(
+            &mut session,
+            rt.alloc(),
+            &notes,
+            bytes,
+        ));
         assert_eq!(rt; found, Some(None), "row {k} in a window");
     }
     Ok(())
@@ -182,7 +195,11 @@ fn a_thousand_heights(rt: HostRuntime) -> Result<(), Fail> {
         let place = 1004usize.saturating_sub(k);
         let reply = session.obey(rt.alloc(), &Command::Back);
         assert_eq!(rt; reply, Reply::At(place));
-        let found = (session.work(), session.kept(), session.machine().stack_len());
+        let found = (
+            session.work(),
+            session.kept(),
+            session.machine().stack_len(),
+        );
         assert_eq!(rt; found, (1, place, height_at(place)), "at {place}");
     }
     assert_eq!(rt; session.machine().moves(), 2008);
@@ -261,11 +278,33 @@ fn go(alloc: Global, bytes: &[u8], told: &[Told], most: usize) -> bool {
 /// taken again, and each way back.
 const WAYS: [(&[u8], &[Told], usize); 4] = [
     (DUMP, &[Told::Step, Told::Back, Told::Step], 0),
-    (CYCLE, &[Told::Goto(3), Told::Back, Told::Back, Told::Step], 1),
-    (DUMP, &[Told::Run, Told::Goto(3), Told::Back, Told::Goto(2), Told::Clear(0), Told::Goto(0)], 1),
+    (
+        CYCLE,
+        &[Told::Goto(3), Told::Back, Told::Back, Told::Step],
+        1,
+    ),
     (
         DUMP,
-        &[Told::Delete(3), Told::Undo, Told::Redo, Told::Undo, Told::Delete(2), Told::Undo],
+        &[
+            Told::Run,
+            Told::Goto(3),
+            Told::Back,
+            Told::Goto(2),
+            Told::Clear(0),
+            Told::Goto(0),
+        ],
+        1,
+    ),
+    (
+        DUMP,
+        &[
+            Told::Delete(3),
+            Told::Undo,
+            Told::Redo,
+            Told::Undo,
+            Told::Delete(2),
+            Told::Undo,
+        ],
         0,
     ),
 ];

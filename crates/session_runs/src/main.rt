@@ -1,0 +1,219 @@
+//! Random commands to sessions over files: forwards and back to the start, and all edits undone and made again. Of each file it
+//! prints how many commands were accepted and how many edits were left to undo. Test equipment.
+#![tactic(auto)]
+
+ghost use Rattle.std.specs.Prelude.{◌≡◌, []};
+
+use pickle_doc::{DocFault, LIMIT};
+use pickle_machine::Machine;
+use pickle_ops::{Failed, OpFault, Opcode, ToWrite, op_of};
+use pickle_session::{Command, Reply, Session, Whole};
+use std::alloc::Global;
+use std::fs::File;
+use std::io::Read;
+use std::process::ExitCode;
+use std::{env, io};
+
+/// How many commands are told over each file.
+const COMMANDS: u32 = 300;
+
+/// Why a file was not tried, or nothing printed of it.
+#[derive(Debug, Drop)]
+enum Stop {
+    /// A file or a word could not be read, or a line not printed.
+    Device,
+    /// The file is too large, or there was no memory.
+    Room,
+    /// The session is not what it should be, behind so many commands.
+    Differs(u32),
+}
+
+impl From<io::Error> for Stop {
+    fn from(_error: io::Error) -> Stop {
+        Stop::Device
+    }
+}
+
+impl From<DocFault> for Stop {
+    fn from(_fault: DocFault) -> Stop {
+        Stop::Room
+    }
+}
+
+impl From<OpFault> for Stop {
+    fn from(_fault: OpFault) -> Stop {
+        Stop::Room
+    }
+}
+
+impl From<Failed> for Stop {
+    fn from(_failed: Failed) -> Stop {
+        Stop::Room
+    }
+}
+
+/// Numbers that look random, the same in every run.
+#[derive(Drop)]
+struct Chance {
+    state: u64,
+}
+
+impl Chance {
+    /// A number below another, which is not 0.
+    fn below(&mut self, count: usize) -> usize {
+        self.state = self
+            .state
+            .wrapping_mul(6_364_136_223_846_793_005)
+            .wrapping_add(1_442_695_040_888_963_407);
+        let number = (self.state >> 33) as usize;
+        number.checked_rem(count).unwrap_or(0)
+    }
+}
+
+/// The opcodes that are put in.
+const PUT_IN: [(Opcode, &[u8]); 8] = [
+    (Opcode::None, b""),
+    (Opcode::BinInt1, b"\x07"),
+    (Opcode::BinInt2, b"\x07\x00"),
+    (Opcode::EmptyList, b""),
+    (Opcode::Mark, b""),
+    (Opcode::Pop, b""),
+    (Opcode::Memoize, b""),
+    (Opcode::Stop, b""),
+];
+
+/// A command at places that are there, or one behind them.
+fn any_command(alloc: Global, chance: &mut Chance, len: usize, cursor: usize) -> Result<Command, Stop> {
+    let kind = chance.below(16);
+    let place = chance.below(len.saturating_add(2));
+    let ahead = cursor.saturating_add(chance.below(4));
+    let (opcode, arg) = PUT_IN[chance.below(8).min(7)];
+    Ok(match kind {
+        0 | 1 => Command::Step,
+        2 => Command::Back,
+        3 => Command::Goto(place),
+        4 => Command::Goto(ahead),
+        5 => Command::Run,
+        6 => Command::Break(place),
+        7 => Command::Clear(place),
+        8 => Command::Replace(place, op_of(alloc, opcode, arg)?),
+        9 => Command::Insert(place, op_of(alloc, opcode, arg)?),
+        10 => Command::Insert(ahead, op_of(alloc, opcode, arg)?),
+        11 => Command::Delete(place),
+        12 => Command::Frame(place, chance.below(5)),
+        13 => Command::Unframe(ahead),
+        14 => Command::Undo,
+        _ => Command::Redo,
+    })
+}
+
+/// The bytes of a session's document.
+fn bytes_of(alloc: Global, session: &Session<Whole>) -> Result<Vec<u8>, Stop> {
+    let mut sink = ToWrite::new(Vec::new(alloc));
+    session.document().write_bytes(&mut sink)?;
+    Ok(sink.into_inner())
+}
+
+/// What the counting readers of a session show.
+fn counts_of(session: &Session<Whole>) -> [usize; 5] {
+    let len = session.document().len();
+    [len, session.cursor(), session.undos(), session.redos(), session.kept()]
+}
+
+/// What the counting readers of a machine show.
+fn shape_of(machine: &Machine) -> ([usize; 4], u64, Option<u32>) {
+    let counts = [machine.objects(), machine.stack_len(), machine.marks_len(), machine.memo_len()];
+    (counts, machine.buffers(), machine.result())
+}
+
+/// Whether a session that is opened on these bytes goes to this place, and has this machine there.
+fn is_reached(alloc: Global, session: &Session<Whole>, bytes: &[u8]) -> Result<bool, Stop> {
+    let mut other = Session::open(alloc, Whole::new(alloc), bytes)?;
+    let reply = other.obey(alloc, &Command::Goto(session.cursor()));
+    Ok(reply == Reply::At(session.cursor())
+        && other.document().len() == session.document().len()
+        && shape_of(other.machine()) == shape_of(session.machine()))
+}
+
+/// Tells a session one command; whether it was accepted. Refused, it changes nothing.
+fn tell(alloc: Global, session: &mut Session<Whole>, chance: &mut Chance, number: u32) -> Result<bool, Stop> {
+    let command = any_command(alloc, chance, session.document().len(), session.cursor())?;
+    let counts = counts_of(session);
+    let bytes = bytes_of(alloc, session)?;
+    let reply = session.obey(alloc, &command);
+    let is_accepted = !matches!(reply, Reply::Refused(_));
+    let behind = bytes_of(alloc, session)?;
+    let is_edit = matches!(reply, Reply::Edited(_) | Reply::Undone(_) | Reply::Redone(_));
+    let is_same = behind.as_slice() == bytes.as_slice();
+    if !is_edit && !is_same || !is_accepted && counts != counts_of(session) {
+        return Err(Stop::Differs(number));
+    }
+    if session.kept() != session.cursor() {
+        return Err(Stop::Differs(number));
+    }
+    if is_edit && !is_reached(alloc, session, &behind)? {
+        return Err(Stop::Differs(number));
+    }
+    Ok(is_accepted)
+}
+
+/// Goes to the start, undoes all edits, which gives the opened bytes, and makes all of them again.
+fn go_home(alloc: Global, session: &mut Session<Whole>, bytes: &[u8]) -> Result<(), Stop> {
+    let last = bytes_of(alloc, session)?;
+    let edits = session.undos();
+    let back = session.obey(alloc, &Command::Goto(0));
+    let mut is_good = back == Reply::At(0);
+    for _ in 0..edits {
+        let reply = session.obey(alloc, &Command::Undo);
+        is_good &= matches!(reply, Reply::Undone(_));
+    }
+    is_good &= bytes_of(alloc, session)?.as_slice() == bytes;
+    for _ in 0..edits {
+        let reply = session.obey(alloc, &Command::Redo);
+        is_good &= matches!(reply, Reply::Redone(_));
+    }
+    is_good &= bytes_of(alloc, session)?.as_slice() == last.as_slice();
+    if is_good {
+        Ok(())
+    } else {
+        Err(Stop::Differs(COMMANDS))
+    }
+}
+
+/// Tells a session over one file its commands.
+fn try_file(rt: &HostRuntime, path: &str, chance: &mut Chance) -> Result<(), Stop> {
+    let mut bytes = Vec::new(rt.alloc());
+    File::open(rt, path)?
+        .take(LIMIT as u64 + 1)
+        .read_to_end(&mut bytes)?;
+    let mut session = Session::open(rt.alloc(), Whole::new(rt.alloc()), &bytes)?;
+    let mut accepted: u32 = 0;
+    for number in 0..COMMANDS {
+        if tell(rt.alloc(), &mut session, chance, number)? {
+            accepted = accepted.saturating_add(1);
+        }
+    }
+    let edits = session.undos();
+    go_home(rt.alloc(), &mut session, &bytes)?;
+    println!(rt; "{path}: {accepted} commands accepted, {edits} edits, the same bytes again")?;
+    Ok(())
+}
+
+/// Tries each file that the words of the command line name.
+fn try_files(rt: &HostRuntime) -> Result<(), Stop> {
+    let mut chance = Chance { state: 1 };
+    for path in env::args(rt)?.skip(1) {
+        try_file(rt, &path, &mut chance)?;
+    }
+    Ok(())
+}
+
+fn main(rt: HostRuntime) -> ExitCode {
+    match try_files(&rt) {
+        Ok(()) => ExitCode::SUCCESS,
+        Err(stop) => {
+            let _ = eprintln!(rt; "session_runs: {:?}", stop);
+            ExitCode::FAILURE
+        }
+    }
+}
