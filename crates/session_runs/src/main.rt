@@ -83,7 +83,12 @@ const PUT_IN: [(Opcode, &[u8]); 8] = [
 ];
 
 /// A command at places that are there, or one behind them.
-fn any_command(alloc: Global, chance: &mut Chance, len: usize, cursor: usize) -> Result<Command, Stop> {
+fn any_command(
+    alloc: Global,
+    chance: &mut Chance,
+    len: usize,
+    cursor: usize,
+) -> Result<Command, Stop> {
     let kind = chance.below(16);
     let place = chance.below(len.saturating_add(2));
     let ahead = cursor.saturating_add(chance.below(4));
@@ -117,12 +122,23 @@ fn bytes_of(alloc: Global, session: &Session<Whole>) -> Result<Vec<u8>, Stop> {
 /// What the counting readers of a session show.
 fn counts_of(session: &Session<Whole>) -> [usize; 5] {
     let len = session.document().len();
-    [len, session.cursor(), session.undos(), session.redos(), session.kept()]
+    [
+        len,
+        session.cursor(),
+        session.undos(),
+        session.redos(),
+        session.kept(),
+    ]
 }
 
 /// What the counting readers of a machine show.
 fn shape_of(machine: &Machine) -> ([usize; 4], u64, Option<u32>) {
-    let counts = [machine.objects(), machine.stack_len(), machine.marks_len(), machine.memo_len()];
+    let counts = [
+        machine.objects(),
+        machine.stack_len(),
+        machine.marks_len(),
+        machine.memo_len(),
+    ];
     (counts, machine.buffers(), machine.result())
 }
 
@@ -130,20 +146,30 @@ fn shape_of(machine: &Machine) -> ([usize; 4], u64, Option<u32>) {
 fn is_reached(alloc: Global, session: &Session<Whole>, bytes: &[u8]) -> Result<bool, Stop> {
     let mut other = Session::open(alloc, Whole::new(alloc), bytes)?;
     let reply = other.obey(alloc, &Command::Goto(session.cursor()));
-    Ok(reply == Reply::At(session.cursor())
-        && other.document().len() == session.document().len()
-        && shape_of(other.machine()) == shape_of(session.machine()))
+    Ok(
+        reply == Reply::At(session.cursor())
+            && other.document().len() == session.document().len()
+            && shape_of(other.machine()) == shape_of(session.machine()),
+    )
 }
 
 /// Tells a session one command; whether it was accepted. Refused, it changes nothing.
-fn tell(alloc: Global, session: &mut Session<Whole>, chance: &mut Chance, number: u32) -> Result<bool, Stop> {
+fn tell(
+    alloc: Global,
+    session: &mut Session<Whole>,
+    chance: &mut Chance,
+    number: u32,
+) -> Result<bool, Stop> {
     let command = any_command(alloc, chance, session.document().len(), session.cursor())?;
     let counts = counts_of(session);
     let bytes = bytes_of(alloc, session)?;
     let reply = session.obey(alloc, &command);
     let is_accepted = !matches!(reply, Reply::Refused(_));
     let behind = bytes_of(alloc, session)?;
-    let is_edit = matches!(reply, Reply::Edited(_) | Reply::Undone(_) | Reply::Redone(_));
+    let is_edit = matches!(
+        reply,
+        Reply::Edited(_) | Reply::Undone(_) | Reply::Redone(_)
+    );
     let is_same = behind.as_slice() == bytes.as_slice();
     if !is_edit && !is_same || !is_accepted && counts != counts_of(session) {
         return Err(Stop::Differs(number));

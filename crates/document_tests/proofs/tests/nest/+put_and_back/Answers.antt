@@ -37,7 +37,7 @@ swap-requires t c =
     let leads = on c.records_lead_on.ensures c.in_ok-record.record c.insert.new.self.contents (given_one before) c.put_and_back.new.document.contents inner.contents.0 inner.contents.1 c.in_ok-record.ensures.back in
     let turned = c.there_and_back.ensures in
     let few : length (items_of before) ≤ length (items_of c.there_and_back.new.document.contents) + c.there_and_back.new.document.room =
-        omega (arith, inner.total, c.in_ok-record.ensures.total, turned.room, ap (λ (d : Contents). length (items_of d)) turned.contents) in
+    omega (arith, inner.total, c.in_ok-record.ensures.total, turned.room, ap (λ (d : Contents). length (items_of d)) turned.contents) in
     record { leads = (end, again c.there_and_back.new.edit c.put_and_back.new.document.contents end c.there_and_back.new.document.contents turned.contents (turned.leads end leads), few) }
 
 pub returns-then-branch-clause-contents : goal.returns-then-branch-clause-contents
