@@ -1,10 +1,15 @@
 //! Reads files as documents and prints what it finds of each: its name, the offset and the name of every item, how reading
-//! ended, and whether the document writes back the bytes that it was read from. Test equipment.
+//! ended, and whether the document writes back the bytes that it was read from. Then each document is edited beside a plain
+//! list, and the edits are taken back. Test equipment.
 #![tactic(auto)]
 
-use pickle_doc::{DocFault, Document, End, LIMIT, TailFault};
+mod edits;
+mod plain;
+
+use crate::edits::{Dice, edit_by_dice};
+use pickle_doc::{DocFault, Document, EditFault, End, LIMIT, TailFault};
 use pickle_ops::{Failed, ToWrite};
-use std::alloc::Global;
+use std::alloc::{AllocError, AllocFailed, Global};
 use std::fs::File;
 use std::io::Read;
 use std::process::ExitCode;
@@ -12,11 +17,13 @@ use std::{env, io};
 
 /// Why a file was not read, or nothing printed of it.
 #[derive(Debug, Drop)]
-enum Stop {
+pub enum Stop {
     /// A file or a word could not be read, or a line not printed.
     Device,
     /// The file is too large, or there was no memory.
     Room,
+    /// A document and a plain list are not the same after an edit.
+    Edits,
 }
 
 impl From<io::Error> for Stop {
@@ -27,6 +34,24 @@ impl From<io::Error> for Stop {
 
 impl From<DocFault> for Stop {
     fn from(_fault: DocFault) -> Stop {
+        Stop::Room
+    }
+}
+
+impl From<EditFault> for Stop {
+    fn from(_fault: EditFault) -> Stop {
+        Stop::Edits
+    }
+}
+
+impl From<AllocError> for Stop {
+    fn from(_error: AllocError) -> Stop {
+        Stop::Room
+    }
+}
+
+impl<T: Drop> From<AllocFailed<T>> for Stop {
+    fn from(_error: AllocFailed<T>) -> Stop {
         Stop::Room
     }
 }
@@ -73,19 +98,22 @@ fn print_end(rt: &HostRuntime, document: &Document) -> Result<(), Stop> {
 }
 
 /// The bytes that a document writes.
-fn written(alloc: Global, document: &Document) -> Result<Vec<u8>, Stop> {
+pub fn written(alloc: Global, document: &Document) -> Result<Vec<u8>, Stop> {
     let mut sink = ToWrite::new(Vec::new(alloc));
     document.write_bytes(&mut sink)?;
     Ok(sink.into_inner())
 }
 
-/// Prints what is found in one file.
-fn print_file(rt: &HostRuntime, path: &str) -> Result<(), Stop> {
+/// How many edits are made of each document.
+const EDITS: usize = 24;
+
+/// Prints what is found in one file, and edits the document.
+fn print_file(rt: &HostRuntime, path: &str, dice: &mut Dice) -> Result<(), Stop> {
     let mut bytes = Vec::new(rt.alloc());
     File::open(rt, path)?
         .take(LIMIT as u64 + 1)
         .read_to_end(&mut bytes)?;
-    let document = Document::read(rt.alloc(), &bytes)?;
+    let mut document = Document::read(rt.alloc(), &bytes)?;
     println!(rt; "{path}")?;
     print_items(rt, &document)?;
     print_end(rt, &document)?;
@@ -94,14 +122,16 @@ fn print_file(rt: &HostRuntime, path: &str) -> Result<(), Stop> {
     } else {
         println!(rt; "different")?;
     }
-    Ok(())
+    edit_by_dice(rt.alloc(), &mut document, &bytes, dice, EDITS)
 }
 
-/// Prints what is found in each file that the words of the command line name.
+/// Prints what is found in each file that the words of the command line name, and that the edits of all were the same.
 fn print_files(rt: &HostRuntime) -> Result<(), Stop> {
+    let mut dice = Dice::new(11);
     for path in env::args(rt)?.skip(1) {
-        print_file(rt, &path)?;
+        print_file(rt, &path, &mut dice)?;
     }
+    println!(rt; "edits: same")?;
     Ok(())
 }
 

@@ -1,0 +1,300 @@
+//! Edits of a document and of a plain list side by side, at places that look random and are always the same.
+
+ghost use Rattle.std.specs.Prelude.{◌≡◌, ℕ, ◌+◌, ◌≤◌, length, IfOk, OnOk, OnErr};
+ghost use Rattle.pickle_doc.specs.Document.{Contents, items_of};
+ghost use Rattle.pickle_doc.specs.Turn.{Leads, risen};
+
+use crate::plain::{Kind, Part, Plain};
+use crate::{Stop, written};
+use pickle_doc::{Document, EditFault, EditRecord, records_lead_on, there_and_back};
+use pickle_ops::{Op, Opcode, op_of};
+use std::alloc::Global;
+
+/// A row of numbers that look like dice, always the same row.
+#[derive(Clone, Copy)]
+pub struct Dice {
+    state: u64,
+}
+
+impl Dice {
+    /// The row from this number on.
+    pub fn new(state: u64) -> Dice {
+        Dice { state }
+    }
+
+    /// The next number below a limit; 0 where the limit is 0.
+    fn below(&mut self, limit: usize) -> usize {
+        let next = self.state.wrapping_mul(6_364_136_223_846_793_005);
+        self.state = next.wrapping_add(1_442_695_040_888_963_407);
+        let high = (self.state >> 33) as usize;
+        high.checked_rem(limit).unwrap_or(0)
+    }
+}
+
+/// An edit; an opcode stands there by its number in `OPCODES`.
+#[derive(Clone, Copy)]
+enum Edit {
+    Replace(usize, usize),
+    Insert(usize, usize),
+    Delete(usize),
+    Frame(usize, usize),
+    Unframe(usize),
+}
+
+/// Opcodes to put in: the opcode, and the bytes that spell it with its argument.
+const OPCODES: [(Opcode, &[u8]); 6] = [
+    (Opcode::None, b"N"),
+    (Opcode::BinInt1, b"K\x07"),
+    (Opcode::ShortBinBytes, b"C\x03abc"),
+    (Opcode::ShortBinUnicode, b"\x8c\x18abcdefghijklmnopqrstuvwx"),
+    (Opcode::Stop, b"."),
+    (Opcode::Frame, b"\x95\x00\x00\x00\x00\x00\x00\x00\x00"),
+];
+
+/// The opcode of a number, and how it is spelled.
+fn opcode_of(number: usize) -> (Opcode, &'static [u8]) {
+    OPCODES.get(number).copied().unwrap_or((Opcode::None, b"N"))
+}
+
+/// The opcode of a number, with its argument.
+fn op_at(alloc: Global, number: usize) -> Result<Op, EditFault> {
+    let (opcode, bytes) = opcode_of(number);
+    match op_of(alloc, opcode, bytes.get(1..).unwrap_or_default()) {
+        Ok(op) => Ok(op),
+        Err(_) => Err(EditFault::Memory),
+    }
+}
+
+/// An edit by dice, of a list of so many items.
+fn roll(dice: &mut Dice, len: usize) -> Edit {
+    let place = dice.below(len.saturating_add(2));
+    let number = dice.below(OPCODES.len());
+    match dice.below(8) {
+        0 | 1 => Edit::Replace(place, number),
+        2 | 3 => Edit::Insert(place, number),
+        4 | 5 => Edit::Delete(place),
+        6 => Edit::Frame(place, number),
+        _ => Edit::Unframe(place),
+    }
+}
+
+/// Puts an opcode in the place of item k.
+fn replace_at(
+    alloc: Global,
+    document: &mut Document,
+    k: usize,
+    number: usize,
+) -> Result<EditRecord, EditFault>
+    ensures back { IfOk result (λ r. (n : ℕ) × Leads r document.new.contents (risen n document.old.contents)) }
+    ensures err { OnErr result (document.new ≡ document.old) }
+    ensures total { length (items_of document.old.contents) + document.old.room ≤ length (items_of document.new.contents) + document.new.room }
+{
+    let op = op_at(alloc, number)?;
+    let record = document.replace(k, op)?;
+    Ok(record)
+}
+
+/// Puts an opcode before item k.
+fn insert_at(
+    alloc: Global,
+    document: &mut Document,
+    k: usize,
+    number: usize,
+) -> Result<EditRecord, EditFault>
+    ensures back { IfOk result (λ r. (n : ℕ) × Leads r document.new.contents (risen n document.old.contents)) }
+    ensures err { OnErr result (document.new ≡ document.old) }
+    ensures total { length (items_of document.old.contents) + document.old.room ≤ length (items_of document.new.contents) + document.new.room }
+{
+    let op = op_at(alloc, number)?;
+    let record = document.insert(k, op)?;
+    Ok(record)
+}
+
+/// Takes item k out.
+fn delete_at(document: &mut Document, k: usize) -> Result<EditRecord, EditFault>
+    ensures back { IfOk result (λ r. (n : ℕ) × Leads r document.new.contents (risen n document.old.contents)) }
+    ensures err { OnErr result (document.new ≡ document.old) }
+    ensures total { length (items_of document.old.contents) + document.old.room ≤ length (items_of document.new.contents) + document.new.room }
+{
+    let record = document.delete(k)?;
+    Ok(record)
+}
+
+/// Puts a frame round items.
+fn frame_at(document: &mut Document, k: usize, count: usize) -> Result<EditRecord, EditFault>
+    ensures back { IfOk result (λ r. (n : ℕ) × Leads r document.new.contents (risen n document.old.contents)) }
+    ensures err { OnErr result (document.new ≡ document.old) }
+    ensures total { length (items_of document.old.contents) + document.old.room ≤ length (items_of document.new.contents) + document.new.room }
+{
+    let record = document.frame(k, count)?;
+    Ok(record)
+}
+
+/// Takes a frame away.
+fn unframe_at(document: &mut Document, k: usize) -> Result<EditRecord, EditFault>
+    ensures back { IfOk result (λ r. (n : ℕ) × Leads r document.new.contents (risen n document.old.contents)) }
+    ensures err { OnErr result (document.new ≡ document.old) }
+    ensures total { length (items_of document.old.contents) + document.old.room ≤ length (items_of document.new.contents) + document.new.room }
+{
+    let record = document.unframe(k)?;
+    Ok(record)
+}
+
+/// Makes an edit of a document. The record leads back.
+fn make(alloc: Global, document: &mut Document, edit: Edit) -> Result<EditRecord, EditFault>
+    ensures back { IfOk result (λ r. (n : ℕ) × Leads r document.new.contents (risen n document.old.contents)) }
+    ensures err { OnErr result (document.new ≡ document.old) }
+    ensures total { length (items_of document.old.contents) + document.old.room ≤ length (items_of document.new.contents) + document.new.room }
+{
+    match edit {
+        Edit::Replace(k, number) => replace_at(alloc, document, k, number),
+        Edit::Insert(k, number) => insert_at(alloc, document, k, number),
+        Edit::Delete(k) => delete_at(document, k),
+        Edit::Frame(k, count) => frame_at(document, k, count),
+        Edit::Unframe(k) => unframe_at(document, k),
+    }
+}
+
+/// Makes an edit of a plain list.
+fn make_plain(plain: &mut Plain<'_>, edit: Edit) -> Result<(), Stop> {
+    match edit {
+        Edit::Replace(k, number) => plain.replace(k, opcode_of(number).1),
+        Edit::Insert(k, number) => return plain.insert(k, opcode_of(number).1),
+        Edit::Delete(k) => plain.delete(k),
+        Edit::Frame(k, count) => return plain.frame(k, count),
+        Edit::Unframe(k) => plain.unframe(k),
+    }
+    Ok(())
+}
+
+/// Why a plain list refuses an edit.
+fn plain_fault(plain: &Plain<'_>, edit: Edit) -> Option<EditFault> {
+    match edit {
+        Edit::Replace(k, number) => plain.replace_fault(k, opcode_of(number).1),
+        Edit::Insert(k, number) => plain.insert_fault(k, opcode_of(number).1),
+        Edit::Delete(k) => plain.delete_fault(k),
+        Edit::Frame(k, count) => plain.frame_fault(k, count),
+        Edit::Unframe(k) => plain.unframe_fault(k),
+    }
+}
+
+/// Why a document refuses an edit.
+fn fault_of(alloc: Global, document: &Document, edit: Edit) -> Result<Option<EditFault>, Stop> {
+    match edit {
+        Edit::Replace(k, number) => Ok(document.replace_fault(k, &op_at(alloc, number)?)),
+        Edit::Insert(k, number) => Ok(document.insertion_fault(k, &op_at(alloc, number)?)),
+        Edit::Delete(k) => Ok(document.delete_fault(k)),
+        Edit::Frame(k, count) => Ok(document.frame_fault(k, count)),
+        Edit::Unframe(k) => Ok(document.unframe_fault(k)),
+    }
+}
+
+/// An edit by dice that is accepted. What both say of each edit that is rolled has to be the same.
+fn next_edit(
+    alloc: Global,
+    document: &Document,
+    plain: &Plain<'_>,
+    dice: &mut Dice,
+) -> Result<Edit, Stop> {
+    for _ in 0..16 {
+        let edit = roll(dice, document.len());
+        let fault = fault_of(alloc, document, edit)?;
+        if fault != plain_fault(plain, edit) {
+            return Err(Stop::Edits);
+        }
+        if fault.is_none() {
+            return Ok(edit);
+        }
+    }
+    Ok(Edit::Insert(0, 0))
+}
+
+/// Whether a document writes these bytes.
+fn compare(alloc: Global, document: &Document, bytes: &[u8]) -> Result<(), Stop> {
+    if written(alloc, document)?.as_slice() == bytes {
+        Ok(())
+    } else {
+        Err(Stop::Edits)
+    }
+}
+
+/// Makes so many edits of both, and compares their bytes after each; then takes them back, the last one first, and compares
+/// again.
+fn go_on(
+    alloc: Global,
+    document: &mut Document,
+    plain: &mut Plain<'_>,
+    dice: &mut Dice,
+    more: usize,
+) -> Result<(), Stop>
+    ensures contents { OnOk result ((n : ℕ) × (document.new.contents ≡ risen n document.old.contents)) }
+    ensures total { OnOk result (length (items_of document.old.contents) + document.old.room ≤ length (items_of document.new.contents) + document.new.room) }
+{
+    let before = plain.bytes(alloc)?;
+    compare(alloc, document, &before)?;
+    if more == 0 {
+        return Ok(());
+    }
+    let edit = next_edit(alloc, document, plain, dice)?;
+    make_plain(plain, edit)?;
+    let mut record = make(alloc, document, edit)?;
+    go_on(alloc, document, plain, dice, more - 1)?;
+    records_lead_on();
+    there_and_back(document, &mut record);
+    document.swap(&mut record);
+    compare(alloc, document, &before)?;
+    Ok(())
+}
+
+/// The number in the eight bytes behind a FRAME's code.
+fn number_of(bytes: &[u8]) -> u64 {
+    let mut number: u64 = 0;
+    for byte in bytes.iter().skip(1).rev() {
+        number = number.wrapping_mul(256).wrapping_add(u64::from(*byte));
+    }
+    number
+}
+
+/// The plain list of a document that was read from these bytes.
+fn plain_of<'a>(alloc: Global, document: &Document, bytes: &'a [u8]) -> Result<Plain<'a>, Stop> {
+    let mut parts = Vec::new(alloc);
+    let mut rest = bytes;
+    let mut left: u64 = 0;
+    for k in 0..document.len() {
+        let size = document.item(k).map_or(0, |op| op.size());
+        let spelled = rest.get(..size).unwrap_or_default();
+        rest = rest.get(size..).unwrap_or_default();
+        if document.item(k).map(|op| op.opcode()) == Some(Opcode::Frame) {
+            left = number_of(spelled);
+            parts.push(Part {
+                kind: Kind::Frame,
+                bytes: &[],
+            })?;
+        } else {
+            let kind = if left > 0 { Kind::Member } else { Kind::Loose };
+            left = left.saturating_sub(size as u64);
+            parts.push(Part {
+                kind,
+                bytes: spelled,
+            })?;
+        }
+    }
+    Ok(Plain {
+        parts,
+        extra: left,
+        tail: rest,
+    })
+}
+
+/// Edits a document that was read from these bytes, and takes the edits back.
+pub fn edit_by_dice(
+    alloc: Global,
+    document: &mut Document,
+    bytes: &[u8],
+    dice: &mut Dice,
+    edits: usize,
+) -> Result<(), Stop> {
+    let mut plain = plain_of(alloc, document, bytes)?;
+    go_on(alloc, document, &mut plain, dice, edits)?;
+    compare(alloc, document, bytes)
+}
