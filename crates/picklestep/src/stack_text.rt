@@ -46,7 +46,12 @@ fn write_object_at<S: Sink>(machine: &Machine, place: usize, sink: &mut S) -> Re
 }
 
 /// Writes the objects of the stack from one place up to another, counted from the bottom.
-fn write_objects<S: Sink>(machine: &Machine, from: usize, to: usize, sink: &mut S) -> Result<(), Failed>
+fn write_objects<S: Sink>(
+    machine: &Machine,
+    from: usize,
+    to: usize,
+    sink: &mut S,
+) -> Result<(), Failed>
     ensures takes { Takes (S.taken sink.old) (S.taken sink.new) result (objects_text (between from to (stack_of machine.now.state))) }
     ensures rises { S.failures sink.old ≤ S.failures sink.new }
     ensures failed { OnErr result (HasFailed (S.failures sink.old) (S.failures sink.new)) }
@@ -59,7 +64,13 @@ fn write_objects<S: Sink>(machine: &Machine, from: usize, to: usize, sink: &mut 
 
 /// Writes the section of the stack from one place up to another, and the mark above it.
 #[tactic(auto, using(pickle_ops::proofs::Devices::text_steps), unfolding(crate::specs::Reply::section_text))]
-fn write_section<S: Sink>(machine: &Machine, from: usize, to: usize, mark: usize, sink: &mut S) -> Result<(), Failed>
+fn write_section<S: Sink>(
+    machine: &Machine,
+    from: usize,
+    to: usize,
+    mark: usize,
+    sink: &mut S,
+) -> Result<(), Failed>
     ensures takes { Takes (S.taken sink.old) (S.taken sink.new) result (section_text (between from to (stack_of machine.now.state)) mark) }
     ensures rises { S.failures sink.old ≤ S.failures sink.new }
     ensures failed { OnErr result (HasFailed (S.failures sink.old) (S.failures sink.new)) }
