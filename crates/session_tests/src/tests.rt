@@ -11,8 +11,9 @@ use crate::tests::script::{
     Script, Told, command, follow, go_home, open_whole, open_window, shows, write_session,
 };
 use crate::tests::state::Beside;
+use pickle_doc::{EditFault, LIMIT};
 use pickle_ops::{Opcode, ToWrite};
-use pickle_session::{Command, Past, Reply, Session, Whole, Why};
+use pickle_session::{Command, Fault, Past, Reply, Session, Whole, Why};
 use std::alloc::Global;
 use std::test::Fail;
 
@@ -252,6 +253,27 @@ fn a_thousand_insertions(rt: HostRuntime) -> Result<(), Fail> {
     }
     assert!(rt; has_bytes(&session, &bytes));
     assert_eq!(rt; (session.undos(), session.redos()), (1000, 0));
+    Ok(())
+}
+
+/// The most bytes that a session may have: it goes to their end, and an opcode more would be too many.
+#[test]
+fn largest_input(rt: HostRuntime) -> Result<(), Fail> {
+    let mut bytes = vec![in rt.alloc(); 0u8; LIMIT]?;
+    let front: &[u8] = b"B\xfa\xff\xff\x0f";
+    for (byte, want) in bytes.iter_mut().zip(front) {
+        *byte = *want;
+    }
+    if let Some(last) = bytes.last_mut() {
+        *last = b'.';
+    }
+    let mut session = Session::open(rt.alloc(), Whole::new(rt.alloc()), &bytes)?;
+    let insert = command(rt.alloc(), Told::Insert(0, Opcode::None, b"")).expect(&rt, "room");
+    let refused = session.obey(rt.alloc(), &insert);
+    assert_eq!(rt; refused, Reply::Refused(Fault::Edit(EditFault::TooLarge)));
+    let run = session.obey(rt.alloc(), &Command::Run);
+    assert_eq!(rt; run, Reply::Ran(2, Why::End));
+    assert!(rt; has_bytes(&session, &bytes));
     Ok(())
 }
 

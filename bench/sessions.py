@@ -1,0 +1,79 @@
+"""sessions.py PROGRAM TESTS SCALE: runs long conversations, and the tests of many edits, and prints the tables."""
+import fractions
+import os
+import subprocess
+import sys
+import tempfile
+
+# commands a second, how many times as long for twice the way, seconds for 10,000 edits at one place and 1,000 at random ones, bytes
+# of memory for each opcode beside the file
+A_SECOND, TWICE, ONE_PLACE, RANDOM_PLACES, BYTES_AN_OPCODE = 500_000, 2.3, 0.1, 5, 160
+# how many edits the tests make at one place
+EDITS = 1000
+
+
+def verdict(holds):
+    return 'holds' if holds else '**does not hold**'
+
+
+def measure(command, script=b''):
+    """The seconds that one processor took for a command, and the most memory that it held in bytes."""
+    with tempfile.NamedTemporaryFile('r') as figures, tempfile.TemporaryFile() as lines:
+        lines.write(script)
+        lines.seek(0)
+        subprocess.run(['/usr/bin/time', '-o', figures.name, '-f', '%U %S %M', *command],
+                       stdin=lines, stdout=subprocess.DEVNULL, stderr=subprocess.DEVNULL)
+        user, system, kibibytes = figures.read().split('\n')[-2].split()
+    return float(user) + float(system), int(kibibytes) * 1024
+
+
+def one_byte_opcodes(folder, count):
+    """A pickle of so many opcodes: NONE and POP in turn, then NONE and STOP."""
+    path = os.path.join(folder, 'n-%d.pickle' % count)
+    with open(path, 'wb') as file:
+        file.write(b'N0' * (count // 2 - 1) + b'N.')
+    return path
+
+
+def conversation_row(program, what, once, twice, commands):
+    """A line of the table of conversations: each a file and a script; the second has twice as many commands, or opcodes."""
+    (first, memory), (second, _) = (min(measure([program, 'debug', path], script) for _ in range(3)) for path, script in (once, twice))
+    first, rate = max(first, 0.01), commands / max(first, 0.01)
+    good = second / first <= TWICE and (commands == 0 or rate >= A_SECOND)
+    return '| %s | %.2f s | %s | %.2f | %.0f | %s |' % (
+        what, first, '%.0f' % rate if commands else '', second / first, memory / 1e6, verdict(good))
+
+
+def edits_row(tests, what, name, many, bar, base):
+    """A line of the table of edits; the tests also open and write the document, which takes as long as the base."""
+    seconds = (min(measure([tests, 'tests::' + name])[0] for _ in range(3)) - base) * many
+    return '| %s | %.2f s | %s s | %s |' % (what, seconds, bar, verdict(seconds <= bar))
+
+
+def main():
+    program, tests, scale = sys.argv[1], sys.argv[2], fractions.Fraction(sys.argv[3])
+    million = int(1_000_000 * scale)
+    half = million // 2
+    with tempfile.TemporaryDirectory() as folder:
+        one, two = one_byte_opcodes(folder, million), one_byte_opcodes(folder, 2 * million)
+        print('| Conversations over %d opcodes | processor | commands a second | twice as many | memory, MB | |' % million)
+        print('|---|---|---|---|---|---|')
+        print(conversation_row(program, 'steps', (one, b'step\n' * million), (two, b'step\n' * 2 * million), million), flush=True)
+        print(conversation_row(program, 'steps, and back again', (one, b'step\n' * half + b'back\n' * half),
+                               (two, b'step\n' * million + b'back\n' * million), million), flush=True)
+        ways = b'goto %d\ngoto 0\n' * 10
+        print(conversation_row(program, 'to the end and to the start by goto, ten times', (one, ways.replace(b'%d', b'%d' % million)),
+                               (two, ways.replace(b'%d', b'%d' % (2 * million))), 0), flush=True)
+        _, memory = measure([program, 'debug', one], b'run\n')
+        beside = (memory - os.path.getsize(one)) / million
+        print('\nMemory of `run` to the end: %.0f bytes for each opcode beside the file, bar %d: %s.' % (
+            beside, BYTES_AN_OPCODE, verdict(beside <= BYTES_AN_OPCODE)))
+    print('\n| Edits of a document of a million items | processor | bar | |')
+    print('|---|---|---|---|')
+    base, _ = measure([tests, 'tests::a_million_items'])
+    print(edits_row(tests, '10,000 in its middle (ten times %d)' % EDITS, 'edits_at_one_place', 10_000 // EDITS, ONE_PLACE, base))
+    print(edits_row(tests, '1,000 at random places', 'edits_at_random_places', 1, RANDOM_PLACES, base))
+    print(edits_row(tests, '1,000 at random places, each swapped back and forth', 'edits_and_swaps_at_random_places', 1, RANDOM_PLACES, base))
+
+
+main()
