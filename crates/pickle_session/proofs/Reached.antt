@@ -1,5 +1,5 @@
 -- What lists of commands keep.
-use Rattle.std.proofs.Common.{◌≡◌, ◌⊎◌, ◌<◌, ℕ, zero, suc, Bool, true, false, MatchBool, Option, Some, None, List, [], ◌∷◌, ◌++◌, MatchOption, length, refl, sym, ap, subst, ◌∙◌, inl, inr, arith, le-ltb}
+use Rattle.std.proofs.Common.{◌≡◌, ◌<◌, ℕ, Bool, true, false, Option, Some, None, List, [], ◌∷◌, ◌++◌, MatchOption, length, refl, sym, ap, subst, ◌∙◌, inl, inr, arith, le-ltb}
 use Rattle.pickle_doc.specs.Document.{document_bytes}
 use Rattle.pickle_session.specs.declared.command.Command.{Command}
 use Rattle.pickle_session.specs.declared.command.Command.TheVariants as command
@@ -7,12 +7,12 @@ use Rattle.pickle_session.specs.declared.reply.Fault.{Fault}
 use Rattle.pickle_session.specs.declared.reply.Fault.TheVariants as fault
 use Rattle.pickle_session.specs.declared.reply.Reply.{Reply}
 use Rattle.pickle_session.specs.declared.reply.Reply.TheVariants as reply
-use Rattle.pickle_session.specs.Session.{Was, Session, Answer, Obeys, goes_to, refuses, turn_fault, len_of, place_in, undone_by, version_of}
-use Rattle.pickle_session.specs.Allowed.{Standing, Answers, takes_memory}
+use Rattle.pickle_session.specs.Session.{Was, Session, Answer, Obeys, goes_to, refuses, turn_fault, len_of, place_in, undone_by}
+use Rattle.pickle_session.specs.Allowed.{Standing, Answers, goes_beyond, takes_memory}
 use Rattle.pickle_session.specs.Laws.{goes_back}
 use Rattle.std.specs.Prelude.{nat_lt, not}
 use Rattle.pickle_session.specs.Opening.{IsOpened}
-use Rattle.pickle_session.specs.Undo.{oldest_of, oldest, undone, version_bytes}
+use Rattle.pickle_session.specs.Undo.{oldest, undone, version_bytes}
 use Rattle.pickle_session.specs.Reaching.{Reaches, IsReached, undos, OpenedStays}
 use Rattle.pickle_session.proofs.Oldest.{allowed}
 
@@ -84,17 +84,26 @@ not_true : (b : Bool) → not b ≡ true → b ≡ false
 not_true false h = refl
 not_true true h = absurd cc
 
-no_memory : (c : Command) (p : Standing) → p.past.limit ≡ None → goes_back c p.session ≡ true → takes_memory c p ≡ false
-no_memory command.Back p e h = rw e refl
-no_memory (command.Goto k) p e h = rw (e, not_true (nat_lt p.session.cursor k) h) refl
+no_memory : (c : Command) (p : Standing) → goes_beyond c p ≡ false → goes_back c p.session ≡ true → takes_memory c p ≡ false
+no_memory command.Back p e h = e
+no_memory (command.Goto k) p e h = rw (not_true (nat_lt p.session.cursor k) h) e
 no_memory (command.Clear k) p e h = refl
 no_memory command.Undo p e h = refl
 no_memory command.Redo p e h = refl
 no_memory _ p e h = absurd cc
 
+-- nothing lies further back than all records lead
+near_all : (c : Command) (p : Standing) → p.past.limit ≡ None → goes_beyond c p ≡ false
+near_all command.Back p e = rw e refl
+near_all (command.Goto k) p e = rw e refl
+near_all _ p e = refl
+
+pub told_near : (c : Command) (p : Standing) (r : Reply) (t : Session) → goes_beyond c p ≡ false → goes_back c p.session ≡ true → Answers c p r t → Obeys c p.session (record { reply = r; after = t })
+told_near c p r t e h (inl o) = o
+told_near c p r t e h (inr m) = let x : true ≡ false = sym m.takes ∙ no_memory c p e h in absurd cc
+
 pub told_back : (c : Command) (p : Standing) (r : Reply) (t : Session) → p.past.limit ≡ None → goes_back c p.session ≡ true → Answers c p r t → Obeys c p.session (record { reply = r; after = t })
-told_back c p r t e h (inl o) = o
-told_back c p r t e h (inr m) = let x : true ≡ false = sym m.takes ∙ no_memory c p e h in absurd cc
+told_back c p r t e h a = told_near c p r t (near_all c p e) h a
 
 pub starts : (p : Standing) (r : Reply) (t : Session) → p.past.limit ≡ None → Answers (command.Goto 0) p r t → r ≡ reply.At 0
 starts p r t e a =

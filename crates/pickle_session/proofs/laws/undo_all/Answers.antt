@@ -1,4 +1,4 @@
-use Rattle.std.proofs.Common.{◌≡◌, ◌<◌, ◌∙◌, length, ap, arith}
+use Rattle.std.proofs.Common.{◌<◌, ◌∙◌, length, ap, arith}
 use Rattle.pickle_session.specs.Session.{Session}
 use Rattle.pickle_session.specs.declared.command.Command.TheVariants as command
 use Rattle.pickle_session.proofs.Oldest.{allowed}
