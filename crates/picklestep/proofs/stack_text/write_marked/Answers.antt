@@ -4,32 +4,31 @@ use Rattle.picklestep.proofs.Stacks.{sections-none, from-none, sections-next, fr
 use Rattle.picklestep.proofs.stack_text.write_marked.Goals as goal
 
 pub loop-i-init : goal.loop-i-init
-loop-i-init g c = record { taken = sections-none _ c.args.machine.now.state.marked; from = from-none c.args.machine.now.state.marked; rises = omega arith }
+loop-i-init g c = record { wrote = sections-none _ c.args.machine.now.state.marked; from = from-none c.args.machine.now.state.marked }
 
 pub unreachable-requires : goal.unreachable-requires
 unreachable-requires g c =
     mark_there c.args.machine.now.state.marked c.loop-i.i (omega (arith, c.loop-i-test.true, c.marks_len-i-end.ensures)) (sym c.mark.ensures ∙ c.in_default.is)
 
-pub returns-in_err-write_section-clause-takes : goal.returns-in_err-write_section-clause-takes
-returns-in_err-write_section-clause-takes g c =
+pub returns-in_err-write_section-clause-writes : goal.returns-in_err-write_section-clause-writes
+returns-in_err-write_section-clause-writes g c =
     let p = err_from_is_err_and c.from_residual.result c.from_residual.ensures.1 in
     let within : c.loop-i.i < length c.args.machine.now.state.marked = omega (arith, c.loop-i-test.true, c.marks_len-i-end.ensures) in
     rw p.1 (sections-stopped _ _ _ c.args.machine.now.state c.loop-i.i c.loop-i.from c.in-Some.to c.in-Some.mark within c.loop-i.invariant.from (sym c.in-Some.ensures)
-    c.in_err-write_section.ensures.takes c.loop-i.invariant.taken)
+    c.in_err-write_section.ensures c.loop-i.invariant.wrote)
 
 pub loop-i-preserved : goal.loop-i-preserved
 loop-i-preserved g c =
     let within : c.loop-i.i < length c.args.machine.now.state.marked = omega (arith, c.loop-i-test.true, c.marks_len-i-end.ensures) in
     record {
-      taken = sections-next _ _ _ c.args.machine.now.state c.loop-i.i c.loop-i.from c.in-Some.to c.in-Some.mark within c.loop-i.invariant.from (sym c.in-Some.ensures)
-          c.in_ok-write_section.ensures.takes c.loop-i.invariant.taken;
+      wrote = sections-next _ _ _ c.args.machine.now.state c.loop-i.i c.loop-i.from c.in-Some.to c.in-Some.mark within c.loop-i.invariant.from (sym c.in-Some.ensures)
+          c.in_ok-write_section.ensures c.loop-i.invariant.wrote;
       from = from-next c.args.machine.now.state c.loop-i.i c.loop-i.from c.in-Some.to c.in-Some.mark within c.loop-i.invariant.from (sym c.in-Some.ensures);
-      rises = omega (arith, c.loop-i.invariant.rises, c.in_ok-write_section.ensures.rises);
     }
 
-pub returns-clause-takes : goal.returns-clause-takes
-returns-clause-takes g c =
-    sections-all _ _ c.args.machine.now.state.marked c.loop-i.i (omega (arith, c.loop-i-test.false, c.loop-i.auto.i-end, c.marks_len-i-end.ensures)) c.loop-i.invariant.taken
+pub returns-clause-writes : goal.returns-clause-writes
+returns-clause-writes g c =
+    sections-all _ _ c.args.machine.now.state.marked c.loop-i.i (omega (arith, c.loop-i-test.false, c.loop-i.auto.i-end, c.marks_len-i-end.ensures)) c.loop-i.invariant.wrote
 
 pub returns-clause-below : goal.returns-clause-below
 returns-clause-below g c =

@@ -1,5 +1,5 @@
-use Rattle.std.proofs.Common.{◌≡◌, ◌≤◌, length}
-use Rattle.std.specs.Io.KnownBytes.{Appends}
+use Rattle.std.proofs.Common.{◌≡◌, length}
+use Rattle.pickle_ops.specs.Device.{Wrote}
 use Rattle.pickle_machine.specs.State.{objects_below}
 use Rattle.picklestep.specs.Reply.{marked_text}
 use Rattle.picklestep.proofs.Stacks.{lowest}
@@ -7,7 +7,6 @@ use Rattle.picklestep.proofs.stack_text.write_marked.Given as goal
 
 abbrev pub invariant-loop-i : goal.invariant-loop-i
 invariant-loop-i g l = record {
-  taken : Appends (g.S.Sink.taken l.initial.sink) (g.S.Sink.taken l.sink) (marked_text (lowest l.i l.machine.state.marked));
+  wrote : Wrote (g.S.Sink.told l.initial.sink) (g.S.Sink.told l.sink) (marked_text (lowest l.i l.machine.state.marked));
   from : l.from ≡ length (objects_below (lowest l.i l.machine.state.marked));
-  rises : g.S.Sink.failures l.initial.sink ≤ g.S.Sink.failures l.sink;
 }
