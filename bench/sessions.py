@@ -8,8 +8,6 @@ import tempfile
 # commands a second, how many times as long for twice the way, seconds for 10,000 edits at one place and 1,000 at random ones, bytes
 # of memory for each opcode beside the file
 A_SECOND, TWICE, ONE_PLACE, RANDOM_PLACES, BYTES_AN_OPCODE = 500_000, 2.3, 0.1, 5, 160
-# how many edits the tests make at one place
-EDITS = 1000
 
 
 def verdict(holds):
@@ -44,9 +42,9 @@ def conversation_row(program, what, once, twice, commands):
         what, first, '%.0f' % rate if commands else '', second / first, memory / 1e6, verdict(good))
 
 
-def edits_row(tests, what, name, many, bar, base):
+def edits_row(tests, what, name, bar, base):
     """A line of the table of edits; the tests also open and write the document, which takes as long as the base."""
-    seconds = (min(measure([tests, 'tests::' + name])[0] for _ in range(3)) - base) * many
+    seconds = min(measure([tests, 'tests::' + name])[0] for _ in range(3)) - base
     return '| %s | %.2f s | %s s | %s |' % (what, seconds, bar, verdict(seconds <= bar))
 
 
@@ -70,10 +68,11 @@ def main():
             beside, BYTES_AN_OPCODE, verdict(beside <= BYTES_AN_OPCODE)))
     print('\n| Edits of a document of a million items | processor | bar | |')
     print('|---|---|---|---|')
-    base, _ = measure([tests, 'tests::a_million_items'])
-    print(edits_row(tests, '10,000 in its middle (ten times %d)' % EDITS, 'edits_at_one_place', 10_000 // EDITS, ONE_PLACE, base))
-    print(edits_row(tests, '1,000 at random places', 'edits_at_random_places', 1, RANDOM_PLACES, base))
-    print(edits_row(tests, '1,000 at random places, each swapped back and forth', 'edits_and_swaps_at_random_places', 1, RANDOM_PLACES, base))
+    base = min(measure([tests, 'tests::a_million_items'])[0] for _ in range(3))
+    print(edits_row(tests, '10,000 in its middle', 'edits_at_one_place', ONE_PLACE, base))
+    print(edits_row(tests, '10,000 in its middle, each swapped back and forth', 'edits_and_swaps_at_one_place', ONE_PLACE, base))
+    print(edits_row(tests, '1,000 at random places', 'edits_at_random_places', RANDOM_PLACES, base))
+    print(edits_row(tests, '1,000 at random places, each swapped back and forth', 'edits_and_swaps_at_random_places', RANDOM_PLACES, base))
 
 
 main()

@@ -147,12 +147,12 @@ fn a_million_items(rt: HostRuntime) {
 
 #[test]
 fn edits_at_one_place(rt: HostRuntime) {
-    assert_eq!(rt; edit_many(rt.alloc(), 1000, false, false), Ok(()));
+    assert_eq!(rt; edit_many(rt.alloc(), 10_000, false, false), Ok(()));
 }
 
 #[test]
 fn edits_and_swaps_at_one_place(rt: HostRuntime) {
-    assert_eq!(rt; edit_many(rt.alloc(), 1000, false, true), Ok(()));
+    assert_eq!(rt; edit_many(rt.alloc(), 10_000, false, true), Ok(()));
 }
 
 #[test]

@@ -20,7 +20,7 @@ impl Document {
         ensures room { OnOk result (length (flat (deleted k self.now.contents.units)) ≤ length (items_of self.now.contents)) }
     {
         let size = plain_size(&self.items, k)?;
-        let frame = narrowed(&self.items, k, size);
+        let frame = narrowed(&self.items, self.mark, k, size);
         Ok(EditRecord {
             place: k,
             change: Change::Take,
@@ -33,7 +33,7 @@ impl Document {
     pub fn delete_fault(&self, k: usize) -> Option<EditFault>
         ensures { result ≡ delete_fault self.now.contents k }
     {
-        match self.deletion(k) {
+        match plain_size(&self.items, k) {
             Ok(_) => None,
             Err(fault) => Some(fault),
         }
@@ -53,6 +53,7 @@ impl Document {
         ensures again { OnOk result (IsReadAgain self.new.contents) }
         ensures total { length (items_of self.new.contents) + self.new.room ≡ length (items_of self.old.contents) + self.old.room }
     {
+        self.go_to(k);
         let mut edit = self.deletion(k)?;
         self.swap(&mut edit);
         Ok(edit)

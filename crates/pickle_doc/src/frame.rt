@@ -32,7 +32,7 @@ impl Document {
         if self.is_after_stop(k) {
             return Some(EditFault::AfterStop);
         }
-        if unfinished_frame(&self.items, k).is_some() {
+        if unfinished_frame(&self.items, self.mark, k).is_some() {
             return Some(EditFault::AlreadyFramed);
         }
         if self.next >= 0x1_0000_0000 {
@@ -55,8 +55,8 @@ impl Document {
     {
         // that there are so many items follows from the length alone
         let _len = self.items.len();
-        let first = total_size(&self.items, k);
-        let number = total_size(&self.items, k + count) - first;
+        let first = total_size(&self.items, self.mark, k);
+        let number = total_size(&self.items, self.mark, k + count) - first;
         EditRecord {
             place: k,
             change: Change::Put(Item {
@@ -87,6 +87,7 @@ impl Document {
         ensures again { OnOk result (IsReadAgain self.new.contents) }
         ensures total { length (items_of self.old.contents) + self.old.room ≤ length (items_of self.new.contents) + self.new.room }
     {
+        self.go_to(k);
         if let Some(fault) = self.frame_fault(k, count) {
             return Err(fault);
         }

@@ -50,7 +50,7 @@ impl Document {
         ensures leads { Leads result (given_one self.now.contents) (given_one (with_units self.now.contents (inserted k (new_item self.now.contents op) self.now.contents.units))) }
     {
         let size = op.arg().len() as u64 + 1;
-        let frame = widened(&self.items, k, size);
+        let frame = widened(&self.items, self.mark, k, size);
         EditRecord {
             place: k,
             change: Change::Put(Item {
@@ -84,6 +84,7 @@ impl Document {
             return Err(fault);
         }
         self.make_room()?;
+        self.go_to(k);
         let mut edit = self.insertion(k, op);
         self.give_identity();
         self.swap(&mut edit);

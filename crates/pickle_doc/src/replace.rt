@@ -52,7 +52,7 @@ impl Document {
         let id = item.id;
         let old = item.op.size() as u64;
         let size = op.arg().len() as u64 + 1;
-        let frame = resized(&self.items, k, old, size);
+        let frame = resized(&self.items, self.mark, k, old, size);
         EditRecord {
             place: k,
             change: Change::Set(Item { id, op }),
@@ -80,6 +80,7 @@ impl Document {
         if let Some(fault) = self.replace_fault(k, &op) {
             return Err(fault);
         }
+        self.go_to(k);
         let mut edit = self.replacement(k, op);
         self.swap(&mut edit);
         Ok(edit)

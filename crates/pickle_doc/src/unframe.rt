@@ -26,7 +26,7 @@ impl Document {
                 if !is_frame(item.op.opcode()) {
                     return Err(EditFault::FrameItem);
                 }
-                if is_open_at(&self.items, k) {
+                if is_open_at(&self.items, self.mark, k, item, self.start) {
                     return Err(EditFault::OpenFrame);
                 }
                 let size = item.op.size() as u64;
@@ -65,6 +65,7 @@ impl Document {
         ensures again { OnOk result (IsReadAgain self.new.contents) }
         ensures total { length (items_of self.new.contents) + self.new.room ≡ length (items_of self.old.contents) + self.old.room }
     {
+        self.go_to(k);
         let mut edit = self.unframing(k)?;
         self.swap(&mut edit);
         Ok(edit)

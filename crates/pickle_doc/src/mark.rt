@@ -1,0 +1,166 @@
+//! A place among items, and what is known there of the items before it. So an edit goes over the items between the last one and its
+//! place, and not over all that stand before it.
+
+ghost use Rattle.std.specs.Prelude.{◌≡◌, ◌+◌, ◌≤◌, if◌then◌else◌, Some, None, length, take};
+ghost use Rattle.pickle_doc.specs.DocUnit.{is_frame, sizes};
+ghost use Rattle.pickle_doc.specs.Mark.{IsLastFrame, IsMark};
+
+use crate::fault::LIMIT;
+use crate::item::Item;
+use crate::next::is_frame;
+use gap_list::GapList;
+use pickle_ops::Op;
+
+/// A FRAME. Its number is none of it, so that it stays right where the number changes.
+#[derive(Clone, Copy)]
+pub struct FrameMark {
+    /// The place.
+    pub place: usize,
+    /// The offset behind it, where its first member begins.
+    pub behind: u64,
+}
+
+/// A place.
+#[derive(Clone, Copy)]
+pub struct Mark {
+    /// The place.
+    pub place: usize,
+    /// How many bytes spell the items before it.
+    pub offset: u64,
+    /// The last FRAME before it.
+    pub frame: Option<FrameMark>,
+}
+
+impl Mark {
+    /// The first place.
+    pub(crate) fn first() -> Mark
+        ensures { result ≡ record { place = 0; offset = 0; frame = None } }
+    {
+        Mark {
+            place: 0,
+            offset: 0,
+            frame: None,
+        }
+    }
+}
+
+/// The last FRAME up to an item at this place, behind which this offset is: the item itself, or the one before it.
+fn last_with(op: &Op, place: usize, behind: u64, before: Option<FrameMark>) -> Option<FrameMark>
+    ensures { result ≡ (if is_frame op.now.opcode then Some (record { place = place; behind = behind }) else before) }
+{
+    if is_frame(op.opcode()) {
+        Some(FrameMark { place, behind })
+    } else {
+        before
+    }
+}
+
+/// The last FRAME before item k, which begins at this offset.
+fn last_before(items: &GapList<Item>, k: usize, offset: u64) -> Option<FrameMark>
+    requires place { k ≤ length items.now.items }
+    requires offset { offset ≡ sizes (take k items.now.items) }
+    ensures { IsLastFrame result k items.now.items }
+{
+    let mut place = k;
+    let mut behind = offset;
+    while place > 0 {
+        place -= 1;
+        let op = &items.at(place).op;
+        if is_frame(op.opcode()) {
+            return Some(FrameMark { place, behind });
+        }
+        behind -= op.size() as u64;
+    }
+    None
+}
+
+/// How many bytes spell the items from one place on and before another.
+fn size_between(items: &GapList<Item>, from: usize, to: usize) -> u64
+    requires order { from ≤ to }
+    requires place { to ≤ length items.now.items }
+    requires small { sizes items.now.items ≤ LIMIT }
+    ensures { sizes (take from items.now.items) + result ≡ sizes (take to items.now.items) }
+{
+    let mut total: u64 = 0;
+    for j in from..to {
+        total += items.at(j).op.size() as u64;
+    }
+    total
+}
+
+/// On from a mark to place k.
+fn forth(items: &GapList<Item>, mark: Mark, k: usize) -> Mark
+    requires mark { IsMark mark items.now.items }
+    requires order { mark.place ≤ k }
+    requires place { k ≤ length items.now.items }
+    ensures mark { IsMark result items.now.items }
+    ensures place { result.place ≡ k }
+{
+    let mut offset = mark.offset;
+    let mut frame = mark.frame;
+    for j in mark.place..k {
+        let op = &items.at(j).op;
+        offset += op.size() as u64;
+        frame = last_with(op, j, offset, frame);
+    }
+    Mark {
+        place: k,
+        offset,
+        frame,
+    }
+}
+
+/// Back from a mark to place k, and further where the last FRAME before it has to be found.
+fn back(items: &GapList<Item>, mark: Mark, k: usize) -> Mark
+    requires mark { IsMark mark items.now.items }
+    requires order { k ≤ mark.place }
+    ensures mark { IsMark result items.now.items }
+    ensures place { result.place ≡ k }
+{
+    let offset = mark.offset - size_between(items, k, mark.place);
+    let frame = match mark.frame {
+        Some(frame) => {
+            if frame.place < k {
+                Some(frame)
+            } else {
+                last_before(items, k, offset)
+            }
+        }
+        None => None,
+    };
+    Mark {
+        place: k,
+        offset,
+        frame,
+    }
+}
+
+/// From a mark, or from the first place where that is nearer, to place k.
+pub(crate) fn moved(items: &GapList<Item>, mark: Mark, k: usize) -> Mark
+    requires mark { IsMark mark items.now.items }
+    requires place { k ≤ length items.now.items }
+    ensures mark { IsMark result items.now.items }
+    ensures place { result.place ≡ k }
+{
+    if mark.place <= k {
+        forth(items, mark, k)
+    } else if mark.place - k <= k {
+        back(items, mark, k)
+    } else {
+        forth(items, Mark::first(), k)
+    }
+}
+
+/// A mark that is not behind place k: an edit there leaves it right.
+pub(crate) fn no_later(items: &GapList<Item>, mark: Mark, k: usize) -> Mark
+    requires mark { IsMark mark items.now.items }
+    requires place { k ≤ length items.now.items }
+    ensures mark { IsMark result items.now.items }
+    ensures place { result.place ≤ k }
+{
+    if mark.place <= k {
+        mark
+    } else {
+        moved(items, mark, k)
+    }
+}
