@@ -1,0 +1,212 @@
+-- The words of a line, and what the line says: the word that it begins with decides which words may stand behind it.
+-- Source: own.
+use Rattle.std.specs.Prelude.{◌≡◌, ◌≢◌, ℕ, List, [], ◌∷◌, length, filter, codes, Bool, true, false, nat_lt, ◌==◌, ◌||◌, ◌&&◌, ◌%◌, if◌then◌else◌, Option, Some, None, Result, Ok, Err, ⊤}
+use Rattle.std.specs.Option.{option_map_or}
+use Rattle.std.specs.List.{slice_split, list_all}
+use Rattle.std.specs.Str.{bytes_eq}
+use Rattle.hex.specs.Hex.{decode_of, is_hex_digit}
+use Rattle.pickle_ops.specs.Shape.{decimal_of}
+use Rattle.pickle_ops.specs.Spelling.{Operation, IsSpelled, FailsAsArg}
+use Rattle.pickle_ops.specs.Table.{opcode_named}
+use Rattle.pickle_ops.specs.declared.opcode.Opcode.{Opcode}
+use Rattle.pickle_ops.specs.declared.fault.OpFault.{OpFault}
+use Rattle.pickle_ops.specs.declared.fault.OpFault.TheVariants as fault
+use Rattle.pickle_session.specs.declared.command.Command.TheVariants as command
+use Rattle.pickle_text.specs.declared.line.Query.TheVariants as query
+use Rattle.pickle_text.specs.declared.line.Line.{Line}
+use Rattle.pickle_text.specs.declared.line.Line.TheVariants as line
+use Rattle.pickle_text.specs.declared.line.Syntax.{Syntax}
+use Rattle.pickle_text.specs.declared.line.Syntax.TheVariants as syntax
+use Rattle.pickle_text.specs.declared.keyword.PlainWord.{PlainWord}
+use Rattle.pickle_text.specs.declared.keyword.PlainWord.TheVariants as plain
+use Rattle.pickle_text.specs.declared.keyword.NumberWord.{NumberWord}
+use Rattle.pickle_text.specs.declared.keyword.NumberWord.TheVariants as number
+use Rattle.pickle_text.specs.declared.keyword.OpWord.{OpWord}
+use Rattle.pickle_text.specs.declared.keyword.OpWord.TheVariants as op
+use Rattle.pickle_text.specs.declared.keyword.Word.{Word}
+use Rattle.pickle_text.specs.declared.keyword.Word.TheVariants as word
+
+-- ---- words
+
+-- the bytes that separate words: blank, tab, carriage return
+abbrev pub is_blank : ℕ → Bool
+is_blank byte = byte == 0x20 || byte == 0x09 || byte == 0x0d
+
+-- whether there is any byte
+abbrev pub has_byte : List ℕ → Bool
+has_byte [] = false
+has_byte (byte ∷ bytes) = true
+
+-- what stands between the blanks, where that has a byte
+abbrev pub words_of : List ℕ → List (List ℕ)
+words_of bytes = filter has_byte (slice_split is_blank bytes)
+
+-- what was found, if anything was
+abbrev pub found_bytes : {E : Type 0} → Result (List ℕ) E → Option (List ℕ)
+found_bytes (Ok bytes) = Some bytes
+found_bytes (Err e) = None
+
+-- the bytes of a word of hexadecimal digits of both cases, two a byte
+abbrev pub bytes_of_word : List ℕ → Option (List ℕ)
+bytes_of_word w = found_bytes (decode_of w)
+
+-- ---- first words
+
+-- the first words, by what stands behind them
+abbrev pub keyword : List ℕ → Option Word
+keyword w =
+    if bytes_eq w (codes "step") then Some (word.Plain plain.Step)
+    else if bytes_eq w (codes "back") then Some (word.Plain plain.Back)
+    else if bytes_eq w (codes "goto") then Some (word.Number number.Goto)
+    else if bytes_eq w (codes "run") then Some (word.Plain plain.Run)
+    else if bytes_eq w (codes "break") then Some (word.Number number.Break)
+    else if bytes_eq w (codes "clear") then Some (word.Number number.Clear)
+    else if bytes_eq w (codes "replace") then Some (word.Op op.Replace)
+    else if bytes_eq w (codes "insert") then Some (word.Op op.Insert)
+    else if bytes_eq w (codes "delete") then Some (word.Number number.Delete)
+    else if bytes_eq w (codes "frame") then Some word.Pair
+    else if bytes_eq w (codes "unframe") then Some (word.Number number.Unframe)
+    else if bytes_eq w (codes "undo") then Some (word.Plain plain.Undo)
+    else if bytes_eq w (codes "redo") then Some (word.Plain plain.Redo)
+    else if bytes_eq w (codes "items") then Some (word.Plain plain.Items)
+    else if bytes_eq w (codes "objects") then Some (word.Plain plain.Objects)
+    else if bytes_eq w (codes "stack") then Some (word.Plain plain.Stack)
+    else if bytes_eq w (codes "memo") then Some (word.Plain plain.Memo)
+    else if bytes_eq w (codes "show") then Some (word.Number number.Show)
+    else if bytes_eq w (codes "where") then Some (word.Plain plain.Where)
+    else if bytes_eq w (codes "quit") then Some (word.Plain plain.Quit)
+    else None
+
+-- what each of them says
+abbrev pub plain_line : PlainWord → Line
+plain_line plain.Step = line.Command command.Step
+plain_line plain.Back = line.Command command.Back
+plain_line plain.Run = line.Command command.Run
+plain_line plain.Undo = line.Command command.Undo
+plain_line plain.Redo = line.Command command.Redo
+plain_line plain.Items = line.Query query.Items
+plain_line plain.Objects = line.Query query.Objects
+plain_line plain.Stack = line.Query query.Stack
+plain_line plain.Memo = line.Query query.Memo
+plain_line plain.Where = line.Query query.Where
+plain_line plain.Quit = line.Quit
+
+abbrev pub number_line : NumberWord → ℕ → Line
+number_line number.Goto n = line.Command (command.Goto n)
+number_line number.Break n = line.Command (command.Break n)
+number_line number.Clear n = line.Command (command.Clear n)
+number_line number.Delete n = line.Command (command.Delete n)
+number_line number.Unframe n = line.Command (command.Unframe n)
+number_line number.Show n = line.Query (query.Show n)
+
+abbrev pub op_line : OpWord → ℕ → Operation → Line
+op_line op.Replace k o = line.Command (command.Replace k o)
+op_line op.Insert k o = line.Command (command.Insert k o)
+
+-- ---- one word after another
+
+-- the next answer, unless this one is a fault
+abbrev pub and_then : {A B : Type 0} → Result A Syntax → (A → Result B Syntax) → Result B Syntax
+and_then (Ok x) f = f x
+and_then (Err e) f = Err e
+
+-- a line whose words are all read; a word that stands behind them is one too many
+abbrev pub alone : Line → List (List ℕ) → Result Line Syntax
+alone says [] = Ok says
+alone says (w ∷ words) = Err syntax.ExtraWord
+
+-- a number below 2^64 in decimal digits, any zeros in front, and the words behind it
+abbrev pub number_first : List (List ℕ) → Result (ℕ × List (List ℕ)) Syntax
+number_first [] = Err syntax.MissingWord
+number_first (w ∷ words) = option_map_or (λ (n : ℕ). Ok (n, words)) (decimal_of w) (Err syntax.BadNumber)
+
+-- ---- what a line says by its first word, with the words behind it
+
+-- one number
+abbrev pub number_says : NumberWord → List (List ℕ) → Result Line Syntax
+number_says w words = and_then (number_first words) (λ (p : ℕ × List (List ℕ)). alone (number_line w p.0) p.1)
+
+-- a place and a count
+abbrev pub pair_says : List (List ℕ) → Result Line Syntax
+pair_says words =
+    and_then (number_first words) (λ (p : ℕ × List (List ℕ)).
+    and_then (number_first p.1) (λ (q : ℕ × List (List ℕ)). alone (line.Command (command.Frame p.0 q.0)) q.1))
+
+-- ---- operations
+
+-- an opcode by its name, and the words behind it
+abbrev pub name_first : List (List ℕ) → Result (Opcode × List (List ℕ)) Syntax
+name_first [] = Err syntax.MissingWord
+name_first (w ∷ words) = option_map_or (λ (o : Opcode). Ok (o, words)) (opcode_named w) (Err syntax.UnknownOpcodeName)
+
+-- whether a word is hexadecimal digits of both cases, two a byte
+abbrev pub is_hex : List ℕ → Bool
+is_hex w = length w % 2 == 0 && list_all is_hex_digit w
+
+-- bytes behind which no word stands
+abbrev pub last_bytes : Option (List ℕ) → List (List ℕ) → Result (List ℕ) Syntax
+last_bytes None words = Err syntax.BadHex
+last_bytes (Some bytes) [] = Ok bytes
+last_bytes (Some bytes) (w ∷ words) = Err syntax.ExtraWord
+
+-- the whole argument in hexadecimal, absent where it is empty
+abbrev pub arg_last : List (List ℕ) → Result (List ℕ) Syntax
+arg_last [] = Ok []
+arg_last (w ∷ words) = last_bytes (bytes_of_word w) words
+
+-- a place, an opcode, and its whole argument
+abbrev pub op_says : OpWord → List (List ℕ) → Result Line Syntax
+op_says w words =
+    and_then (number_first words) (λ (p : ℕ × List (List ℕ)).
+    and_then (name_first p.1) (λ (q : Opcode × List (List ℕ)).
+    and_then (arg_last q.1) (λ (arg : List ℕ). Ok (op_line w p.0 (record { opcode = q.0; arg = arg })))))
+
+-- by each kind of first word; an unknown one is a fault whatever stands behind it
+abbrev pub word_says : Option Word → List (List ℕ) → Result Line Syntax
+word_says None words = Err syntax.UnknownWord
+word_says (Some (word.Plain w)) words = alone (plain_line w) words
+word_says (Some (word.Number w)) words = number_says w words
+word_says (Some word.Pair) words = pair_says words
+word_says (Some (word.Op w)) words = op_says w words
+
+abbrev pub words_say : List (List ℕ) → Result Line Syntax
+words_say [] = Ok line.Nothing
+words_say (w ∷ words) = word_says (keyword w) words
+
+-- the most bytes of a line
+abbrev pub longest : ℕ
+longest = 65536
+
+-- what a line says before its operation is looked at, or the first fault
+unfoldable pub line_says : List ℕ → Result Line Syntax
+line_says bytes = if nat_lt longest (length bytes) then Err syntax.LineTooLong else words_say (words_of bytes)
+
+-- ---- the operation
+
+-- the operation that a line names
+abbrev pub op_in : Line → Option Operation
+op_in (line.Command (command.Replace k o)) = Some o
+op_in (line.Command (command.Insert k o)) = Some o
+op_in _ = None
+
+-- an operation in an answer is spelled
+abbrev pub IsSpelledOp : Option Operation → Type 0
+IsSpelledOp None = ⊤
+IsSpelledOp (Some o) = IsSpelled o
+
+-- the faults of an operation; for want of memory there is an answer of its own
+abbrev pub OpFails : Option Operation → Syntax → Type 0
+OpFails (Some o) (syntax.BadOp f) = (f ≢ fault.Memory) × FailsAsArg o.opcode o.arg f
+OpFails (Some o) syntax.Memory = ⊤
+OpFails _ _ = ⊥
+
+-- how a fault of an operation is answered
+abbrev pub fault_syntax : OpFault → Syntax
+fault_syntax fault.Memory = syntax.Memory
+fault_syntax f = syntax.BadOp f
+
+-- an answer where the words say this: their fault; or what they say, or else the fault of their operation
+abbrev pub Answers : Result Line Syntax → Result Line Syntax → Type 0
+Answers (Err f) answer = answer ≡ Err f
+Answers (Ok says) (Ok l) = (l ≡ says) × IsSpelledOp (op_in says)
+Answers (Ok says) (Err f) = OpFails (op_in says) f

@@ -1,0 +1,6 @@
+-- The definitions that contracts cite.
+pub mod Grammar
+pub mod Column
+pub mod FaultText
+pub mod ReplyText
+pub mod PlaceText

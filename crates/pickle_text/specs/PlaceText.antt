@@ -1,0 +1,81 @@
+-- Where a session stands, and the items of its document.
+-- Source: own.
+use Rattle.std.specs.Prelude.{ℕ, List, [], ◌∷◌, codes, decimal, Bool, ◌==◌, if◌then◌else◌, take, Option, None, Some}
+use Rattle.std.specs.Option.{option_map_or}
+use Rattle.pickle_ops.specs.Spelling.{Operation}
+use Rattle.pickle_ops.specs.Table.{name_of}
+use Rattle.pickle_ops.specs.Text.{◌⧺◌, arg_text}
+use Rattle.pickle_sink.specs.Device.{each_below}
+use Rattle.pickle_doc.specs.declared.fault.End.{End}
+use Rattle.pickle_doc.specs.DocUnit.{sizes}
+use Rattle.pickle_doc.specs.Document.{Contents, items_of}
+use Rattle.pickle_doc.specs.Place.{item_at, end_of}
+use Rattle.pickle_machine.specs.State.{State}
+use Rattle.pickle_session.specs.Session.{Session, len_of, has_break}
+use Rattle.pickle_text.specs.Column.{right, newline}
+use Rattle.pickle_text.specs.FaultText.{end_text}
+
+-- how many bytes spell the items before a place
+abbrev pub offset_before : Contents → ℕ → ℕ
+offset_before d k = sizes (take k (items_of d))
+
+-- ---- where the cursor stands: `at K of N, offset O, buffers B, result R, end E`
+
+-- a place, and how many items there are
+unfoldable pub cursor_text : ℕ → ℕ → List ℕ
+cursor_text k n = codes "at " ⧺ decimal k ⧺ codes " of " ⧺ decimal n
+
+unfoldable pub offset_text : ℕ → List ℕ
+offset_text offset = codes ", offset " ⧺ decimal offset
+
+-- an object by its number, or that there is none
+unfoldable pub result_text : Option ℕ → List ℕ
+result_text None = codes "none"
+result_text (Some id) = codes "#" ⧺ decimal id
+
+-- what the machine has counted, and its result
+unfoldable pub reached_text : State → List ℕ
+reached_text t = codes ", buffers " ⧺ decimal t.buffers ⧺ codes ", result " ⧺ result_text t.result
+
+unfoldable pub ending_text : End → List ℕ
+ending_text e = codes ", end " ⧺ end_text e ⧺ newline
+
+-- of a session whose machine has this state
+unfoldable pub where_text : Session → State → List ℕ
+where_text s t =
+    cursor_text s.cursor (len_of s.document) ⧺ offset_text (offset_before s.document s.cursor) ⧺ reached_text t ⧺ ending_text (end_of s.document)
+
+-- ---- items
+
+-- a sign where something holds, else a blank
+abbrev pub sign_if : ℕ → Bool → ℕ
+sign_if sign holds = if holds then sign else 32
+
+-- `>` at the cursor, `*` with a breakpoint
+abbrev pub signs : Bool → Bool → List ℕ
+signs at_cursor breaks = sign_if 62 at_cursor ∷ sign_if 42 breaks ∷ []
+
+-- a name, and behind a blank the text of the argument where there is one
+abbrev pub behind_name : List ℕ → Option (List ℕ) → List ℕ
+behind_name name None = name
+behind_name name (Some arg) = name ⧺ codes " " ⧺ arg
+
+unfoldable pub op_text : Operation → List ℕ
+op_text o = behind_name (name_of o.opcode) (arg_text o)
+
+-- a place and an offset, each at the right of five places
+unfoldable pub place_columns : ℕ → ℕ → List ℕ
+place_columns k offset = right 5 (decimal k) ⧺ codes " " ⧺ right 5 (decimal offset)
+
+-- the line of an item at a place
+unfoldable pub item_line : Session → ℕ → Operation → List ℕ
+item_line s k o =
+    signs (k == s.cursor) (has_break s k) ⧺ place_columns k (offset_before s.document k) ⧺ codes ": " ⧺ op_text o ⧺ newline
+
+-- where there is an item
+unfoldable pub line_at : Session → ℕ → List ℕ
+line_at s k = option_map_or (item_line s k) (item_at s.document k) []
+
+-- the lines of all items
+unfoldable pub items_text : Session → List ℕ
+items_text s = each_below (line_at s) (len_of s.document)

@@ -1,0 +1,147 @@
+//! The first word of a line.
+
+ghost use Rattle.std.specs.Prelude.{◌≡◌};
+ghost use Rattle.pickle_text.specs.Grammar.{keyword, plain_line, number_line, op_line};
+
+use crate::line::{Line, Query};
+use pickle_ops::Op;
+use pickle_session::Command;
+
+/// A word that stands alone.
+#[derive(Clone, Copy)]
+pub(crate) enum PlainWord {
+    Step,
+    Back,
+    Run,
+    Undo,
+    Redo,
+    Items,
+    Objects,
+    Stack,
+    Memo,
+    Where,
+    Quit,
+}
+
+/// A word behind which a number stands.
+#[derive(Clone, Copy)]
+pub(crate) enum NumberWord {
+    Goto,
+    Break,
+    Clear,
+    Delete,
+    Unframe,
+    Show,
+}
+
+/// A word behind which a number, a name and bytes stand.
+#[derive(Clone, Copy)]
+pub(crate) enum OpWord {
+    Replace,
+    Insert,
+}
+
+/// A first word.
+#[derive(Clone, Copy)]
+pub(crate) enum Word {
+    /// It stands alone.
+    Plain(PlainWord),
+    /// A number stands behind it.
+    Number(NumberWord),
+    /// Two numbers stand behind it: `frame`.
+    Pair,
+    /// A number, a name and bytes stand behind it.
+    Op(OpWord),
+}
+
+/// The first word of a line, where it is known.
+pub(crate) fn keyword(word: &[u8]) -> Option<Word>
+    ensures { result ≡ keyword word.now }
+{
+    if word == b"step".as_slice() {
+        Some(Word::Plain(PlainWord::Step))
+    } else if word == b"back".as_slice() {
+        Some(Word::Plain(PlainWord::Back))
+    } else if word == b"goto".as_slice() {
+        Some(Word::Number(NumberWord::Goto))
+    } else if word == b"run".as_slice() {
+        Some(Word::Plain(PlainWord::Run))
+    } else if word == b"break".as_slice() {
+        Some(Word::Number(NumberWord::Break))
+    } else if word == b"clear".as_slice() {
+        Some(Word::Number(NumberWord::Clear))
+    } else if word == b"replace".as_slice() {
+        Some(Word::Op(OpWord::Replace))
+    } else if word == b"insert".as_slice() {
+        Some(Word::Op(OpWord::Insert))
+    } else if word == b"delete".as_slice() {
+        Some(Word::Number(NumberWord::Delete))
+    } else if word == b"frame".as_slice() {
+        Some(Word::Pair)
+    } else if word == b"unframe".as_slice() {
+        Some(Word::Number(NumberWord::Unframe))
+    } else if word == b"undo".as_slice() {
+        Some(Word::Plain(PlainWord::Undo))
+    } else if word == b"redo".as_slice() {
+        Some(Word::Plain(PlainWord::Redo))
+    } else if word == b"items".as_slice() {
+        Some(Word::Plain(PlainWord::Items))
+    } else if word == b"objects".as_slice() {
+        Some(Word::Plain(PlainWord::Objects))
+    } else if word == b"stack".as_slice() {
+        Some(Word::Plain(PlainWord::Stack))
+    } else if word == b"memo".as_slice() {
+        Some(Word::Plain(PlainWord::Memo))
+    } else if word == b"show".as_slice() {
+        Some(Word::Number(NumberWord::Show))
+    } else if word == b"where".as_slice() {
+        Some(Word::Plain(PlainWord::Where))
+    } else if word == b"quit".as_slice() {
+        Some(Word::Plain(PlainWord::Quit))
+    } else {
+        None
+    }
+}
+
+/// What a word says that stands alone.
+pub(crate) fn plain_line(word: PlainWord) -> Line
+    ensures { result ≡ plain_line word }
+{
+    match word {
+        PlainWord::Step => Line::Command(Command::Step),
+        PlainWord::Back => Line::Command(Command::Back),
+        PlainWord::Run => Line::Command(Command::Run),
+        PlainWord::Undo => Line::Command(Command::Undo),
+        PlainWord::Redo => Line::Command(Command::Redo),
+        PlainWord::Items => Line::Query(Query::Items),
+        PlainWord::Objects => Line::Query(Query::Objects),
+        PlainWord::Stack => Line::Query(Query::Stack),
+        PlainWord::Memo => Line::Query(Query::Memo),
+        PlainWord::Where => Line::Query(Query::Where),
+        PlainWord::Quit => Line::Quit,
+    }
+}
+
+/// What a word says with a number.
+pub(crate) fn number_line(word: NumberWord, number: usize) -> Line
+    ensures { result ≡ number_line word number }
+{
+    match word {
+        NumberWord::Goto => Line::Command(Command::Goto(number)),
+        NumberWord::Break => Line::Command(Command::Break(number)),
+        NumberWord::Clear => Line::Command(Command::Clear(number)),
+        NumberWord::Delete => Line::Command(Command::Delete(number)),
+        NumberWord::Unframe => Line::Command(Command::Unframe(number)),
+        NumberWord::Show => Line::Query(Query::Show(number as u64)),
+    }
+}
+
+/// What a word says with a place and an operation.
+pub(crate) fn op_line(word: OpWord, place: usize, op: Op) -> Line
+    ensures { result ≡ op_line word place op }
+{
+    match word {
+        OpWord::Replace => Line::Command(Command::Replace(place, op)),
+        OpWord::Insert => Line::Command(Command::Insert(place, op)),
+    }
+}

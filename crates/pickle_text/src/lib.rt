@@ -1,0 +1,22 @@
+//! What the lines of a script say, and the lines that they are answered with.
+#![tactic(auto)]
+
+mod column;
+mod fault_text;
+mod grammar;
+mod items;
+mod keyword;
+mod line;
+mod place;
+mod reply;
+mod syntax;
+mod words;
+
+pub use fault_text::{write_end, write_op_fault, write_refusal, write_tail_fault};
+pub use grammar::read_command;
+pub use items::write_items;
+pub use line::{Line, Query, Syntax};
+pub use place::write_where;
+pub use reply::write_reply;
+pub use syntax::{write_no_such_object, write_syntax};
+pub use words::LONGEST;

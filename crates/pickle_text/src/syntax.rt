@@ -1,0 +1,67 @@
+//! The lines that a line of a script is answered with where nothing can be done for it. Each writer writes its text; where the
+//! sink fails, a front of it was written.
+
+ghost use Rattle.std.specs.Prelude.{◌≡◌};
+ghost use Rattle.pickle_sink.specs.Device.{Writes};
+ghost use Rattle.pickle_text.specs.ReplyText.{syntax_words, syntax_rest, syntax_line, no_object_line};
+
+use crate::fault_text::write_op_fault;
+use crate::line::Syntax;
+use pickle_sink::{Failed, Sink, write_all};
+
+/// Why a line says nothing.
+#[tactic(auto, unfolding(crate::specs::ReplyText::syntax_words))]
+fn words_of_syntax(syntax: Syntax) -> &'static str
+    ensures { result.now ≡ syntax_words syntax }
+{
+    match syntax {
+        Syntax::UnknownWord => "X1 unknown word",
+        Syntax::MissingWord => "X2 missing word",
+        Syntax::BadNumber => "X3 bad number",
+        Syntax::UnknownOpcodeName => "X4 unknown opcode name",
+        Syntax::BadHex => "X5 bad hex",
+        Syntax::ExtraWord => "X6 extra word",
+        Syntax::LineTooLong => "X7 line too long",
+        Syntax::BadOp(_) => "X8 ",
+        Syntax::Memory => "M out of memory",
+    }
+}
+
+/// Writes the fault of an opcode behind the words.
+#[tactic(auto, using(pickle_sink::proofs::Devices::text_steps), unfolding(crate::specs::ReplyText::syntax_rest))]
+fn write_syntax_rest<S: Sink>(syntax: Syntax, sink: &mut S) -> Result<(), Failed>
+    ensures { Writes (S.told sink.old) (S.told sink.new) result (syntax_rest syntax) }
+{
+    match syntax {
+        Syntax::BadOp(fault) => write_op_fault(fault, sink),
+        _ => Ok(()),
+    }
+}
+
+/// Writes the line that a line is answered with which says nothing. It takes no memory. Where the sink fails, a front of the
+/// line was written.
+#[tactic(auto, using(pickle_sink::proofs::Devices::text_steps), unfolding(crate::specs::ReplyText::syntax_line))]
+pub fn write_syntax<S: Sink>(syntax: Syntax, sink: &mut S) -> Result<(), Failed>
+    ensures { Writes (S.told sink.old) (S.told sink.new) result (syntax_line syntax) }
+{
+    write_all(sink, b"refused: ")?;
+    write_all(sink, words_of_syntax(syntax).as_bytes())?;
+    write_syntax_rest(syntax, sink)?;
+    write_all(sink, b"\n")
+}
+
+/// What `show` is answered with where there is no such object.
+#[tactic(auto, unfolding(crate::specs::ReplyText::no_object_line))]
+fn no_such_object() -> &'static str
+    ensures { result.now ≡ no_object_line }
+{
+    "refused: V1 no such object\n"
+}
+
+/// Writes the line that `show` is answered with where there is no such object. It takes no memory. Where the sink fails, a
+/// front of the line was written.
+pub fn write_no_such_object<S: Sink>(sink: &mut S) -> Result<(), Failed>
+    ensures { Writes (S.told sink.old) (S.told sink.new) result no_object_line }
+{
+    write_all(sink, no_such_object().as_bytes())
+}
