@@ -5,7 +5,7 @@ use Rattle.std.specs.Option.{option_map_or}
 use Rattle.pickle_ops.specs.Spelling.{Operation}
 use Rattle.pickle_ops.specs.Table.{name_of}
 use Rattle.pickle_ops.specs.Text.{◌⧺◌, arg_text}
-use Rattle.pickle_sink.specs.Device.{each_below}
+use Rattle.pickle_ops.specs.Device.{each_below}
 use Rattle.pickle_doc.specs.declared.fault.End.{End}
 use Rattle.pickle_doc.specs.DocUnit.{sizes}
 use Rattle.pickle_doc.specs.Document.{Contents, items_of}

@@ -2,13 +2,13 @@
 //! text; where the sink fails, a front of it was written.
 
 ghost use Rattle.std.specs.Prelude.{◌≡◌};
-ghost use Rattle.pickle_sink.specs.Device.{Writes};
+ghost use Rattle.pickle_ops.specs.Device.{Writes};
 ghost use Rattle.pickle_text.specs.FaultText.{refusal_words, refusal_number, refusal_text, tail_words, tail_byte, tail_text, end_text, op_fault_text};
 
 use pickle_doc::{End, TailFault};
 use pickle_machine::Refusal;
 use pickle_ops::OpFault;
-use pickle_sink::{Failed, Sink, write_all, write_decimal, write_hex, write_signed};
+use pickle_ops::{Failed, Sink, write_all, write_decimal, write_hex, write_signed};
 
 /// What a refusal is called.
 #[tactic(auto, unfolding(crate::specs::FaultText::refusal_words))]
@@ -32,7 +32,7 @@ fn words_of_refusal(refusal: Refusal) -> &'static str
 }
 
 /// Writes the number that a refusal names: a key, a protocol, an extension or an object.
-#[tactic(auto, using(pickle_sink::proofs::Devices::text_steps), unfolding(crate::specs::FaultText::refusal_number))]
+#[tactic(auto, using(pickle_ops::proofs::Devices::text_steps), unfolding(crate::specs::FaultText::refusal_number))]
 fn write_refusal_number<S: Sink>(refusal: Refusal, sink: &mut S) -> Result<(), Failed>
     ensures { Writes (S.told sink.old) (S.told sink.new) result (refusal_number refusal) }
 {
@@ -53,7 +53,7 @@ fn write_refusal_number<S: Sink>(refusal: Refusal, sink: &mut S) -> Result<(), F
 }
 
 /// Writes why the machine refuses an opcode.
-#[tactic(auto, using(pickle_sink::proofs::Devices::text_steps), unfolding(crate::specs::FaultText::refusal_text))]
+#[tactic(auto, using(pickle_ops::proofs::Devices::text_steps), unfolding(crate::specs::FaultText::refusal_text))]
 pub fn write_refusal<S: Sink>(refusal: Refusal, sink: &mut S) -> Result<(), Failed>
     ensures { Writes (S.told sink.old) (S.told sink.new) result (refusal_text refusal) }
 {
@@ -79,7 +79,7 @@ fn words_of_tail(fault: TailFault) -> &'static str
 }
 
 /// Writes the byte that is no code.
-#[tactic(auto, using(pickle_sink::proofs::Devices::text_steps), unfolding(crate::specs::FaultText::tail_byte))]
+#[tactic(auto, using(pickle_ops::proofs::Devices::text_steps), unfolding(crate::specs::FaultText::tail_byte))]
 fn write_tail_byte<S: Sink>(fault: TailFault, sink: &mut S) -> Result<(), Failed>
     ensures { Writes (S.told sink.old) (S.told sink.new) result (tail_byte fault) }
 {
@@ -90,7 +90,7 @@ fn write_tail_byte<S: Sink>(fault: TailFault, sink: &mut S) -> Result<(), Failed
 }
 
 /// Writes why the bytes of a tail are no items.
-#[tactic(auto, using(pickle_sink::proofs::Devices::text_steps), unfolding(crate::specs::FaultText::tail_text))]
+#[tactic(auto, using(pickle_ops::proofs::Devices::text_steps), unfolding(crate::specs::FaultText::tail_text))]
 pub fn write_tail_fault<S: Sink>(fault: TailFault, sink: &mut S) -> Result<(), Failed>
     ensures { Writes (S.told sink.old) (S.told sink.new) result (tail_text fault) }
 {
@@ -99,7 +99,7 @@ pub fn write_tail_fault<S: Sink>(fault: TailFault, sink: &mut S) -> Result<(), F
 }
 
 /// Writes why a document ends.
-#[tactic(auto, using(pickle_sink::proofs::Devices::text_steps), unfolding(crate::specs::FaultText::end_text))]
+#[tactic(auto, using(pickle_ops::proofs::Devices::text_steps), unfolding(crate::specs::FaultText::end_text))]
 pub fn write_end<S: Sink>(end: End, sink: &mut S) -> Result<(), Failed>
     ensures { Writes (S.told sink.old) (S.told sink.new) result (end_text end) }
 {

@@ -1,14 +1,14 @@
 //! Where a session stands.
 
 ghost use Rattle.std.specs.Prelude.{◌≡◌};
-ghost use Rattle.pickle_sink.specs.Device.{Writes};
+ghost use Rattle.pickle_ops.specs.Device.{Writes};
 ghost use Rattle.pickle_text.specs.PlaceText.{offset_before, cursor_text, offset_text, result_text, reached_text, ending_text, where_text};
 
 use crate::fault_text::write_end;
 use pickle_doc::End;
 use pickle_machine::{Machine, ObjId};
 use pickle_session::{Past, Session};
-use pickle_sink::{Failed, Sink, write_all, write_decimal};
+use pickle_ops::{Failed, Sink, write_all, write_decimal};
 
 /// How many bytes spell the items before the cursor.
 #[tactic(auto, using(crate::proofs::PlaceLemmas::offset_there))]
@@ -19,7 +19,7 @@ fn cursor_offset<P: Past>(session: &Session<P>) -> u64
 }
 
 /// Writes a place, and how many items there are.
-#[tactic(auto, using(pickle_sink::proofs::Devices::text_steps), unfolding(crate::specs::PlaceText::cursor_text))]
+#[tactic(auto, using(pickle_ops::proofs::Devices::text_steps), unfolding(crate::specs::PlaceText::cursor_text))]
 fn write_cursor<S: Sink>(place: usize, len: usize, sink: &mut S) -> Result<(), Failed>
     ensures { Writes (S.told sink.old) (S.told sink.new) result (cursor_text place len) }
 {
@@ -30,7 +30,7 @@ fn write_cursor<S: Sink>(place: usize, len: usize, sink: &mut S) -> Result<(), F
 }
 
 /// Writes an offset.
-#[tactic(auto, using(pickle_sink::proofs::Devices::text_steps), unfolding(crate::specs::PlaceText::offset_text))]
+#[tactic(auto, using(pickle_ops::proofs::Devices::text_steps), unfolding(crate::specs::PlaceText::offset_text))]
 fn write_offset<S: Sink>(offset: u64, sink: &mut S) -> Result<(), Failed>
     ensures { Writes (S.told sink.old) (S.told sink.new) result (offset_text offset) }
 {
@@ -39,7 +39,7 @@ fn write_offset<S: Sink>(offset: u64, sink: &mut S) -> Result<(), Failed>
 }
 
 /// Writes the number of an object, or that there is none.
-#[tactic(auto, using(pickle_sink::proofs::Devices::text_steps), unfolding(crate::specs::PlaceText::result_text))]
+#[tactic(auto, using(pickle_ops::proofs::Devices::text_steps), unfolding(crate::specs::PlaceText::result_text))]
 fn write_result<S: Sink>(id: Option<ObjId>, sink: &mut S) -> Result<(), Failed>
     ensures { Writes (S.told sink.old) (S.told sink.new) result (result_text id) }
 {
@@ -53,7 +53,7 @@ fn write_result<S: Sink>(id: Option<ObjId>, sink: &mut S) -> Result<(), Failed>
 }
 
 /// Writes the count of buffers and the result of a machine.
-#[tactic(auto, using(pickle_sink::proofs::Devices::text_steps), unfolding(crate::specs::PlaceText::reached_text))]
+#[tactic(auto, using(pickle_ops::proofs::Devices::text_steps), unfolding(crate::specs::PlaceText::reached_text))]
 fn write_reached<S: Sink>(machine: &Machine, sink: &mut S) -> Result<(), Failed>
     ensures { Writes (S.told sink.old) (S.told sink.new) result (reached_text machine.now.state) }
 {
@@ -64,7 +64,7 @@ fn write_reached<S: Sink>(machine: &Machine, sink: &mut S) -> Result<(), Failed>
 }
 
 /// Writes why a document ends, and ends the line.
-#[tactic(auto, using(pickle_sink::proofs::Devices::text_steps), unfolding(crate::specs::PlaceText::ending_text))]
+#[tactic(auto, using(pickle_ops::proofs::Devices::text_steps), unfolding(crate::specs::PlaceText::ending_text))]
 fn write_ending<S: Sink>(end: End, sink: &mut S) -> Result<(), Failed>
     ensures { Writes (S.told sink.old) (S.told sink.new) result (ending_text end) }
 {
@@ -76,7 +76,7 @@ fn write_ending<S: Sink>(end: End, sink: &mut S) -> Result<(), Failed>
 /// Writes where a session stands: the cursor, how many items there are, the offset of the cursor, the count of buffers, the
 /// result of the machine, and why the document ends. It takes no memory. Where the sink fails, a front of the line was
 /// written.
-#[tactic(auto, using(pickle_sink::proofs::Devices::text_steps), unfolding(crate::specs::PlaceText::where_text))]
+#[tactic(auto, using(pickle_ops::proofs::Devices::text_steps), unfolding(crate::specs::PlaceText::where_text))]
 pub fn write_where<P: Past, S: Sink>(session: &Session<P>, sink: &mut S) -> Result<(), Failed>
     ensures { Writes (S.told sink.old) (S.told sink.new) result (where_text session.now.session session.now.machine.state) }
 {

@@ -1,6 +1,6 @@
 -- What the loop over the places keeps.
 use Rattle.std.proofs.Common.{◌≡◌}
-use Rattle.pickle_sink.specs.Device.{Wrote, each_below}
+use Rattle.pickle_ops.specs.Device.{Wrote, each_below}
 use Rattle.pickle_text.specs.PlaceText.{offset_before, line_at}
 use Rattle.pickle_text.proofs.items.write_items.Given as goal
 

@@ -1,0 +1,6 @@
+-- Lemmas that the proofs of several functions cite.
+pub mod Pieces
+pub mod Objects
+pub mod Walks
+pub mod Stacks
+pub mod Runs

@@ -1,0 +1,80 @@
+-- Why an item is refused, and why reading ended, as texts.
+-- Source: own.
+use Rattle.std.specs.Prelude.{ℕ, List, [], ◌∷◌, decimal, codes}
+use Rattle.std.specs.Fmt.{signed_decimal}
+use Rattle.pickle_ops.specs.Text.{◌⧺◌, hexadecimal}
+use Rattle.pickle_doc.specs.declared.fault.TailFault.{TailFault}
+use Rattle.pickle_doc.specs.declared.fault.TailFault.TheVariants as tail
+use Rattle.pickle_machine.specs.declared.refusal.Refusal.{Refusal}
+use Rattle.pickle_machine.specs.declared.refusal.Refusal.TheVariants as refusal
+
+abbrev pub newline : List ℕ
+newline = 10 ∷ []
+
+-- ---- refusals
+
+-- the words of a refusal, and the number that stands behind them
+unfoldable pub refusal_words : Refusal → List ℕ
+refusal_words refusal.NoMark = codes "S1 no mark"
+refusal_words refusal.Underflow = codes "S2 stack underflow"
+refusal_words (refusal.NoMemoEntry key) = codes "S3 no memo entry "
+refusal_words refusal.OddItems = codes "S4 odd number of items"
+refusal_words (refusal.WrongKind id) = codes "S5 wrong kind #"
+refusal_words (refusal.BadProtocol n) = codes "S6 bad protocol "
+refusal_words (refusal.BadExtension n) = codes "S7 bad extension "
+refusal_words (refusal.NotText id) = codes "S8 not a text #"
+refusal_words (refusal.NotCallable id) = codes "S9 not callable #"
+refusal_words (refusal.NotArguments id) = codes "S10 not arguments #"
+refusal_words (refusal.NotKeywords id) = codes "S11 not keywords #"
+refusal_words refusal.Memory = codes "M out of memory"
+
+unfoldable pub refusal_number : Refusal → List ℕ
+refusal_number refusal.NoMark = []
+refusal_number refusal.Underflow = []
+refusal_number (refusal.NoMemoEntry key) = decimal key
+refusal_number refusal.OddItems = []
+refusal_number (refusal.WrongKind id) = decimal id
+refusal_number (refusal.BadProtocol n) = decimal n
+refusal_number (refusal.BadExtension n) = signed_decimal n
+refusal_number (refusal.NotText id) = decimal id
+refusal_number (refusal.NotCallable id) = decimal id
+refusal_number (refusal.NotArguments id) = decimal id
+refusal_number (refusal.NotKeywords id) = decimal id
+refusal_number refusal.Memory = []
+
+unfoldable pub refusal_text : Refusal → List ℕ
+refusal_text r = refusal_words r ⧺ refusal_number r
+
+-- a refused item: its place, and why the machine refuses it
+unfoldable pub item_refused : ℕ → Refusal → List ℕ
+item_refused place r = codes "item " ⧺ decimal place ⧺ codes ": " ⧺ refusal_text r
+
+-- ---- faults
+
+-- the words of a fault, and behind them the byte that is no code
+unfoldable pub fault_words : TailFault → List ℕ
+fault_words tail.Ended = codes "F1 ended"
+fault_words (tail.UnknownOpcode byte) = codes "F2 unknown opcode 0x"
+fault_words tail.Truncated = codes "F3 truncated"
+fault_words tail.NegativeLength = codes "F4 negative length"
+fault_words tail.BadArgument = codes "F5 bad argument"
+fault_words tail.FrameInFrame = codes "F6 frame in a frame"
+fault_words tail.FramePastEnd = codes "F7 frame past the end"
+fault_words tail.FrameCrossed = codes "F8 frame crossed"
+
+unfoldable pub fault_byte : TailFault → List ℕ
+fault_byte (tail.UnknownOpcode byte) = hexadecimal (byte ∷ [])
+fault_byte tail.Ended = []
+fault_byte tail.Truncated = []
+fault_byte tail.NegativeLength = []
+fault_byte tail.BadArgument = []
+fault_byte tail.FrameInFrame = []
+fault_byte tail.FramePastEnd = []
+fault_byte tail.FrameCrossed = []
+
+unfoldable pub fault_text : TailFault → List ℕ
+fault_text f = fault_words f ⧺ fault_byte f
+
+-- the fault of a tail at this offset
+unfoldable pub fault_line : TailFault → ℕ → List ℕ
+fault_line f offset = codes "fault: " ⧺ fault_text f ⧺ codes " at " ⧺ decimal offset ⧺ newline

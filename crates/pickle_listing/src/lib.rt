@@ -1,0 +1,22 @@
+//! What a machine shows, as texts: its objects, an object with all that it contains, the stack, the memo; and the report
+//! of a document, which says what its items make and how their run ends. The texts are this project's own; in them `#n` is
+//! object n, by its place in the heap.
+#![tactic(auto)]
+
+mod content;
+mod kind;
+mod line;
+mod memo;
+mod object;
+mod report;
+mod show;
+mod stack;
+mod stop;
+
+pub use line::{write_fault, write_fault_text, write_item_refused, write_refusal};
+pub use memo::write_memo;
+pub use object::{write_object, write_objects};
+pub use report::{Closing, write_document_report, write_report};
+pub use show::write_show;
+pub use stack::write_stack;
+pub use stop::TextStop;
