@@ -1,6 +1,0 @@
--- A part of a list.
-use Rattle.std.specs.Prelude.{ℕ, List, take, drop}
-
--- what stands from one place up to another
-abbrev pub between : ℕ → ℕ → List ℕ → List ℕ
-between from to xs = drop from (take to xs)
