@@ -35,12 +35,12 @@ fn word_of(kind: &Kind) -> &'static str {
         Kind::Set => " set",
         Kind::FrozenSet => " frozenset",
         Kind::Dict => " dict",
-        Kind::Global(_, _) => " global",
+        Kind::Global(_) => " global",
         Kind::StackGlobal => " stack-global",
         Kind::Call => " call",
         Kind::New => " new",
         Kind::NewEx => " new-ex",
-        Kind::Inst(_, _) => " inst",
+        Kind::Inst(_) => " inst",
         Kind::Obj => " obj",
         Kind::PersistentLine(_) => " persistent",
         Kind::Persistent => " persistent",
@@ -50,10 +50,15 @@ fn word_of(kind: &Kind) -> &'static str {
     }
 }
 
+/// Writes a text in quotes, behind a blank.
+fn write_text<S: Sink>(text: &[u8], sink: &mut S) -> Result<(), Failed> {
+    write_all(sink, b" ")?;
+    write_quoted(text, sink)
+}
+
 /// Writes a payload in quotes, behind a blank.
 fn write_payload<S: Sink>(payload: &Payload, sink: &mut S) -> Result<(), Failed> {
-    write_all(sink, b" ")?;
-    write_quoted(payload.as_slice(), sink)
+    write_text(payload.as_slice(), sink)
 }
 
 /// Writes the bytes of a number in hexadecimal digits, behind a blank and an `x`.
@@ -81,9 +86,9 @@ fn write_content<S: Sink>(kind: &Kind, sink: &mut S) -> Result<(), Failed> {
         Kind::Text(text) | Kind::TextLine(text) => write_payload(text, sink),
         Kind::Bytes(text) | Kind::ByteArray(text) => write_payload(text, sink),
         Kind::PersistentLine(text) => write_payload(text, sink),
-        Kind::Global(module, name) | Kind::Inst(module, name) => {
-            write_payload(module, sink)?;
-            write_payload(name, sink)
+        Kind::Global(texts) | Kind::Inst(texts) => {
+            write_text(texts.first(), sink)?;
+            write_text(texts.second(), sink)
         }
         _ => Ok(()),
     }
