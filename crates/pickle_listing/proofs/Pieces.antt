@@ -15,4 +15,3 @@ WroteAllBut-piece a b c text rest piece more w e p = record {
 
 pub WroteAllBut-broke : (a b c : Told) (text rest piece more : List ℕ) → WroteAllBut a b text rest → rest ≡ piece ++ more → Broke b c piece → Broke a c text
 WroteAllBut-broke a b c text rest piece more w e p = rw (w.parts, e) (Broke-after a b c w.front (piece ++ more) w.wrote (Broke-more b c piece more p))
-

@@ -1,7 +1,6 @@
 -- The walk, place by place.
-use Rattle.std.proofs.Common.{◌≡◌, ℕ, zero, suc, ◌+◌, ◌<◌, ◌≤◌, Bool, true, false, List, [], ◌∷◌, ◌++◌, length, replicate, get_or, set, cond, take, ◌-◌, Option, None, Some, refl, sym, ap, subst, ◌∙◌, append_assoc, append-nil, length-append, length-set, inl, inr, arith}
-use Rattle.std.specs.Prelude.{slice_get, Result, Ok, Err, IsErr, is_ok, is_err, if◌then◌else◌, codes, decimal}
-use Rattle.std.specs.Option.{option_to_list}
+use Rattle.std.proofs.Common.{◌≡◌, ℕ, zero, suc, ◌+◌, ◌<◌, ◌≤◌, Bool, true, false, List, [], ◌∷◌, ◌++◌, length, replicate, get_or, set, cond, take, ◌-◌, Option, None, Some, refl, sym, ap, ◌∙◌, append_assoc, append-nil, length-append, inl, inr, arith}
+use Rattle.std.specs.Prelude.{slice_get, Result, Ok, Err, is_ok, is_err, if◌then◌else◌, codes, decimal}
 use Rattle.std.proofs.lemmas.Option.{slice_get_cases}
 use Rattle.std.proofs.lemmas.List.{length-replicate}
 use Rattle.pickle_ops.specs.Text.{◌⧺◌}
@@ -9,7 +8,7 @@ use Rattle.pickle_objects.specs.Object.{Object}
 use Rattle.pickle_ops.specs.Device.{each}
 use Rattle.pickle_listing.specs.Line.{newline}
 use Rattle.pickle_listing.specs.ObjectText.{id_text, next_text, object_text}
-use Rattle.pickle_listing.specs.Show.{Place, again_line, first_line, at_depth, found, again, content, walk, show_text}
+use Rattle.pickle_listing.specs.Show.{Place, again_line, first_line, at_depth, found, content, walk, show_text}
 use Rattle.pickle_listing.specs.Walking.{unseen, place_line, seen_after, entered, pending, left_text, walk_text}
 
 -- a line is not empty

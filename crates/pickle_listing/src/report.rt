@@ -139,11 +139,7 @@ fn step_over(
 
 /// Steps a machine that has done nothing over the items of a document, as far as they have moves, and says how the run ended.
 /// An error where memory is wanting for a step.
-fn run_items(
-    alloc: Global,
-    document: &Document,
-    machine: &mut Machine,
-) -> Result<Closing, TextStop>
+fn run_items(alloc: Global, document: &Document, machine: &mut Machine) -> Result<Closing, TextStop>
     requires empty { machine.old.state ≡ empty }
     requires few { length (items_of document.now.contents) < 2 ^ 32 }
     ensures closes { IfOk result (λ c. (place : ℕ) × (run (operations (items_of document.now.contents)) place ≡ Some machine.new.state) × Closes document.now.contents place machine.new.state c) }

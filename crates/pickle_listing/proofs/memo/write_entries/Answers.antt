@@ -1,5 +1,5 @@
 -- One entry more, or an end.
-use Rattle.std.proofs.Common.{◌≡◌, [], sym, ap, ◌∙◌}
+use Rattle.std.proofs.Common.{ap, ◌∙◌}
 use Rattle.pickle_ops.specs.Device.{each}
 use Rattle.pickle_ops.proofs.Devices.{WroteAllBut-all, Writes-stop, each-cons, each-nil}
 use Rattle.pickle_listing.specs.MemoText.{entry_text}

@@ -1,5 +1,5 @@
 -- One place more, or an end.
-use Rattle.std.proofs.Common.{◌≡◌, ◌++◌, ◌∷◌, [], ◌+◌, length, sym, ◌∙◌, ap, arith, refl}
+use Rattle.std.proofs.Common.{◌≡◌, [], ◌+◌, length, ◌∙◌, ap, arith, refl}
 use Rattle.std.proofs.lemmas.List.{nil_from_length}
 use Rattle.pickle_listing.specs.Walking.{left_text}
 use Rattle.pickle_ops.proofs.Devices.{Writes-stop, WroteAllBut-all}
