@@ -1,5 +1,5 @@
-//! A place among items, and what is known there of the items before it. So an edit goes over the items between the last one and its
-//! place, and not over all that stand before it.
+//! A place among items, and what is known there of the items before it. With it an edit goes over the items between the
+//! place of the last edit and its own, and not over all that stand before it.
 
 ghost use Rattle.std.specs.Prelude.{◌≡◌, ◌+◌, ◌≤◌, if◌then◌else◌, Some, None, length, take};
 ghost use Rattle.pickle_doc.specs.DocUnit.{is_frame, sizes};
@@ -11,19 +11,19 @@ use crate::next::is_frame;
 use gap_list::GapList;
 use pickle_ops::Op;
 
-/// A FRAME. Its number is none of it, so that it stays right where the number changes.
+/// Where a FRAME stands. Its number is left out, so that this stays right where the number changes.
 #[derive(Clone, Copy)]
 pub struct FrameMark {
-    /// The place.
+    /// How many items stand before it.
     pub place: usize,
     /// The offset behind it, where its first member begins.
     pub behind: u64,
 }
 
-/// A place.
+/// A place, and what is known of the items before it. An edit there or behind it leaves it right.
 #[derive(Clone, Copy)]
 pub struct Mark {
-    /// The place.
+    /// How many items stand before it.
     pub place: usize,
     /// How many bytes spell the items before it.
     pub offset: u64,

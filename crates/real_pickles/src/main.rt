@@ -76,7 +76,8 @@ fn code_of(fault: TailFault) -> &'static str {
     }
 }
 
-/// Prints the offset and the name of each item. Offsets are added up, since `Document::offset` goes over all items before.
+/// Prints the offset and the name of each item. Offsets are added up, since `Document::offset` goes over the items
+/// from the place of the last edit to each.
 fn print_items(rt: &HostRuntime, document: &Document) -> Result<(), Stop> {
     let mut offset: u64 = 0;
     for k in 0..document.len() {
