@@ -4,3 +4,4 @@ pub mod Objects
 pub mod Walks
 pub mod Stacks
 pub mod Runs
+pub mod Reports

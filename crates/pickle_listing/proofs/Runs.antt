@@ -41,7 +41,7 @@ run_next ops o n s t e f v =
     let more : n + 1 ≡ suc n = omega arith in
     ap (run ops) more ∙ run_suc ops n s e ∙ ap (λ (x : Option Operation). after x n (Some s)) f ∙ ap (λ (r : Result State Refusal). result_ok r) v
 
-run_after : (ops : List Operation) (n : ℕ) (t : State) → run ops (suc n) ≡ Some t → after (slice_get ops n) n (run ops n) ≡ Some t
+pub run_after : (ops : List Operation) (n : ℕ) (t : State) → run ops (suc n) ≡ Some t → after (slice_get ops n) n (run ops n) ≡ Some t
 unfolding run run_from
 run_after ops n t e = e
 

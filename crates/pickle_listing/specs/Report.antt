@@ -73,3 +73,9 @@ WroteReport d old new status = (text : List ℕ) × IsReport d text status × Wr
 -- a front of it was written, and then a failure came
 abbrev pub BrokeReport : Contents → Told → Told → Type 0
 BrokeReport d old new = (text : List ℕ) × (status : ℕ) × IsReport d text status × Broke old new text
+
+-- ---- laws
+
+-- a document has one report, with one status
+abbrev pub OneReport : Type 0
+OneReport = (d : Contents) (text other : List ℕ) (status last : ℕ) → IsReport d text status → IsReport d other last → (text ≡ other) × (status ≡ last)

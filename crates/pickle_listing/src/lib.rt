@@ -5,6 +5,7 @@
 
 mod content;
 mod kind;
+mod laws;
 mod line;
 mod memo;
 mod object;
@@ -13,6 +14,7 @@ mod show;
 mod stack;
 mod stop;
 
+pub use laws::one_report;
 pub use line::{write_fault, write_fault_text, write_item_refused, write_refusal};
 pub use memo::write_memo;
 pub use object::{write_object, write_objects};
