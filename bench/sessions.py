@@ -33,9 +33,9 @@ def one_byte_opcodes(folder, count):
     return path
 
 
-def conversation_row(program, what, once, twice, commands):
+def conversation_row(program, what, once, twice, commands, *options):
     """A line of the table of conversations: each a file and a script; the second has twice as many commands, or opcodes."""
-    (first, memory), (second, _) = (min(measure([program, 'debug', path], script) for _ in range(3)) for path, script in (once, twice))
+    (first, memory), (second, _) = (min(measure([program, 'debug', path, *options], script) for _ in range(3)) for path, script in (once, twice))
     first, rate = max(first, 0.01), commands / max(first, 0.01)
     good = second / first <= TWICE and (commands == 0 or rate >= A_SECOND)
     return '| %s | %.2f s | %s | %.2f | %.0f | %s |' % (
@@ -59,6 +59,8 @@ def main():
         print(conversation_row(program, 'steps', (one, b'step\n' * million), (two, b'step\n' * 2 * million), million), flush=True)
         print(conversation_row(program, 'steps, and back again', (one, b'step\n' * half + b'back\n' * half),
                                (two, b'step\n' * million + b'back\n' * million), million), flush=True)
+        print(conversation_row(program, 'steps, with a window of 100', (one, b'step\n' * million), (two, b'step\n' * 2 * million), million,
+                               '--window', '100'), flush=True)
         ways = b'goto %d\ngoto 0\n' * 10
         print(conversation_row(program, 'to the end and to the start by goto, ten times', (one, ways.replace(b'%d', b'%d' % million)),
                                (two, ways.replace(b'%d', b'%d' % (2 * million))), 0), flush=True)

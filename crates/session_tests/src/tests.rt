@@ -21,14 +21,14 @@ use std::test::Fail;
 /// they should be, and whether the opened bytes are there again.
 fn try_whole(alloc: Global, script: &Script) -> Option<(usize, bool)> {
     let mut session = open_whole(alloc, script.bytes)?;
-    let rows = follow(&mut session, alloc, script, true);
+    let rows = follow(&mut session, alloc, script, None);
     Some((rows, go_home(&mut session, alloc, script.bytes)))
 }
 
-/// The same with the two latest records alone.
-fn try_window(alloc: Global, script: &Script) -> Option<(usize, bool)> {
-    let mut session = open_window(alloc, script.bytes)?;
-    let rows = follow(&mut session, alloc, script, false);
+/// The same with so many of the latest records alone.
+fn try_window(alloc: Global, count: usize, script: &Script) -> Option<(usize, bool)> {
+    let mut session = open_window(alloc, count, script.bytes)?;
+    let rows = follow(&mut session, alloc, script, Some(count));
     Some((rows, go_home(&mut session, alloc, script.bytes)))
 }
 
@@ -40,10 +40,25 @@ fn refused_memory(rt: HostRuntime) {
         let all = Some((script.rows.len(), true));
         assert_eq!(rt; try_whole(rt.alloc(), script), all, "script {k}");
         assert_eq!(rt;
-            try_window(rt.alloc(), script),
+            try_window(rt.alloc(), 2, script),
             all,
             "script {k} in a window"
         );
+    }
+}
+
+/// Every script is answered alike whatever the window.
+#[test]
+fn in_every_window(rt: HostRuntime) {
+    for count in [1, 2, 3, 1000] {
+        for (k, script) in SCRIPTS.iter().enumerate() {
+            let all = Some((script.rows.len(), true));
+            assert_eq!(rt;
+                try_window(rt.alloc(), count, script),
+                all,
+                "script {k} in a window of {count}"
+            );
+        }
     }
 }
 
@@ -139,7 +154,7 @@ fn from_every_place_to_every_place(rt: HostRuntime) -> Result<(), Fail> {
         );
         let found = go_everywhere(&mut session, rt.alloc(), &notes, bytes);
         assert_eq!(rt; found, None, "row {k}");
-        let window = open_window(rt.alloc(), bytes);
+        let window = open_window(rt.alloc(), 2, bytes);
         let found = window.map(|mut session| go_everywhere(
             &mut session,
             rt.alloc(),
@@ -152,24 +167,50 @@ fn from_every_place_to_every_place(rt: HostRuntime) -> Result<(), Fail> {
 }
 
 /// A command; the reply; the cursor, the records kept and the work behind it.
-type Counts = (Command, Reply, usize, usize, u64);
+type Counts = (Told, Reply, usize, usize, u64);
+
+/// Windows, and commands in each of them.
+const WINDOWS: [(usize, &[Counts]); 3] = [
+    (
+        2,
+        &[
+            (Told::Goto(4), Reply::At(4), 4, 2, 4),
+            (Told::Back, Reply::At(3), 3, 1, 1),
+            (Told::Back, Reply::At(2), 2, 0, 1),
+            (Told::Back, Reply::At(1), 1, 1, 1),
+            (Told::Goto(5), Reply::At(5), 5, 2, 4),
+            (Told::Goto(0), Reply::At(0), 0, 0, 0),
+        ],
+    ),
+    (
+        1,
+        &[
+            (Told::Goto(4), Reply::At(4), 4, 1, 4),
+            (Told::Back, Reply::At(3), 3, 0, 1),
+            (Told::Back, Reply::At(2), 2, 1, 2),
+        ],
+    ),
+    (
+        1,
+        &[
+            (Told::Goto(2), Reply::At(2), 2, 1, 2),
+            (Told::Back, Reply::At(1), 1, 0, 1),
+            (Told::Back, Reply::At(0), 0, 0, 0),
+        ],
+    ),
+];
 
 #[test]
 fn counts_in_a_window(rt: HostRuntime) {
-    let rows: [Counts; 6] = [
-        (Command::Goto(4), Reply::At(4), 4, 2, 4),
-        (Command::Back, Reply::At(3), 3, 1, 1),
-        (Command::Back, Reply::At(2), 2, 0, 1),
-        (Command::Back, Reply::At(1), 1, 1, 1),
-        (Command::Goto(5), Reply::At(5), 5, 2, 4),
-        (Command::Goto(0), Reply::At(0), 0, 0, 0),
-    ];
-    let mut session = open_window(rt.alloc(), PAIR).expect(&rt, "room");
-    for (k, row) in rows.iter().enumerate() {
-        let reply = session.obey(rt.alloc(), &row.0);
-        assert_eq!(rt; reply, row.1, "row {k}");
-        let found = (session.cursor(), session.kept(), session.work());
-        assert_eq!(rt; found, (row.2, row.3, row.4), "row {k}");
+    for (w, (count, rows)) in WINDOWS.iter().enumerate() {
+        let mut session = open_window(rt.alloc(), *count, PAIR).expect(&rt, "room");
+        for (k, row) in rows.iter().enumerate() {
+            let told = command(rt.alloc(), row.0).expect(&rt, "room");
+            let reply = session.obey(rt.alloc(), &told);
+            assert_eq!(rt; reply, row.1, "row {k} of window {w}");
+            let found = (session.cursor(), session.kept(), session.work());
+            assert_eq!(rt; found, (row.2, row.3, row.4), "row {k} of window {w}");
+        }
     }
 }
 

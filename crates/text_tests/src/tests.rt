@@ -5,7 +5,7 @@ mod rows;
 use crate::tests::rows::{REPLIES, SCRIPTS};
 use pickle_doc::{DocFault, End};
 use pickle_session::{Past, Session, Whole};
-use pickle_sink::{Failed, Shelf, Sink};
+use pickle_ops::{Failed, Sink, ToWrite};
 use pickle_text::{
     Line, Query, Syntax, read_command, write_items, write_no_such_object, write_reply,
     write_syntax, write_where,
@@ -52,9 +52,9 @@ fn worked_scripts(rt: HostRuntime) -> Result<(), Fail> {
     for script in SCRIPTS {
         let mut session = opened(rt.alloc(), script.bytes)?;
         for (line, reply) in script.lines {
-            let mut sink = Shelf::new(rt.alloc());
+            let mut sink = ToWrite::new(Vec::new(rt.alloc()));
             answer(rt.alloc(), &mut session, line.as_bytes(), &mut sink)?;
-            assert_eq!(rt; sink.bytes(), reply.as_bytes(), "{line}");
+            assert_eq!(rt; sink.into_inner().as_slice(), reply.as_bytes(), "{line}");
         }
     }
     Ok(())
@@ -73,9 +73,9 @@ fn longest_line(rt: HostRuntime) -> Result<(), Fail> {
             Err(Syntax::LineTooLong)
         )
     );
-    let mut sink = Shelf::new(rt.alloc());
+    let mut sink = ToWrite::new(Vec::new(rt.alloc()));
     write_syntax(Syntax::LineTooLong, &mut sink)?;
-    assert_eq!(rt; sink.bytes(), b"refused: X7 line too long\n".as_slice());
+    assert_eq!(rt; sink.into_inner().as_slice(), b"refused: X7 line too long\n".as_slice());
     Ok(())
 }
 
@@ -83,9 +83,9 @@ fn longest_line(rt: HostRuntime) -> Result<(), Fail> {
 #[test]
 fn other_replies(rt: HostRuntime) -> Result<(), Fail> {
     for (reply, text) in REPLIES {
-        let mut sink = Shelf::new(rt.alloc());
+        let mut sink = ToWrite::new(Vec::new(rt.alloc()));
         write_reply(End::Stopped, reply, &mut sink)?;
-        assert_eq!(rt; sink.bytes(), text.as_bytes());
+        assert_eq!(rt; sink.into_inner().as_slice(), text.as_bytes());
     }
     Ok(())
 }

@@ -70,17 +70,20 @@ pub fn open_whole(alloc: Global, bytes: &[u8]) -> Option<Session<Whole>> {
     }
 }
 
-/// A session that keeps the two latest records, or nothing where memory is refused.
-fn try_window(alloc: Global, bytes: &[u8]) -> Option<Session<Window>> {
-    let window = Window::new(alloc, 2).ok()?;
+/// A session that keeps so many of the latest records, or nothing where memory is refused.
+fn try_window(alloc: Global, count: usize, bytes: &[u8]) -> Option<Session<Window>> {
+    if count < 1 || count > 1_000_000 {
+        return None;
+    }
+    let window = Window::new(alloc, count).ok()?;
     Session::open(alloc, window, bytes).ok()
 }
 
-/// A session that keeps the two latest records, where one request for memory may be refused.
-pub fn open_window(alloc: Global, bytes: &[u8]) -> Option<Session<Window>> {
-    match try_window(alloc, bytes) {
+/// A session that keeps so many of the latest records, where one request for memory may be refused.
+pub fn open_window(alloc: Global, count: usize, bytes: &[u8]) -> Option<Session<Window>> {
+    match try_window(alloc, count, bytes) {
         Some(session) => Some(session),
-        None => try_window(alloc, bytes),
+        None => try_window(alloc, count, bytes),
     }
 }
 
@@ -128,7 +131,12 @@ pub fn shows<P: Past>(session: &Session<P>, shown: &[u8], bytes: &[u8]) -> bool 
     let mut written = Beside::new(bytes);
     let is_told = write_session(session, &mut beside).is_ok();
     let is_written = session.document().write_bytes(&mut written).is_ok();
-    is_told && is_written && beside.is_whole() && written.is_whole()
+    let offset = session.document().offset(session.cursor());
+    offset == Some(session.offset())
+        && is_told
+        && is_written
+        && beside.is_whole()
+        && written.is_whole()
 }
 
 /// What became of a row: it is as it should be, or memory was refused and nothing changed, or it is not.
@@ -139,22 +147,61 @@ enum Outcome {
     Differs,
 }
 
-/// What is shown before a row, and whether all records are kept.
+/// What is shown before a row, and how many records are kept at most.
 #[derive(Clone, Copy)]
 struct Before<'a> {
     shown: &'a [u8],
     bytes: &'a [u8],
-    is_whole: bool,
+    window: Option<usize>,
 }
 
-/// Whether the records and the counters are what they should be behind an accepted row.
-fn is_counted<P: Past>(session: &Session<P>, moves: u64, work: u64, is_whole: bool) -> bool {
-    if is_whole {
-        let risen = session.machine().moves().saturating_sub(moves);
-        session.kept() == session.cursor() && session.work() == work && risen == work
-    } else {
-        session.kept() <= 2
+/// The cursor, the records kept and the moves of the machine.
+#[derive(Clone, Copy)]
+struct Counters {
+    cursor: usize,
+    kept: usize,
+    moves: u64,
+}
+
+/// The counters as they are.
+fn counters_of<P: Past>(session: &Session<P>) -> Counters {
+    Counters {
+        cursor: session.cursor(),
+        kept: session.kept(),
+        moves: session.machine().moves(),
     }
+}
+
+/// How many of so many records are kept.
+fn within(window: Option<usize>, count: usize) -> usize {
+    match window {
+        Some(most) => count.min(most),
+        None => count,
+    }
+}
+
+/// Whether the records and the counters are what they should be behind a row.
+fn is_counted<P: Past>(
+    session: &Session<P>,
+    old: Counters,
+    work: u64,
+    window: Option<usize>,
+) -> bool {
+    let new = counters_of(session);
+    let back = old.cursor.saturating_sub(new.cursor);
+    if old.kept < back {
+        // (a machine was built anew)
+        let place = new.cursor as u64;
+        return window.is_some()
+            && new.kept == within(window, new.cursor)
+            && session.work() == place
+            && new.moves == place;
+    }
+    let steps = new.cursor.saturating_sub(old.cursor);
+    let forth = within(window, old.kept.saturating_add(steps));
+    new.kept == forth.saturating_sub(back)
+        && session.work() == work
+        && new.moves.saturating_sub(old.moves) == work
 }
 
 /// Obeys a row once.
@@ -168,18 +215,17 @@ fn obey_row<P: Past>(
     let Some(command) = command(alloc, told) else {
         return Outcome::Differs;
     };
-    let moves = session.machine().moves();
-    let kept = session.kept();
+    let counters = counters_of(session);
     let found = session.obey(alloc, &command);
     if found == reply && shows(session, shown_behind.as_bytes(), bytes_behind) {
-        return if is_counted(session, moves, work, before.is_whole) {
+        return if is_counted(session, counters, work, before.window) {
             Outcome::Same
         } else {
             Outcome::Differs
         };
     }
     let is_lacking = found == Reply::Refused(Fault::Memory);
-    if is_lacking && session.kept() == kept && shows(session, before.shown, before.bytes) {
+    if is_lacking && session.kept() == counters.kept && shows(session, before.shown, before.bytes) {
         Outcome::Lacks
     } else {
         Outcome::Differs
@@ -191,12 +237,12 @@ pub fn follow<P: Past>(
     session: &mut Session<P>,
     alloc: Global,
     script: &Script,
-    is_whole: bool,
+    window: Option<usize>,
 ) -> usize {
     let mut before = Before {
         shown: script.shown.as_bytes(),
         bytes: script.bytes,
-        is_whole,
+        window,
     };
     for (k, row) in script.rows.iter().enumerate() {
         let mut outcome = obey_row(session, alloc, row, before);
