@@ -6,10 +6,9 @@ use Rattle.std.proofs.lemmas.Bool.{cases_Bool, cases_lt, lt-ltb, le-ltb}
 use Rattle.pickle_doc.specs.declared.item.Item.{Item}
 use Rattle.pickle_doc.specs.declared.mark.FrameMark.{FrameMark}
 use Rattle.pickle_doc.specs.declared.mark.Mark.{Mark}
-use Rattle.pickle_doc.specs.declared.fault.TheConstants.{LIMIT}
 use Rattle.pickle_doc.specs.declared.fault.Finish.{Finish}
 use Rattle.pickle_doc.specs.DocUnit.{DocUnit, Loose, Frame, is_frame, item_size, sizes, frame_item, flat, operations, bytes_of}
-use Rattle.pickle_doc.specs.Document.{IsUnit}
+use Rattle.pickle_doc.specs.Document.{IsUnit, size_limit}
 use Rattle.pickle_doc.specs.Alike.{AreAlike, AgreeBefore}
 use Rattle.pickle_doc.specs.Edit.{is_frame_item}
 use Rattle.pickle_doc.specs.Grouping.{frame_number}
@@ -159,7 +158,7 @@ walk-none items k l h =
 
 -- ---- the first place of items that were read
 
-pub first-mark : (bytes : List ℕ) (items : List Item) (tail : List ℕ) (e : Finish) → AreParts bytes items tail e → length bytes ≤ LIMIT → IsMark (record { place = 0; offset = 0; frame = None }) items
+pub first-mark : (bytes : List ℕ) (items : List Item) (tail : List ℕ) (e : Finish) → AreParts bytes items tail e → length bytes ≤ size_limit → IsMark (record { place = 0; offset = 0; frame = None }) items
 first-mark bytes items tail e h small =
     let total = length-append (bytes_of (operations items)) tail in
     let size = length_bytes items in
@@ -236,7 +235,7 @@ long-alike (suc k) (x ∷ xs) [] l a =
     let c = within [] 0 h.0 h.1 in absurd (omega (arith, c))
 long-alike (suc k) (x ∷ xs) (y ∷ ys) l a = omega (arith, long-alike k xs ys (omega arith) (λ i z b e. a (suc i) z (omega (arith, b)) e))
 
-pub mark-alike : (m : Mark) (k : ℕ) (xs ys : List Item) → IsMark m xs → m.place ≤ k → AgreeBefore k xs ys → AgreeBefore k ys xs → FramesAreNine xs → FramesAreNine ys → sizes ys ≤ LIMIT → IsMark m ys
+pub mark-alike : (m : Mark) (k : ℕ) (xs ys : List Item) → IsMark m xs → m.place ≤ k → AgreeBefore k xs ys → AgreeBefore k ys xs → FramesAreNine xs → FramesAreNine ys → sizes ys ≤ size_limit → IsMark m ys
 mark-alike m k xs ys h l a b p q s =
     let a' = agree-less m.place k xs ys l a in
     let b' = agree-less m.place k ys xs l b in

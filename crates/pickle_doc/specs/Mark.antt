@@ -3,7 +3,7 @@ use Rattle.std.specs.Prelude.{◌≡◌, ℕ, ◌+◌, ◌<◌, ◌≤◌, true,
 use Rattle.pickle_doc.specs.declared.item.Item.{Item}
 use Rattle.pickle_doc.specs.declared.mark.FrameMark.{FrameMark}
 use Rattle.pickle_doc.specs.declared.mark.Mark.{Mark}
-use Rattle.pickle_doc.specs.declared.fault.TheConstants.{LIMIT}
+use Rattle.pickle_doc.specs.Document.{size_limit}
 use Rattle.pickle_doc.specs.declared.fault.Finish.{Finish}
 use Rattle.pickle_doc.specs.DocUnit.{is_frame, sizes}
 use Rattle.pickle_doc.specs.Fitting.{IsKept}
@@ -31,7 +31,7 @@ pub record IsMark (m : Mark) (items : List Item) : Type 0 where
   pub place : m.place ≤ length items
   pub offset : m.offset ≡ sizes (take m.place items)
   pub frame : IsLastFrame m.frame m.place items
-  pub small : sizes items ≤ LIMIT
+  pub small : sizes items ≤ size_limit
 
 -- what a document keeps, with a mark in its items
 pub record IsMarked (items : List Item) (tail : List ℕ) (e : Finish) (next start : ℕ) (m : Mark) : Type 0 where

@@ -2,10 +2,10 @@
 //! place of the last edit and its own, and not over all that stand before it.
 
 ghost use Rattle.std.specs.Prelude.{◌≡◌, ◌+◌, ◌≤◌, if◌then◌else◌, Some, None, length, take};
+ghost use Rattle.pickle_doc.specs.Document.{size_limit};
 ghost use Rattle.pickle_doc.specs.DocUnit.{is_frame, sizes};
 ghost use Rattle.pickle_doc.specs.Mark.{IsLastFrame, IsMark};
 
-use crate::fault::LIMIT;
 use crate::item::Item;
 use crate::next::is_frame;
 use gap_list::GapList;
@@ -78,7 +78,7 @@ fn last_before(items: &GapList<Item>, k: usize, offset: u64) -> Option<FrameMark
 fn size_between(items: &GapList<Item>, from: usize, to: usize) -> u64
     requires order { from ≤ to }
     requires place { to ≤ length items.now.items }
-    requires small { sizes items.now.items ≤ LIMIT }
+    requires small { sizes items.now.items ≤ size_limit }
     ensures { sizes (take from items.now.items) + result ≡ sizes (take to items.now.items) }
 {
     let mut total: u64 = 0;

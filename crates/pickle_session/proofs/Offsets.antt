@@ -4,10 +4,9 @@ use Rattle.std.specs.List.{AllByRecursion}
 use Rattle.pickle_ops.specs.Spelling.{Operation, size_of}
 use Rattle.pickle_ops.specs.declared.opcode.Opcode.TheVariants as op
 use Rattle.pickle_doc.specs.declared.item.Item.{Item}
-use Rattle.pickle_doc.specs.declared.fault.TheConstants.{LIMIT}
 use Rattle.pickle_doc.specs.Alike.{AreAlike, AgreeBefore}
 use Rattle.pickle_doc.specs.DocUnit.{DocUnit, Loose, Frame, is_frame, item_size, sizes, flat, operations}
-use Rattle.pickle_doc.specs.Document.{Contents, items_of, document_bytes, IsPlain, IsUnit, IsDocument}
+use Rattle.pickle_doc.specs.Document.{Contents, items_of, document_bytes, IsPlain, IsUnit, IsDocument, size_limit}
 use Rattle.pickle_doc.specs.Place.{offset_at}
 use Rattle.pickle_doc.proofs.Units.{length_document}
 use Rattle.pickle_session.specs.Session.{len_of, size_before}
@@ -29,7 +28,7 @@ sizes-front xs zero = omega arith
 sizes-front [] (suc k) = omega arith
 sizes-front (x ∷ xs) (suc k) = omega (arith, sizes-front xs k)
 
-pub size_small : (d : Contents) (k : ℕ) → length (document_bytes d) ≤ LIMIT → size_before d k ≤ LIMIT
+pub size_small : (d : Contents) (k : ℕ) → length (document_bytes d) ≤ size_limit → size_before d k ≤ size_limit
 size_small d k h = omega (arith, h, length_document d, sizes-front (items_of d) k)
 
 pub offset_is : (d : Contents) (k : ℕ) → k ≤ len_of d → offset_at d k ≡ Some (size_before d k)

@@ -5,10 +5,9 @@ use Rattle.std.proofs.lemmas.Bool.{le-leb}
 use Rattle.std.proofs.lemmas.List.{take-append-drop, take-replicate}
 use Rattle.pickle_ops.specs.Spelling.{Operation, size_of}
 use Rattle.pickle_ops.specs.Text.{◌⧺◌}
-use Rattle.pickle_doc.specs.declared.fault.TheConstants.{LIMIT}
 use Rattle.pickle_doc.specs.declared.item.Item.{Item}
 use Rattle.pickle_doc.specs.DocUnit.{sizes, operations}
-use Rattle.pickle_doc.specs.Document.{Contents, items_of, document_bytes}
+use Rattle.pickle_doc.specs.Document.{Contents, items_of, document_bytes, size_limit}
 use Rattle.pickle_doc.specs.Place.{item_at, offset_at}
 use Rattle.pickle_doc.proofs.Units.{sizes-append, length_document}
 use Rattle.pickle_text.specs.Column.{blanks}
@@ -63,7 +62,7 @@ offset_within d k =
     omega (arith, sizes-append (take k (items_of d)) (drop k (items_of d)), ap sizes (take-append-drop k (items_of d)), length_document d)
 
 -- it has 64 bits
-pub offset_fits : (d : Contents) (k offset : ℕ) (o : Operation) → length (document_bytes d) ≤ LIMIT → item_at d k ≡ Some o → offset ≡ offset_before d k → offset + size_of o < 2 ^ 64
+pub offset_fits : (d : Contents) (k offset : ℕ) (o : Operation) → length (document_bytes d) ≤ size_limit → item_at d k ≡ Some o → offset ≡ offset_before d k → offset + size_of o < 2 ^ 64
 offset_fits d k offset o small e is = omega (arith, offset_behind d k offset o e is, offset_within d (k + 1), small)
 
 -- at each place there is one

@@ -1,7 +1,7 @@
 //! The objects that a pickle makes.
 
 ghost use Rattle.std.specs.Prelude.{◌≡◌, ◌↔◌, ◌<◌, length, IfOk, IfErr, Err};
-ghost use Rattle.pickle_doc.specs.declared.fault.TheConstants.{LIMIT};
+ghost use Rattle.pickle_doc.specs.Document.{size_limit};
 ghost use Rattle.picklestep.specs.Program.{IsReported, StopsReport};
 
 use crate::stop::Stop;
@@ -21,7 +21,7 @@ pub fn objects<S: Sink>(alloc: Global, bytes: &[u8], sink: &mut S) -> Result<u8,
     ensures stopped { IfErr result (StopsReport bytes.now (S.told sink.old) (S.told sink.new)) }
 
     // Too many bytes, and only those, are refused as such.
-    ensures too_large { (result ≡ Err Stop.TooLarge) ↔ (LIMIT < length bytes.now) }
+    ensures too_large { (result ≡ Err Stop.TooLarge) ↔ (size_limit < length bytes.now) }
 {
     let document = Document::read(alloc, bytes)?;
     Ok(write_document_report(alloc, &document, sink)?)
