@@ -1,6 +1,6 @@
 //! Numbers in decimal digits.
 
-ghost use Rattle.std.specs.Prelude.{◌≡◌, true, is_some};
+ghost use Rattle.std.specs.Prelude.{◌≡◌, true};
 ghost use Rattle.pickle_ops.specs.Shape.{is_decimal, value_of, decimal_of};
 
 /// The number of a text of one or more ASCII digits, any zeros in front; none where the text is no such digits, or their

@@ -1,6 +1,6 @@
 //! Numbers in columns.
 
-ghost use Rattle.std.specs.Prelude.{◌≡◌, ◌≤◌, decimal};
+ghost use Rattle.std.specs.Prelude.{◌≤◌, decimal};
 ghost use Rattle.pickle_ops.specs.Device.{Writes};
 ghost use Rattle.pickle_text.specs.Column.{blanks, right};
 
