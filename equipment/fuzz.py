@@ -1,7 +1,7 @@
 #!/usr/bin/python3
 """Makes random pickles and scripts, and asks the program for laws that need no reference.
 
-    fuzz.py PROGRAM FOLDER [--seed S] [--seconds T]
+    fuzz.py PROGRAM FOLDER [--seed S] [--cases N | --seconds T]
 
 FOLDER is an empty folder for the files. Each case has a generator of its own, made of the seed and the case's number, so that
 a case that breaks a law can be made again; its file stays in FOLDER. The last line says how many cases there were, or which
@@ -205,12 +205,13 @@ def main():
     parser.add_argument("program")
     parser.add_argument("folder", type=pathlib.Path)
     parser.add_argument("--seed", type=int, default=1)
-    parser.add_argument("--seconds", type=float, default=60)
+    parser.add_argument("--cases", type=int, default=1000)
+    parser.add_argument("--seconds", type=float)
     words = parser.parse_args()
     words.folder.mkdir(parents=True, exist_ok=True)
-    end = time.monotonic() + words.seconds
+    end = words.seconds and time.monotonic() + words.seconds
     number = 0
-    while time.monotonic() < end:
+    while time.monotonic() < end if end else number < words.cases:
         number += 1
         try:
             Case(words.program, words.folder, random.Random(f"{words.seed}:{number}")).check()
