@@ -98,16 +98,12 @@ pub(crate) fn write_kind<S: Sink>(kind: &Kind, sink: &mut S) -> Result<(), Faile
         Kind::Set => write_all(sink, b"set"),
         Kind::FrozenSet => write_all(sink, b"frozenset"),
         Kind::Dict => write_all(sink, b"dict"),
-        Kind::Global(module, name) => {
-            write_with_texts(b"global ", module.as_slice(), name.as_slice(), sink)
-        }
+        Kind::Global(names) => write_with_texts(b"global ", names.first(), names.second(), sink),
         Kind::StackGlobal => write_all(sink, b"stack-global"),
         Kind::Call => write_all(sink, b"call"),
         Kind::New => write_all(sink, b"new"),
         Kind::NewEx => write_all(sink, b"new-ex"),
-        Kind::Inst(module, name) => {
-            write_with_texts(b"inst ", module.as_slice(), name.as_slice(), sink)
-        }
+        Kind::Inst(names) => write_with_texts(b"inst ", names.first(), names.second(), sink),
         Kind::Obj => write_all(sink, b"obj"),
         Kind::PersistentLine(text) => write_with_text(b"persistent ", text.as_slice(), sink),
         Kind::Persistent => write_all(sink, b"persistent"),
