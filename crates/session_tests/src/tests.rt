@@ -312,8 +312,13 @@ fn largest_input(rt: HostRuntime) -> Result<(), Fail> {
     let insert = command(rt.alloc(), Told::Insert(0, Opcode::None, b"")).expect(&rt, "room");
     let refused = session.obey(rt.alloc(), &insert);
     assert_eq!(rt; refused, Reply::Refused(Fault::Edit(EditFault::TooLarge)));
+    assert_eq!(rt; (session.undos(), session.redos()), (0, 0));
+    assert_eq!(rt; (session.cursor(), session.kept()), (0, 0));
+    assert_eq!(rt; (session.offset(), session.work()), (0, 0));
     let run = session.obey(rt.alloc(), &Command::Run);
     assert_eq!(rt; run, Reply::Ran(2, Why::End));
+    assert_eq!(rt; (session.cursor(), session.kept()), (2, 2));
+    assert_eq!(rt; (session.offset(), session.work()), (LIMIT as u64, 2));
     assert!(rt; has_bytes(&session, &bytes));
     Ok(())
 }
