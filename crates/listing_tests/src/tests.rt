@@ -182,7 +182,15 @@ fn deep_object(rt: HostRuntime) -> Result<(), Fail> {
     let mut sink = ToWrite::new(Vec::new(rt.alloc()));
     write_show(rt.alloc(), &machine, 100_000, &mut sink)?;
     let shown = sink.into_inner();
-    assert!(rt; shown.as_slice().starts_with(b"0 #100000 tuple (#99999)\n1 #99999 tuple (#99998)\n"));
-    assert!(rt; shown.as_slice().ends_with(b"\n99999 #1 tuple (#0)\n100000 #0 tuple\n"));
+    assert!(rt;
+        shown
+            .as_slice()
+            .starts_with(b"0 #100000 tuple (#99999)\n1 #99999 tuple (#99998)\n")
+    );
+    assert!(rt;
+        shown
+            .as_slice()
+            .ends_with(b"\n99999 #1 tuple (#0)\n100000 #0 tuple\n")
+    );
     Ok(())
 }

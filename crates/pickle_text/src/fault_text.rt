@@ -7,8 +7,7 @@ ghost use Rattle.pickle_text.specs.FaultText.{refusal_words, refusal_number, ref
 
 use pickle_doc::{End, TailFault};
 use pickle_machine::Refusal;
-use pickle_ops::OpFault;
-use pickle_ops::{Failed, Sink, write_all, write_decimal, write_hex, write_signed};
+use pickle_ops::{Failed, OpFault, Sink, write_all, write_decimal, write_hex, write_signed};
 
 /// What a refusal is called.
 #[tactic(auto, unfolding(crate::specs::FaultText::refusal_words))]

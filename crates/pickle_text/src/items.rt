@@ -5,9 +5,8 @@ ghost use Rattle.pickle_ops.specs.Device.{Writes};
 ghost use Rattle.pickle_text.specs.PlaceText.{offset_before, sign_if, signs, op_text, place_columns, item_line, line_at, items_text};
 
 use crate::column::write_right;
-use pickle_ops::Op;
+use pickle_ops::{Failed, Op, Sink, write_all, write_arg_text};
 use pickle_session::{Past, Session};
-use pickle_ops::{Failed, Sink, write_all, write_arg_text};
 
 /// A sign where something holds, else a blank.
 fn sign_if(sign: u8, holds: bool) -> u8

@@ -7,8 +7,8 @@ ghost use Rattle.pickle_text.specs.PlaceText.{offset_before, cursor_text, offset
 use crate::fault_text::write_end;
 use pickle_doc::End;
 use pickle_machine::{Machine, ObjId};
-use pickle_session::{Past, Session};
 use pickle_ops::{Failed, Sink, write_all, write_decimal};
+use pickle_session::{Past, Session};
 
 /// How many bytes spell the items before the cursor.
 #[tactic(auto, using(crate::proofs::PlaceLemmas::offset_there))]

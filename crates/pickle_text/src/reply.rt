@@ -7,8 +7,8 @@ ghost use Rattle.pickle_text.specs.ReplyText.{edit_words, fault_words, item_text
 use crate::fault_text::{write_end, write_refusal};
 use pickle_doc::{EditFault, End};
 use pickle_machine::Refusal;
-use pickle_session::{Fault, Reply, Why};
 use pickle_ops::{Failed, Sink, write_all, write_decimal};
+use pickle_session::{Fault, Reply, Why};
 
 /// What the fault of an edit is called.
 #[tactic(auto, unfolding(crate::specs::ReplyText::edit_words))]

@@ -4,8 +4,8 @@ mod rows;
 
 use crate::tests::rows::{REPLIES, SCRIPTS};
 use pickle_doc::{DocFault, End};
-use pickle_session::{Past, Session, Whole};
 use pickle_ops::{Failed, Sink, ToWrite};
+use pickle_session::{Past, Session, Whole};
 use pickle_text::{
     Line, Query, Syntax, read_command, write_items, write_no_such_object, write_reply,
     write_syntax, write_where,
@@ -75,7 +75,10 @@ fn longest_line(rt: HostRuntime) -> Result<(), Fail> {
     );
     let mut sink = ToWrite::new(Vec::new(rt.alloc()));
     write_syntax(Syntax::LineTooLong, &mut sink)?;
-    assert_eq!(rt; sink.into_inner().as_slice(), b"refused: X7 line too long\n".as_slice());
+    assert_eq!(rt;
+        sink.into_inner().as_slice(),
+        b"refused: X7 line too long\n".as_slice()
+    );
     Ok(())
 }
 
