@@ -10,7 +10,7 @@ use crate::tests::cost::edit_many;
 use crate::tests::memory::edit_with_little;
 use crate::tests::nest::put_and_back;
 use crate::tests::rows::{ACCEPTED, REFUSED};
-use crate::tests::shown::{Row, Wrong, are_alike, make, place_of, shows, written};
+use crate::tests::shown::{Row, Wrong, are_alike, make, place_of, shows, turn, written};
 use pickle_doc::{Document, EditFault, LIMIT, there_and_back};
 use pickle_ops::{Opcode, op_of};
 use std::alloc::Global;
@@ -25,12 +25,9 @@ fn try_row(alloc: Global, row: &Row) -> Result<(), Wrong> {
         return Err(Wrong::Place);
     }
     shows(alloc, &document, &row.after)?;
-    document.swap(&mut record);
-    shows(alloc, &document, &row.before)?;
-    document.swap(&mut record);
-    shows(alloc, &document, &row.after)?;
-    document.swap(&mut record);
-    shows(alloc, &document, &row.before)
+    turn(alloc, &mut document, &mut record, &row.before)?;
+    turn(alloc, &mut document, &mut record, &row.after)?;
+    turn(alloc, &mut document, &mut record, &row.before)
 }
 
 #[test]

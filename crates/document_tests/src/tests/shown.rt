@@ -141,6 +141,20 @@ pub fn shows(alloc: Global, document: &Document, want: &Shown) -> Result<(), Wro
     are_alike(document, &again)
 }
 
+/// Goes to the other side of an edit, and looks at what shows there. The record leads back, and there is room for that.
+pub fn turn(
+    alloc: Global,
+    document: &mut Document,
+    record: &mut EditRecord,
+    want: &Shown,
+) -> Result<(), Wrong>
+    requires leads { (e : Contents) × Leads record.old document.old.contents e × (length (items_of e) ≤ length (items_of document.old.contents) + document.old.room) }
+    ensures back { (e : Contents) × Leads record.new document.new.contents e × (length (items_of e) ≤ length (items_of document.new.contents) + document.new.room) }
+{
+    document.swap(record);
+    shows(alloc, document, want)
+}
+
 /// Makes an edit. The record leads back, and there is room for that.
 pub fn make(alloc: Global, document: &mut Document, edit: &Edit) -> Result<EditRecord, EditFault>
     ensures back { IfOk result (λ r. (e : Contents) × Leads r document.new.contents e × (length (items_of e) ≤ length (items_of document.new.contents) + document.new.room)) }
