@@ -229,9 +229,7 @@ struct Beside<'a> {
 impl Sink for Beside<'_> {
     ghost use Rattle.std.specs.Prelude.{None};
 
-    ghost taken = { λ _. None };
-
-    ghost failures = { λ _. 0 };
+    ghost told = { λ _. record { taken = None; failures = 0 } };
 
     fn write(&mut self, bytes: &[u8]) -> Result<usize, Failed> {
         if self.rest.starts_with(bytes) {
