@@ -20,7 +20,7 @@ use Rattle.pickle_objects.specs.Row.{row_of, row_of_opcode, kind_of}
 use Rattle.pickle_machine.specs.declared.refusal.Refusal.{Refusal}
 use Rattle.pickle_machine.specs.State.{State, empty}
 use Rattle.pickle_machine.specs.Move.{next, next_of, outcome, refusal_at, move}
-use Rattle.pickle_machine.specs.Run.{after, run_from, run}
+use Rattle.pickle_machine.specs.Run.{after, run}
 use Rattle.pickle_ops.specs.Device.{Told, Wrote, Broke}
 use Rattle.pickle_listing.specs.declared.report.Closing.{Closing}
 use Rattle.pickle_listing.specs.Report.{closing_status, report_text, Closes, WroteReport, BrokeReport}
@@ -28,11 +28,11 @@ use Rattle.pickle_listing.specs.Report.{closing_status, report_text, Closes, Wro
 -- ---- runs
 
 pub run_nothing : (ops : List Operation) → run ops 0 ≡ Some empty
-unfolding run run_from
+unfolding run
 run_nothing ops = refl
 
 run_suc : (ops : List Operation) (n : ℕ) (s : State) → run ops n ≡ Some s → run ops (suc n) ≡ after (slice_get ops n) n (Some s)
-unfolding run run_from
+unfolding run
 run_suc ops n s e = ap (λ (x : Option State). after (slice_get ops n) n x) e
 
 -- one step more
@@ -42,7 +42,7 @@ run_next ops o n s t e f v =
     ap (run ops) more ∙ run_suc ops n s e ∙ ap (λ (x : Option Operation). after x n (Some s)) f ∙ ap (λ (r : Result State Refusal). result_ok r) v
 
 pub run_after : (ops : List Operation) (n : ℕ) (t : State) → run ops (suc n) ≡ Some t → after (slice_get ops n) n (run ops n) ≡ Some t
-unfolding run run_from
+unfolding run
 run_after ops n t e = e
 
 -- ---- how many items there are
