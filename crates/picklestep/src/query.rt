@@ -1,19 +1,110 @@
-//! What is told of the machine.
+//! What is told of a session.
 
-ghost use Rattle.pickle_ops.specs.Device.{Writes};
-ghost use Rattle.picklestep.specs.Reply.{query_text};
+ghost use Rattle.std.specs.Prelude.{◌≡◌, ◌<◌, ◌≤◌, length, MatchOption};
+ghost use Rattle.picklestep.specs.Progress.{WritesTold};
 
-use crate::command::Query;
-use pickle_listing::write_stack;
-use pickle_machine::Machine;
+use pickle_listing::{TextStop, write_memo, write_objects, write_show, write_stack};
+use pickle_objects::ObjId;
 use pickle_ops::{Failed, Sink};
+use pickle_session::{Past, Session};
+use pickle_text::{Query, Syntax, write_items, write_no_such_object, write_syntax, write_where};
+use std::alloc::Global;
 
-/// Writes what is asked of the machine.
-#[tactic(auto, unfolding(crate::specs::Reply::query_text))]
-pub fn write_query<S: Sink>(query: Query, machine: &Machine, sink: &mut S) -> Result<(), Failed>
-    ensures { Writes (S.told sink.old) (S.told sink.new) result (query_text query machine.now.state) }
+/// The object of this number, where there is one.
+fn object_of<P: Past>(session: &Session<P>, number: u64) -> Option<ObjId>
+    ensures { MatchOption result (length session.now.machine.state.heap ≤ number) (λ id. (id ≡ number) × (id < length session.now.machine.state.heap)) }
+{
+    let _cursor = session.cursor();
+    let _total = session.document().total();
+    if number < session.machine().objects() as u64 {
+        Some(number as ObjId)
+    } else {
+        None
+    }
+}
+
+/// Writes that there is no such object, and answers that this refuses.
+#[tactic(auto, using(crate::proofs::Queries::told_steps))]
+fn write_missing<P: Past, K: Sink>(
+    session: &Session<P>,
+    number: u64,
+    sink: &mut K,
+) -> Result<bool, Failed>
+    requires { length session.now.machine.state.heap ≤ number }
+    ensures { WritesTold (Query.Show number) session.now.session session.now.machine.state (K.told sink.old) (K.told sink.new) result }
+{
+    write_no_such_object(sink)?;
+    Ok(true)
+}
+
+/// Writes an object with all that it contains, or that memory is wanting for it, and answers whether it refuses.
+#[tactic(auto, using(crate::proofs::Queries::told_steps))]
+fn write_object_of<P: Past, K: Sink>(
+    alloc: Global,
+    session: &Session<P>,
+    id: ObjId,
+    sink: &mut K,
+) -> Result<bool, Failed>
+    requires { id < length session.now.machine.state.heap }
+    ensures { WritesTold (Query.Show id) session.now.session session.now.machine.state (K.told sink.old) (K.told sink.new) result }
+{
+    match write_show(alloc, session.machine(), id, sink) {
+        Ok(()) => Ok(false),
+        Err(TextStop::Failed) => Err(Failed),
+        Err(TextStop::Memory) => {
+            write_syntax(Syntax::Memory, sink)?;
+            Ok(true)
+        }
+    }
+}
+
+/// Writes the object of this number with all that it contains, or that there is none, and answers whether it refuses.
+fn write_shown<P: Past, K: Sink>(
+    alloc: Global,
+    session: &Session<P>,
+    number: u64,
+    sink: &mut K,
+) -> Result<bool, Failed>
+    ensures { WritesTold (Query.Show number) session.now.session session.now.machine.state (K.told sink.old) (K.told sink.new) result }
+{
+    match object_of(session, number) {
+        Some(id) => write_object_of(alloc, session, id, sink),
+        None => write_missing(session, number, sink),
+    }
+}
+
+/// Writes what is asked of a session, and answers whether that is refused. Memory is asked for to show an object that is there,
+/// and for nothing else.
+#[tactic(auto, using(crate::proofs::Refusals::telling_steps))]
+pub fn write_query<P: Past, K: Sink>(
+    alloc: Global,
+    session: &Session<P>,
+    query: Query,
+    sink: &mut K,
+) -> Result<bool, Failed>
+    ensures { WritesTold query session.now.session session.now.machine.state (K.told sink.old) (K.told sink.new) result }
 {
     match query {
-        Query::Stack => write_stack(machine, sink),
+        Query::Items => {
+            write_items(session, sink)?;
+            Ok(false)
+        }
+        Query::Objects => {
+            write_objects(session.machine(), sink)?;
+            Ok(false)
+        }
+        Query::Stack => {
+            write_stack(session.machine(), sink)?;
+            Ok(false)
+        }
+        Query::Memo => {
+            write_memo(session.machine(), sink)?;
+            Ok(false)
+        }
+        Query::Show(number) => write_shown(alloc, session, number, sink),
+        Query::Where => {
+            write_where(session, sink)?;
+            Ok(false)
+        }
     }
 }

@@ -1,0 +1,116 @@
+#!/usr/bin/env python3
+"""Runs the conversations that a page shows, and says of each what is wrong.
+
+    conversations.py PROGRAM PAGE FOLDER
+
+A conversation on the page is a block of lines, indented or not, that begins with `pickle` and the bytes of a pickle in
+hexadecimal. Then comes a line of the script behind `debug> `, then the lines that answer it, and so on. `$ list` or `$ objects`
+stands before what that command writes. A last line `saved` has the bytes that the pickle is saved as. The block ends at an empty
+line, or at the end of the page.
+
+Each script is run with all records and in windows of 1 and 2. The status has to be 1 just where an answer refuses.
+
+For each block it writes a line: its place on the page, a tab, and what is wrong or nothing. FOLDER gets the pickles.
+"""
+
+import pathlib
+import subprocess
+import sys
+
+
+class Block:
+    def __init__(self, number, pickle):
+        self.number = number
+        self.pickle = pickle
+        self.script = []
+        self.answers = []
+        self.written = {}
+        self.saved = None
+        self.told = self.answers
+
+    def take(self, line):
+        if line.startswith("debug> "):
+            self.script.append(line[len("debug> "):])
+            self.told = self.answers
+        elif line.startswith("$ "):
+            self.told = self.written.setdefault(line[2:], [])
+        elif line.startswith("saved "):
+            self.saved = bytes.fromhex(line[len("saved "):])
+        else:
+            self.told.append(line)
+
+
+def blocks_of(page):
+    block = None
+    margin = 0
+    for number, line in enumerate(page.splitlines(), 1):
+        if not line.strip():
+            if block is not None:
+                yield block
+            block = None
+        elif line.split()[0] == "pickle":
+            margin = line.index("pickle")
+            block = Block(number, bytes.fromhex(line[margin + len("pickle"):]))
+        elif block is not None:
+            block.take(line[margin:])
+    if block is not None:
+        yield block
+
+
+def run(program, words, script):
+    done = subprocess.run([program, *words], input=script, capture_output=True, timeout=120)
+    if done.stderr:
+        return None, f"errors, which begin: {done.stderr[:200]!r}"
+    return done, None
+
+
+def differs(words, done, wanted, status):
+    text = "".join(line + "\n" for line in wanted).encode()
+    if done.stdout != text:
+        return f"{' '.join(words)} writes {done.stdout!r} and not {text!r}"
+    if done.returncode != status:
+        return f"{' '.join(words)} ends with status {done.returncode} and not {status}"
+    return None
+
+
+def fault_of_command(program, block, command, file):
+    wanted = block.written[command]
+    status = int(any(line.startswith(("refused: ", "fault: ")) for line in wanted))
+    done, why = run(program, [command, str(file)], b"")
+    return why or differs([command], done, wanted, status)
+
+
+def fault_of_script(program, block, file, saved):
+    script = "".join(line + "\n" for line in block.script).encode()
+    status = int(any(line.startswith("refused: ") for line in block.answers))
+    for options in ([], ["--window", "1"], ["--window", "2"]):
+        saved.unlink(missing_ok=True)
+        done, why = run(program, ["debug", str(file), "--save", str(saved), *options], script)
+        why = why or differs(["debug", *options], done, block.answers, status)
+        if why:
+            return why
+        if block.saved is not None and saved.read_bytes() != block.saved:
+            return f"it saves {saved.read_bytes().hex(' ')}"
+    return None
+
+
+def fault_of(program, block, folder):
+    file = folder / "shown.pickle"
+    file.write_bytes(block.pickle)
+    for command in block.written:
+        why = fault_of_command(program, block, command, file)
+        if why:
+            return why
+    if block.script or block.saved is not None:
+        return fault_of_script(program, block, file, folder / "saved.pickle")
+    return None if block.written else "there is nothing to run"
+
+
+def main():
+    program, page, folder = sys.argv[1], pathlib.Path(sys.argv[2]), pathlib.Path(sys.argv[3])
+    folder.mkdir(exist_ok=True)
+    for block in blocks_of(page.read_text()):
+        print(f"{page.name}, line {block.number}", fault_of(program, block, folder) or "", sep="\t")
+
+
+main()
