@@ -1,14 +1,13 @@
 -- Columns, names, and the offsets that are carried along from item to item.
 use Rattle.std.proofs.Common.{◌≡◌, ℕ, zero, suc, ◌+◌, ◌≤◌, ◌<◌, ◌^◌, true, false, List, [], ◌∷◌, length, take, drop, slice_get, codes, Option, None, Some, refl, ap, arith}
 use Rattle.std.specs.Prelude.{is_some, unwrap_or, replicate}
-use Rattle.std.proofs.lemmas.Bool.{le-leb}
 use Rattle.std.proofs.lemmas.List.{take-append-drop, take-replicate}
 use Rattle.pickle_ops.specs.Spelling.{Operation, size_of}
 use Rattle.pickle_ops.specs.Text.{◌⧺◌}
 use Rattle.pickle_doc.specs.declared.item.Item.{Item}
 use Rattle.pickle_doc.specs.DocUnit.{sizes, operations}
 use Rattle.pickle_doc.specs.Document.{Contents, items_of, document_bytes, size_limit}
-use Rattle.pickle_doc.specs.Place.{item_at, offset_at}
+use Rattle.pickle_doc.specs.Place.{item_at}
 use Rattle.pickle_doc.proofs.Units.{sizes-append, length_document}
 use Rattle.pickle_text.specs.Column.{blanks}
 use Rattle.pickle_text.specs.PlaceText.{offset_before, behind_name}
@@ -64,7 +63,3 @@ offset_within d k =
 -- it has 64 bits
 pub offset_fits : (d : Contents) (k offset : ℕ) (o : Operation) → length (document_bytes d) ≤ size_limit → item_at d k ≡ Some o → offset ≡ offset_before d k → offset + size_of o < 2 ^ 64
 offset_fits d k offset o small e is = omega (arith, offset_behind d k offset o e is, offset_within d (k + 1), small)
-
--- at each place there is one
-pub offset_there : (d : Contents) (k : ℕ) → k ≤ length (items_of d) → offset_at d k ≡ Some (offset_before d k)
-offset_there d k h = rw (le-leb k (length (items_of d)) h) refl

@@ -1,22 +1,13 @@
 //! Where a session stands.
 
-ghost use Rattle.std.specs.Prelude.{◌≡◌};
 ghost use Rattle.pickle_ops.specs.Device.{Writes};
-ghost use Rattle.pickle_text.specs.PlaceText.{offset_before, cursor_text, offset_text, result_text, reached_text, ending_text, where_text};
+ghost use Rattle.pickle_text.specs.PlaceText.{cursor_text, offset_text, result_text, reached_text, ending_text, where_text};
 
 use crate::fault_text::write_end;
 use pickle_doc::End;
 use pickle_machine::{Machine, ObjId};
 use pickle_ops::{Failed, Sink, write_all, write_decimal};
 use pickle_session::{Past, Session};
-
-/// How many bytes spell the items before the cursor.
-#[tactic(auto, using(crate::proofs::PlaceLemmas::offset_there))]
-fn cursor_offset<P: Past>(session: &Session<P>) -> u64
-    ensures { result ≡ offset_before session.now.session.document session.now.session.cursor }
-{
-    session.document().offset(session.cursor()).unwrap()
-}
 
 /// Writes a place, and how many items there are.
 #[tactic(auto, using(pickle_ops::proofs::Devices::text_steps), unfolding(crate::specs::PlaceText::cursor_text))]
@@ -81,7 +72,7 @@ pub fn write_where<P: Past, S: Sink>(session: &Session<P>, sink: &mut S) -> Resu
     ensures { Writes (S.told sink.old) (S.told sink.new) result (where_text session.now.session session.now.machine.state) }
 {
     write_cursor(session.cursor(), session.document().len(), sink)?;
-    write_offset(cursor_offset(session), sink)?;
+    write_offset(session.offset(), sink)?;
     write_reached(session.machine(), sink)?;
     write_ending(session.document().end(), sink)
 }
