@@ -9,8 +9,8 @@ use Rattle.pickle_machine.specs.State.{State}
 use Rattle.pickle_session.specs.Session.{Session, state_at, len_of, ops_of}
 use Rattle.pickle_session.specs.Allowed.{Standing}
 use Rattle.pickle_session.proofs.Trails.{run_heap}
-use Rattle.pickle_listing.specs.Show.{show_text}
-use Rattle.pickle_listing.proofs.Runs.{few_items}
+use Rattle.pickle_report.specs.Show.{show_text}
+use Rattle.pickle_report.proofs.Runs.{few_items}
 use Rattle.pickle_text.specs.declared.line.Line.TheVariants as line
 use Rattle.pickle_text.specs.declared.line.Query.{Query}
 use Rattle.pickle_text.specs.declared.line.Query.TheVariants as query

@@ -4,10 +4,10 @@ use Rattle.std.specs.Prelude.{◌≡◌, ℕ, List, length, Bool, true, false, n
 use Rattle.pickle_objects.specs.Object.{Object}
 use Rattle.pickle_machine.specs.State.{State}
 use Rattle.pickle_session.specs.Session.{Session}
-use Rattle.pickle_listing.specs.ObjectText.{objects_text}
-use Rattle.pickle_listing.specs.StackText.{stack_text}
-use Rattle.pickle_listing.specs.MemoText.{memo_text}
-use Rattle.pickle_listing.specs.Show.{show_text}
+use Rattle.pickle_report.specs.ObjectText.{objects_text}
+use Rattle.pickle_report.specs.StackText.{stack_text}
+use Rattle.pickle_report.specs.MemoText.{memo_text}
+use Rattle.pickle_report.specs.Show.{show_text}
 use Rattle.pickle_text.specs.declared.line.Query.{Query}
 use Rattle.pickle_text.specs.declared.line.Query.TheVariants as query
 use Rattle.pickle_text.specs.declared.line.Syntax.TheVariants as syntax

@@ -6,8 +6,8 @@ ghost use Rattle.picklestep.specs.Program.{IsReported, StopsReport};
 
 use crate::stop::Stop;
 use pickle_doc::Document;
-use pickle_listing::write_document_report;
 use pickle_ops::Sink;
+use pickle_report::write_document_report;
 use std::alloc::Global;
 
 /// Writes the report of the pickle that the bytes are, and answers its status: the lines of all objects that its opcodes make, up

@@ -3,9 +3,9 @@
 ghost use Rattle.std.specs.Prelude.{◌≡◌, ◌<◌, ◌≤◌, length, MatchOption};
 ghost use Rattle.picklestep.specs.Progress.{WritesTold};
 
-use pickle_listing::{TextStop, write_memo, write_objects, write_show, write_stack};
 use pickle_objects::ObjId;
 use pickle_ops::{Failed, Sink};
+use pickle_report::{TextStop, write_memo, write_objects, write_show, write_stack};
 use pickle_session::{Past, Session};
 use pickle_text::{Query, Syntax, write_items, write_no_such_object, write_syntax, write_where};
 use std::alloc::Global;

@@ -1,0 +1,81 @@
+-- The report of a document: the objects that its items make, and how their run ended.
+-- Source: own.
+use Rattle.std.specs.Prelude.{◌≡◌, ℕ, List, length, codes, Option, Some, None}
+use Rattle.pickle_ops.specs.Spelling.{Operation}
+use Rattle.pickle_ops.specs.Text.{◌⧺◌}
+use Rattle.pickle_doc.specs.declared.fault.End.TheVariants as end
+use Rattle.pickle_doc.specs.DocUnit.{operations}
+use Rattle.pickle_doc.specs.Document.{Contents, items_of}
+use Rattle.pickle_doc.specs.Place.{item_at, end_of}
+use Rattle.pickle_objects.specs.Object.{Object}
+use Rattle.pickle_machine.specs.declared.refusal.Refusal.{Refusal}
+use Rattle.pickle_machine.specs.State.{State}
+use Rattle.pickle_machine.specs.Move.{refusal_at}
+use Rattle.pickle_machine.specs.Run.{run}
+use Rattle.pickle_ops.specs.Device.{Told, Wrote, Broke}
+use Rattle.pickle_report.specs.declared.report.Closing.{Closing}
+use Rattle.pickle_report.specs.declared.report.Closing.TheVariants as closing
+use Rattle.pickle_report.specs.Line.{newline, item_refused, fault_line}
+use Rattle.pickle_report.specs.ObjectText.{next_text, objects_text}
+
+-- ---- the closing line
+
+unfoldable pub result_line : ℕ → List ℕ
+result_line id = codes "result" ⧺ next_text id ⧺ newline
+
+unfoldable pub refused_line : ℕ → Refusal → List ℕ
+refused_line place r = codes "refused: " ⧺ item_refused place r ⧺ newline
+
+unfoldable pub closing_line : Closing → List ℕ
+closing_line (closing.Result id) = result_line id
+closing_line (closing.Refused place r) = refused_line place r
+closing_line (closing.Fault f offset) = fault_line f offset
+
+-- the status: 0 for a result
+abbrev pub closing_status : Closing → ℕ
+closing_status (closing.Result id) = 0
+closing_status (closing.Refused place r) = 1
+closing_status (closing.Fault f offset) = 1
+
+-- the lines of all objects, and the closing line
+unfoldable pub report_text : List Object → Closing → List ℕ
+report_text heap c = objects_text heap ⧺ closing_line c
+
+-- ---- the report of a document
+
+-- why the machine refuses an item, if it is there and is refused
+abbrev pub refused_on : Option Operation → State → Option Refusal
+refused_on (Some o) s = refusal_at o s
+refused_on None s = None
+
+-- how a run ends that has come to a place: the machine refuses the item there; or behind the last item STOP has left a
+-- result, or the tail has a fault
+abbrev pub Closes : Contents → ℕ → State → Closing → Type 0
+Closes d place s (closing.Result id) = (place ≡ length (items_of d)) × (end_of d ≡ end.Stopped) × (s.result ≡ Some id)
+Closes d place s (closing.Refused k r) = (k ≡ place) × (refused_on (item_at d place) s ≡ Some r)
+Closes d place s (closing.Fault f offset) = (place ≡ length (items_of d)) × (end_of d ≡ end.Fault f offset)
+
+-- the items are run from nothing as far as they have moves; the state that they reach and the closing of their run give
+-- the text and the status
+pub record IsReport (d : Contents) (text : List ℕ) (status : ℕ) : Type 0 where
+  pub place : ℕ
+  pub state : State
+  pub closing : Closing
+  pub reached : run (operations (items_of d)) place ≡ Some state
+  pub closes : Closes d place state closing
+  pub lines : text ≡ report_text state.heap closing
+  pub answers : status ≡ closing_status closing
+
+-- the report was written, and this is its status
+abbrev pub WroteReport : Contents → Told → Told → ℕ → Type 0
+WroteReport d old new status = (text : List ℕ) × IsReport d text status × Wrote old new text
+
+-- a front of it was written, and then a failure came
+abbrev pub BrokeReport : Contents → Told → Told → Type 0
+BrokeReport d old new = (text : List ℕ) × (status : ℕ) × IsReport d text status × Broke old new text
+
+-- ---- laws
+
+-- a document has one report, with one status
+abbrev pub OneReport : Type 0
+OneReport = (d : Contents) (text other : List ℕ) (status last : ℕ) → IsReport d text status → IsReport d other last → (text ≡ other) × (status ≡ last)
