@@ -13,7 +13,7 @@ use Rattle.pickle_doc.specs.DocUnit.{operations}
 use Rattle.pickle_doc.specs.Document.{Contents, items_of}
 use Rattle.pickle_doc.specs.Place.{item_at, end_of}
 use Rattle.pickle_machine.specs.declared.refusal.Refusal.{Refusal}
-use Rattle.pickle_machine.specs.State.{State}
+use Rattle.pickle_machine.specs.State.{State, last_result}
 use Rattle.pickle_machine.specs.Move.{next, outcome, refusal_at, move}
 use Rattle.pickle_machine.specs.Run.{after, run}
 use Rattle.pickle_report.specs.declared.report.Closing.{Closing}
@@ -78,7 +78,7 @@ no_further d place s (closing.Refused k r) p e h =
     absurd cc
 
 one_closing : (d : Contents) (place : ℕ) (s : State) (b c : Closing) → Closes d place s b → Closes d place s c → b ≡ c
-one_closing d place s (closing.Result i) (closing.Result j) g h = ap (λ (n : ℕ). closing.Result n) (some_same s.result i j g.2 h.2)
+one_closing d place s (closing.Result i) (closing.Result j) g h = ap (λ (n : ℕ). closing.Result n) (some_same (last_result s) i j g.2 h.2)
 one_closing d place s (closing.Result i) (closing.Refused k r) g h = absurd (none_behind d place s r g.0 h.1)
 one_closing d place s (closing.Result i) (closing.Fault f offset) g h = let no : end.Stopped ≡ end.Fault f offset = sym g.1 ∙ h.1 in absurd cc
 one_closing d place s (closing.Refused k r) (closing.Result j) g h = absurd (none_behind d place s r h.0 g.1)

@@ -1,6 +1,6 @@
 -- How the run of a document goes on, and how it ends.
-use Rattle.std.proofs.Common.{◌≡◌, ℕ, suc, ◌+◌, ◌≤◌, Bool, true, false, List, [], ◌∷◌, length, get_or, slice_get, Option, Some, None, Result, Ok, Err, refl, sym, ap, subst, ◌∙◌, arith, length-append}
-use Rattle.std.specs.Prelude.{IsSome}
+use Rattle.std.proofs.Common.{◌≡◌, ℕ, suc, ◌+◌, ◌≤◌, Bool, true, false, List, [], ◌∷◌, ◌++◌, ◌-◌, length, get_or, slice_get, Option, Some, None, Result, Ok, Err, refl, sym, ap, subst, ◌∙◌, arith, length-append}
+use Rattle.std.specs.Prelude.{IsSome, is_some}
 use Rattle.std.specs.Result.{result_ok}
 use Rattle.std.proofs.lemmas.List.{length-map}
 use Rattle.std.proofs.lemmas.Option.{slice_get_read}
@@ -18,9 +18,10 @@ use Rattle.pickle_objects.specs.declared.row.Row.{Row}
 use Rattle.pickle_objects.specs.declared.row.Row.TheVariants as row
 use Rattle.pickle_objects.specs.Row.{row_of, row_of_opcode, kind_of}
 use Rattle.pickle_machine.specs.declared.refusal.Refusal.{Refusal}
-use Rattle.pickle_machine.specs.State.{State, empty}
-use Rattle.pickle_machine.specs.Move.{next, next_of, outcome, refusal_at, move}
+use Rattle.pickle_machine.specs.State.{State, empty, last_result}
+use Rattle.pickle_machine.specs.Move.{deep, next, next_of, outcome, refusal_at, move}
 use Rattle.pickle_machine.specs.Run.{after, run}
+use Rattle.pickle_machine.proofs.Shown.{last_of_more}
 use Rattle.pickle_ops.specs.Device.{Told, Wrote, Broke}
 use Rattle.pickle_report.specs.declared.report.Closing.{Closing}
 use Rattle.pickle_report.specs.Report.{closing_status, report_text, Closes, WroteReport, BrokeReport}
@@ -97,14 +98,19 @@ next_is : (r : Option Refusal) (s t : State) → outcome r s ≡ Ok t → s ≡ 
 next_is None s t e = cc
 next_is (Some r) s t e = absurd cc
 
+last_there : (xs : List ℕ) (x : ℕ) → IsSome (slice_get (xs ++ x ∷ []) (length (xs ++ x ∷ []) - 1))
+last_there xs x =
+    let last : length (xs ++ x ∷ []) - 1 ≡ length xs = omega (arith, length-append xs (x ∷ [])) in
+    ap (λ (i : ℕ). is_some (slice_get (xs ++ x ∷ []) i)) last ∙ ap (λ (g : Option ℕ). is_some g) (last_of_more xs x)
+
 -- STOP leaves a result
-result_of_stop : (o : Operation) (n : ℕ) (s t : State) → o.opcode ≡ op.Stop → move o n s ≡ Ok t → IsSome t.result
+result_of_stop : (o : Operation) (n : ℕ) (s t : State) → o.opcode ≡ op.Stop → move o n s ≡ Ok t → IsSome (last_result t)
 result_of_stop o n s t e h =
     let ends : row_of o ≡ row.Stop = ap (λ (x : Opcode). row_of_opcode x o.arg) e in
     let after_it : next_of row.Stop (kind_of o) n s ≡ t = ap (λ (r : Row). next_of r (kind_of o) n s) (sym ends) ∙ next_is (refusal_at o s) (next o n s) t h in
-    subst (λ (u : State). IsSome u.result) after_it refl
+    subst (λ (u : State). IsSome (last_result u)) after_it (last_there s.results (deep 0 s.top))
 
-pub result_there : (d : Contents) (s : State) → IsDocument d → end_of d ≡ end.Stopped → run (operations (items_of d)) (length (items_of d)) ≡ Some s → IsSome s.result
+pub result_there : (d : Contents) (s : State) → IsDocument d → end_of d ≡ end.Stopped → run (operations (items_of d)) (length (items_of d)) ≡ Some s → IsSome (last_result s)
 result_there d s is e r =
     let ops : List Operation = operations (items_of d) in
     let l : LastStop (items_of d) = last_stop (items_of d) (stopped (stops (items_of d)) (open_of d.units) (tail_offset d) d.tail d.finish is.formed.finish e) in

@@ -9,7 +9,7 @@ use Rattle.pickle_doc.specs.Document.{Contents, items_of}
 use Rattle.pickle_doc.specs.Place.{item_at, end_of}
 use Rattle.pickle_objects.specs.Object.{Object}
 use Rattle.pickle_machine.specs.declared.refusal.Refusal.{Refusal}
-use Rattle.pickle_machine.specs.State.{State}
+use Rattle.pickle_machine.specs.State.{State, last_result}
 use Rattle.pickle_machine.specs.Move.{refusal_at}
 use Rattle.pickle_machine.specs.Run.{run}
 use Rattle.pickle_ops.specs.Device.{Told, Wrote, Broke}
@@ -51,7 +51,7 @@ refused_on None s = None
 -- how a run ends that has come to a place: the machine refuses the item there; or behind the last item STOP has left a
 -- result, or the tail has a fault
 abbrev pub Closes : Contents → ℕ → State → Closing → Type 0
-Closes d place s (closing.Result id) = (place ≡ length (items_of d)) × (end_of d ≡ end.Stopped) × (s.result ≡ Some id)
+Closes d place s (closing.Result id) = (place ≡ length (items_of d)) × (end_of d ≡ end.Stopped) × (last_result s ≡ Some id)
 Closes d place s (closing.Refused k r) = (k ≡ place) × (refused_on (item_at d place) s ≡ Some r)
 Closes d place s (closing.Fault f offset) = (place ≡ length (items_of d)) × (end_of d ≡ end.Fault f offset)
 

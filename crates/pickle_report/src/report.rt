@@ -4,7 +4,7 @@ ghost use Rattle.std.specs.Prelude.{◌≡◌, ◌≢◌, ℕ, ◌+◌, ◌-◌,
 ghost use Rattle.pickle_doc.specs.DocUnit.{operations};
 ghost use Rattle.pickle_doc.specs.Document.{items_of, IsDocument};
 ghost use Rattle.pickle_doc.specs.Place.{item_at};
-ghost use Rattle.pickle_machine.specs.State.{empty};
+ghost use Rattle.pickle_machine.specs.State.{empty, last_result};
 ghost use Rattle.pickle_machine.specs.Run.{run};
 ghost use Rattle.pickle_ops.specs.Device.{Writes};
 ghost use Rattle.pickle_report.specs.Report.{result_line, refused_line, closing_line, closing_status, report_text, refused_on, Closes, WroteReport, BrokeReport};
@@ -97,8 +97,8 @@ pub fn write_report<S: Sink>(
 
 /// The result that a machine has.
 fn result_of(machine: &Machine) -> ObjId
-    requires { IsSome machine.now.state.result }
-    ensures { machine.now.state.result ≡ Some result }
+    requires { IsSome (last_result machine.now.state) }
+    ensures { last_result machine.now.state ≡ Some result }
 {
     machine.result().unwrap()
 }

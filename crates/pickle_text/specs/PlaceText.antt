@@ -10,7 +10,7 @@ use Rattle.pickle_doc.specs.declared.fault.End.{End}
 use Rattle.pickle_doc.specs.DocUnit.{sizes}
 use Rattle.pickle_doc.specs.Document.{Contents, items_of}
 use Rattle.pickle_doc.specs.Place.{item_at, end_of}
-use Rattle.pickle_machine.specs.State.{State}
+use Rattle.pickle_machine.specs.State.{State, last_result}
 use Rattle.pickle_session.specs.Session.{Session, len_of, has_break}
 use Rattle.pickle_text.specs.Column.{right, newline}
 use Rattle.pickle_text.specs.FaultText.{end_text}
@@ -33,9 +33,9 @@ unfoldable pub result_text : Option ℕ → List ℕ
 result_text None = codes "none"
 result_text (Some id) = codes "#" ⧺ decimal id
 
--- what the machine has counted, and its result
+-- what the machine has counted, and its latest result
 unfoldable pub reached_text : State → List ℕ
-reached_text t = codes ", buffers " ⧺ decimal t.buffers ⧺ codes ", result " ⧺ result_text t.result
+reached_text t = codes ", buffers " ⧺ decimal t.buffers ⧺ codes ", result " ⧺ result_text (last_result t)
 
 unfoldable pub ending_text : End → List ℕ
 ending_text e = codes ", end " ⧺ end_text e ⧺ newline
