@@ -9,7 +9,7 @@ use Rattle.pickle_doc.specs.DocUnit.{sizes, operations}
 use Rattle.pickle_doc.specs.Document.{Contents, items_of, document_bytes, size_limit}
 use Rattle.pickle_doc.specs.Place.{item_at}
 use Rattle.pickle_doc.proofs.Units.{sizes-append, length_document}
-use Rattle.pickle_text.specs.Column.{blanks}
+use Rattle.pickle_page.specs.Column.{blanks}
 use Rattle.pickle_text.specs.PlaceText.{offset_before, behind_name}
 
 -- ---- columns

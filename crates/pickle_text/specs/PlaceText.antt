@@ -12,7 +12,7 @@ use Rattle.pickle_doc.specs.Document.{Contents, items_of}
 use Rattle.pickle_doc.specs.Place.{item_at, end_of}
 use Rattle.pickle_machine.specs.State.{State}
 use Rattle.pickle_session.specs.Session.{Session, len_of, has_break}
-use Rattle.pickle_text.specs.Column.{right, newline}
+use Rattle.pickle_page.specs.Column.{right, newline}
 use Rattle.pickle_text.specs.FaultText.{end_text}
 
 -- how many bytes spell the items before a place
