@@ -1,4 +1,4 @@
-use Rattle.std.proofs.Common.{◌-◌, ℕ, length, sym, ap, arith}
+use Rattle.std.proofs.Common.{◌-◌, ℕ, length, ap, arith}
 use Rattle.pickle_doc.proofs.Sources.{first_placed}
 use Rattle.pickle_doc.proofs.document_items.DocumentItems.new.Goals as goal
 

@@ -1,7 +1,6 @@
 -- What stands next is the next item, and behind the items what stands next in the tail.
-use Rattle.std.proofs.Common.{◌≡◌, ◌+◌, arith, Some, None, sym, ap, subst, ◌∙◌}
+use Rattle.std.proofs.Common.{◌≡◌, arith, Some, None, sym, ap, ◌∙◌}
 use Rattle.pickle_doc.specs.Place.{item_at}
-use Rattle.pickle_doc.specs.Unread.{Unread, Follows, unread_at}
 use Rattle.pickle_doc.proofs.Sources.{item_follows, item_placed, item_bounded, placed_behind, follows_behind}
 use Rattle.pickle_doc.proofs.document_items.DocumentItemsItemSource.next.Goals as goal
 
