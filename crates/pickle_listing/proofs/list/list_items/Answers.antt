@@ -88,6 +88,13 @@ returns-in_err-follow_marks-in-Item-clause-err g c =
     let w = with_line _ _ _ _ _ _ _ _ _ _ c.in-Item.op _ _ _ c.items.invariant n.0 (rw (c.marks_len-marks.ensures, c.note_unless_refused-note.ensures, c.as_slice.ensures.value, c.refusal-refusal.ensures.first, c.of_ref-row.ensures) at c.in_ok-put_item-in-Item.ensures) in
     cut_memory _ _ _ _ c.from_residual-in_err-follow_marks-in-Item.ensures.1 (line_stops _ _ _ _ _ _ _ _ c.in-Item.op _ _ _ w)
 
+pub overflow_add-offset : goal.overflow_add-offset
+overflow_add-offset g c =
+    let n : IsNextItem (g.I.ItemSource.unread c.items.reader).left (g.I.ItemSource.unread c.items.reader).rest c.in-Item.op (size_of c.in-Item.op)
+    × (g.I.ItemSource.unread c.next.new.self ≡ record { rest = drop (size_of c.in-Item.op) (g.I.ItemSource.unread c.items.reader).rest; left = left_behind (g.I.ItemSource.unread c.items.reader).left c.in-Item.op }) = rw c.in-Item.is at c.next.ensures in
+    let b = bounds _ _ _ _ _ _ _ _ c.in-Item.op _ _ _ c.items.invariant n.0 in
+    omega (arith, b.behind, c.size.ensures, c.requires.small)
+
 pub overflow_add-place : goal.overflow_add-place
 overflow_add-place g c =
     let n : IsNextItem (g.I.ItemSource.unread c.items.reader).left (g.I.ItemSource.unread c.items.reader).rest c.in-Item.op (size_of c.in-Item.op)
