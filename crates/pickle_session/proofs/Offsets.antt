@@ -7,9 +7,9 @@ use Rattle.pickle_doc.specs.declared.item.Item.{Item}
 use Rattle.pickle_doc.specs.Alike.{AreAlike, AgreeBefore}
 use Rattle.pickle_doc.specs.DocUnit.{DocUnit, Loose, Frame, is_frame, item_size, sizes, flat, operations}
 use Rattle.pickle_doc.specs.Document.{Contents, items_of, document_bytes, IsPlain, IsUnit, IsDocument, size_limit}
-use Rattle.pickle_doc.specs.Place.{offset_at}
+use Rattle.pickle_doc.specs.Place.{offset_of, offset_at}
 use Rattle.pickle_doc.proofs.Units.{length_document}
-use Rattle.pickle_session.specs.Session.{len_of, size_before}
+use Rattle.pickle_session.specs.Session.{len_of}
 
 -- ---- one item more
 
@@ -20,7 +20,7 @@ size_next (x ∷ xs) zero o e =
     omega (arith, ap (λ (p : Operation). size_of p) same)
 size_next (x ∷ xs) (suc k) o e = omega (arith, size_next xs k o e)
 
-pub size_more : (d : Contents) (k : ℕ) (o : Operation) → slice_get (operations (items_of d)) k ≡ Some o → size_before d (k + 1) ≡ size_before d k + size_of o
+pub size_more : (d : Contents) (k : ℕ) (o : Operation) → slice_get (operations (items_of d)) k ≡ Some o → offset_of d (k + 1) ≡ offset_of d k + size_of o
 size_more d k o e = let same : k + 1 ≡ suc k = omega arith in rw same (size_next (items_of d) k o e)
 
 sizes-front : (xs : List Item) (k : ℕ) → sizes (take k xs) ≤ sizes xs
@@ -28,10 +28,10 @@ sizes-front xs zero = omega arith
 sizes-front [] (suc k) = omega arith
 sizes-front (x ∷ xs) (suc k) = omega (arith, sizes-front xs k)
 
-pub size_small : (d : Contents) (k : ℕ) → length (document_bytes d) ≤ size_limit → size_before d k ≤ size_limit
+pub size_small : (d : Contents) (k : ℕ) → length (document_bytes d) ≤ size_limit → offset_of d k ≤ size_limit
 size_small d k h = omega (arith, h, length_document d, sizes-front (items_of d) k)
 
-pub offset_is : (d : Contents) (k : ℕ) → k ≤ len_of d → offset_at d k ≡ Some (size_before d k)
+pub offset_is : (d : Contents) (k : ℕ) → k ≤ len_of d → offset_at d k ≡ Some (offset_of d k)
 offset_is d k h = rw (le-leb k (len_of d) h) refl
 
 -- ---- a FRAME takes nine bytes, whatever its number
@@ -71,6 +71,6 @@ sizes-alike (suc k) (x ∷ xs) (y ∷ ys) h a b g =
     omega (arith, one, sizes-alike k xs ys (omega (arith, h)) a.1 b.1 (λ i w l e. g (suc i) w (omega (arith, l)) e))
 
 -- where documents agree before a place, what stands before it takes as many bytes
-pub size_alike : (d e : Contents) (k place n : ℕ) → IsDocument d → IsDocument e → k ≤ len_of d → k ≤ place → AgreeBefore place (items_of d) (items_of e) → size_before d k ≡ n → size_before e k ≡ n
+pub size_alike : (d e : Contents) (k place n : ℕ) → IsDocument d → IsDocument e → k ≤ len_of d → k ≤ place → AgreeBefore place (items_of d) (items_of e) → offset_of d k ≡ n → offset_of e k ≡ n
 size_alike d e k place n is js h near g is_n =
     sizes-alike k (items_of d) (items_of e) h (frame_sizes d.units is.formed.units) (frame_sizes e.units js.formed.units) (λ i x l s. g i x (omega (arith, l, near)) s) ∙ is_n

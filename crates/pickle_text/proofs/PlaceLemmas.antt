@@ -7,10 +7,10 @@ use Rattle.pickle_ops.specs.Text.{◌⧺◌}
 use Rattle.pickle_doc.specs.declared.item.Item.{Item}
 use Rattle.pickle_doc.specs.DocUnit.{sizes, operations}
 use Rattle.pickle_doc.specs.Document.{Contents, items_of, document_bytes, size_limit}
-use Rattle.pickle_doc.specs.Place.{item_at}
+use Rattle.pickle_doc.specs.Place.{item_at, offset_of}
 use Rattle.pickle_doc.proofs.Units.{sizes-append, length_document}
-use Rattle.pickle_text.specs.Column.{blanks}
-use Rattle.pickle_text.specs.PlaceText.{offset_before, behind_name}
+use Rattle.pickle_page.specs.Column.{blanks}
+use Rattle.pickle_text.specs.PlaceText.{behind_name}
 
 -- ---- columns
 
@@ -42,24 +42,24 @@ sizes-past [] (suc k) e = refl
 sizes-past (i ∷ items) zero e = absurd cc
 sizes-past (i ∷ items) (suc k) e = omega (arith, sizes-past items k e)
 
-one_more : (d : Contents) (k : ℕ) → offset_before d (k + 1) ≡ offset_before d (suc k)
-one_more d k = let e : k + 1 ≡ suc k = omega arith in ap (offset_before d) e
+one_more : (d : Contents) (k : ℕ) → offset_of d (k + 1) ≡ offset_of d (suc k)
+one_more d k = let e : k + 1 ≡ suc k = omega arith in ap (offset_of d) e
 
 -- the offset behind an item
-pub offset_behind : (d : Contents) (k offset : ℕ) (o : Operation) → item_at d k ≡ Some o → offset ≡ offset_before d k → offset + size_of o ≡ offset_before d (k + 1)
+pub offset_behind : (d : Contents) (k offset : ℕ) (o : Operation) → item_at d k ≡ Some o → offset ≡ offset_of d k → offset + size_of o ≡ offset_of d (k + 1)
 offset_behind d k offset o e is = omega (arith, one_more d k, sizes-next (items_of d) k o e, is)
 
 -- where there is no item, no offset rises
-pub offset_stays : (d : Contents) (k offset : ℕ) → item_at d k ≡ None → offset ≡ offset_before d k → offset ≡ offset_before d (k + 1)
+pub offset_stays : (d : Contents) (k offset : ℕ) → item_at d k ≡ None → offset ≡ offset_of d k → offset ≡ offset_of d (k + 1)
 offset_stays d k offset e is = omega (arith, one_more d k, sizes-past (items_of d) k e, is)
 
 pub ruleset offset_steps = (offset_behind, offset_stays)
 
 -- each offset is one of the document's bytes
-pub offset_within : (d : Contents) (k : ℕ) → offset_before d k ≤ length (document_bytes d)
+pub offset_within : (d : Contents) (k : ℕ) → offset_of d k ≤ length (document_bytes d)
 offset_within d k =
     omega (arith, sizes-append (take k (items_of d)) (drop k (items_of d)), ap sizes (take-append-drop k (items_of d)), length_document d)
 
 -- it has 64 bits
-pub offset_fits : (d : Contents) (k offset : ℕ) (o : Operation) → length (document_bytes d) ≤ size_limit → item_at d k ≡ Some o → offset ≡ offset_before d k → offset + size_of o < 2 ^ 64
+pub offset_fits : (d : Contents) (k offset : ℕ) (o : Operation) → length (document_bytes d) ≤ size_limit → item_at d k ≡ Some o → offset ≡ offset_of d k → offset + size_of o < 2 ^ 64
 offset_fits d k offset o small e is = omega (arith, offset_behind d k offset o e is, offset_within d (k + 1), small)

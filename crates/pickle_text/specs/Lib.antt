@@ -1,6 +1,5 @@
 -- The definitions that contracts cite.
 pub mod Grammar
-pub mod Column
 pub mod FaultText
 pub mod ReplyText
 pub mod PlaceText

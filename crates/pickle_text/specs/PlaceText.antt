@@ -1,23 +1,17 @@
 -- Where a session stands, and the items of its document.
 -- Source: own.
-use Rattle.std.specs.Prelude.{ℕ, List, [], ◌∷◌, codes, decimal, Bool, ◌==◌, if◌then◌else◌, take, Option, None, Some}
+use Rattle.std.specs.Prelude.{ℕ, List, [], ◌∷◌, codes, decimal, Bool, ◌==◌, if◌then◌else◌, Option, None, Some}
 use Rattle.std.specs.Option.{option_map_or}
 use Rattle.pickle_ops.specs.Spelling.{Operation}
 use Rattle.pickle_ops.specs.Table.{name_of}
 use Rattle.pickle_ops.specs.Text.{◌⧺◌, arg_text}
 use Rattle.pickle_ops.specs.Device.{each_below}
 use Rattle.pickle_doc.specs.declared.fault.End.{End}
-use Rattle.pickle_doc.specs.DocUnit.{sizes}
-use Rattle.pickle_doc.specs.Document.{Contents, items_of}
-use Rattle.pickle_doc.specs.Place.{item_at, end_of}
+use Rattle.pickle_doc.specs.Place.{item_at, offset_of, end_of}
 use Rattle.pickle_machine.specs.State.{State, last_result}
 use Rattle.pickle_session.specs.Session.{Session, len_of, has_break}
-use Rattle.pickle_text.specs.Column.{right, newline}
+use Rattle.pickle_page.specs.Column.{right, newline}
 use Rattle.pickle_text.specs.FaultText.{end_text}
-
--- how many bytes spell the items before a place
-abbrev pub offset_before : Contents → ℕ → ℕ
-offset_before d k = sizes (take k (items_of d))
 
 -- ---- where the cursor stands: `at K of N, offset O, buffers B, result R, end E`
 
@@ -43,7 +37,7 @@ ending_text e = codes ", end " ⧺ end_text e ⧺ newline
 -- of a session whose machine has this state
 unfoldable pub where_text : Session → State → List ℕ
 where_text s t =
-    cursor_text s.cursor (len_of s.document) ⧺ offset_text (offset_before s.document s.cursor) ⧺ reached_text t ⧺ ending_text (end_of s.document)
+    cursor_text s.cursor (len_of s.document) ⧺ offset_text (offset_of s.document s.cursor) ⧺ reached_text t ⧺ ending_text (end_of s.document)
 
 -- ---- items
 
@@ -70,7 +64,7 @@ place_columns k offset = right 5 (decimal k) ⧺ codes " " ⧺ right 5 (decimal 
 -- the line of an item at a place
 unfoldable pub item_line : Session → ℕ → Operation → List ℕ
 item_line s k o =
-    signs (k == s.cursor) (has_break s k) ⧺ place_columns k (offset_before s.document k) ⧺ codes ": " ⧺ op_text o ⧺ newline
+    signs (k == s.cursor) (has_break s k) ⧺ place_columns k (offset_of s.document k) ⧺ codes ": " ⧺ op_text o ⧺ newline
 
 -- where there is an item
 unfoldable pub line_at : Session → ℕ → List ℕ

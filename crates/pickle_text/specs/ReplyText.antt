@@ -14,7 +14,7 @@ use Rattle.pickle_session.specs.declared.reply.Reply.{Reply}
 use Rattle.pickle_session.specs.declared.reply.Reply.TheVariants as reply
 use Rattle.pickle_text.specs.declared.line.Syntax.{Syntax}
 use Rattle.pickle_text.specs.declared.line.Syntax.TheVariants as syntax
-use Rattle.pickle_text.specs.Column.{newline}
+use Rattle.pickle_page.specs.Column.{newline}
 use Rattle.pickle_text.specs.FaultText.{refusal_text, end_text, op_fault_text}
 
 -- ---- refused commands

@@ -2,7 +2,7 @@
 
 ghost use Rattle.std.specs.Prelude.{◌≤◌, decimal};
 ghost use Rattle.pickle_ops.specs.Device.{Writes};
-ghost use Rattle.pickle_text.specs.Column.{blanks, right};
+ghost use Rattle.pickle_page.specs.Column.{blanks, right};
 
 use itoa::Buffer;
 use pickle_ops::{Failed, Sink, write_all};
@@ -23,7 +23,7 @@ fn write_blanks<S: Sink>(count: usize, sink: &mut S) -> Result<(), Failed>
 }
 
 /// Writes a text at the right of a column.
-#[tactic(auto, using(pickle_ops::proofs::Devices::text_steps), unfolding(crate::specs::Column::right))]
+#[tactic(auto, using(pickle_ops::proofs::Devices::text_steps), unfolding(pickle_page::specs::Column::right))]
 fn write_right_text<S: Sink>(text: &[u8], sink: &mut S) -> Result<(), Failed>
     ensures { Writes (S.told sink.old) (S.told sink.new) result (right 5 text.now) }
 {

@@ -2,7 +2,8 @@
 
 ghost use Rattle.std.specs.Prelude.{◌≡◌, ◌+◌, IfOk};
 ghost use Rattle.pickle_ops.specs.Device.{Writes};
-ghost use Rattle.pickle_text.specs.PlaceText.{offset_before, sign_if, signs, op_text, place_columns, item_line, line_at, items_text};
+ghost use Rattle.pickle_doc.specs.Place.{offset_of};
+ghost use Rattle.pickle_text.specs.PlaceText.{sign_if, signs, op_text, place_columns, item_line, line_at, items_text};
 
 use crate::column::write_right;
 use pickle_ops::{Failed, Op, Sink, write_all, write_arg_text};
@@ -55,7 +56,7 @@ fn write_item<P: Past, S: Sink>(
     op: &Op,
     sink: &mut S,
 ) -> Result<(), Failed>
-    requires { offset ≡ offset_before session.now.session.document place }
+    requires { offset ≡ offset_of session.now.session.document place }
     ensures { Writes (S.told sink.old) (S.told sink.new) result (item_line session.now.session place op.now) }
 {
     let at_cursor = place == session.cursor();
@@ -74,9 +75,9 @@ fn write_line_at<P: Past, S: Sink>(
     offset: u64,
     sink: &mut S,
 ) -> Result<u64, Failed>
-    requires { offset ≡ offset_before session.now.session.document place }
+    requires { offset ≡ offset_of session.now.session.document place }
     ensures line { Writes (S.told sink.old) (S.told sink.new) result (line_at session.now.session place) }
-    ensures offset { IfOk result (λ next. next ≡ offset_before session.now.session.document (place + 1)) }
+    ensures offset { IfOk result (λ next. next ≡ offset_of session.now.session.document (place + 1)) }
 {
     let document = session.document();
     let _total = document.total();

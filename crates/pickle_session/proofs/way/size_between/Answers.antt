@@ -1,7 +1,6 @@
 use Rattle.std.proofs.Common.{◌≡◌, ◌+◌, ◌<◌, ◌≤◌, ◌^◌, Some, sym, arith, rules}
 use Rattle.pickle_doc.specs.Document.{size_limit}
-use Rattle.pickle_doc.specs.Place.{item_at}
-use Rattle.pickle_session.specs.Session.{size_before}
+use Rattle.pickle_doc.specs.Place.{item_at, offset_of}
 use Rattle.pickle_session.proofs.Offsets.{size_more, size_small}
 use Rattle.pickle_session.proofs.way.size_between.Goals as goal
 
@@ -10,7 +9,7 @@ overflow_add-size c =
     let d = c.args.document.now.contents in
     let there : item_at d c.loop-place.place ≡ Some c.unwrap.result.now = sym (rw c.unwrap.ensures at c.item.ensures) in
     let more = size_more d c.loop-place.place c.unwrap.result.now there in
-    let small : size_before d (c.loop-place.place + 1) ≤ size_limit = size_small d (c.loop-place.place + 1) (omega (arith, c.total-total.ensures.value, c.total-total.ensures.within)) in
+    let small : offset_of d (c.loop-place.place + 1) ≤ size_limit = size_small d (c.loop-place.place + 1) (omega (arith, c.total-total.ensures.value, c.total-total.ensures.within)) in
     let fits : c.loop-place.size + c.size.result < 2 ^ 64 = omega (arith, small, more, c.size.ensures, c.loop-place.invariant) in
     search rules
 

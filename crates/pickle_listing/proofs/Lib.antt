@@ -1,0 +1,9 @@
+pub mod Blanks
+pub mod Names
+pub mod Moves
+pub mod Places
+pub mod Listings
+pub mod PageLines
+pub mod Listed
+pub mod Apart
+pub mod Cuts

@@ -1,0 +1,333 @@
+-- The loop that lists items as they are read.
+use Rattle.std.proofs.Common.{◌≡◌, ℕ, suc, ◌+◌, ◌<◌, ◌≤◌, Bool, true, false, List, [], ◌++◌, length, drop, Option, Some, None, Ok, refl, sym, ap, ◌∙◌, add-one, append_assoc, arith}
+use Rattle.std.specs.Prelude.{MatchBool, if◌then◌else◌}
+use Rattle.std.specs.Option.{option_map}
+use Rattle.std.proofs.lemmas.List.{take_all, length-map, append-nil}
+use Rattle.pickle_ops.specs.declared.opcode.Opcode.{Opcode}
+use Rattle.pickle_ops.specs.declared.opcode.Opcode.TheVariants as op
+use Rattle.pickle_ops.specs.Text.{◌⧺◌}
+use Rattle.pickle_ops.specs.Device.{Told, Wrote, Broke, WroteAllBut}
+use Rattle.pickle_ops.specs.Table.{protocol_of}
+use Rattle.pickle_ops.specs.Spelling.{Operation, size_of}
+use Rattle.pickle_ops.proofs.Devices.{Wrote-trans, Broke-after, WroteAllBut-none, WroteAllBut-front}
+use Rattle.pickle_doc.specs.declared.item.Item.{Item}
+use Rattle.pickle_doc.specs.declared.fault.TailFault.{TailFault}
+use Rattle.pickle_doc.specs.declared.fault.Finish.{Finish}
+use Rattle.pickle_doc.specs.declared.fault.Finish.TheVariants as finish
+use Rattle.pickle_doc.specs.DocUnit.{sizes, is_stop, ends_reading}
+use Rattle.pickle_doc.specs.Document.{Contents, items_of, document_bytes, ReadsAs, size_limit}
+use Rattle.pickle_doc.specs.Tail.{HasTailFault}
+use Rattle.pickle_doc.specs.Fitting.{left_behind}
+use Rattle.pickle_doc.specs.Next.{IsNextItem}
+use Rattle.pickle_doc.specs.Place.{ops_of, item_at, tail_offset}
+use Rattle.pickle_objects.specs.declared.kind.Kind.{Kind}
+use Rattle.pickle_objects.specs.declared.row.Row.{Row}
+use Rattle.pickle_objects.specs.declared.row.Row.TheVariants as row
+use Rattle.pickle_objects.specs.Row.{row_of, kind_of}
+use Rattle.pickle_machine.specs.declared.refusal.Refusal.{Refusal}
+use Rattle.pickle_machine.specs.State.{State, empty, stack_size}
+use Rattle.pickle_machine.specs.Run.{run}
+use Rattle.pickle_machine.specs.Move.{move, outcome, next_of, refusal_of, refusal_at, takes_mark}
+use Rattle.pickle_outline.specs.Outline.{outline, plain, bared}
+use Rattle.pickle_doc.specs.Stream.{StandsAt, IsDone, Gives}
+use Rattle.pickle_outline.proofs.Outlines.{refusals_read_outlines, moves_read_outlines}
+use Rattle.pickle_doc.proofs.Streams.{stands_first, item_is, fault_is}
+use Rattle.pickle_page.proofs.Puts.{then_put, then_broken}
+use Rattle.pickle_listing.specs.declared.note.Note.{Note}
+use Rattle.pickle_listing.specs.declared.note.Note.TheVariants as note
+use Rattle.pickle_report.specs.Line.{fault_line}
+use Rattle.pickle_listing.specs.Line.{item_line, refused_line, left_line, kept_line, protocol_line, raised}
+use Rattle.pickle_listing.specs.Listing.{note_with, note_unless, key_note, line_at, left_by, lines, end_lines, end_status}
+use Rattle.pickle_listing.specs.Marks.{last_of, followed}
+use Rattle.pickle_listing.specs.Written.{IsListed, BreaksListing, LeavesListing}
+use Rattle.pickle_listing.proofs.Listings.{Progress, Progress-none, Progress-more, line_is, begun_so_far, broken_so_far, EndsWith, refused, ended, ended_left, end_breaks, end_written, end_front, within, place_within, offset_within, ops_within}
+use Rattle.pickle_listing.proofs.Places.{lines_with, lines-zero, lines-suc}
+
+-- of the document that the bytes are, k items were read, and have moves; this is the outline of the state that they
+-- reach, and of their lines the device took all but the page
+pub record Listed (bytes : List ℕ) (old new : Told) (page rest : List ℕ) (left k offset : ℕ) (outlined : State) (opened : List ℕ) (highest : Option ℕ) : Type 0 where
+  pub d : Contents
+  pub reads : ReadsAs bytes d
+  pub stands : StandsAt d k rest left
+  pub s : State
+  pub outlines : outline s ≡ outlined
+  pub progress : Progress d k offset s opened highest
+  pub written : WroteAllBut old new (lines d k) page
+
+pub listed_none : (bytes : List ℕ) (a : Told) → (some : (d : Contents) × ReadsAs bytes d) → length bytes ≤ size_limit → Listed bytes a a [] bytes 0 0 0 empty [] None
+listed_none bytes a some small = record {
+  d = some.0;
+  reads = some.1;
+  stands = stands_first bytes some.0 (omega (arith, small)) some.1;
+  s = empty;
+  outlines = refl;
+  progress = Progress-none some.0;
+  written = rw (lines-zero some.0) (WroteAllBut-none a []);
+}
+
+-- ---- item k
+
+-- the line of an item, by the outline
+abbrev pub line_of : Operation → ℕ → State → List ℕ → List ℕ
+line_of o offset t opened = item_line o offset (length t.marked) (note_unless (refusal_of (row_of o) t) (note_with o t (last_of opened)))
+
+takes_outlined : (r : Row) (s : State) → takes_mark r (outline s) ≡ takes_mark r s
+takes_outlined (row.Cut c) s = refl
+takes_outlined (row.CutChange f) s = refl
+takes_outlined row.PopMark s = refl
+takes_outlined row.Pop s = refl
+takes_outlined _ s = refl
+
+key_outlined : (o : Opcode) (s : State) → key_note o (outline s) ≡ key_note o s
+key_outlined op.Memoize s = refl
+key_outlined _ s = refl
+
+note_outlined : (o : Operation) (s : State) (x : Option ℕ) → note_with o (outline s) x ≡ note_with o s x
+note_outlined o s x =
+    ap (λ (b : Bool). if b then option_map note.MarkAt x else key_note o.opcode (outline s)) (takes_outlined (row_of o) s)
+    ∙ ap (λ (n : Option Note). if takes_mark (row_of o) s then option_map note.MarkAt x else n) (key_outlined o.opcode s)
+
+line_outlined : (o : Operation) (offset : ℕ) (s : State) (opened : List ℕ)
+    → line_of o offset (outline s) opened ≡ item_line o offset (length s.marked) (note_unless (refusal_at o s) (note_with o s (last_of opened)))
+line_outlined o offset s opened =
+    ap (λ (n : Option Note). item_line o offset (length s.marked) (note_unless (refusal_of (row_of o) (outline s)) n)) (note_outlined o s (last_of opened))
+    ∙ ap (λ (r : Option Refusal). item_line o offset (length s.marked) (note_unless r (note_with o s (last_of opened)))) (refusals_read_outlines (row_of o) s)
+
+-- what is there: the item in the document, and its line
+record There (d : Contents) (k offset : ℕ) (o : Operation) (t : State) (opened : List ℕ) : Type 0 where
+  pub at : item_at d k ≡ Some o
+  pub line : line_at d k ≡ line_of o offset t opened
+
+there : (bytes : List ℕ) (a b : Told) (page rest : List ℕ) (left k offset : ℕ) (t : State) (opened : List ℕ) (highest : Option ℕ) (o : Operation)
+    → (w : Listed bytes a b page rest left k offset t opened highest) → IsNextItem left rest o (size_of o) → There w.d k offset o t opened
+there bytes a b page rest left k offset t opened highest o w n =
+    let g = item_is w.d k left rest o (size_of o) w.stands n in
+    record {
+      at = g.there;
+      line = line_is w.d k offset o w.s opened g.there w.progress.reached w.progress.stands w.progress.marks ∙ sym (line_outlined o offset w.s opened)
+          ∙ ap (λ (u : State). line_of o offset u opened) w.outlines;
+    }
+
+-- with the line of item k on the page
+pub record WithLine (bytes : List ℕ) (old new : Told) (page rest : List ℕ) (left k offset : ℕ) (o : Operation) (outlined : State) (opened : List ℕ) (highest : Option ℕ) : Type 0 where
+  pub d : Contents
+  pub reads : ReadsAs bytes d
+  pub gives : Gives d k o (drop (size_of o) rest) (left_behind left o)
+  pub s : State
+  pub outlines : outline s ≡ outlined
+  pub progress : Progress d k offset s opened highest
+  pub written : WroteAllBut old new (lines_with d k) page
+
+pub with_line : (bytes : List ℕ) (a b c : Told) (page next rest : List ℕ) (left k offset : ℕ) (o : Operation) (t : State) (opened : List ℕ) (highest : Option ℕ)
+    → Listed bytes a b page rest left k offset t opened highest → IsNextItem left rest o (size_of o) → WroteAllBut b c (page ++ line_of o offset t opened) next
+    → WithLine bytes a c next rest left k offset o t opened highest
+with_line bytes a b c page next rest left k offset o t opened highest w n q =
+    let here = there bytes a b page rest left k offset t opened highest o w n in
+    let whole : lines_with w.d k ≡ lines w.d k ++ line_of o offset t opened = ap (λ (l : List ℕ). lines w.d k ++ l) here.line in
+    record {
+      d = w.d;
+      reads = w.reads;
+      gives = item_is w.d k left rest o (size_of o) w.stands n;
+      s = w.s;
+      outlines = w.outlines;
+      progress = w.progress;
+      written = rw whole (then_put a b c (lines w.d k) page next (line_of o offset t opened) q w.written);
+    }
+
+pub line_breaks : (bytes : List ℕ) (a b c : Told) (page rest : List ℕ) (left k offset : ℕ) (o : Operation) (t : State) (opened : List ℕ) (highest : Option ℕ)
+    → Listed bytes a b page rest left k offset t opened highest → IsNextItem left rest o (size_of o) → Broke b c (page ++ line_of o offset t opened) → BreaksListing bytes a c
+line_breaks bytes a b c page rest left k offset o t opened highest w n q =
+    let here = there bytes a b page rest left k offset t opened highest o w n in
+    let whole : lines_with w.d k ≡ lines w.d k ++ line_of o offset t opened = ap (λ (l : List ℕ). lines w.d k ++ l) here.line in
+    let front : Broke a c (lines_with w.d k) = rw whole (then_broken a b c (lines w.d k) page (line_of o offset t opened) q w.written) in
+    (w.d, w.reads, broken_so_far a c w.d k w.s w.progress.reached (within (ops_of w.d) k o here.at) front)
+
+-- where a beginning of the page was written
+flush_broken : (a b c : Told) (text page : List ℕ) → WroteAllBut a b text page → Broke b c page → Broke a c text
+flush_broken a b c text page w q = rw w.parts (Broke-after a b c w.front page w.wrote q)
+
+flushed : (a b c : Told) (text page : List ℕ) → WroteAllBut a b text page → Wrote b c page → Wrote a c text
+flushed a b c text page w q = rw w.parts (Wrote-trans a b c w.front page w.wrote q)
+
+-- where the page is dropped
+pub line_stops : (bytes : List ℕ) (a b : Told) (page rest : List ℕ) (left k offset : ℕ) (o : Operation) (t : State) (opened : List ℕ) (highest : Option ℕ)
+    → WithLine bytes a b page rest left k offset o t opened highest → LeavesListing bytes a b
+line_stops bytes a b page rest left k offset o t opened highest w =
+    (w.d, w.reads, begun_so_far a.taken b.taken w.d k w.s w.progress.reached (within (ops_of w.d) k o w.gives.there) (WroteAllBut-front a b _ page w.written), w.written.wrote.calm)
+
+pub line_unflushed : (bytes : List ℕ) (a b c : Told) (page rest : List ℕ) (left k offset : ℕ) (o : Operation) (t : State) (opened : List ℕ) (highest : Option ℕ)
+    → WithLine bytes a b page rest left k offset o t opened highest → Broke b c page → BreaksListing bytes a c
+line_unflushed bytes a b c page rest left k offset o t opened highest w q =
+    (w.d, w.reads, broken_so_far a c w.d k w.s w.progress.reached (within (ops_of w.d) k o w.gives.there) (flush_broken a b c _ page w.written q))
+
+-- ---- ends
+
+-- the lines are written, and this text is what is left of the listing
+pub record Closes (bytes : List ℕ) (old new : Told) (text : List ℕ) (status : ℕ) : Type 0 where
+  pub d : Contents
+  pub reads : ReadsAs bytes d
+  pub front : List ℕ
+  pub written : Wrote old new front
+  pub ends : EndsWith d front text status
+
+pub closed : (bytes : List ℕ) (a b c : Told) (text : List ℕ) (status : ℕ) → Closes bytes a b text status → Wrote b c text → IsListed bytes a c status
+closed bytes a b c text status w q = (w.d, w.reads, end_written a b c w.d w.front text status w.ends w.written q, sym w.ends.answers)
+
+pub close_breaks : (bytes : List ℕ) (a b c : Told) (text : List ℕ) (status : ℕ) → Closes bytes a b text status → Broke b c text → BreaksListing bytes a c
+close_breaks bytes a b c text status w q = (w.d, w.reads, end_breaks a b c w.d w.front text status w.ends w.written q)
+
+refusal_is : (o : Operation) (s t : State) (r : Option Refusal) → outline s ≡ t → refusal_of (row_of o) t ≡ r → refusal_at o s ≡ r
+refusal_is o s t r e f = sym (refusals_read_outlines (row_of o) s) ∙ ap (λ (u : State). refusal_of (row_of o) u) e ∙ f
+
+pub refused_closes : (bytes : List ℕ) (a b c : Told) (page rest : List ℕ) (left k offset : ℕ) (o : Operation) (t : State) (opened : List ℕ) (highest : Option ℕ) (r : Refusal)
+    → WithLine bytes a b page rest left k offset o t opened highest → refusal_of (row_of o) t ≡ Some r → Wrote b c page
+    → Closes bytes a c (refused_line r ⧺ protocol_line (raised highest (protocol_of o.opcode))) 1
+refused_closes bytes a b c page rest left k offset o t opened highest r w f q = record {
+  d = w.d;
+  reads = w.reads;
+  front = lines_with w.d k;
+  written = flushed a b c _ page w.written q;
+  ends = refused w.d k offset o w.s opened r highest w.progress w.gives.there (refusal_is o w.s t (Some r) w.outlines f);
+}
+
+sizes_all : (d : Contents) (k offset : ℕ) (s : State) (opened : List ℕ) (highest : Option ℕ) → Progress d k offset s opened highest → length (ops_of d) ≡ k → tail_offset d ≡ offset
+sizes_all d k offset s opened highest p all =
+    ap sizes (sym (take_all k (items_of d) (omega (arith, all, length-map (items_of d) (λ (i : Item). i.op))))) ∙ sym p.stands
+
+pub fault_closes : (bytes : List ℕ) (a b c : Told) (page rest : List ℕ) (left k offset : ℕ) (t : State) (opened : List ℕ) (highest : Option ℕ) (f : TailFault)
+    → Listed bytes a b page rest left k offset t opened highest → HasTailFault left rest f → Wrote b c page → Closes bytes a c (fault_line f offset ⧺ protocol_line highest) 1
+fault_closes bytes a b c page rest left k offset t opened highest f w h q =
+    let done = fault_is w.d k left rest f w.stands h in
+    let e = ended w.d k offset w.s opened highest w.progress done.all in
+    let at = sizes_all w.d k offset w.s opened highest w.progress done.all in
+    record {
+      d = w.d;
+      reads = w.reads;
+      front = lines w.d k;
+      written = flushed a b c _ page w.written q;
+      ends = record {
+        whole = e.whole ∙ ap (λ (x : List ℕ). lines w.d k ++ x)
+            (ap (λ (x : Finish). end_lines w.d x ⧺ protocol_line highest) done.finish ∙ ap (λ (n : ℕ). fault_line f n ⧺ protocol_line highest) at);
+        answers = e.answers ∙ ap end_status done.finish;
+      };
+    }
+
+pub fault_unflushed : (bytes : List ℕ) (a b c : Told) (page rest : List ℕ) (left k offset : ℕ) (t : State) (opened : List ℕ) (highest : Option ℕ) (f : TailFault)
+    → Listed bytes a b page rest left k offset t opened highest → HasTailFault left rest f → Broke b c page → BreaksListing bytes a c
+fault_unflushed bytes a b c page rest left k offset t opened highest f w h q =
+    let done = fault_is w.d k left rest f w.stands h in
+    let e = ended w.d k offset w.s opened highest w.progress done.all in
+    (w.d, w.reads, end_front a c w.d _ _ _ e (flush_broken a b c _ page w.written q))
+
+-- ---- a step
+
+-- item k has moved: what is read now stands behind it
+pub record Moved (bytes : List ℕ) (old new : Told) (page rest : List ℕ) (left k offset : ℕ) (o : Operation) (outlined : State) (opened : List ℕ) (highest : Option ℕ) : Type 0 where
+  pub d : Contents
+  pub reads : ReadsAs bytes d
+  pub there : item_at d k ≡ Some o
+  pub goes : MatchBool (ends_reading o.opcode) (IsDone d (k + 1) rest finish.Stopped) (StandsAt d (k + 1) rest left)
+  pub s : State
+  pub outlines : outline s ≡ outlined
+  pub progress : Progress d (k + 1) offset s opened highest
+  pub written : WroteAllBut old new (lines_with d k) page
+
+moved_by : (o : Operation) (k : ℕ) (s : State) → refusal_at o s ≡ None → move o k s ≡ Ok (next_of (row_of o) (kind_of o) k s)
+moved_by o k s e = ap (λ (r : Option Refusal). outcome r (next_of (row_of o) (kind_of o) k s)) e
+
+pub moved : (bytes : List ℕ) (a b : Told) (page rest : List ℕ) (left k offset : ℕ) (o : Operation) (t u : State) (kind : Kind) (opened next : List ℕ) (highest : Option ℕ)
+    → WithLine bytes a b page rest left k offset o t opened highest → refusal_of (row_of o) t ≡ None → kind ≡ plain (kind_of o) → u ≡ outline (next_of (row_of o) kind k t)
+    → next ≡ followed opened (length t.marked) (length u.marked) offset
+    → Moved bytes a b page (drop (size_of o) rest) (left_behind left o) k (offset + size_of o) o u next (raised highest (protocol_of o.opcode))
+moved bytes a b page rest left k offset o t u kind opened next highest w f is e m =
+    let good : refusal_at o w.s ≡ None = refusal_is o w.s t None w.outlines f in
+    let after : State = next_of (row_of o) (kind_of o) k w.s in
+    let same : u ≡ outline after =
+    e ∙ ap (λ (x : Kind). outline (next_of (row_of o) x k t)) is ∙ ap (λ (x : State). outline (next_of (row_of o) (plain (kind_of o)) k x)) (sym w.outlines) ∙ moves_read_outlines (row_of o) (kind_of o) k w.s in
+    let before : length t.marked ≡ length w.s.marked = ap (λ (x : State). length x.marked) (sym w.outlines) in
+    let behind : length u.marked ≡ length after.marked = ap (λ (x : State). length x.marked) same in
+    let follows : next ≡ followed opened (length w.s.marked) (length after.marked) offset = m ∙ ap (λ (n : ℕ). followed opened n (length u.marked) offset) before ∙ ap (λ (n : ℕ). followed opened (length w.s.marked) n offset) behind in
+    record {
+      d = w.d;
+      reads = w.reads;
+      there = w.gives.there;
+      goes = w.gives.goes;
+      s = after;
+      outlines = sym same;
+      progress = Progress-more w.d k offset o w.s after opened next highest w.progress w.gives.there (moved_by o k w.s good) follows;
+      written = w.written;
+    }
+
+-- what the item left
+left_is : (d : Contents) (k : ℕ) (o : Operation) (s : State) → item_at d k ≡ Some o → run (ops_of d) (k + 1) ≡ Some s
+    → left_by (item_at d k) (run (ops_of d) (suc k)) ≡ (if is_stop o.opcode then left_line (stack_size s) (length s.marked) else [])
+left_is d k o s e r = rw (e, ← add-one k, r) refl
+
+pub goes_on : (bytes : List ℕ) (a b : Told) (page rest : List ℕ) (left k offset : ℕ) (o : Operation) (t : State) (opened : List ℕ) (highest : Option ℕ)
+    → Moved bytes a b page rest left k offset o t opened highest → ends_reading o.opcode ≡ false → Listed bytes a b page rest left (k + 1) offset t opened highest
+goes_on bytes a b page rest left k offset o t opened highest w miss =
+    let stands : StandsAt w.d (k + 1) rest left = rw miss at w.goes in
+    let none : left_by (item_at w.d k) (run (ops_of w.d) (suc k)) ≡ [] = left_is w.d k o w.s w.there w.progress.reached ∙ rw miss refl in
+    let all : lines w.d (k + 1) ≡ lines_with w.d k = rw (add-one k) (lines-suc w.d k ∙ ap (λ (l : List ℕ). lines_with w.d k ++ l) none ∙ append-nil (lines_with w.d k)) in
+    record { d = w.d; reads = w.reads; stands = stands; s = w.s; outlines = w.outlines; progress = w.progress; written = rw all w.written }
+
+-- what STOP left, and then the closing lines
+stop_ends : (bytes : List ℕ) (a b : Told) (page rest : List ℕ) (left k offset : ℕ) (o : Operation) (t : State) (opened : List ℕ) (highest : Option ℕ)
+    → (w : Moved bytes a b page rest left k offset o t opened highest) → ends_reading o.opcode ≡ true
+    → EndsWith w.d (lines_with w.d k) (left_line (stack_size t) (length t.marked) ⧺ kept_line (length rest) ⧺ protocol_line highest) 0
+unfolding ◌⧺◌
+stop_ends bytes a b page rest left k offset o t opened highest w hit =
+    let done : IsDone w.d (k + 1) rest finish.Stopped = rw hit at w.goes in
+    let text : List ℕ = kept_line (length rest) ++ protocol_line highest in
+    let e = ended w.d (k + 1) offset w.s opened highest w.progress done.all in
+    let closing : EndsWith w.d (lines w.d (suc k)) text 0 = rw (← add-one k) (record {
+      whole = e.whole ∙ ap (λ (x : List ℕ). lines w.d (k + 1) ++ x)
+          (ap (λ (x : Finish). end_lines w.d x ++ protocol_line highest) done.finish ∙ ap (λ (x : List ℕ). kept_line (length x) ++ protocol_line highest) done.tail);
+      answers = e.answers ∙ ap end_status done.finish;
+    }) in
+    let some : left_by (item_at w.d k) (run (ops_of w.d) (suc k)) ≡ left_line (stack_size t) (length t.marked) = left_is w.d k o w.s w.there w.progress.reached
+    ∙ rw hit (ap (λ (x : State). left_line (stack_size x) (length x.marked)) w.outlines) in
+    let last = ended_left w.d k (left_line (stack_size t) (length t.marked)) text 0 some closing in
+    record {
+      whole = last.whole ∙ ap (λ (x : List ℕ). lines_with w.d k ++ x) (sym (append_assoc (left_line (stack_size t) (length t.marked)) (kept_line (length rest)) (protocol_line highest)));
+      answers = last.answers;
+    }
+
+pub stop_closes : (bytes : List ℕ) (a b c : Told) (page rest : List ℕ) (left k offset : ℕ) (o : Operation) (t : State) (opened : List ℕ) (highest : Option ℕ)
+    → Moved bytes a b page rest left k offset o t opened highest → ends_reading o.opcode ≡ true → Wrote b c page
+    → Closes bytes a c (left_line (stack_size t) (length t.marked) ⧺ kept_line (length rest) ⧺ protocol_line highest) 0
+stop_closes bytes a b c page rest left k offset o t opened highest w hit q = record {
+  d = w.d;
+  reads = w.reads;
+  front = lines_with w.d k;
+  written = flushed a b c _ page w.written q;
+  ends = stop_ends bytes a b page rest left k offset o t opened highest w hit;
+}
+
+pub stop_unflushed : (bytes : List ℕ) (a b c : Told) (page rest : List ℕ) (left k offset : ℕ) (o : Operation) (t : State) (opened : List ℕ) (highest : Option ℕ)
+    → Moved bytes a b page rest left k offset o t opened highest → ends_reading o.opcode ≡ true → Broke b c page → BreaksListing bytes a c
+stop_unflushed bytes a b c page rest left k offset o t opened highest w hit q =
+    (w.d, w.reads, end_front a c w.d _ _ _ (stop_ends bytes a b page rest left k offset o t opened highest w hit) (flush_broken a b c _ page w.written q))
+
+-- ---- bounds
+
+pub record Bounds (bytes : List ℕ) (k offset : ℕ) (o : Operation) (t : State) : Type 0 where
+  pub place : k < length bytes
+  pub behind : offset + size_of o ≤ length bytes
+  pub marks : length t.marked ≤ k
+  pub heap : length t.heap ≤ k
+
+pub bounds : (bytes : List ℕ) (a b : Told) (page rest : List ℕ) (left k offset : ℕ) (o : Operation) (t : State) (opened : List ℕ) (highest : Option ℕ)
+    → Listed bytes a b page rest left k offset t opened highest → IsNextItem left rest o (size_of o) → Bounds bytes k offset o t
+bounds bytes a b page rest left k offset o t opened highest w n =
+    let g = item_is w.d k left rest o (size_of o) w.stands n in
+    let size : length (document_bytes w.d) ≡ length bytes = ap length w.reads.whole in
+    let outlined : length (outline w.s).heap ≡ length t.heap = ap (λ (x : State). length x.heap) w.outlines in
+    let same : length (outline w.s).heap ≡ length w.s.heap = length-map w.s.heap bared in
+    let marked : length w.s.marked ≡ length t.marked = ap (λ (x : State). length x.marked) w.outlines in
+    record {
+      place = omega (arith, place_within (ops_of w.d) k o g.there, ops_within w.d, size);
+      behind = omega (arith, offset_within w.d k offset o w.s opened highest w.progress g.there, ops_within w.d, size);
+      marks = omega (arith, w.progress.few, marked);
+      heap = omega (arith, w.progress.heap, outlined, same);
+    }

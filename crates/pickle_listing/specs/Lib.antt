@@ -1,0 +1,6 @@
+-- The definitions that contracts cite.
+pub mod Column
+pub mod Line
+pub mod Listing
+pub mod Marks
+pub mod Written

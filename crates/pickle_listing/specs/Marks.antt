@@ -1,0 +1,21 @@
+-- How the writer of a listing keeps the offsets of the open marks. These are no definitions of the listing.
+use Rattle.std.specs.Prelude.{ℕ, ◌-◌, List, [], ◌∷◌, ◌++◌, length, take, slice_get, nat_lt, if◌then◌else◌, Option}
+use Rattle.pickle_doc.specs.Document.{Contents}
+use Rattle.pickle_doc.specs.Place.{offset_of}
+use Rattle.pickle_machine.specs.State.{Marked}
+
+-- the last of a list, if there is one
+abbrev pub last_of : List ℕ → Option ℕ
+last_of xs = slice_get xs (length xs - 1)
+
+-- one more where there are more marks than before, one less where there are fewer
+abbrev pub followed : List ℕ → ℕ → ℕ → ℕ → List ℕ
+followed opened before after offset =
+    if nat_lt before after then opened ++ offset ∷ []
+    else if nat_lt after before then take (length opened - 1) opened
+    else opened
+
+-- the offsets of the open marks, the topmost last
+abbrev pub mark_offsets : Contents → List Marked → List ℕ
+mark_offsets d [] = []
+mark_offsets d (m ∷ ms) = mark_offsets d ms ++ offset_of d m.place ∷ []

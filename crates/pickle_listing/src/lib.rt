@@ -1,0 +1,10 @@
+//! Listings: the lines of a pickle's opcodes, one for each, and the closing lines, which say why it ended.
+#![tactic(auto)]
+
+mod column;
+mod line;
+mod list;
+mod note;
+mod put;
+
+pub use list::{list_bytes, list_items, write_listing};
