@@ -159,8 +159,7 @@ fn failing_sinks(rt: HostRuntime) -> Result<(), Fail> {
         for (line, reply) in script.lines {
             let answer = obeyed(rt.alloc(), &mut session, line.as_bytes());
             for most in [1, 2, 7] {
-                let is_right =
-                    breaks_right(rt.alloc(), &session, answer, reply.as_bytes(), most);
+                let is_right = breaks_right(rt.alloc(), &session, answer, reply.as_bytes(), most);
                 assert!(rt; is_right, "{line}");
             }
         }

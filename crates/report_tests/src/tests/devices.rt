@@ -2,7 +2,7 @@
 
 use pickle_doc::Document;
 use pickle_machine::Machine;
-use pickle_ops::{Failed, Sip, Sink};
+use pickle_ops::{Failed, Sink, Sip};
 use pickle_report::{
     TextStop, write_document_report, write_memo, write_object, write_objects, write_show,
     write_stack,
@@ -73,7 +73,9 @@ fn is_whole(
     } else {
         Err(TextStop::Failed)
     };
-    if wanted.starts_with(sink.taken()) && answer == told && sink.failures() == u64::from(!is_whole)
+    if wanted.starts_with(sink.taken())
+        && answer == told
+        && sink.failures() == u64::from(!is_whole)
     {
         Some(is_whole)
     } else {
