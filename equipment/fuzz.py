@@ -1,28 +1,44 @@
 #!/usr/bin/python3
 """Makes random pickles and scripts, and asks the program for laws that need no reference.
 
-    fuzz.py PROGRAM FOLDER [--seed S] [--cases N | --seconds T]
+    fuzz.py PROGRAM FOLDER [--seed S] [--first K] [--cases N] [--seconds T] [--pickles FOLDER]
 
-FOLDER is an empty folder for the files. Each case has a generator of its own, made of the seed and the case's number, so that
-a case that breaks a law can be made again; its file stays in FOLDER. The last line says how many cases there were, or which
-law was broken.
+The first FOLDER is for the files of the cases. Each case has a generator of its own, made of the seed and the case's number, so
+that a case that breaks a law can be made again (--first K --cases 1, with the same --pickles); its files stay in FOLDER. Without
+--cases and --seconds there are 1000 cases; with both, it ends with what comes first. With --pickles some cases are mutations of
+the pickles in that folder. The last line says how many cases there were, or which law was broken.
 
 The laws:
-- the listing of a beginning of the bytes begins the listing of the bytes, as far as opcodes are listed;
-- the stack at a place is the same, whether one steps there, goes back there, or goes there from another place;
-- a script is answered alike with all records kept and with a few;
-- the bytes that are saved after a script without edits are those that were opened.
+- the bytes that are saved after no line are those that were opened;
+- the listing of a beginning of the bytes begins the listing of the bytes, as far as opcodes are listed, and its fault stands
+  where the beginning ends or where the whole has one;
+- the report of the objects is what a conversation shows at the end, or before the opcode that is refused;
+- what is shown at a place (items, stack, memo, objects and where it is) is the same on the way forwards, on the way back, and
+  wherever one comes from;
+- a line that is refused changes nothing that is shown; an edit that is undone or made again shows the items that were there;
+- the cursor is where the reply says, and a line that is no command writes what it always does;
+- a script is answered alike with all records kept and with a few, and alike where more lines stand behind `quit`;
+- behind a script, what is shown is what a new conversation over the saved bytes shows at that place, and the saved bytes are
+  listed as these items;
+- behind a script, going to the start and undoing every edit gives the bytes that were opened, and making them again the bytes
+  that the script saved;
+- the status says whether something was refused.
 """
 import argparse
+import datetime
 import pathlib
+import pickle
 import pickletools
 import random
+import re
 import subprocess
 import sys
 import time
 
 OPCODES = {opcode.name: opcode for opcode in pickletools.opcodes}
-WINDOWS = (1, 2, 3, 1000)
+WINDOWS = (1, 2, 3, 7, 1000)
+WHERE = re.compile(r"at (\d+) of (\d+), offset (\d+), buffers (\d+), result (none|#\d+), end (.*)")
+VIEW = "where\nitems\nstack\nmemo\nobjects\n"
 
 
 def numbered(width, rng, most):
@@ -30,12 +46,12 @@ def numbered(width, rng, most):
 
 
 def counted(width, rng):
-    text = bytes(rng.choice(b"ab'\\\n\x00\xff") for _ in range(rng.choice([0, 1, 3, 20])))
+    text = bytes(rng.choice(b"ab'\\\n\x00\xff") for _ in range(rng.choice([0, 1, 3, 13, 14, 20])))
     return len(text).to_bytes(width, "little") + text
 
 
 def line(rng):
-    return bytes(rng.choice(b"0123az'\\ ") for _ in range(rng.randrange(4))) + b"\n"
+    return bytes(rng.choice(b"0123az'\\ ") for _ in range(rng.choice([0, 1, 2, 3, 3, 16]))) + b"\n"
 
 
 def key_line(rng):
@@ -72,14 +88,17 @@ ARGUMENTS = {
 KEYED = {"GET", "PUT"}
 
 
-def spelled(name, rng):
+def argument(name, rng):
     opcode = OPCODES[name]
-    code = opcode.code.encode("latin-1")
     if opcode.arg is None:
-        return code
+        return b""
     if name in KEYED:
-        return code + key_line(rng)
-    return code + ARGUMENTS[opcode.arg.name](rng)
+        return key_line(rng)
+    return ARGUMENTS[opcode.arg.name](rng)
+
+
+def spelled(name, rng):
+    return OPCODES[name].code.encode("latin-1") + argument(name, rng)
 
 
 # What is put together: opcodes by what they ask of the stack, so that most of them are taken.
@@ -112,44 +131,169 @@ def make_body(rng, most):
     return b"".join(pieces)
 
 
-def make_pickle(rng):
+def put_together(rng):
     parts = []
     for _ in range(rng.randrange(1, 4)):
         body = make_body(rng, 8)
         parts.append(framed(body) if rng.random() < 0.4 else body)
-    pickled = b"".join(parts) + b"N."
-    if rng.random() < 0.2:
-        pickled += rng.randbytes(rng.randrange(4))
-    if rng.random() < 0.3:
-        place = rng.randrange(len(pickled))
-        pickled = pickled[:place] + rng.randbytes(rng.randrange(2)) + pickled[place + 1 :]
+    return b"".join(parts) + b"N."
+
+
+def any_object(rng, depth):
+    leaves = [None, True, 0, 255, 256, 65536, -1, 2**31, -(2**40), 2**200, 1.5, "", "ab'\\\n\u20ac", b"\x00\xff", "x" * 20, bytearray(b"y"),
+              datetime.date(2001, 2, 3), complex(1, 2), range(3), datetime.timedelta, Exception("e")]
+    if depth == 0 or rng.random() < 0.3:
+        return rng.choice(leaves)
+    inner = [any_object(rng, depth - 1) for _ in range(rng.randrange(4))]
+    kind = rng.randrange(6)
+    if kind == 0:
+        return tuple(inner)
+    if kind == 1:
+        return {str(k): v for k, v in enumerate(inner)}
+    if kind == 2:
+        return {1, "two", (3, 4)} if rng.random() < 0.5 else frozenset([1, "two"])
+    if kind == 3 and inner:
+        inner.append(inner)
+    if kind == 4 and inner:
+        return [inner[0], inner[0], inner]
+    return inner
+
+
+def mutated(pickled, rng):
+    for _ in range(rng.choice([1, 1, 2, 5])):
+        place = rng.randrange(len(pickled) + 1)
+        kind = rng.randrange(5)
+        if kind == 0:
+            pickled = pickled[:place] + rng.randbytes(rng.randrange(3)) + pickled[place + 1 :]
+        elif kind == 1:
+            pickled = pickled[:place]
+        elif kind == 2:
+            pickled = pickled[:place] + spelled(rng.choice(list(OPCODES)), rng) + pickled[place:]
+        elif kind == 3:
+            other = rng.randrange(len(pickled) + 1)
+            pickled = pickled[:place] + pickled[min(place, other) : max(place, other)][:100] + pickled[place:]
+        else:
+            pickled = pickled[:place] + framed(pickled[place : place + rng.randrange(30)]) + pickled[place + rng.randrange(30) :]
     return pickled
 
 
-def make_script(rng, places):
-    words = ["step", "back", "run", "stack", "goto", "goto", "break", "clear"]
+def make_pickle(rng, pickles):
+    draw = rng.random()
+    if draw < 0.5:
+        pickled = put_together(rng)
+    elif draw < 0.85 or not pickles:
+        pickled = pickle.dumps(any_object(rng, 4), protocol=rng.randrange(6))
+    else:
+        pickled = rng.choice(pickles)
+    if rng.random() < 0.2:
+        pickled += rng.randbytes(rng.randrange(4))
+    return mutated(pickled, rng) if rng.random() < 0.4 else pickled
+
+
+PLACED = ("goto", "goto", "break", "clear", "delete", "unframe")
+MALFORMED = ("fly", "goto", "goto x", "step 1", "insert 0 NOPE", "insert 0 BININT1 0", "insert 0 BININT1", "insert 0 NONE 00", "frame 0", "STEP", "show",
+             "goto 18446744073709551616", "replace 0 STOP", "insert 0 FRAME 0000000000000000", "insert 0 GET 780A", "show 4294967296")
+
+
+def edit_line(rng, place, items):
+    word = rng.choice(["replace", "insert", "insert", "delete", "frame", "unframe"])
+    if word == "frame":
+        return f"frame {place} {rng.choice([0, 1, 2, 3, items])}"
+    if word in ("delete", "unframe"):
+        return f"{word} {place}"
+    name = rng.choice(list(OPCODES)) if rng.random() < 0.5 else rng.choice(PUSHES)
+    return f"{word} {place} {name} {argument(name, rng).hex()}"
+
+
+def make_lines(rng, items):
+    """Lines with every word; the queries and `quit` are not among them."""
     lines = []
-    for _ in range(rng.randrange(1, 30)):
-        word = rng.choice(words)
-        lines.append(f"{word} {rng.randrange(places + 2)}" if word in ("goto", "break", "clear") else word)
-    return "\n".join(lines) + "\n"
+    ahead = 0
+    for _ in range(rng.randrange(1, 25)):
+        place = rng.choice([ahead, min(items, ahead + rng.randrange(4)), rng.randrange(min(ahead, items), items + 1), rng.randrange(items + 3)])
+        draw = rng.random()
+        if draw < 0.4:
+            lines.append(edit_line(rng, place, items))
+        elif draw < 0.53:
+            lines.append(rng.choice(["undo", "undo", "redo"]))
+        elif draw < 0.65:
+            lines.append(rng.choice(["step", "step", "back"]))
+            ahead = min(items, ahead + 1)
+        elif draw < 0.7:
+            lines += ["run", rng.choice(["back", "goto 0", "goto 1", "step"])]
+            ahead = 0
+        elif draw < 0.95:
+            lines.append(f"{rng.choice(PLACED)} {place}")
+        else:
+            lines.append(rng.choice(MALFORMED))
+        if lines[-1].startswith("goto ") and lines[-1][5:].isdigit():
+            ahead = min(int(lines[-1][5:]), items)
+    return lines
+
+
+def with_queries(rng, lines, items):
+    mixed = []
+    for text in lines:
+        mixed.append(text)
+        if rng.random() < 0.4:
+            mixed.append(rng.choice(["items", "objects", "stack", "memo", "where", "", " \t\r", f"show {rng.randrange(items + 2)}"]))
+    return mixed
 
 
 class Broken(Exception):
     pass
 
 
+class Shown:
+    """What is shown at a place."""
+
+    def __init__(self, lines):
+        self.where = WHERE.fullmatch(lines[0])
+        rest = lines[1:]
+        count = next(k for k, text in enumerate(rest) if text.startswith("stack"))
+        self.items = rest[:count]
+        self.state = rest[count:]
+
+    def place(self):
+        return int(self.where[1])
+
+    def document(self):
+        return [text[2:] for text in self.items]
+
+    def all(self):
+        return self.where[0], self.items, self.state
+
+
+def split_views(lines):
+    """Each reply of an observed script, with what is shown behind it."""
+    found = []
+    starts = [k for k, text in enumerate(lines) if WHERE.fullmatch(text)]
+    if not starts or len(lines) - starts[-1] < 3:
+        raise Broken("a script is not answered to its end")
+    before = 0
+    for k, start in enumerate(starts):
+        end = next(j for j in range(start, len(lines)) if lines[j].startswith("memo")) + 1
+        while end < len(lines) and lines[end].startswith("#"):
+            end += 1
+        found.append((lines[before:start], Shown(lines[start:end])))
+        before = end
+    return found
+
+
 class Case:
-    def __init__(self, program, folder, rng):
+    def __init__(self, program, folder, rng, pickles):
         self.program = program
+        self.folder = folder
         self.file = folder / "case.pickle"
         self.saved = folder / "saved.pickle"
         self.rng = rng
-        self.pickled = make_pickle(rng)
+        self.runs = 0
+        self.pickled = make_pickle(rng, pickles)
         self.file.write_bytes(self.pickled)
 
     def answers(self, words, script=""):
-        done = subprocess.run([self.program, *words], input=script.encode(), capture_output=True, timeout=60)
+        self.runs += 1
+        done = subprocess.run([self.program, *words], input=script.encode(), capture_output=True, timeout=100)
         if done.returncode not in (0, 1) or done.stderr:
             raise Broken(f"status {done.returncode}, errors {done.stderr[:200]}, words {words}, script {script!r}")
         return done.stdout.decode(), done.returncode
@@ -157,47 +301,142 @@ class Case:
     def items_of(self, listing):
         return [text for text in listing.splitlines() if text.lstrip()[:1].isdigit()]
 
-    def debug(self, script, *options):
-        return self.answers(["debug", str(self.file), *options], script)
+    def debug(self, script, *options, file=None):
+        answer, status = self.answers(["debug", str(file or self.file), *options], script)
+        if status != any(text.startswith("refused: ") for text in answer.splitlines()):
+            raise Broken(f"status {status} of {script!r}")
+        return answer
+
+    def debug_and_save(self, script, *options):
+        answer = self.debug(script, "--save", str(self.saved), *options)
+        return answer, self.saved.read_bytes()
+
+    def listing(self, file):
+        text, status = self.answers(["list", str(file)])
+        if status != bool(re.search(r"^(refused|fault): ", text, re.M)):
+            raise Broken(f"status {status} of a listing")
+        return text
 
     def check_listing(self):
-        whole = self.items_of(self.answers(["list", str(self.file)])[0])
-        cut = self.file.with_name("cut.pickle")
-        cut.write_bytes(self.pickled[: self.rng.randrange(len(self.pickled) + 1)])
-        part = self.items_of(self.answers(["list", str(cut)])[0])
-        if whole[: len(part)] != part:
-            raise Broken(f"a beginning of {cut.stat().st_size} bytes is listed otherwise")
+        text = self.listing(self.file)
+        whole = self.items_of(text)
+        size = self.rng.randrange(len(self.pickled) + 1)
+        cut = self.folder / "cut.pickle"
+        cut.write_bytes(self.pickled[:size])
+        part = self.listing(cut)
+        items = self.items_of(part)
+        if whole[: len(items)] != items:
+            raise Broken(f"a beginning of {size} bytes is listed otherwise")
+        fault = re.search(r"^fault: (F\d).* at (\d+)$", part, re.M)
+        if fault and f"{fault[0]}\n" not in text and not (fault[1] in ("F1", "F3", "F7") and int(fault[2]) <= size):
+            raise Broken(f"a beginning of {size} bytes ends in {fault[0]}")
+        return text
 
-    def stacks(self):
-        """The stack at each place that can be reached, going there and coming back."""
-        reply, _ = self.debug("run\n")
-        far = int(reply.split()[1].rstrip(":")) if reply.startswith("at ") else 0
-        there, _ = self.debug("stack\n" + "step\nstack\n" * far + "back\nstack\n" * far)
-        shown = there.splitlines()[::2]
+    def check_objects(self, listing):
+        report, status = self.answers(["objects", str(self.file)])
+        shown = self.debug("run\nobjects\nwhere\n").splitlines()
+        where = WHERE.fullmatch(shown[-1])
+        refused = re.search(r"^refused: (.*)$", listing, re.M)
+        if refused:
+            closing = f"refused: item {where[1]}: {refused[1]}"
+        elif where[6] == "stopped":
+            closing = f"result {where[5]}"
+        else:
+            closing = f"fault: {where[6]}"
+        if report.splitlines() != shown[1:-1] + [closing] or status != (not closing.startswith("result")):
+            raise Broken("another report of the objects")
+        if listing and self.items_of(listing)[: int(where[1])] != self.items_of(listing)[: len(self.items_of(listing)) - bool(refused)]:
+            raise Broken("the listing and the conversation end at other places")
+        return int(where[1])
+
+    def check_ways(self, far):
+        """What is shown at the places that can be reached, going there, coming back, and from elsewhere."""
+        far = min(far, 40)
+        there = split_views(self.debug(VIEW + f"step\n{VIEW}" * far + f"back\n{VIEW}" * far).splitlines())
+        shown = [view.all() for _, view in there]
         if shown[: far + 1] != shown[far:][::-1]:
-            raise Broken("the stacks on the way back are others")
-        return shown[: far + 1]
+            raise Broken("what is shown on the way back is not what was shown on the way there")
+        places = [self.rng.randrange(far + 1) for _ in range(5)]
+        window = self.rng.choice([[], ["--window", str(self.rng.choice(WINDOWS))]])
+        again = split_views(self.debug("".join(f"goto {place}\n{VIEW}" for place in places), *window).splitlines())
+        if [(reply, view.all()) for reply, view in again] != [([f"at {place}"], shown[place]) for place in places]:
+            raise Broken(f"something else is shown after going to {places}")
 
-    def check_script(self, stacks):
-        script = make_script(self.rng, len(stacks))
-        plain = self.debug(script, "--save", str(self.saved))
-        if self.saved.read_bytes() != self.pickled:
-            raise Broken(f"other bytes were saved after {script!r}")
-        for window in WINDOWS:
-            if self.debug(script, "--window", str(window)) != plain:
-                raise Broken(f"another answer with a window of {window} to {script!r}")
+    def follow(self, lines, views):
+        """What each reply says of the views before it and behind it."""
+        documents, known = [views[0][1].document()], 0
+        for text, (reply, view), (_, before) in zip(lines, views[1:], views):
+            told = reply[0] if len(reply) == 1 else ""
+            if not told:
+                raise Broken(f"{text!r} is answered {reply}")
+            if told.startswith("refused: "):
+                if view.all() != before.all():
+                    raise Broken(f"{text!r} is refused and changes what is shown")
+            elif told.startswith("at "):
+                if view.place() != int(told.split()[1].rstrip(":")) or view.document() != before.document():
+                    raise Broken(f"{text!r} is answered {told!r} and is elsewhere")
+            elif told.startswith(("edited ", "undone ", "redone ")):
+                if view.state != before.state or view.place() != before.place():
+                    raise Broken(f"{text!r} moves")
+                known += -1 if told.startswith("undone") else 1
+                if told.startswith("edited"):
+                    documents[known:] = [view.document()]
+                if view.document() != documents[known]:
+                    raise Broken(f"{text!r} shows other items than before")
+            elif view.document() != before.document() or view.state != before.state:
+                raise Broken(f"{text!r} changes more than a breakpoint")
+        return known, len(documents) - 1
 
-    def check_goto(self, stacks):
-        places = [self.rng.randrange(len(stacks)) for _ in range(6)]
-        replies, _ = self.debug("".join(f"goto {place}\nstack\n" for place in places))
-        if replies.splitlines() != [text for place in places for text in (f"at {place}", stacks[place])]:
-            raise Broken(f"another stack after going to {places}")
+    def check_script(self, items):
+        lines = make_lines(self.rng, items)
+        (self.folder / "script").write_text("\n".join(lines) + "\n")
+        answer, saved = self.debug_and_save(VIEW + "".join(f"{text}\n{VIEW}" for text in lines))
+        views = split_views(answer.splitlines())
+        if len(views) != len(lines) + 1:
+            raise Broken("a script is not answered line by line")
+        known, most = self.follow(lines, views)
+        self.check_saved(saved, views[-1][1])
+        script = "".join(f"{text}\n" for text in lines)
+        _, home = self.debug_and_save(script + "goto 0\n" + "undo\n" * known)
+        if home != self.pickled:
+            raise Broken("undoing all edits does not give the opened bytes")
+        _, again = self.debug_and_save(script + "goto 0\n" + "undo\n" * known + "redo\n" * known)
+        if again != saved:
+            raise Broken("making all edits again does not give the saved bytes")
+        self.check_windows(with_queries(self.rng, lines, items))
+        return len(lines), most
+
+    def check_saved(self, saved, view):
+        """What is shown behind a script is what the saved bytes show at that place."""
+        fresh = self.folder / "fresh.pickle"
+        fresh.write_bytes(saved)
+        other = split_views(self.debug(f"goto {view.place()}\n{VIEW}", file=fresh).splitlines())[0][1]
+        if (other.where[0], other.document(), other.state) != (view.where[0], view.document(), view.state):
+            raise Broken("the saved bytes show something else")
+        listed = [self.listed(text) for text in self.items_of(self.listing(fresh))]
+        if [text[6:].split(None, 2)[:2] for text in view.document()][: len(listed)] != listed:
+            raise Broken("the saved bytes are listed otherwise")
+
+    def listed(self, text):
+        offset, rest = text.split(":", 1)
+        return [f"{offset.strip()}:", rest[6:].split(None, 1)[0]]
+
+    def check_windows(self, lines):
+        script = "".join(f"{text}\n" for text in lines)
+        plain = self.debug_and_save(script)
+        for window in self.rng.sample(WINDOWS, 2):
+            behind = self.rng.choice(["", "quit\nstep\nundo\n", "quit"])
+            if self.debug_and_save(script + behind, "--window", str(window)) != plain:
+                raise Broken(f"another answer with a window of {window} to {script + behind!r}")
 
     def check(self):
-        self.check_listing()
-        stacks = self.stacks()
-        self.check_script(stacks)
-        self.check_goto(stacks)
+        answer, saved = self.debug_and_save("")
+        if answer or saved != self.pickled:
+            raise Broken("other bytes are saved than were opened")
+        listing = self.check_listing()
+        far = self.check_objects(listing)
+        self.check_ways(far)
+        return self.check_script(min(len(self.items_of(listing)), 60))
 
 
 def main():
@@ -205,20 +444,31 @@ def main():
     parser.add_argument("program")
     parser.add_argument("folder", type=pathlib.Path)
     parser.add_argument("--seed", type=int, default=1)
-    parser.add_argument("--cases", type=int, default=1000)
+    parser.add_argument("--first", type=int, default=1)
+    parser.add_argument("--cases", type=int)
     parser.add_argument("--seconds", type=float)
+    parser.add_argument("--pickles", type=pathlib.Path)
     words = parser.parse_args()
     words.folder.mkdir(parents=True, exist_ok=True)
-    end = words.seconds and time.monotonic() + words.seconds
-    number = 0
-    while time.monotonic() < end if end else number < words.cases:
+    pickles = [file.read_bytes() for file in sorted(words.pickles.glob("*.pickle"))] if words.pickles else []
+    pickles = [pickled for pickled in pickles if len(pickled) < 3000]
+    cases = words.cases or (1000 if not words.seconds else sys.maxsize)
+    end = time.monotonic() + words.seconds if words.seconds else None
+    number, lines, runs, edits = 0, 0, 0, 0
+    while number < cases and not (end and time.monotonic() > end):
         number += 1
+        name = f"case {words.first + number - 1} of seed {words.seed}"
+        case = Case(words.program, words.folder, random.Random(f"{words.seed}:{words.first + number - 1}"), pickles)
         try:
-            Case(words.program, words.folder, random.Random(f"{words.seed}:{number}")).check()
+            told, made = case.check()
         except Broken as broken:
-            print(f"case {number} of seed {words.seed}: {broken}")
+            print(f"{name}: {broken}")
             return 1
-    print(f"seed {words.seed}: {number} cases, no law broken")
+        except (ValueError, IndexError, StopIteration, TypeError, subprocess.TimeoutExpired) as fault:
+            print(f"{name}: the answer cannot be read: {fault!r}")
+            return 1
+        lines, runs, edits = lines + told, runs + case.runs, edits + made
+    print(f"seed {words.seed}: {number} cases, no law broken ({runs} runs, {lines} lines of scripts, {edits} edits)")
     return 0
 
 

@@ -1,12 +1,14 @@
 //! What documents show before edits and after them.
 
 mod cost;
+mod hostile;
 mod memory;
 mod nest;
 mod rows;
 mod shown;
 
 use crate::tests::cost::edit_many;
+use crate::tests::hostile::{CUTS, LENGTHS, end_of, first_wrong_cut, single_bytes};
 use crate::tests::memory::edit_with_little;
 use crate::tests::nest::put_and_back;
 use crate::tests::rows::{ACCEPTED, REFUSED};
@@ -127,6 +129,27 @@ fn largest_input(rt: HostRuntime) -> Result<(), Fail> {
     document.swap(&mut record);
     assert_eq!(rt; document.total(), LIMIT as u64);
     Ok(())
+}
+
+/// Worked pickles, cut at each of their bytes.
+#[test]
+fn cut_short(rt: HostRuntime) {
+    for (k, cuts) in CUTS.iter().enumerate() {
+        assert_eq!(rt; first_wrong_cut(rt.alloc(), cuts), Ok(None), "row {k}");
+    }
+}
+
+/// Each byte alone: 188 are no opcode, 34 are one with an argument, 33 one without, and one is STOP.
+#[test]
+fn one_byte_alone(rt: HostRuntime) {
+    assert_eq!(rt; single_bytes(rt.alloc()), Ok([188, 34, 33, 1, 0]));
+}
+
+#[test]
+fn largest_lengths(rt: HostRuntime) {
+    for (k, (bytes, end)) in LENGTHS.iter().enumerate() {
+        assert_eq!(rt; end_of(rt.alloc(), bytes), Ok((0, *end)), "row {k}");
+    }
 }
 
 /// Run with each request for memory refused in turn.

@@ -1,14 +1,17 @@
 //! Random commands to sessions over files: forwards and back to the start, and all edits undone, which gives the opened bytes, and
-//! made again. Test equipment.
+//! made again. Behind the word `memory`, a script over each file where a request for memory may be refused. Test equipment.
 #![tactic(auto)]
+
+mod memory;
 
 ghost use Rattle.std.specs.Prelude.{◌≡◌, []};
 
+use crate::memory::{follow, note_down, open_whole, open_window};
 use pickle_doc::{DocFault, LIMIT};
 use pickle_machine::Machine;
 use pickle_ops::{Failed, OpFault, Opcode, ToWrite, op_of};
 use pickle_session::{Command, Reply, Session, Whole};
-use std::alloc::Global;
+use std::alloc::{AllocError, AllocFailed, Global};
 use std::fs::File;
 use std::io::Read;
 use std::process::ExitCode;
@@ -19,7 +22,7 @@ const COMMANDS: u32 = 300;
 
 /// Why a file was not tried, or nothing printed of it.
 #[derive(Debug, Drop)]
-enum Stop {
+pub enum Stop {
     /// A file or a word could not be read, or a line not printed.
     Device,
     /// The file is too large, or there was no memory.
@@ -36,6 +39,18 @@ impl From<io::Error> for Stop {
 
 impl From<DocFault> for Stop {
     fn from(_fault: DocFault) -> Stop {
+        Stop::Room
+    }
+}
+
+impl From<AllocError> for Stop {
+    fn from(_error: AllocError) -> Stop {
+        Stop::Room
+    }
+}
+
+impl<T: Drop> From<AllocFailed<T>> for Stop {
+    fn from(_error: AllocFailed<T>) -> Stop {
         Stop::Room
     }
 }
@@ -206,12 +221,18 @@ fn go_home(alloc: Global, session: &mut Session<Whole>, bytes: &[u8]) -> Result<
     }
 }
 
-/// Tells a session over one file its commands.
-fn try_file(rt: &HostRuntime, path: &str, chance: &mut Chance) -> Result<(), Stop> {
+/// The bytes of a file.
+fn bytes_at(rt: &HostRuntime, path: &str) -> Result<Vec<u8>, Stop> {
     let mut bytes = Vec::new(rt.alloc());
     File::open(rt, path)?
         .take(LIMIT as u64 + 1)
         .read_to_end(&mut bytes)?;
+    Ok(bytes)
+}
+
+/// Tells a session over one file its commands.
+fn try_file(rt: &HostRuntime, path: &str, chance: &mut Chance) -> Result<(), Stop> {
+    let bytes = bytes_at(rt, path)?;
     let mut session = Session::open(rt.alloc(), Whole::new(rt.alloc()), &bytes)?;
     for number in 0..COMMANDS {
         tell(rt.alloc(), &mut session, chance, number)?;
@@ -221,11 +242,33 @@ fn try_file(rt: &HostRuntime, path: &str, chance: &mut Chance) -> Result<(), Sto
     Ok(())
 }
 
+/// Writes down what a script shows with ample memory, says so in a line, and follows the script, with all records and with two.
+/// A request for memory that is made behind that line may be refused.
+fn try_memory(rt: &HostRuntime, path: &str) -> Result<(), Stop> {
+    let bytes = bytes_at(rt, path)?;
+    let whole = note_down(rt.alloc(), &mut open_whole(rt.alloc(), &bytes)?)?;
+    let window = note_down(rt.alloc(), &mut open_window(rt.alloc(), &bytes)?)?;
+    println!(rt; "noted")?;
+    let mut session = open_whole(rt.alloc(), &bytes)?;
+    follow(rt.alloc(), &mut session, &whole)?;
+    let mut session = open_window(rt.alloc(), &bytes)?;
+    follow(rt.alloc(), &mut session, &window)?;
+    println!(rt; "as noted")?;
+    Ok(())
+}
+
 /// Tries each file that the words of the command line name.
 fn try_files(rt: &HostRuntime) -> Result<(), Stop> {
     let mut chance = Chance { state: 1 };
-    for path in env::args(rt)?.skip(1) {
-        try_file(rt, &path, &mut chance)?;
+    let mut is_memory = false;
+    for word in env::args(rt)?.skip(1) {
+        if is_memory {
+            try_memory(rt, &word)?;
+        } else if word.as_str() == "memory" {
+            is_memory = true;
+        } else {
+            try_file(rt, &word, &mut chance)?;
+        }
     }
     Ok(())
 }

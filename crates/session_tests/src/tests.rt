@@ -2,18 +2,16 @@
 
 ghost use Rattle.std.specs.Prelude.{◌≡◌, []};
 
+mod further;
 mod rows;
 mod script;
-mod state;
 
 use crate::tests::rows::{CYCLE, DUMP, PAIR, SCRIPTS, WALKED};
-use crate::tests::script::{
-    Script, Told, command, follow, go_home, open_whole, open_window, shows, write_session,
-};
-use crate::tests::state::Beside;
+use crate::tests::script::{Script, Told, command, follow, go_home, open_whole, open_window};
 use pickle_doc::{EditFault, LIMIT};
 use pickle_ops::{Opcode, ToWrite};
 use pickle_session::{Command, Fault, Past, Reply, Session, Whole, Why};
+use session_notes::{Beside, shows, write_session};
 use std::alloc::Global;
 use std::test::Fail;
 
@@ -320,6 +318,23 @@ fn largest_input(rt: HostRuntime) -> Result<(), Fail> {
     assert_eq!(rt; (session.cursor(), session.kept()), (2, 2));
     assert_eq!(rt; (session.offset(), session.work()), (LIMIT as u64, 2));
     assert!(rt; has_bytes(&session, &bytes));
+    Ok(())
+}
+
+/// Many marks are passed on the way there and on the way back, and none is left at the start.
+#[test]
+fn many_marks(rt: HostRuntime) -> Result<(), Fail> {
+    let mut bytes = vec![in rt.alloc(); b'('; 100_000]?;
+    bytes.extend_from_slice(b"N.")?;
+    let mut session = Session::open(rt.alloc(), Whole::new(rt.alloc()), &bytes)?;
+    let there = session.obey(rt.alloc(), &Command::Goto(100_002));
+    assert_eq!(rt; there, Reply::At(100_002));
+    assert_eq!(rt; session.machine().marks_len(), 100_000);
+    assert_eq!(rt; session.machine().mark(99_999), Some((99_999, 0)));
+    assert_eq!(rt; session.machine().result(), Some(0));
+    let home = session.obey(rt.alloc(), &Command::Goto(0));
+    assert_eq!(rt; home, Reply::At(0));
+    assert!(rt; shows(&session, b"at 0 of 100002: stack", &bytes));
     Ok(())
 }
 

@@ -4,8 +4,8 @@ mod rows;
 
 use crate::tests::rows::{REPLIES, SCRIPTS};
 use pickle_doc::{DocFault, End};
-use pickle_ops::{Failed, Sink, ToWrite};
-use pickle_session::{Past, Session, Whole};
+use pickle_ops::{Failed, Sink, Sip, ToWrite};
+use pickle_session::{Past, Reply, Session, Whole};
 use pickle_text::{
     Line, Query, Syntax, read_command, write_items, write_no_such_object, write_reply,
     write_syntax, write_where,
@@ -28,21 +28,39 @@ fn tell<P: Past, S: Sink>(session: &Session<P>, query: Query, sink: &mut S) -> R
     }
 }
 
-/// Obeys a line, and writes its answer.
-fn answer<P: Past, S: Sink>(
-    alloc: Global,
-    session: &mut Session<P>,
-    line: &[u8],
-    sink: &mut S,
-) -> Result<(), Failed> {
+/// What a line is answered with.
+#[derive(Clone, Copy)]
+enum Answer {
+    Nothing,
+    Syntax(Syntax),
+    Reply(End, Reply),
+    Query(Query),
+}
+
+/// Obeys a line.
+fn obeyed<P: Past>(alloc: Global, session: &mut Session<P>, line: &[u8]) -> Answer {
     match read_command(alloc, line) {
-        Err(syntax) => write_syntax(syntax, sink),
+        Err(syntax) => Answer::Syntax(syntax),
         Ok(Line::Command(command)) => {
             let reply = session.obey(alloc, &command);
-            write_reply(session.document().end(), reply, sink)
+            Answer::Reply(session.document().end(), reply)
         }
-        Ok(Line::Query(query)) => tell(session, query, sink),
-        Ok(_) => Ok(()),
+        Ok(Line::Query(query)) => Answer::Query(query),
+        Ok(_) => Answer::Nothing,
+    }
+}
+
+/// Writes an answer.
+fn write_answer<P: Past, S: Sink>(
+    session: &Session<P>,
+    answer: Answer,
+    sink: &mut S,
+) -> Result<(), Failed> {
+    match answer {
+        Answer::Nothing => Ok(()),
+        Answer::Syntax(syntax) => write_syntax(syntax, sink),
+        Answer::Reply(end, reply) => write_reply(end, reply, sink),
+        Answer::Query(query) => tell(session, query, sink),
     }
 }
 
@@ -53,7 +71,8 @@ fn worked_scripts(rt: HostRuntime) -> Result<(), Fail> {
         let mut session = opened(rt.alloc(), script.bytes)?;
         for (line, reply) in script.lines {
             let mut sink = ToWrite::new(Vec::new(rt.alloc()));
-            answer(rt.alloc(), &mut session, line.as_bytes(), &mut sink)?;
+            let answer = obeyed(rt.alloc(), &mut session, line.as_bytes());
+            write_answer(&session, answer, &mut sink)?;
             assert_eq!(rt; sink.into_inner().as_slice(), reply.as_bytes(), "{line}");
         }
     }
@@ -89,6 +108,69 @@ fn other_replies(rt: HostRuntime) -> Result<(), Fail> {
         let mut sink = ToWrite::new(Vec::new(rt.alloc()));
         write_reply(End::Stopped, reply, &mut sink)?;
         assert_eq!(rt; sink.into_inner().as_slice(), text.as_bytes());
+    }
+    Ok(())
+}
+
+/// What a sink is left with that takes at most so many bytes a call and fails after so many calls: whether it has all of the
+/// text, or nothing where it has no beginning of it, was called again after its failure, or failed without being told.
+fn is_whole(
+    alloc: Global,
+    session: &Session<Whole>,
+    answer: Answer,
+    text: &[u8],
+    most: usize,
+    calls: u64,
+) -> Option<bool> {
+    let mut sink = Sip::new(alloc, most.max(1), calls);
+    let found = write_answer(session, answer, &mut sink);
+    let is_whole = sink.taken().len() == text.len();
+    let is_told = found.is_ok() == is_whole && sink.failures() == u64::from(!is_whole);
+    if text.starts_with(sink.taken()) && is_told {
+        Some(is_whole)
+    } else {
+        None
+    }
+}
+
+/// Whether each sink that takes so many bytes a call and fails at one of its calls takes a beginning of an answer, and is not
+/// called again, and the one that does not fail takes all.
+fn breaks_right(
+    alloc: Global,
+    session: &Session<Whole>,
+    answer: Answer,
+    text: &[u8],
+    most: usize,
+) -> bool {
+    for calls in 0..=text.len() as u64 {
+        match is_whole(alloc, session, answer, text, most, calls) {
+            Some(false) => {}
+            Some(true) => return true,
+            None => return false,
+        }
+    }
+    false
+}
+
+#[test]
+fn failing_sinks(rt: HostRuntime) -> Result<(), Fail> {
+    for script in SCRIPTS {
+        let mut session = opened(rt.alloc(), script.bytes)?;
+        for (line, reply) in script.lines {
+            let answer = obeyed(rt.alloc(), &mut session, line.as_bytes());
+            for most in [1, 2, 7] {
+                let is_right = breaks_right(rt.alloc(), &session, answer, reply.as_bytes(), most);
+                assert!(rt; is_right, "{line}");
+            }
+        }
+    }
+    let session = opened(rt.alloc(), b"N.")?;
+    for (reply, text) in REPLIES {
+        let answer = Answer::Reply(End::Stopped, reply);
+        for most in [1, 2, 7] {
+            let is_right = breaks_right(rt.alloc(), &session, answer, text.as_bytes(), most);
+            assert!(rt; is_right, "{text}");
+        }
     }
     Ok(())
 }

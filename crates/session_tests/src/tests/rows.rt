@@ -1,5 +1,6 @@
 //! Worked commands: what is replied, and what the session shows behind each.
 
+use crate::tests::further::{APPENDED_BY_MEMO, APPENDED_TO_ITSELF, BOUNDED_WINDOW};
 use crate::tests::script::{Script, Told};
 use pickle_doc::{EditFault, End, TailFault};
 use pickle_machine::Refusal;
@@ -713,7 +714,10 @@ const UNDERFLOW: Script = Script {
 };
 
 /// All scripts.
-pub const SCRIPTS: [Script; 14] = [
+pub const SCRIPTS: [Script; 17] = [
+    APPENDED_TO_ITSELF,
+    APPENDED_BY_MEMO,
+    BOUNDED_WINDOW,
     REPLACED,
     UNDO_BEHIND_THE_CURSOR,
     PAST_A_MISSING_ENTRY,

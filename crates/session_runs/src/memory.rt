@@ -1,0 +1,151 @@
+//! A script over a file where one request for memory may be refused: what is shown behind each command is what is shown with
+//! ample memory.
+
+ghost use Rattle.std.specs.Prelude.{◌≡◌, []};
+
+use crate::Stop;
+use pickle_ops::{OpFault, Opcode, ToWrite, op_of};
+use pickle_session::{Command, Fault, Past, Reply, Session, Whole, Window};
+use session_notes::{shows, write_session};
+use std::alloc::Global;
+
+/// The commands: to the end, half way back, an edit ahead, to the end again, to the start, and the edit undone.
+const COMMANDS: usize = 6;
+
+/// Command k over so many items.
+fn command(alloc: Global, k: usize, len: usize) -> Result<Command, OpFault> {
+    Ok(match k {
+        1 => Command::Goto(len / 2),
+        2 => Command::Insert(len / 2, op_of(alloc, Opcode::BinInt2, b"\x01\x00")?),
+        4 => Command::Goto(0),
+        5 => Command::Undo,
+        _ => Command::Run,
+    })
+}
+
+/// Command k, where one request for memory may be refused.
+fn insist_on_command(alloc: Global, k: usize, len: usize) -> Result<Command, Stop> {
+    match command(alloc, k, len) {
+        Ok(command) => Ok(command),
+        Err(_) => Ok(command(alloc, k, len)?),
+    }
+}
+
+/// What is shown behind a command, and the reply to it.
+#[derive(Drop)]
+pub struct Note {
+    reply: Option<Reply>,
+    shown: Vec<u8>,
+    bytes: Vec<u8>,
+    kept: usize,
+}
+
+/// What a session shows.
+fn note_of<P: Past>(
+    alloc: Global,
+    session: &Session<P>,
+    reply: Option<Reply>,
+) -> Result<Note, Stop> {
+    let mut shown = ToWrite::new(Vec::new(alloc));
+    let mut bytes = ToWrite::new(Vec::new(alloc));
+    write_session(session, &mut shown)?;
+    session.document().write_bytes(&mut bytes)?;
+    Ok(Note {
+        reply,
+        shown: shown.into_inner(),
+        bytes: bytes.into_inner(),
+        kept: session.kept(),
+    })
+}
+
+/// What a session shows at first and behind each command.
+pub fn note_down<P: Past>(alloc: Global, session: &mut Session<P>) -> Result<Vec<Note>, Stop> {
+    let len = session.document().len();
+    let mut notes = Vec::new(alloc);
+    notes.push(note_of(alloc, session, None)?)?;
+    for k in 0..COMMANDS {
+        let command = command(alloc, k, len)?;
+        let reply = session.obey(alloc, &command);
+        notes.push(note_of(alloc, session, Some(reply))?)?;
+    }
+    Ok(notes)
+}
+
+/// Whether a session shows what a note says. It takes no memory.
+fn is_noted<P: Past>(session: &Session<P>, note: Option<&Note>) -> bool {
+    match note {
+        Some(note) => session.kept() == note.kept && shows(session, &note.shown, &note.bytes),
+        None => false,
+    }
+}
+
+/// Whether a command may be refused for want of memory: one that goes forth or edits, and one that goes back further than
+/// limited records lead.
+fn may_lack<P: Past>(session: &Session<P>, k: usize) -> bool {
+    match k {
+        1 | 4 => session.kept() < session.cursor(),
+        5 => false,
+        _ => true,
+    }
+}
+
+/// Obeys command k. Where memory is refused, everything is as it was; and told again it is obeyed.
+fn obey_noted<P: Past>(
+    alloc: Global,
+    session: &mut Session<P>,
+    notes: &[Note],
+    k: usize,
+) -> Result<(), Stop> {
+    let command = insist_on_command(alloc, k, session.document().len())?;
+    let may_lack = may_lack(session, k);
+    let mut reply = session.obey(alloc, &command);
+    if reply == Reply::Refused(Fault::Memory) {
+        if !may_lack || !is_noted(session, notes.get(k)) {
+            return Err(Stop::Differs(k as u32));
+        }
+        reply = session.obey(alloc, &command);
+    }
+    let note = notes.get(k.saturating_add(1));
+    let wanted = note.and_then(|note| note.reply);
+    if wanted == Some(reply) && is_noted(session, note) {
+        Ok(())
+    } else {
+        Err(Stop::Differs(k as u32))
+    }
+}
+
+/// Obeys all commands, and compares what is shown with the notes.
+pub fn follow<P: Past>(
+    alloc: Global,
+    session: &mut Session<P>,
+    notes: &[Note],
+) -> Result<(), Stop> {
+    if !is_noted(session, notes.first()) {
+        return Err(Stop::Differs(0));
+    }
+    for k in 0..COMMANDS {
+        obey_noted(alloc, session, notes, k)?;
+    }
+    Ok(())
+}
+
+/// A session with all records, where one request for memory may be refused.
+pub fn open_whole(alloc: Global, bytes: &[u8]) -> Result<Session<Whole>, Stop> {
+    match Session::open(alloc, Whole::new(alloc), bytes) {
+        Ok(session) => Ok(session),
+        Err(_) => Ok(Session::open(alloc, Whole::new(alloc), bytes)?),
+    }
+}
+
+/// A session with the latest two records.
+fn try_window(alloc: Global, bytes: &[u8]) -> Result<Session<Window>, Stop> {
+    Ok(Session::open(alloc, Window::new(alloc, 2)?, bytes)?)
+}
+
+/// A session with the latest two records, where one request for memory may be refused.
+pub fn open_window(alloc: Global, bytes: &[u8]) -> Result<Session<Window>, Stop> {
+    match try_window(alloc, bytes) {
+        Ok(session) => Ok(session),
+        Err(_) => try_window(alloc, bytes),
+    }
+}

@@ -1,0 +1,80 @@
+/*
+ * Breaks files and pipes: a shared library for LD_PRELOAD, used by ./test.
+ *
+ * Calls of read and of write are counted from 1, each kind by itself; the loader's own are not counted, nor are those to standard
+ * error. READ_MOST=C and WRITE_MOST=C give or take at most C bytes a call. READ_FAIL=N and WRITE_FAIL=N let the Nth call and
+ * each later one fail, as a broken disk does. SHRINK=FILE with SHRINK_AT=N empties that file before the Nth read.
+ * At the end DEVICES=FILE has a line: how many reads and writes there were, and how many of them were made of a device that had
+ * failed before.
+ */
+#define _GNU_SOURCE
+#include <errno.h>
+#include <fcntl.h>
+#include <stdio.h>
+#include <stdlib.h>
+#include <sys/syscall.h>
+#include <unistd.h>
+
+static unsigned long reads, writes, again;
+static unsigned long read_most, write_most, read_fail, write_fail, shrink_at;
+static int failed_file[64]; /* by descriptor: whether a call of it failed */
+
+static unsigned long number_of(const char *name)
+{
+    const char *text = getenv(name);
+
+    return text ? strtoul(text, NULL, 10) : 0;
+}
+
+__attribute__((constructor)) static void begin(void)
+{
+    read_most = number_of("READ_MOST");
+    write_most = number_of("WRITE_MOST");
+    read_fail = number_of("READ_FAIL");
+    write_fail = number_of("WRITE_FAIL");
+    shrink_at = number_of("SHRINK_AT");
+}
+
+__attribute__((destructor)) static void end(void)
+{
+    const char *name = getenv("DEVICES");
+    char text[100];
+    int size = snprintf(text, sizeof text, "%lu reads, %lu writes, %lu again\n", reads, writes, again);
+    int file = name ? open(name, O_WRONLY | O_CREAT | O_TRUNC, 0600) : -1;
+
+    if (file >= 0 && syscall(SYS_write, file, text, (size_t)size) != size)
+        abort();
+}
+
+/* Whether call `number` of this file fails, where those from `first` on do. */
+static int fails(int file, unsigned long number, unsigned long first)
+{
+    if (file >= 0 && file < 64 && failed_file[file])
+        again++;
+    if (first == 0 || number < first)
+        return 0;
+    if (file >= 0 && file < 64)
+        failed_file[file] = 1;
+    errno = EIO;
+    return 1;
+}
+
+ssize_t read(int file, void *bytes, size_t count)
+{
+    reads++;
+    if (shrink_at == reads && getenv("SHRINK") && truncate(getenv("SHRINK"), 0) != 0)
+        abort();
+    if (fails(file, reads, read_fail))
+        return -1;
+    return syscall(SYS_read, file, bytes, read_most && read_most < count ? read_most : count);
+}
+
+ssize_t write(int file, const void *bytes, size_t count)
+{
+    if (file == 2)
+        return syscall(SYS_write, file, bytes, count);
+    writes++;
+    if (fails(file, writes, write_fail))
+        return -1;
+    return syscall(SYS_write, file, bytes, write_most && write_most < count ? write_most : count);
+}

@@ -1,0 +1,149 @@
+#!/usr/bin/python3
+"""Runs the program with each of its reads and each of its writes failing in turn, from outside.
+
+    devices.py PROGRAM LIBRARY FOLDER
+
+LIBRARY is equipment/break_devices.c, compiled. Each line says what was tried, a tab, and what was wrong, or nothing behind it.
+The last line says how many reads and writes failed.
+"""
+import os
+import pathlib
+import subprocess
+import sys
+
+# The bytes, and the lines that are told; what they are answered stands in the papers of the program (README, DEBUGGER.md).
+BREAKPOINTS = (
+    bytes.fromhex("80049506000000000000005d944b01612e"),
+    "break 4\nrun\nrun\nrun\ngoto 0\nclear 4\nrun\n",
+    "break 4\nat 4: breakpoint\nat 7: end, stopped\nrefused: C2 at the end, stopped\nat 0\nclear 4\nat 7: end, stopped\n",
+    1,
+)
+BY_MEMO = (
+    bytes.fromhex("5d71002868006800652e"),
+    "goto 6\nshow 0\nback\nobjects\nstack\n",
+    "at 6\n0 #0 list +#0 +#0\n1 #0\n1 #0\nat 5\n#0 list\nstack #0 (2 #0 #0\n",
+    0,
+)
+LISTING = (
+    "    0: ]    EMPTY_LIST\n    1: q    BINPUT     0\n    3: (    MARK\n    4: h        BINGET     0\n    6: h        BINGET     0\n"
+    "    8: e        APPENDS    (MARK at 3)\n    9: .    STOP\nhighest protocol among opcodes = 1\n"
+)
+OBJECTS = "#0 list +#0 +#0\nresult #0\n"
+
+
+class Devices:
+    def __init__(self, program, library, folder):
+        self.program = program
+        self.library = str(library)
+        self.folder = folder
+        self.file = folder / "device.pickle"
+        self.out = folder / "device.out"
+        self.count = folder / "device.count"
+        self.broken = 0
+
+    def run(self, words, script, **breaks):
+        self.out.unlink(missing_ok=True)
+        (self.folder / "script").write_text(script)
+        environment = dict(os.environ, LD_PRELOAD=self.library, DEVICES=str(self.count))
+        environment.update({name: str(value) for name, value in breaks.items()})
+        with open(self.folder / "script", "rb") as given:
+            done = subprocess.run([self.program, *words], stdin=given, capture_output=True, timeout=60, env=environment)
+        reads, writes, again = (int(part.split()[0]) for part in self.count.read_text().split(","))
+        return done, reads, writes, again
+
+    def fault_of(self, done, words, text, begins):
+        """What is wrong with a run that met a broken device."""
+        if done.returncode != 2 or done.stderr != f"picklestep: {words}\n".encode():
+            return f"status {done.returncode}, errors {done.stderr!r}"
+        if not begins or not text.startswith(done.stdout.decode()):
+            return f"the output is {done.stdout!r}"
+        if self.out.exists():
+            return "something was saved"
+        return ""
+
+    def whole_lines(self, script, text, given):
+        """The transcript of the lines that were given whole; None where these are not known."""
+        lines = script[:given].count("\n")
+        answers = text.splitlines(keepends=True)
+        return "".join(answers[:lines]) if len(answers) == script.count("\n") else None
+
+    def break_reads(self, words, script, text, most, is_script):
+        whole, reads, _, again = self.run(words, script, READ_MOST=most)
+        if whole.stdout.decode() != text or again:
+            return f"with reads of {most} bytes the output is {whole.stdout!r}"
+        size = self.file.stat().st_size
+        for number in range(1, reads + 1):
+            done, _, _, again = self.run(words, script, READ_MOST=most, READ_FAIL=number)
+            self.broken += 1
+            why = self.fault_of(done, "cannot read", text, True)
+            of_file = -(-size // most) + 1
+            if not why and number > of_file and is_script:
+                wanted = self.whole_lines(script, text, (number - of_file - 1) * most)
+                if wanted is not None and done.stdout.decode() != wanted:
+                    why = f"the output is {done.stdout!r} and not {wanted!r}"
+            if not why and again:
+                why = "a device is read again after its failure"
+            if why:
+                return f"with read {number} of {most} bytes failing: {why}"
+        return ""
+
+    def break_writes(self, words, script, text, most, saved):
+        whole, _, writes, again = self.run(words, script, WRITE_MOST=most)
+        if whole.stdout.decode() != text or again:
+            return f"with writes of {most} bytes the output is {whole.stdout!r}"
+        if saved and self.out.read_bytes() != self.file.read_bytes():
+            return f"with writes of {most} bytes other bytes are saved"
+        for number in range(1, writes + 1):
+            done, _, _, again = self.run(words, script, WRITE_MOST=most, WRITE_FAIL=number)
+            self.broken += 1
+            is_saving = saved and done.stdout.decode() == text
+            if is_saving:
+                why = "" if done.stderr == b"picklestep: cannot write\n" else f"errors {done.stderr!r}"
+                if not self.file.read_bytes().startswith(self.out.read_bytes() if self.out.exists() else b""):
+                    why = "no beginning was saved"
+            else:
+                why = self.fault_of(done, "cannot write", text, True)
+            if not why and again:
+                why = "a device is written again after its failure"
+            if why:
+                return f"with write {number} of {most} bytes failing: {why}"
+        return ""
+
+    def shrink(self):
+        """The file is emptied while it is read: what was read until then is listed, or reading fails."""
+        self.file.write_bytes(BY_MEMO[0])
+        for number in range(1, 8):
+            self.file.write_bytes(BY_MEMO[0])
+            done, _, _, _ = self.run(["list", str(self.file)], "", READ_MOST=2, SHRINK=self.file, SHRINK_AT=number)
+            self.broken += 1
+            cut = self.folder / "cut.pickle"
+            cut.write_bytes(BY_MEMO[0][: 2 * (number - 1)])
+            wanted = subprocess.run([self.program, "list", str(cut)], capture_output=True, timeout=60)
+            if (done.stdout, done.returncode, done.stderr) != (wanted.stdout, wanted.returncode, b""):
+                return f"emptied before read {number}, the output is {done.stdout!r}, status {done.returncode}"
+        self.file.write_bytes(BREAKPOINTS[0])
+        return ""
+
+
+def main():
+    program, library, folder = sys.argv[1], pathlib.Path(sys.argv[2]).resolve(), pathlib.Path(sys.argv[3])
+    folder.mkdir(parents=True, exist_ok=True)
+    devices = Devices(program, library, folder)
+    for name, (pickled, script, text, _) in (("breakpoints", BREAKPOINTS), ("a list appended to itself by memo", BY_MEMO)):
+        devices.file.write_bytes(pickled)
+        words = ["debug", str(devices.file), "--save", str(devices.out)]
+        for most in (1, 2, 7):
+            print(f"{name}, each read of {most} bytes failing\t{devices.break_reads(words, script, text, most, name == 'breakpoints')}")
+            print(f"{name}, each write of {most} bytes failing\t{devices.break_writes(words, script, text, most, True)}")
+    devices.file.write_bytes(BY_MEMO[0])
+    for task, text in (("list", LISTING), ("objects", OBJECTS)):
+        for most in (1, 2, 7):
+            words = [task, str(devices.file)]
+            print(f"{task}, each read of {most} bytes failing\t{devices.break_reads(words, '', text, most, False)}")
+            print(f"{task}, each write of {most} bytes failing\t{devices.break_writes(words, '', text, most, False)}")
+    print(f"a file that is emptied while it is read\t{devices.shrink()}")
+    print(f"{devices.broken} reads and writes failed")
+
+
+if __name__ == "__main__":
+    main()

@@ -1,0 +1,226 @@
+#!/usr/bin/python3
+"""Gives the program inputs that are cut short, deep or long, with a stack of 256 KiB.
+
+    hostile.py PROGRAM FOLDER PICKLES
+
+FOLDER is for the files; PICKLES is a folder of real pickles, of which each is cut at each of its first 2,000 bytes and listed. What
+a listing of a cut says follows from the listing of the whole: the opcodes that stand whole in it, and the fault of what is left,
+by the sizes that pickletools gives. Each line of the output says what was tried, a tab, and what was wrong, or nothing behind it.
+The last line says how many inputs there were.
+"""
+import concurrent.futures
+import os
+import pathlib
+import pickletools
+import re
+import resource
+import subprocess
+import sys
+
+MOST = 2000
+OPCODES = {opcode.name: opcode for opcode in pickletools.opcodes}
+ITEM = re.compile(r" *(\d+): \S+ +(\S+)(?: +(\d+))?")
+
+
+def answer(program, words, script=""):
+    done = subprocess.run([program, *words], input=script.encode(), capture_output=True, timeout=100, close_fds=False)
+    if done.stderr:
+        raise ValueError(f"errors {done.stderr[:100]!r}")
+    return done.stdout.decode(), done.returncode
+
+
+class Listing:
+    """The listing of whole bytes, in parts."""
+
+    def __init__(self, text, size):
+        self.lines = [line for line in text.splitlines() if ITEM.match(line)]
+        self.closing = text.splitlines()[len(self.lines) :]
+        parts = [ITEM.match(line) for line in self.lines]
+        self.starts = [int(part[1]) for part in parts]
+        self.names = [part[2] for part in parts]
+        self.frames = [int(part[3]) if part[2] == "FRAME" else 0 for part in parts]
+        fault = [line for line in self.closing if line.startswith("fault: ")]
+        kept = [line for line in self.closing if line.startswith("kept: ")]
+        self.refused = [line for line in self.closing if line.startswith("refused: ")]
+        self.left = [line for line in self.closing if line.startswith("left: ")]
+        self.fault = fault[0] if fault else None
+        if fault:
+            self.end = int(fault[0].rsplit(" ", 1)[1])
+        elif kept:
+            self.end = size - int(kept[0].split()[1])
+        else:
+            self.end = size
+
+    def closed(self, count, lines):
+        protocols = [OPCODES[name].proto for name in self.names[:count]]
+        if count:
+            lines = lines + [f"highest protocol among opcodes = {max(protocols)}"]
+        return "".join(f"{line}\n" for line in self.lines[:count] + lines)
+
+    def of_cut(self, cut):
+        """What may be listed of the first `cut` bytes, with the status; more than one where the whole listing does not tell."""
+        ends = self.starts[1:] + [self.end]
+        for k, start in enumerate(self.starts):
+            if self.refused and k + 1 == len(self.starts):
+                # (the sizes of what stands behind are not listed)
+                whole = self.closed(len(self.lines), self.refused)
+                return [(whole, 1), *((self.closed(k, [f"fault: {why} at {start}"]), 1) for why in self.cut_faults(start, cut))]
+            if cut < ends[k]:
+                return [(self.closed(k, [f"fault: {why} at {start}"]), 1) for why in self.cut_faults(start, cut)]
+            if ends[k] + self.frames[k] > cut:
+                return [(self.closed(k, [f"fault: F7 frame past the end at {start}"]), 1)]
+        if self.fault is None:
+            kept = [f"kept: {cut - self.end} bytes after STOP"] if cut > self.end else []
+            return [(self.closed(len(self.lines), self.left + kept), 0)]
+        faults = [f"fault: {why} at {self.end}" for why in self.cut_faults(self.end, cut)]
+        return [(self.closed(len(self.lines), [line]), 1) for line in [*faults, *([self.fault] if cut > self.end else [])]]
+
+    def cut_faults(self, start, cut):
+        return ["F1 ended" if cut == start else "F3 truncated"]
+
+
+def try_pickle(program, folder, path):
+    pickled = path.read_bytes()
+    text, _ = answer(program, ["list", str(path)])
+    listing = Listing(text, len(pickled))
+    cut = folder / f"{os.getpid()}.pickle"
+    for size in range(min(len(pickled), MOST)):
+        cut.write_bytes(pickled[:size])
+        found = answer(program, ["list", str(cut)])
+        if found not in listing.of_cut(size):
+            return size, f"{path.name} cut at {size}: {found!r} and not {listing.of_cut(size)!r}"[:600]
+    return min(len(pickled), MOST), ""
+
+
+def try_pickles(program, folder, pickles):
+    paths = sorted(pickles.glob("*.pickle"), key=lambda path: -path.stat().st_size)
+    count = 0
+    with concurrent.futures.ProcessPoolExecutor(os.cpu_count()) as pool:
+        for tried, why in pool.map(try_pickle, [program] * len(paths), [folder] * len(paths), paths):
+            count += tried
+            if why:
+                return count, why
+    return count, ""
+
+
+def debug(program, file, script):
+    """The transcript, and whether the bytes are saved as they were."""
+    saved = file.with_name("saved.pickle")
+    text, status = answer(program, ["debug", str(file), "--save", str(saved)], script)
+    return text, status, saved.read_bytes() == file.read_bytes()
+
+
+def many_marks(program, file):
+    file.write_bytes(b"(" * 100_000 + b"N.")
+    found = debug(program, file, "goto 100002\nwhere\ngoto 0\nwhere\nstack\n")
+    end = "buffers 0, result {}, end stopped\n"
+    text = "at 100002\nat 100002 of 100002, offset 100002, " + end.format("#0") + "at 0\nat 0 of 100002, offset 0, " + end.format("none") + "stack\n"
+    return found == (text, 0, True)
+
+
+def deep_listing(program, file):
+    file.write_bytes(b"(" * 1000 + b"N.")
+    text, status = answer(program, ["list", str(file)])
+    lines = text.splitlines()
+    wanted = [f"{k:5d}: (    {'    ' * k}MARK" for k in range(1000)] + [f" 1000: N    {' ' * 4000}NONE", f" 1001: .    {' ' * 4000}STOP", "left: 0 objects, 1000 marks"]
+    return lines[:-1] == wanted and lines[-1] == "highest protocol among opcodes = 0" and status == 0
+
+
+def deep_tuples(program, file):
+    file.write_bytes(b")" + b"\x85" * 100_000 + b".")
+    text, status, is_same = debug(program, file, "run\nshow 100000\n")
+    wanted = ["at 100002: end, stopped"] + [f"{k} #{100_000 - k} tuple (#{99_999 - k})" for k in range(100_000)] + ["100000 #0 tuple"]
+    return text.splitlines() == wanted and (status, is_same) == (0, True)
+
+
+def doublings(program, file):
+    file.write_bytes(b")" + b"2\x86" * 40 + b".")
+    text, status, is_same = debug(program, file, "run\nshow 40\n")
+    wanted = ["at 82: end, stopped"] + [f"{k} #{40 - k} tuple (#{39 - k} #{39 - k})" for k in range(40)] + ["40 #0 tuple"]
+    wanted += [f"{40 - k} #{k}" for k in range(40)]
+    return text.splitlines() == wanted and (status, is_same) == (0, True)
+
+
+def deep_lists(program, file):
+    file.write_bytes(b"]" * 100_001 + b"a" * 100_000 + b".")
+    text, status, is_same = debug(program, file, "run\nshow 0\n")
+    wanted = ["at 200002: end, stopped"] + [f"{k} #{k} list +#{k + 1}" for k in range(100_000)] + ["100000 #100000 list"]
+    return text.splitlines() == wanted and (status, is_same) == (0, True)
+
+
+def many_parts(program, file):
+    file.write_bytes(b"(" + b"N" * 100_000 + b"t.")
+    text, status = answer(program, ["objects", str(file)])
+    parts = " ".join(f"#{k}" for k in range(100_000))
+    wanted = [f"#{k} none" for k in range(100_000)] + [f"#100000 tuple ({parts})", "result #100000"]
+    return text.splitlines() == wanted and status == 0
+
+
+def many_entries(program, file):
+    file.write_bytes(b"N" + b"\x94" * 100_000 + b".")
+    text, status, is_same = debug(program, file, "run\nmemo\ngoto 0\nmemo\n")
+    entries = "".join(f" {k}=#0" for k in range(100_000))
+    return text.splitlines() == ["at 100002: end, stopped", "memo" + entries, "at 0", "memo"] and (status, is_same) == (0, True)
+
+
+LARGEST = ["55ff", "58ffffffff", "54ffffff7f", "8e" + "ff" * 8, "96" + "ff" * 8, "95" + "ff" * 8]
+
+
+def largest_lengths(program, file):
+    for spelled in LARGEST:
+        file.write_bytes(bytes.fromhex(spelled))
+        fault = "F7 frame past the end" if spelled.startswith("95") else "F3 truncated"
+        if answer(program, ["list", str(file)]) != (f"fault: {fault} at 0\n", 1) or debug(program, file, "") != ("", 0, True):
+            return False
+    return True
+
+
+def single_bytes(program, file):
+    counts = {}
+    for byte in range(256):
+        file.write_bytes(bytes([byte]))
+        text, _ = answer(program, ["list", str(file)])
+        if debug(program, file, "") != ("", 0, True):
+            return False
+        if text == f"fault: F2 unknown opcode 0x{byte:02x} at 0\n":
+            kind = "F2"
+        elif text == "fault: F3 truncated at 0\n":
+            kind = "F3"
+        else:
+            kind = "STOP" if byte == 0x2E else "item"
+        counts[kind] = counts.get(kind, 0) + 1
+    return counts == {"F2": 188, "F3": 34, "item": 33, "STOP": 1}
+
+
+ROWS = [
+    ("100,000 marks, there and back", many_marks, 1),
+    ("a thousand marks, listed", deep_listing, 1),
+    ("100,000 tuples in one another", deep_tuples, 1),
+    ("forty doublings", doublings, 1),
+    ("100,000 lists in one another", deep_lists, 1),
+    ("a tuple of 100,000 parts", many_parts, 1),
+    ("100,000 memo entries", many_entries, 1),
+    ("lengths at their largest", largest_lengths, len(LARGEST)),
+    ("each byte alone", single_bytes, 256),
+]
+
+
+def main():
+    program, folder, pickles = sys.argv[1], pathlib.Path(sys.argv[2]), pathlib.Path(sys.argv[3])
+    folder.mkdir(parents=True, exist_ok=True)
+    resource.setrlimit(resource.RLIMIT_STACK, (256 * 1024, resource.getrlimit(resource.RLIMIT_STACK)[1]))
+    inputs = 0
+    for name, row, count in ROWS:
+        try:
+            why = "" if row(program, folder / "hostile.pickle") else "something else is answered"
+        except (ValueError, OSError, subprocess.SubprocessError) as fault:
+            why = str(fault)[:200]
+        print(f"{name}\t{why}", flush=True)
+        inputs += count
+    count, why = try_pickles(program, folder, pickles)
+    print(f"the real pickles, cut at each byte\t{why}")
+    print(f"{inputs + count} inputs")
+
+
+if __name__ == "__main__":
+    main()
