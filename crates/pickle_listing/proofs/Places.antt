@@ -158,12 +158,13 @@ lines_more d k zero = let e : k + 0 ≡ k = omega arith in ([], rw e (sym (appen
 lines_more d k (suc n) =
     let e : k + suc n ≡ suc (k + n) = omega arith in
     let before = lines_more d k n in
-    let last : List ℕ = left_by (item_at d (k + n)) (run (ops_of d) (suc (k + n))) in
-    ((before.0 ++ line_at d (k + n)) ++ last,
+    let last : List ℕ = left_by (item_at d (k + n)) (run (ops_of d) (suc (k + n))) in (
+      (before.0 ++ line_at d (k + n)) ++ last,
       rw e (lines-suc d (k + n)
-        ∙ ap (λ (t : List ℕ). (t ++ line_at d (k + n)) ++ last) before.1
-        ∙ ap (λ (t : List ℕ). t ++ last) (append_assoc (lines d k) before.0 (line_at d (k + n)))
-        ∙ append_assoc (lines d k) (before.0 ++ line_at d (k + n)) last))
+          ∙ ap (λ (t : List ℕ). (t ++ line_at d (k + n)) ++ last) before.1
+          ∙ ap (λ (t : List ℕ). t ++ last) (append_assoc (lines d k) before.0 (line_at d (k + n)))
+          ∙ append_assoc (lines d k) (before.0 ++ line_at d (k + n)) last),
+    )
 
 -- the first lines come first
 pub lines_first : (d : Contents) (k n : ℕ) → k ≤ n → (rest : List ℕ) × (lines d n ≡ lines d k ++ rest)
