@@ -1,0 +1,5 @@
+pub mod Refusals
+pub mod Queries
+pub mod Cuts
+pub mod Feeding
+pub mod Endings
