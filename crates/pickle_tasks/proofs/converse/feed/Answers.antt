@@ -9,12 +9,12 @@ returns-in_err-feed_byte g c = λ s old given w.
     let f = c.feed_byte.ensures s old (given ++ take c.loop-byte.byte-index c.args.bytes.now) (c.loop-byte.invariant s old given w) in
     rw p.1 (fed_broken _ _ _ _ _ _ _ _ _ _ f c.in_err-feed_byte.was (split_byte given c.args.bytes.now c.loop-byte.byte-index _ c.loop-byte-test.true refl))
 
-pub returns-then-branch : goal.returns-then-branch
-returns-then-branch g c = λ s old given w.
+pub returns-in-Quits : goal.returns-in-Quits
+returns-in-Quits g c = λ s old given w.
     let f = c.in_ok-feed_byte.ensures s old (given ++ take c.loop-byte.byte-index c.args.bytes.now) (c.loop-byte.invariant s old given w) in
-    fed_quit _ _ _ _ _ _ _ _ _ f (ap Ok c.if-branch.true) (split_byte given c.args.bytes.now c.loop-byte.byte-index _ c.loop-byte-test.true refl)
+    fed_quit _ _ _ _ _ _ _ _ _ f (ap Ok c.in-Quits.is) (split_byte given c.args.bytes.now c.loop-byte.byte-index _ c.loop-byte-test.true refl)
 
 pub loop-byte-preserved : goal.loop-byte-preserved
 loop-byte-preserved g c = λ s old given w.
     let f = c.in_ok-feed_byte.ensures s old (given ++ take c.loop-byte.byte-index c.args.bytes.now) (c.loop-byte.invariant s old given w) in
-    fed_on _ _ _ _ _ _ _ _ f (ap Ok c.if-branch.false) (one_byte given c.args.bytes.now c.loop-byte.byte-index _ c.loop-byte-test.true refl)
+    fed_on _ _ _ _ _ _ _ _ f (ap Ok c.in-GoesOn.is) (one_byte given c.args.bytes.now c.loop-byte.byte-index _ c.loop-byte-test.true refl)

@@ -27,12 +27,12 @@ returns-in_err-feed-clause-writing g c = λ stop.
     let gave = Consumes-trans _ _ _ _ _ m.gave c.in-Ok.ensures.given in
     breaks_before _ _ _ _ _ _ _ gave (c.in_err-feed.ensures _ _ m.given m.so_far)
 
-pub returns-then-branch-clause-finishes : goal.returns-then-branch-clause-finishes
-returns-then-branch-clause-finishes g c =
+pub returns-in-Quits-clause-finishes : goal.returns-in-Quits-clause-finishes
+returns-in-Quits-clause-finishes g c =
     let m = c.turns.invariant.moment in
     let f = c.in_ok-feed.ensures _ _ m.given m.so_far in
     let gave = Consumes-trans _ _ _ _ _ m.gave c.in-Ok.ensures.given in
-    let quit = fed_quit _ _ _ _ _ [] _ _ _ f (ap Ok c.if-branch.true) (append-nil _) in
+    let quit = fed_quit _ _ _ _ _ [] _ _ _ f (ap Ok c.in-Quits.is) (append-nil _) in
     finishes_quit _ _ _ _ _ _ _ _ _ gave quit c.status.ensures
 
 pub turns-preserved : goal.turns-preserved
@@ -40,7 +40,7 @@ turns-preserved g c =
     let m = c.turns.invariant.moment in
     let f = c.in_ok-feed.ensures _ _ m.given m.so_far in
     let gave = Consumes-trans _ _ _ _ _ m.gave c.in-Ok.ensures.given in
-    let on = fed_on _ _ _ _ _ _ _ _ f (ap Ok c.if-branch.false) refl in
+    let on = fed_on _ _ _ _ _ _ _ _ f (ap Ok c.in-GoesOn.is) refl in
     record {
       moment = record { given = _; gave = gave; so_far = on };
       calm = c.in-Ok.ensures.calm ∙ c.turns.invariant.calm;
