@@ -15,7 +15,8 @@ use Rattle.pickle_session.specs.declared.reply.Reply.TheVariants as reply
 use Rattle.pickle_text.specs.declared.line.Syntax.{Syntax}
 use Rattle.pickle_text.specs.declared.line.Syntax.TheVariants as syntax
 use Rattle.pickle_page.specs.Column.{newline}
-use Rattle.pickle_text.specs.FaultText.{refusal_text, end_text, op_fault_text}
+use Rattle.pickle_report.specs.Line.{refusal_text}
+use Rattle.pickle_text.specs.FaultText.{end_text, op_fault_text}
 
 -- ---- refused commands
 

@@ -12,7 +12,7 @@ mod reply;
 mod syntax;
 mod words;
 
-pub use fault_text::{write_end, write_op_fault, write_refusal, write_tail_fault};
+pub use fault_text::{write_end, write_op_fault};
 pub use grammar::read_command;
 pub use items::write_items;
 pub use line::{Line, Query, Syntax};

@@ -4,10 +4,11 @@ ghost use Rattle.std.specs.Prelude.{◌≡◌};
 ghost use Rattle.pickle_ops.specs.Device.{Writes};
 ghost use Rattle.pickle_text.specs.ReplyText.{edit_words, fault_words, item_text, behind_text, fault_rest, refused_command, why_text, ran_text, placed_text, reply_text};
 
-use crate::fault_text::{write_end, write_refusal};
+use crate::fault_text::write_end;
 use pickle_doc::{EditFault, End};
 use pickle_machine::Refusal;
 use pickle_ops::{Failed, Sink, write_all, write_decimal};
+use pickle_report::write_refusal;
 use pickle_session::{Fault, Reply, Why};
 
 /// What the fault of an edit is called.

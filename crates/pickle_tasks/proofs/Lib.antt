@@ -1,0 +1,6 @@
+pub mod Refusals
+pub mod Queries
+pub mod Cuts
+pub mod Feeding
+pub mod Endings
+pub mod Listings

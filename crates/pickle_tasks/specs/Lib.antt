@@ -1,0 +1,8 @@
+pub mod Stop
+pub mod List
+pub mod Objects
+pub mod Script
+pub mod Query
+pub mod Transcript
+pub mod Conversation
+pub mod Progress

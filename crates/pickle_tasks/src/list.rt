@@ -1,0 +1,31 @@
+//! The listing of an input.
+
+ghost use Rattle.std.specs.Prelude.{◌≡◌, ◌<◌, ◌↔◌, length, IfOk, IfErr, Err};
+ghost use Rattle.pickle_doc.specs.Document.{size_limit};
+ghost use Rattle.pickle_listing.specs.Written.{IsListed};
+ghost use Rattle.pickle_tasks.specs.List.{StopsListing};
+
+use crate::stop::Stop;
+use pickle_doc::LIMIT;
+use pickle_listing::list_bytes;
+use pickle_ops::Sink;
+use std::alloc::Global;
+
+/// Writes the listing of the pickle that the bytes are, and answers its status: 1 where an item is refused or the
+/// bytes have a fault, else 0. A `Stop` comes for want of memory, from the sink, or where there are more bytes than
+/// `LIMIT`; what was written then is a beginning of the listing.
+pub fn list<S: Sink>(alloc: Global, bytes: &[u8], sink: &mut S) -> Result<u8, Stop>
+    ensures listed { IfOk result (IsListed bytes.now (S.told sink.old) (S.told sink.new)) }
+
+    // Write comes only where the sink has failed, Memory only where it has not, and Read never.
+    ensures stopped { IfErr result (StopsListing bytes.now (S.told sink.old) (S.told sink.new)) }
+
+    // Too many bytes, and only those, are refused before anything is written.
+    ensures too_large { (result ≡ Err Stop.TooLarge) ↔ (size_limit < length bytes.now) }
+    ensures untouched { result ≡ Err Stop.TooLarge → sink.new ≡ sink.old }
+{
+    if bytes.len() > LIMIT {
+        return Err(Stop::TooLarge);
+    }
+    Ok(list_bytes(alloc, bytes, sink)?)
+}

@@ -1,0 +1,28 @@
+//! The objects that a pickle makes.
+
+ghost use Rattle.std.specs.Prelude.{◌≡◌, ◌↔◌, ◌<◌, length, IfOk, IfErr, Err};
+ghost use Rattle.pickle_doc.specs.Document.{size_limit};
+ghost use Rattle.pickle_tasks.specs.Objects.{IsReported, StopsReport};
+
+use crate::stop::Stop;
+use pickle_doc::Document;
+use pickle_ops::Sink;
+use pickle_report::write_document_report;
+use std::alloc::Global;
+
+/// Writes the report of the pickle that the bytes are, and answers its status: the lines of all objects that its opcodes make, up
+/// to the end or to one that is refused, and a closing line; 0 where there is a result, else 1. A `Stop` comes for want of
+/// memory, from the sink, or where there are more bytes than `LIMIT`. Where the sink failed, what was written is a beginning of
+/// the report; else nothing was written.
+pub fn objects<S: Sink>(alloc: Global, bytes: &[u8], sink: &mut S) -> Result<u8, Stop>
+    ensures reported { IfOk result (IsReported bytes.now (S.told sink.old) (S.told sink.new)) }
+
+    // Write comes only where the sink has failed, and Read never.
+    ensures stopped { IfErr result (StopsReport bytes.now (S.told sink.old) (S.told sink.new)) }
+
+    // Too many bytes, and only those, are refused as such.
+    ensures too_large { (result ≡ Err Stop.TooLarge) ↔ (size_limit < length bytes.now) }
+{
+    let document = Document::read(alloc, bytes)?;
+    Ok(write_document_report(alloc, &document, sink)?)
+}

@@ -1,0 +1,93 @@
+-- What clap's matches name.
+use Rattle.std.proofs.Common.{◌≡◌, ℕ, ◌<◌, ◌≤◌, ◌^◌, List, [], Option, Some, None, Result, Ok, Err, refl, sym, ap, subst, ◌∙◌, arith, codes}
+use Rattle.std.specs.Prelude.{IfSome, IfErr, IsErrAnd, option_map}
+use Rattle.std.specs.Str.Parse.{IsNumeral, digits_value, without_leading_plus}
+use Rattle.clap.specs.Words.{Row, Text, TriesOne, first_of, kind_of}
+use Rattle.clap.specs.declared.error.Error.{Error}
+use Rattle.clap.specs.declared.error.kind.ErrorKind.TheVariants as kind
+use Rattle.picklestep.specs.declared.task.Task.{Task}
+use Rattle.picklestep.specs.declared.task.Task.TheVariants as task
+use Rattle.picklestep.specs.declared.task.Usage.{Usage}
+use Rattle.picklestep.specs.declared.task.Usage.TheVariants as usage
+use Rattle.picklestep.specs.CommandLine.{Matches, IsMemory, IsNamed, IsUsed, IsWindow, most_records}
+
+-- ---- a subcommand
+
+pub used_is : {X A B : Type 0} (f : X → A) (g : X → B) (o : Option X) (a : A) (b : B) → Some a ≡ option_map f o
+    → Some b ≡ option_map (λ (p : A × B). p.1) (option_map {U = A × B} (λ x. (f x, g x)) o) → option_map {U = A × B} (λ x. (f x, g x)) o ≡ Some (a, b)
+used_is f g None a b p q = absurd cc
+used_is f g (Some x) a b p q =
+    let first : a ≡ f x = cc in
+    let second : b ≡ g x = cc in
+    rw (first, second) refl
+
+-- what was matched behind the subcommand
+behind : Matches → List Row
+behind None = []
+behind (Some p) = p.1
+
+not_used : (matches : Matches) (name want : Text) (rows : List Row) (found : List Row) → matches ≡ Some (name, rows) → matches ≡ Some (want, found) → rows ≡ found
+unfolding behind
+not_used matches name want rows found p q = sym (ap behind p) ∙ ap behind q
+
+-- without its file there is no task
+no_file : (matches : Matches) (name : Text) (rows found : List Row) (want file : Text) → matches ≡ Some (name, rows) → None ≡ first_of (codes "FILE") rows
+    → matches ≡ Some (want, found) → first_of (codes "FILE") found ≡ Some file → ⊥
+no_file matches name rows found want file p n q f =
+    let e : None ≡ Some file = n ∙ ap (first_of (codes "FILE")) (not_used matches name want rows found p q) ∙ f in
+    absurd cc
+
+pub no_task : (matches : Matches) (name : Text) (rows : List Row) (t : Task) → matches ≡ Some (name, rows) → None ≡ first_of (codes "FILE") rows → IsNamed matches t → ⊥
+no_task matches name rows (task.List file) p n u = no_file matches name rows u.rows _ _ p n u.used u.file_is
+no_task matches name rows (task.Objects file) p n u = no_file matches name rows u.rows _ _ p n u.used u.file_is
+no_task matches name rows (task.Debug file options) p n u = no_file matches name rows u.0.rows _ _ p n u.0.used u.0.file_is
+
+-- ---- a window
+
+pub no_text : {E : Type 0} (gives : List ℕ → Result ℕ E → Type 0) (o : Option Text) (r : Result (Option ℕ) E)
+    → ((t : Text) → o ≡ Some t → TriesOne gives t r) → r ≡ Ok None → o ≡ None
+no_text gives None r value e = refl
+no_text gives (Some t) r value e = absurd (subst (λ x. TriesOne gives t x) e (value t refl))
+
+pub record Read {E : Type 0} (gives : List ℕ → Result ℕ E → Type 0) (o : Option Text) (r : Result ℕ E) : Type 0 where
+  pub text : Text
+  pub there : o ≡ Some text
+  pub given : gives text r
+
+pub some_text : {E : Type 0} (gives : List ℕ → Result ℕ E → Type 0) (o : Option Text) (r : Result (Option ℕ) E) (n : ℕ) → (o ≡ None → r ≡ Ok None)
+    → ((t : Text) → o ≡ Some t → TriesOne gives t r) → r ≡ Ok (Some n) → Read gives o (Ok n)
+some_text gives None r n none value e = let bad : Ok None ≡ Ok (Some n) = sym (none refl) ∙ e in absurd cc
+some_text gives (Some t) r n none value e = record { text = t; there = refl; given = subst (λ x. TriesOne gives t x) e (value t refl) }
+
+pub bad_text : {E : Type 0} (gives : List ℕ → Result ℕ E → Type 0) (o : Option Text) (r : Result (Option ℕ) E) (x : E) → (o ≡ None → r ≡ Ok None)
+    → ((t : Text) → o ≡ Some t → TriesOne gives t r) → r ≡ Err x → Read gives o (Err x)
+bad_text gives None r x none value e = let bad : Ok None ≡ Err x = sym (none refl) ∙ e in absurd cc
+bad_text gives (Some t) r x none value e = record { text = t; there = refl; given = subst (λ y. TriesOne gives t y) e (value t refl) }
+
+pub is_window : (o : Option Text) (t : Text) (n : ℕ) (r : Option (Option ℕ)) → o ≡ Some t → IsNumeral 10 (without_leading_plus t)
+    → n ≡ digits_value 10 (without_leading_plus t) → IfSome r (λ w. (w ≡ Some n) × (1 ≤ n) × (n ≤ most_records)) → IfSome r (IsWindow o)
+is_window o t n None e numeral value b = tt
+is_window o t n (Some w) e numeral value b = rw (e, b.0) (record { numeral = numeral; value = value; least = b.1; most = b.2 })
+
+window_at : (o : Option Text) (t : Text) (w : Option ℕ) → o ≡ Some t → IsWindow o w → IsWindow (Some t) w
+window_at o t w e h = subst (λ x. IsWindow x w) e h
+
+pub no_count : (o : Option Text) (t : Text) (n : ℕ) (w : Option ℕ) → o ≡ Some t → n ≡ digits_value 10 (without_leading_plus t)
+    → (1 ≤ n → n ≤ most_records → ⊥) → IsWindow o w → ⊥
+no_count o t n None e value out h = window_at o t None e h
+no_count o t n (Some m) e value out h =
+    let c = window_at o t (Some m) e h in
+    let same : m ≡ n = c.value ∙ sym value in
+    out (subst (λ x. 1 ≤ x) same c.least) (subst (λ x. x ≤ most_records) same c.most)
+
+pub no_number : (o : Option Text) (t : Text) (w : Option ℕ) → o ≡ Some t → (IsNumeral 10 (without_leading_plus t) × (digits_value 10 (without_leading_plus t) < 2 ^ 64) → ⊥) → IsWindow o w → ⊥
+no_number o t None e not h = window_at o t None e h
+no_number o t (Some m) e not h =
+    let c = window_at o t (Some m) e h in
+    not (c.numeral, omega (arith, c.value, c.most))
+
+-- ---- a refusal
+
+pub refused_memory : (r : Result Task Usage) (e : Error) → IsErrAnd r (λ u. u ≡ usage.Words e) → kind_of e ≡ kind.OutOfMemory → IfErr r IsMemory
+refused_memory (Ok x) e is m = absurd is
+refused_memory (Err u) e is m = rw is m

@@ -1,0 +1,87 @@
+-- The command line, as clap's words say it, and the task that clap's matches of the words name.
+use Rattle.std.specs.Prelude.{◌≡◌, ◌≤◌, ℕ, List, Option, None, Some, IfSome, option_map, true, pos, codes, ⊤, String}
+use Rattle.std.specs.String.{string_bytes}
+use Rattle.std.specs.declared.alloc.Global.{Global}
+use Rattle.std.specs.Str.Parse.{IsNumeral, digits_value, without_leading_plus}
+use Rattle.clap.specs.Words.{App, Row, Rule, Text, first_of, one_of, kind_of, new_app, new_rule, with_rule, with_subcommand}
+use Rattle.clap.specs.declared.builder.action.ArgAction.TheVariants.{Set}
+use Rattle.clap.specs.declared.builder.value_parser.ValueParser.TheVariants as parser
+use Rattle.clap.specs.declared.error.kind.ErrorKind.TheVariants as kind
+use Rattle.picklestep.specs.declared.task.Task.{Task}
+use Rattle.picklestep.specs.declared.task.Task.TheVariants as task
+use Rattle.picklestep.specs.declared.task.Options.{Options}
+use Rattle.picklestep.specs.declared.task.Usage.{Usage}
+use Rattle.picklestep.specs.declared.task.Usage.TheVariants as usage
+
+-- ---- the definition of the command line
+
+-- the greatest number of step records that a conversation may be told to keep
+abbrev pub most_records : ℕ
+most_records = 1000000
+
+abbrev pub file_rule : Rule
+file_rule = record (new_rule (codes "FILE")) { required = true; action = Some Set }
+
+abbrev pub window_rule : Rule
+window_rule = record (new_rule (codes "window")) { long = Some (codes "window"); value_names = 1; parser = Some (parser.Signed (pos 1) (pos most_records)); action = Some Set }
+
+abbrev pub save_rule : Rule
+save_rule = record (new_rule (codes "save")) { long = Some (codes "save"); value_names = 1; action = Some Set }
+
+-- a subcommand that is done on one file
+abbrev pub on_file : Text → App
+on_file name = with_rule (new_app name) file_rule
+
+abbrev pub debug_app : App
+debug_app = with_rule (with_rule (on_file (codes "debug")) window_rule) save_rule
+
+abbrev pub wants_subcommand : App → App
+wants_subcommand a = record a { top = record a.top { subcommand_required = true } }
+
+abbrev pub program : App
+program = with_subcommand (with_subcommand (with_subcommand (wants_subcommand (new_app (codes "picklestep"))) (on_file (codes "list")).top) (on_file (codes "objects")).top) debug_app.top
+
+-- ---- the task that matches name
+
+-- the subcommand that clap's matches name, and what was matched behind it
+abbrev pub Matches : Type 0
+Matches = Option (Text × List Row)
+
+-- a text that writes a number within the bounds
+pub record IsCount (text : Text) (n : ℕ) : Type 0 where
+  pub numeral : IsNumeral 10 (without_leading_plus text)
+  pub value : n ≡ digits_value 10 (without_leading_plus text)
+  pub least : 1 ≤ n
+  pub most : n ≤ most_records
+
+abbrev pub IsWindow : Option Text → Option ℕ → Type 0
+IsWindow None None = ⊤
+IsWindow (Some text) (Some n) = IsCount text n
+IsWindow None (Some n) = ⊥
+IsWindow (Some text) None = ⊥
+
+-- the subcommand of this name was used, with this FILE
+pub record IsUsed (name : Text) (matches : Matches) (file : String Global) : Type 0 where
+  pub rows : List Row
+  pub used : matches ≡ Some (name, rows)
+  pub file_is : first_of (codes "FILE") rows ≡ Some (string_bytes file)
+
+pub record HasOptions (rows : List Row) (options : Options) : Type 0 where
+  pub save_is : first_of (codes "save") rows ≡ option_map string_bytes options.save
+  pub window_is : IsWindow (one_of (codes "window") rows) options.window
+
+abbrev pub IsNamed : Matches → Task → Type 0
+IsNamed matches (task.List file) = IsUsed (codes "list") matches file
+IsNamed matches (task.Objects file) = IsUsed (codes "objects") matches file
+IsNamed matches (task.Debug file options) = (u : IsUsed (codes "debug") matches file) × HasOptions u.rows options
+
+-- a number of step records is within the bounds
+abbrev pub IsBounded : Task → Type 0
+IsBounded (task.List file) = ⊤
+IsBounded (task.Objects file) = ⊤
+IsBounded (task.Debug file options) = IfSome options.window (λ n. (1 ≤ n) × (n ≤ most_records))
+
+-- the words are refused for want of memory
+abbrev pub IsMemory : Usage → Type 0
+IsMemory usage.Memory = ⊤
+IsMemory (usage.Words e) = kind_of e ≡ kind.OutOfMemory

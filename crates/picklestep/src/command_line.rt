@@ -1,0 +1,98 @@
+//! The definition of the command line.
+
+ghost use Rattle.std.specs.Prelude.{◌≡◌, IfOk, false};
+ghost use Rattle.clap.specs.Words.{rule_of, app_of};
+ghost use Rattle.picklestep.specs.CommandLine.{file_rule, window_rule, save_rule, on_file, debug_app, program};
+
+use clap::{Arg, ArgAction, Command};
+use std::alloc::{AllocError, Global};
+
+/// The most step records that a conversation is told to keep.
+pub const MOST_RECORDS: usize = 1_000_000;
+
+/// The argument of a task that is done on one file.
+fn file_argument<'a>(alloc: Global) -> Arg<'a>
+    ensures rule { rule_of result ≡ file_rule }
+    ensures local { result.global ≡ false }
+{
+    Arg::new(alloc, "FILE")
+        .help("the pickle")
+        .required(true)
+        .action(ArgAction::Set)
+}
+
+/// How many step records a conversation keeps.
+fn window_argument<'a>(alloc: Global) -> Arg<'a>
+    ensures rule { rule_of result ≡ window_rule }
+    ensures local { result.global ≡ false }
+{
+    Arg::new(alloc, "window")
+        .long("window")
+        .value_name("N")
+        .help(
+            "keep the records of the latest N steps, and build the machine anew to go back further",
+        )
+        .value_parser(clap::value_parser!(u32).range(1..=MOST_RECORDS as i64))
+        .action(ArgAction::Set)
+}
+
+/// Where a conversation saves the pickle.
+fn save_argument<'a>(alloc: Global) -> Arg<'a>
+    ensures rule { rule_of result ≡ save_rule }
+    ensures local { result.global ≡ false }
+{
+    Arg::new(alloc, "save")
+        .long("save")
+        .value_name("OUT")
+        .help("write the pickle to OUT behind the last line")
+        .action(ArgAction::Set)
+}
+
+/// A command that is done on one file.
+fn on_file<'a>(
+    alloc: Global,
+    name: &'a str,
+    about: &'a str,
+) -> Result<Command<'a>, AllocError>
+    ensures { IfOk result (λ c. app_of c ≡ on_file name.now) }
+{
+    Command::new(alloc, name)
+        .about(about)
+        .arg(file_argument(alloc))
+}
+
+/// The command that talks about a file.
+fn debug_command<'a>(alloc: Global) -> Result<Command<'a>, AllocError>
+    ensures { IfOk result (λ c. app_of c ≡ debug_app) }
+{
+    on_file(
+        alloc,
+        "debug",
+        "Obeys the lines of standard input on FILE: steps forwards and back, shows, edits",
+    )?
+    .arg(window_argument(alloc))?
+    .arg(save_argument(alloc))
+}
+
+/// What the program takes on its command line.
+pub fn command_line<'a>(alloc: Global) -> Result<Command<'a>, AllocError>
+    ensures { IfOk result (λ c. app_of c ≡ program) }
+{
+    let listing = on_file(
+        alloc,
+        "list",
+        "Lists the opcodes of FILE with their offsets and arguments",
+    )?;
+    let reporting = on_file(
+        alloc,
+        "objects",
+        "Tells the objects that the opcodes of FILE make, and which of them is the result",
+    )?;
+    let debugging = debug_command(alloc)?;
+    Command::new(alloc, "picklestep")
+        .about("Shows what a Python pickle would import, call and build, and runs nothing of it")
+        .subcommand_required(true)
+        .subcommand(listing)?
+        .subcommand(reporting)?
+        .subcommand(debugging)
+}

@@ -1,0 +1,154 @@
+//! What the words of the command line ask for.
+
+ghost use Rattle.std.specs.Prelude.{◌≡◌, ◌≤◌, ℕ, Option, Some, None, Ok, IfOk, IfErr, IfSome, map, option_map, true, codes};
+ghost use Rattle.std.specs.String.{string_bytes};
+ghost use Rattle.clap.specs.Words.{found_of, one_of, rows_of, subcommand_of, subcommand_rows_of, takes};
+ghost use Rattle.picklestep.specs.CommandLine.{program, most_records, HasOptions, IsWindow, IsNamed, IsBounded, IsMemory};
+
+use crate::command_line::{MOST_RECORDS, command_line};
+use clap::error::ErrorKind;
+use clap::{ArgMatches, Error};
+use std::alloc::{AllocError, Global};
+
+/// What the program is asked to do, each with the file that it is done on.
+#[derive(Drop, Debug, PartialEq, Eq)]
+pub enum Task {
+    /// List the opcodes.
+    List(String),
+    /// Tell the objects that the opcodes make.
+    Objects(String),
+    /// Obey the lines of standard input.
+    Debug(String, Options),
+}
+
+/// The options of a conversation.
+#[derive(Drop, Debug, PartialEq, Eq)]
+pub struct Options {
+    /// Where the document is saved behind the last line, if anywhere.
+    pub save: Option<String>,
+    /// How many step records are kept, from 1 to 1,000,000; all where there is no number.
+    pub window: Option<usize>,
+}
+
+/// Why the words are no task.
+#[derive(Drop, Debug)]
+pub enum Usage {
+    /// What clap says of them; its text is for the user.
+    Words(Error),
+    /// There was not enough memory.
+    Memory,
+}
+
+impl From<AllocError> for Usage {
+    ghost use Rattle.picklestep.specs.declared.task.Usage.TheVariants.{Memory};
+
+    ghost from_gives = { λ _ e. e ≡ Memory };
+
+    fn from(_error: AllocError) -> Usage {
+        Usage::Memory
+    }
+}
+
+impl From<Error> for Usage {
+    ghost use Rattle.picklestep.specs.declared.task.Usage.TheVariants.{Words};
+
+    ghost from_gives = { λ error e. e ≡ Words error };
+
+    fn from(error: Error) -> Usage {
+        Usage::Words(error)
+    }
+}
+
+/// A text of its own, where there is one.
+fn owned(alloc: Global, text: Option<&str>) -> Result<Option<String>, AllocError>
+    ensures { IfOk result (λ r. option_map string_bytes r ≡ option_map (λ t. t.now) text.entry) }
+{
+    match text {
+        None => Ok(None),
+        Some(text) => Ok(Some(String::from_str(alloc, text)?)),
+    }
+}
+
+/// How many step records are kept; no answer where that is no number within the bounds.
+fn window_of(found: &ArgMatches<'_>) -> Option<Option<usize>>
+    ensures some { IfSome result (IsWindow (one_of (codes "window") (rows_of (found_of found.now)))) }
+    ensures none { result ≡ None → (window : Option ℕ) → IsWindow (one_of (codes "window") (rows_of (found_of found.now))) window → ⊥ }
+{
+    match found.try_get_one::<usize>("window") {
+        Ok(None) => Some(None),
+        Ok(Some(count)) => bounded(count),
+        Err(_) => None,
+    }
+}
+
+/// A number of step records, where it is within the bounds.
+fn bounded(count: usize) -> Option<Option<usize>>
+    ensures some { IfSome result (λ window. (window ≡ Some count) × (1 ≤ count) × (count ≤ most_records)) }
+    ensures none { result ≡ None → (1 ≤ count) → (count ≤ most_records) → ⊥ }
+{
+    if count < 1 || count > MOST_RECORDS {
+        None
+    } else {
+        Some(Some(count))
+    }
+}
+
+/// The options of a conversation; no answer where the window is none.
+fn options_of(alloc: Global, found: &ArgMatches<'_>) -> Result<Option<Options>, AllocError>
+    ensures some { IfOk result (λ r. IfSome r (HasOptions (rows_of (found_of found.now)))) }
+    ensures none { result ≡ Ok None → (options : Options) → HasOptions (rows_of (found_of found.now)) options → ⊥ }
+{
+    let save = owned(alloc, found.get_str("save"))?;
+    match window_of(found) {
+        Some(window) => Ok(Some(Options { save, window })),
+        None => Ok(None),
+    }
+}
+
+/// The task that matches name, if they name one.
+fn named(alloc: Global, matches: &ArgMatches<'_>) -> Result<Option<Task>, AllocError>
+    ensures some { IfOk result (λ r. IfSome r (IsNamed (subcommand_rows_of matches.now))) }
+    ensures none { result ≡ Ok None → (task : Task) → IsNamed (subcommand_rows_of matches.now) task → ⊥ }
+{
+    let Some((name, found)) = matches.subcommand() else {
+        return Ok(None);
+    };
+    let Some(file) = found.get_str("FILE") else {
+        return Ok(None);
+    };
+    if name == "list" {
+        Ok(Some(Task::List(String::from_str(alloc, file)?)))
+    } else if name == "objects" {
+        Ok(Some(Task::Objects(String::from_str(alloc, file)?)))
+    } else if name == "debug" {
+        let Some(options) = options_of(alloc, found)? else {
+            return Ok(None);
+        };
+        Ok(Some(Task::Debug(String::from_str(alloc, file)?, options)))
+    } else {
+        Ok(None)
+    }
+}
+
+/// What the words of the command line ask for, the program's name first.
+///
+/// `Usage::Words` has what `clap` says of words that it does not take, and of a call for help; `Usage::Memory` comes where there is no
+/// room for what `clap` builds or for a text of the task.
+pub fn task_of(alloc: Global, words: &[&str]) -> Result<Task, Usage>
+    // A task is one that clap's matches of the words name.
+    ensures named { IfOk result (IsNamed (subcommand_of program (map (λ w. w.now) words.now))) }
+    ensures bounded { IfOk result IsBounded }
+
+    // Words that clap's definition takes, and whose matches name a task, are refused for want of memory alone.
+    ensures refuses { (task : Task) → takes program (map (λ w. w.now) words.now) ≡ true → IsNamed (subcommand_of program (map (λ w. w.now) words.now)) task → IfErr result IsMemory }
+{
+    let mut command = command_line(alloc)?;
+    let matches = command.try_get_matches_from_mut(words)?;
+    match named(alloc, &matches)? {
+        Some(task) => Ok(task),
+        None => Err(Usage::Words(command.error(ErrorKind::InvalidSubcommand, "this is no task")?)),
+    }
+}
+
+#[cfg(test)]
+mod tests;

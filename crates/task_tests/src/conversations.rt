@@ -1,0 +1,433 @@
+//! Conversations over memory, and over devices that fail; the objects of an input; the words of stops.
+
+use pickle_doc::DocFault;
+use pickle_ops::{Drip, FromRead, Sip, ToWrite};
+use pickle_session::{Session, Whole};
+use pickle_tasks::{Stop, converse, line_of, objects, one_cut};
+use std::alloc::{AllocError, Global};
+use std::test::Fail;
+
+/// 1, twice, and the pair of both.
+const PAIR: &[u8] = b"K\x012\x86.";
+
+/// Lines on the pair, and what they are answered.
+const LINES: [(&str, &str); 26] = [
+    ("step\n", "at 1\n"),
+    ("show 0\n", "0 #0 int 1\n"),
+    ("show 1\n", "refused: V1 no such object\n"),
+    ("step\n", "at 2\n"),
+    ("step\n", "at 3\n"),
+    ("back\n", "at 2\n"),
+    ("stack\n", "stack #0 #0\n"),
+    ("objects\n", "#0 int 1\n"),
+    ("memo\n", "memo\n"),
+    ("step\n", "at 3\n"),
+    ("insert 3 NONE\n", "edited 3\n"),
+    ("undo\n", "undone 3\n"),
+    (LONG_LINE, "edited 3\n"),
+    ("undo\n", "undone 3\n"),
+    ("redo\n", "redone 3\n"),
+    ("undo\n", "undone 3\n"),
+    ("step\n", "at 4\n"),
+    (
+        "where\n",
+        "at 4 of 4, offset 5, buffers 0, result #1, end stopped\n",
+    ),
+    ("step\n", "refused: C2 at the end, stopped\n"),
+    ("fly\n", "refused: X1 unknown word\n"),
+    ("goto 1\n", "at 1\n"),
+    ("break 3\n", "break 3\n"),
+    ("run\n", "at 3: breakpoint\n"),
+    ("clear 3\n", "clear 3\n"),
+    ("run\n", "at 4: end, stopped\n"),
+    ("goto 5\n", "refused: C4 no such place\n"),
+];
+
+/// A line whose argument does not fit beside its opcode.
+const LONG_LINE: &str = "insert 3 LONG1 0f000000000000000000000000000007\n";
+
+/// The lines that may find no memory.
+const NEEDY: [&str; 6] = [
+    "step\n",
+    "break 3\n",
+    "run\n",
+    "show 0\n",
+    "insert 3 NONE\n",
+    LONG_LINE,
+];
+
+/// Bytes, a script, its transcript and its status.
+const ROWS: [(&[u8], &str, &str, u8); 27] = [
+    // All that is told of a list that is appended to itself.
+    (
+        b"]2a.",
+        "goto 3\nitems\nobjects\nstack\nmemo\nshow 0\nwhere\nback\nshow 0\nshow 1\n",
+        "at 3\n      0     0: EMPTY_LIST\n      1     1: DUP\n      2     2: APPEND\n>     3     3: STOP\n#0 list +#0\nstack #0\nmemo\n0 #0 list +#0\n1 #0\nat 3 of 4, offset 3, buffers 0, result none, end stopped\nat 2\n0 #0 list\nrefused: V1 no such object\n",
+        1,
+    ),
+    // All edits, and their ways back.
+    (
+        b"N0N.",
+        "frame 0 4\nunframe 0\nreplace 0 BININT1 07\ninsert 4 NONE\ndelete 1\nundo\nredo\nundo\nitems\nrun\nundo\n",
+        "edited 0\nedited 0\nedited 0\nrefused: C9 E4 after stop\nedited 1\nundone 1\nredone 1\nundone 1\n>     0     0: BININT1 7\n      1     2: POP\n      2     3: NONE\n      3     4: STOP\nat 4: end, stopped\nrefused: C8 edit at 0 behind the cursor\n",
+        1,
+    ),
+    // What is no opcode, and no argument of one.
+    (
+        b"N.",
+        "insert 0 NOPE\ninsert 0 BININT1 0\ninsert 0 BININT1\ninsert 0 BININT1 0102\ninsert 0 NONE 00 x\ninsert 0 GET 780A\ninsert 0 BINSTRING ffffffff\ninsert 0 BININT1 0A\nstep\nshow 0\n",
+        "refused: X4 unknown opcode name\nrefused: X5 bad hex\nrefused: X8 F3 truncated\nrefused: X8 F9 too long\nrefused: X6 extra word\nrefused: X8 F5 bad argument\nrefused: X8 F4 negative length\nedited 0\nat 1\n0 #0 int 10\n",
+        1,
+    ),
+    (
+        b"N00.",
+        "step\nstep\nstep\nback\nback\nback",
+        "at 1\nat 2\nrefused: C3 item 2: S2 stack underflow\nat 1\nat 0\nrefused: C1 at the start\n",
+        1,
+    ),
+    (b"N.", "quit\nstep\n", "", 0),
+    (b"N.", "step\nquit", "at 1\n", 0),
+    (
+        b"",
+        "step\nrun\nback\n",
+        "refused: C2 at the end, F1 ended at 0\nrefused: C2 at the end, F1 ended at 0\nrefused: C1 at the start\n",
+        1,
+    ),
+    (b"NN0.", "step\r\n\tstep\t\nstep", "at 1\nat 2\nat 3\n", 0),
+    (
+        b"N.",
+        "step 1\nquit x\nstep\n",
+        "refused: X6 extra word\nrefused: X6 extra word\nat 1\n",
+        1,
+    ),
+    (
+        b"N.",
+        "STEP\n\x0bstep\nstep\x0c\nst\x00ep\nfly 1\ngoto1\n",
+        "refused: X1 unknown word\nrefused: X1 unknown word\nrefused: X1 unknown word\nrefused: X1 unknown word\nrefused: X1 unknown word\nrefused: X1 unknown word\n",
+        1,
+    ),
+    (b"N.", "\n \t\r\n\nstack\n \r\t", "stack\n", 0),
+    (
+        b"N\x7f",
+        "step\nstep\n",
+        "at 1\nrefused: C2 at the end, F2 unknown opcode 0x7f at 1\n",
+        1,
+    ),
+    (
+        b"K\x07K",
+        "step\nstep\n",
+        "at 1\nrefused: C2 at the end, F3 truncated at 2\n",
+        1,
+    ),
+    // Words of a line are read one after another.
+    (
+        b"N.",
+        "goto\ngoto x\ngoto 1 1\nrun 0\nbreak\nclear -1\nbreak 0x0\nclear +0\ngoto x 1\n",
+        "refused: X2 missing word\nrefused: X3 bad number\nrefused: X6 extra word\nrefused: X6 extra word\nrefused: X2 missing word\nrefused: X3 bad number\nrefused: X3 bad number\nrefused: X3 bad number\nrefused: X3 bad number\n",
+        1,
+    ),
+    // The value of a number counts.
+    (
+        b"N.",
+        "goto 18446744073709551615\ngoto 18446744073709551616\ngoto 99999999999999999999999999999999\ngoto 18446744073709551615 x\n\tgoto  0000000000000000000000000000000000000001 \n",
+        "refused: C4 no such place\nrefused: X3 bad number\nrefused: X3 bad number\nrefused: X6 extra word\nat 1\n",
+        1,
+    ),
+    (
+        b"N.",
+        "goto 3\nbreak 2\nclear 2\nbreak 1\nclear 0\ngoto 2\ngoto 2\nrun\n",
+        "refused: C4 no such place\nrefused: C4 no such place\nrefused: C4 no such place\nbreak 1\nclear 0\nat 2\nat 2\nrefused: C2 at the end, stopped\n",
+        1,
+    ),
+    // The usual dump of a list, with a breakpoint.
+    (
+        b"\x80\x04\x95\x06\x00\x00\x00\x00\x00\x00\x00]\x94K\x01a.",
+        "break 4\nrun\nrun\nrun\ngoto 0\nclear 4\nrun\n",
+        "break 4\nat 4: breakpoint\nat 7: end, stopped\nrefused: C2 at the end, stopped\nat 0\nclear 4\nat 7: end, stopped\n",
+        1,
+    ),
+    // A missing memo entry.
+    (
+        b"K\x01q\x00K\x02q\x00h\x07.",
+        "goto 3\ngoto 5\nstack\nrun\nrun\nback\ngoto 4\nstep\n",
+        "at 3\nrefused: C3 item 4: S3 no memo entry 7\nstack #0 #1\nat 4: refused, S3 no memo entry 7\nrefused: C3 item 4: S3 no memo entry 7\nat 3\nat 4\nrefused: C3 item 4: S3 no memo entry 7\n",
+        1,
+    ),
+    // MEMOIZE counts the entries.
+    (
+        b"Nq\x05N\x94h\x01h\x05.",
+        "goto 6\nstack\n",
+        "at 6\nstack #0 #1 #1 #0\n",
+        0,
+    ),
+    // Marks.
+    (
+        b"]q\x00(h\x00h\x00e.",
+        "goto 6\nstack\nback\nstack\nrun\nback\n",
+        "at 6\nstack #0\nat 5\nstack #0 (2 #0 #0\nat 7: end, stopped\nat 6\n",
+        0,
+    ),
+    (
+        b"N((N(NN11",
+        "run\nstack\nback\nstack\nback\nstack\ngoto 3\nstack\nstep\nstack\n",
+        "at 9: end, F1 ended at 9\nstack #0 (1\nat 8\nstack #0 (1 (2 #1\nat 7\nstack #0 (1 (2 #1 (4 #2 #3\nat 3\nstack #0 (1 (2\nat 4\nstack #0 (1 (2 #1\n",
+        0,
+    ),
+    (
+        b"N(0.",
+        "goto 2\nstack\nstep\nstack\nback\nstack\n",
+        "at 2\nstack #0 (1\nat 3\nstack #0\nat 2\nstack #0 (1\n",
+        0,
+    ),
+    // A list appended to itself.
+    (
+        b"]22aa.",
+        "goto 5\nstack\nback\nstack\nback\nstack\n",
+        "at 5\nstack #0\nat 4\nstack #0 #0\nat 3\nstack #0 #0 #0\n",
+        0,
+    ),
+    (
+        b"]q\x00h\x00a(h\x00e.",
+        "goto 7\nstack\nback\nstack\n",
+        "at 7\nstack #0\nat 6\nstack #0 (4 #0\n",
+        0,
+    ),
+    // A call.
+    (
+        b"cos\ngetcwd\n)R.",
+        "run\nstack\nback\nstack\nback\nstack\n",
+        "at 4: end, stopped\nstack\nat 3\nstack #2\nat 2\nstack #0 #1\n",
+        0,
+    ),
+    // A frame in a frame.
+    (
+        b"\x95\x0b\x00\x00\x00\x00\x00\x00\x00N\x95\x00\x00\x00\x00\x00\x00\x00\x00.",
+        "run\nrun\ngoto 0\n",
+        "at 2: end, F6 frame in a frame at 10\nrefused: C2 at the end, F6 frame in a frame at 10\nat 0\n",
+        1,
+    ),
+    // Refusals with a number.
+    (
+        b"\x80\x06",
+        "run\nstep\ngoto 1\n",
+        "refused: C3 item 0: S6 bad protocol 6\nrefused: C3 item 0: S6 bad protocol 6\nrefused: C3 item 0: S6 bad protocol 6\n",
+        1,
+    ),
+];
+
+/// A session of the bytes.
+fn opened(alloc: Global, bytes: &[u8]) -> Result<Session<Whole>, DocFault> {
+    Session::open(alloc, Whole::new(alloc), bytes)
+}
+
+/// The transcript of a script and its status.
+fn answered(alloc: Global, bytes: &[u8], script: &[u8]) -> Result<(Vec<u8>, u8), Stop> {
+    let mut session = opened(alloc, bytes)?;
+    let mut source = FromRead::new(script);
+    let mut sink = ToWrite::new(Vec::new(alloc));
+    let status = converse(alloc, &mut session, &mut source, &mut sink)?;
+    Ok((sink.into_inner(), status))
+}
+
+/// The first lines on the pair, and their transcript.
+fn first_lines(alloc: Global, count: usize) -> Result<(Vec<u8>, Vec<u8>), AllocError> {
+    let mut script = Vec::new(alloc);
+    let mut text = Vec::new(alloc);
+    for (line, reply) in LINES.iter().take(count) {
+        script.extend_from_slice(line.as_bytes())?;
+        text.extend_from_slice(reply.as_bytes())?;
+    }
+    Ok((script, text))
+}
+
+/// What a session tells of where it stands.
+fn standing(alloc: Global, session: &mut Session<Whole>) -> Result<Vec<u8>, Stop> {
+    let mut source = FromRead::new(b"stack\nback\nstack\n".as_slice());
+    let mut sink = ToWrite::new(Vec::new(alloc));
+    converse(alloc, session, &mut source, &mut sink)?;
+    Ok(sink.into_inner())
+}
+
+/// What a session of the pair tells that has obeyed the first lines.
+fn standing_after(alloc: Global, count: usize) -> Result<Vec<u8>, Stop> {
+    let (script, _) = first_lines(alloc, count)?;
+    let mut session = opened(alloc, PAIR)?;
+    let mut source = FromRead::new(script.as_slice());
+    let mut sink = ToWrite::new(Vec::new(alloc));
+    converse(alloc, &mut session, &mut source, &mut sink)?;
+    standing(alloc, &mut session)
+}
+
+#[test]
+fn rows(rt: HostRuntime) -> Result<(), Fail> {
+    for (bytes, script, text, status) in ROWS {
+        let found = answered(rt.alloc(), bytes, script.as_bytes())?;
+        assert_eq!(rt; found.0.as_slice(), text.as_bytes());
+        assert_eq!(rt; found.1, status);
+    }
+    let (script, text) = first_lines(rt.alloc(), LINES.len())?;
+    let found = answered(rt.alloc(), PAIR, script.as_slice())?;
+    assert_eq!(rt; found.0.as_slice(), text.as_slice());
+    assert_eq!(rt; found.1, 1);
+    one_cut();
+    Ok(())
+}
+
+/// A line of 65,536 bytes is obeyed; a longer one is refused once, and no word of it is.
+#[test]
+fn long_lines(rt: HostRuntime) -> Result<(), Fail> {
+    let blanks = vec![in rt.alloc(); b' '; 65_532]?;
+    let mut script = Vec::new(rt.alloc());
+    for (before, behind) in [
+        ("    ", "\n"),
+        ("     ", "\n"),
+        ("", "step\n"),
+        ("step", " \n"),
+        ("fly", "  \n"),
+        ("step", "\n"),
+        ("back ", ""),
+    ] {
+        script.extend_from_slice(before.as_bytes())?;
+        script.extend_from_slice(blanks.as_slice())?;
+        script.extend_from_slice(behind.as_bytes())?;
+    }
+    let found = answered(rt.alloc(), b"NN.", script.as_slice())?;
+    let text =
+        "refused: X7 line too long\nat 1\nrefused: X7 line too long\nrefused: X7 line too long\nat 2\nrefused: X7 line too long\n";
+    assert_eq!(rt; found.0.as_slice(), text.as_bytes());
+    assert_eq!(rt; found.1, 1);
+    Ok(())
+}
+
+/// A source that fails at each of its calls in turn: the lines that it gave whole are obeyed and answered, and it is not
+/// called again.
+#[test]
+fn failing_source(rt: HostRuntime) -> Result<(), Fail> {
+    let (script, _) = first_lines(rt.alloc(), LINES.len())?;
+    for most in 1..8 {
+        for calls in 0..140 {
+            let mut session = opened(rt.alloc(), PAIR)?;
+            let mut source = Drip::new(script.as_slice(), most, calls);
+            let mut sink = Sip::new(rt.alloc(), most, u64::MAX);
+            let answer = converse(rt.alloc(), &mut session, &mut source, &mut sink);
+            let given = most.saturating_mul(calls as usize);
+            let count = script
+                .iter()
+                .take(given)
+                .filter(|byte| **byte == b'\n')
+                .count();
+            let (_, text) = first_lines(rt.alloc(), count)?;
+            assert_eq!(rt; sink.taken(), text.as_slice());
+            if given < script.len().saturating_add(most) {
+                assert_eq!(rt; answer, Err(Stop::Read));
+                assert_eq!(rt; source.failures(), 1);
+            } else {
+                assert_eq!(rt; answer, Ok(1));
+                assert_eq!(rt; source.failures(), 0);
+            }
+            let stands = standing(rt.alloc(), &mut session)?;
+            let expected = standing_after(rt.alloc(), count)?;
+            assert_eq!(rt; stands.as_slice(), expected.as_slice());
+        }
+    }
+    Ok(())
+}
+
+/// A sink that fails at each of its calls in turn: the line whose text is cut is the last that was obeyed, and the sink
+/// is not called again.
+#[test]
+fn failing_sink(rt: HostRuntime) -> Result<(), Fail> {
+    let (script, text) = first_lines(rt.alloc(), LINES.len())?;
+    for most in 1..8 {
+        for calls in 0..220 {
+            let mut session = opened(rt.alloc(), PAIR)?;
+            let mut source = Drip::new(script.as_slice(), most, u64::MAX);
+            let mut sink = Sip::new(rt.alloc(), most, calls);
+            let answer = converse(rt.alloc(), &mut session, &mut source, &mut sink);
+            assert!(rt; text.starts_with(sink.taken()));
+            let whole = sink.taken().len() == text.len();
+            assert_eq!(rt; answer, if whole { Ok(1) } else { Err(Stop::Write) });
+            assert_eq!(rt; sink.failures(), if whole { 0 } else { 1 });
+            let count = sink.taken().iter().filter(|byte| **byte == b'\n').count();
+            let stands = standing(rt.alloc(), &mut session)?;
+            let expected = standing_after(rt.alloc(), count.saturating_add(1))?;
+            assert_eq!(rt; stands.as_slice(), expected.as_slice());
+        }
+    }
+    Ok(())
+}
+
+/// Run with each request for memory refused in turn: the line is not obeyed and nothing is read or written, or the line
+/// is answered by want of memory, and asked again it is obeyed; or the sink's own growth was refused.
+#[test]
+fn refused_memory(rt: HostRuntime) -> Result<(), Fail> {
+    let mut session = match opened(rt.alloc(), PAIR) {
+        Ok(session) => session,
+        Err(fault) => {
+            assert!(rt; fault == DocFault::Memory);
+            opened(rt.alloc(), PAIR)?
+        }
+    };
+    for (line, reply) in LINES {
+        let mut is_answered = false;
+        for _ in 0..2 {
+            if !is_answered {
+                let mut source = Drip::new(line.as_bytes(), 7, u64::MAX);
+                let mut sink = Sip::new(rt.alloc(), 7, u64::MAX);
+                let answer = converse(rt.alloc(), &mut session, &mut source, &mut sink);
+                if answer == Err(Stop::Memory) {
+                    assert!(rt; sink.taken().is_empty());
+                } else if answer == Err(Stop::Write) {
+                    assert!(rt; reply.as_bytes().starts_with(sink.taken()));
+                    is_answered = true;
+                } else if sink.taken() == reply.as_bytes() {
+                    let is_refused = reply.as_bytes().starts_with(b"refused: ");
+                    assert_eq!(rt; answer, Ok(u8::from(is_refused)));
+                    is_answered = true;
+                } else {
+                    assert_eq!(rt; sink.taken(), b"refused: M out of memory\n".as_slice());
+                    assert!(rt; NEEDY.contains(&line));
+                }
+            }
+        }
+        assert!(rt; is_answered);
+    }
+    Ok(())
+}
+
+/// Reports of inputs, with their status.
+const REPORTS: [(&[u8], &str, u8); 4] = [
+    (
+        b"cos\ngetcwd\n)R.",
+        "#0 global 'os' 'getcwd'\n#1 tuple\n#2 call (#0 #1)\nresult #2\n",
+        0,
+    ),
+    (b"N(0.", "#0 none\nresult #0\n", 0),
+    (b"0.", "refused: item 0: S2 stack underflow\n", 1),
+    (b"", "fault: F1 ended at 0\n", 1),
+];
+
+#[test]
+fn reports(rt: HostRuntime) -> Result<(), Fail> {
+    for (bytes, text, status) in REPORTS {
+        let mut sink = ToWrite::new(Vec::new(rt.alloc()));
+        assert_eq!(rt; objects(rt.alloc(), bytes, &mut sink), Ok(status));
+        assert_eq!(rt; sink.into_inner().as_slice(), text.as_bytes());
+        let mut broken = Sip::new(rt.alloc(), 1, 3);
+        assert_eq!(rt; objects(rt.alloc(), bytes, &mut broken), Err(Stop::Write));
+        assert_eq!(rt; broken.taken(), &text.as_bytes()[..3]);
+    }
+    Ok(())
+}
+
+#[test]
+fn words_of_stops(rt: HostRuntime) {
+    for (stop, words) in [
+        (Stop::Read, "cannot read"),
+        (Stop::Write, "cannot write"),
+        (Stop::TooLarge, "too large"),
+        (Stop::Memory, "out of memory"),
+    ] {
+        assert_eq!(rt; line_of(&stop), words);
+    }
+}
