@@ -5,7 +5,7 @@ use Rattle.std.specs.Map.{values_of}
 use Rattle.pickle_objects.specs.declared.object.Change.{Change}
 use Rattle.pickle_objects.specs.declared.object.Change.TheVariants as change
 use Rattle.pickle_objects.specs.Object.{Object}
-use Rattle.pickle_machine.specs.State.{Marked, State}
+use Rattle.pickle_machine.specs.State.{State}
 
 -- each of these numbers names one of so many objects
 abbrev pub AreNames : ℕ → List ℕ → Type 0
