@@ -9,4 +9,4 @@ overflow_cast-result g c =
     let total = subst (λ (d : Contents). length (document_bytes d) ≤ size_limit) c.document.ensures here in
     let few : length c.machine.result.now.state.heap < 2 ^ 32 =
     few_objects c.args.session.now.session c.machine.result.now.state c.machine.ensures.reached (omega (arith, c.cursor-cursor.ensures.value, c.cursor-cursor.ensures.within)) total in
-    omega (arith, few, c.objects.ensures, c.if-number-objects.true)
+    omega (arith, few, c.objects.ensures.count, c.if-number-objects.true)
