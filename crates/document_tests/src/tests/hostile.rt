@@ -4,18 +4,33 @@ use crate::tests::shown::{Wrong, written};
 use pickle_doc::{Document, End, TailFault};
 use std::alloc::Global;
 
+/// How a reading ends, with the offset.
+#[derive(Clone, Copy)]
+pub enum Stop {
+    /// Where the input does.
+    Ended(u64),
+    /// Where an argument is cut short.
+    Short(u64),
+    /// Where a frame reaches past the end.
+    PastEnd(u64),
+    /// At STOP.
+    Whole,
+}
+
+impl Stop {
+    /// The end of the document.
+    pub fn end(self) -> End {
+        match self {
+            Stop::Ended(offset) => End::Fault(TailFault::Ended, offset),
+            Stop::Short(offset) => End::Fault(TailFault::Truncated, offset),
+            Stop::PastEnd(offset) => End::Fault(TailFault::FramePastEnd, offset),
+            Stop::Whole => End::Stopped,
+        }
+    }
+}
+
 /// Bytes, and how the reading of their first so many ends, from each of these lengths on.
-type Cuts = (&'static [u8], &'static [(usize, End)]);
-
-/// How the reading ends where the input does.
-const fn ended(offset: u64) -> End {
-    End::Fault(TailFault::Ended, offset)
-}
-
-/// How it ends where an argument is cut short.
-const fn short(offset: u64) -> End {
-    End::Fault(TailFault::Truncated, offset)
-}
+type Cuts = (&'static [u8], &'static [(usize, Stop)]);
 
 /// Worked pickles.
 pub const CUTS: [Cuts; 5] = [
@@ -23,93 +38,90 @@ pub const CUTS: [Cuts; 5] = [
     (
         b"\x80\x04\x95\x06\x00\x00\x00\x00\x00\x00\x00]\x94K\x01a.",
         &[
-            (0, ended(0)),
-            (1, short(0)),
-            (2, ended(2)),
-            (3, short(2)),
-            (11, End::Fault(TailFault::FramePastEnd, 2)),
-            (17, End::Stopped),
+            (0, Stop::Ended(0)),
+            (1, Stop::Short(0)),
+            (2, Stop::Ended(2)),
+            (3, Stop::Short(2)),
+            (11, Stop::PastEnd(2)),
+            (17, Stop::Whole),
         ],
     ),
     // two numbers in a tuple that is memoized
     (
         b"K\x01K\x02\x86q\x00.",
         &[
-            (0, ended(0)),
-            (1, short(0)),
-            (2, ended(2)),
-            (3, short(2)),
-            (4, ended(4)),
-            (5, ended(5)),
-            (6, short(5)),
-            (7, ended(7)),
-            (8, End::Stopped),
+            (0, Stop::Ended(0)),
+            (1, Stop::Short(0)),
+            (2, Stop::Ended(2)),
+            (3, Stop::Short(2)),
+            (4, Stop::Ended(4)),
+            (5, Stop::Ended(5)),
+            (6, Stop::Short(5)),
+            (7, Stop::Ended(7)),
+            (8, Stop::Whole),
         ],
     ),
     // a list appended to itself by way of the memo
     (
         b"]q\x00(h\x00h\x00e.",
         &[
-            (0, ended(0)),
-            (1, ended(1)),
-            (2, short(1)),
-            (3, ended(3)),
-            (4, ended(4)),
-            (5, short(4)),
-            (6, ended(6)),
-            (7, short(6)),
-            (8, ended(8)),
-            (9, ended(9)),
-            (10, End::Stopped),
+            (0, Stop::Ended(0)),
+            (1, Stop::Ended(1)),
+            (2, Stop::Short(1)),
+            (3, Stop::Ended(3)),
+            (4, Stop::Ended(4)),
+            (5, Stop::Short(4)),
+            (6, Stop::Ended(6)),
+            (7, Stop::Short(6)),
+            (8, Stop::Ended(8)),
+            (9, Stop::Ended(9)),
+            (10, Stop::Whole),
         ],
     ),
     // a call
     (
         b"cos\ngetcwd\n)R.",
         &[
-            (0, ended(0)),
-            (1, short(0)),
-            (11, ended(11)),
-            (12, ended(12)),
-            (13, ended(13)),
-            (14, End::Stopped),
+            (0, Stop::Ended(0)),
+            (1, Stop::Short(0)),
+            (11, Stop::Ended(11)),
+            (12, Stop::Ended(12)),
+            (13, Stop::Ended(13)),
+            (14, Stop::Whole),
         ],
     ),
     // an ordered dictionary
     (
         b"ccollections\nOrderedDict\n)R(K\x01K\x02u.",
         &[
-            (0, ended(0)),
-            (1, short(0)),
-            (25, ended(25)),
-            (26, ended(26)),
-            (27, ended(27)),
-            (28, ended(28)),
-            (29, short(28)),
-            (30, ended(30)),
-            (31, short(30)),
-            (32, ended(32)),
-            (33, ended(33)),
-            (34, End::Stopped),
+            (0, Stop::Ended(0)),
+            (1, Stop::Short(0)),
+            (25, Stop::Ended(25)),
+            (26, Stop::Ended(26)),
+            (27, Stop::Ended(27)),
+            (28, Stop::Ended(28)),
+            (29, Stop::Short(28)),
+            (30, Stop::Ended(30)),
+            (31, Stop::Short(30)),
+            (32, Stop::Ended(32)),
+            (33, Stop::Ended(33)),
+            (34, Stop::Whole),
         ],
     ),
 ];
 
 /// Lengths at their largest, before nothing.
-pub const LENGTHS: [(&[u8], End); 10] = [
-    (b"U\xff", short(0)),
-    (b"C\xff", short(0)),
-    (b"X\xff\xff\xff\xff", short(0)),
-    (b"B\xff\xff\xff\xff", short(0)),
-    (b"T\xff\xff\xff\x7f", short(0)),
-    (b"\x8b\xff\xff\xff\x7f", short(0)),
-    (b"\x8d\xff\xff\xff\xff\xff\xff\xff\xff", short(0)),
-    (b"\x8e\xff\xff\xff\xff\xff\xff\xff\xff", short(0)),
-    (b"\x96\xff\xff\xff\xff\xff\xff\xff\xff", short(0)),
-    (
-        b"\x95\xff\xff\xff\xff\xff\xff\xff\xff",
-        End::Fault(TailFault::FramePastEnd, 0),
-    ),
+pub const LENGTHS: [(&[u8], Stop); 10] = [
+    (b"U\xff", Stop::Short(0)),
+    (b"C\xff", Stop::Short(0)),
+    (b"X\xff\xff\xff\xff", Stop::Short(0)),
+    (b"B\xff\xff\xff\xff", Stop::Short(0)),
+    (b"T\xff\xff\xff\x7f", Stop::Short(0)),
+    (b"\x8b\xff\xff\xff\x7f", Stop::Short(0)),
+    (b"\x8d\xff\xff\xff\xff\xff\xff\xff\xff", Stop::Short(0)),
+    (b"\x8e\xff\xff\xff\xff\xff\xff\xff\xff", Stop::Short(0)),
+    (b"\x96\xff\xff\xff\xff\xff\xff\xff\xff", Stop::Short(0)),
+    (b"\x95\xff\xff\xff\xff\xff\xff\xff\xff", Stop::PastEnd(0)),
 ];
 
 /// How the reading of bytes ends, where the document writes them back.
@@ -123,11 +135,11 @@ pub fn end_of(alloc: Global, bytes: &[u8]) -> Result<(usize, End), Wrong> {
 }
 
 /// How the reading of so many bytes ends, as the table says.
-fn wanted(ends: &[(usize, End)], len: usize) -> Option<End> {
+fn wanted(ends: &[(usize, Stop)], len: usize) -> Option<End> {
     let mut found = None;
     for (from, end) in ends {
         if *from <= len {
-            found = Some(*end);
+            found = Some(end.end());
         }
     }
     found
@@ -154,16 +166,18 @@ pub fn single_bytes(alloc: Global) -> Result<[u32; 5], Wrong> {
         let (len, end) = end_of(alloc, &[byte])?;
         let kind = if len == 0 && end == End::Fault(TailFault::UnknownOpcode(byte), 0) {
             0
-        } else if len == 0 && end == short(0) {
+        } else if len == 0 && end == Stop::Short(0).end() {
             1
-        } else if len == 1 && end == ended(1) {
+        } else if len == 1 && end == Stop::Ended(1).end() {
             2
         } else if len == 1 && end == End::Stopped && byte == b'.' {
             3
         } else {
             4
         };
-        counts[kind] = counts[kind].saturating_add(1);
+        if let Some(count) = counts.get_mut(kind) {
+            *count = count.saturating_add(1);
+        }
     }
     Ok(counts)
 }
