@@ -2,15 +2,15 @@
 //! A run that is not finished is a `Stop`.
 #![tactic(auto)]
 
-mod converse;
 mod laws;
-mod objects;
 mod outcome;
 mod pending;
 mod query;
+mod report;
 mod stop;
+mod talk;
 
-pub use converse::converse;
 pub use laws::one_cut;
-pub use objects::objects;
+pub use report::objects;
 pub use stop::{Stop, line_of};
+pub use talk::converse;

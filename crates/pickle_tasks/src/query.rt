@@ -75,7 +75,7 @@ fn write_shown<P: Past, K: Sink>(
 }
 
 /// Writes what is asked of a session. Memory is asked for to show an object that is there, and for nothing else.
-#[tactic(auto, using(crate::proofs::Refusals::telling_steps))]
+#[tactic(auto, using(crate::proofs::Refusals::telling_steps, crate::proofs::Queries::line_told))]
 pub fn write_query<P: Past, K: Sink>(
     alloc: Global,
     session: &Session<P>,
