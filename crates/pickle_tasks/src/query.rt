@@ -8,7 +8,9 @@ use pickle_objects::ObjId;
 use pickle_ops::{Failed, Sink};
 use pickle_report::{TextStop, write_memo, write_objects, write_show, write_stack};
 use pickle_session::{Past, Session};
-use pickle_text::{Line, Query, Syntax, write_items, write_no_such_object, write_syntax, write_where};
+use pickle_text::{
+    Line, Query, Syntax, write_items, write_no_such_object, write_syntax, write_where,
+};
 use std::alloc::Global;
 
 /// The object of this number, where there is one.
