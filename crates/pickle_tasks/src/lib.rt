@@ -2,17 +2,17 @@
 //! A run that is not finished is a `Stop`.
 #![tactic(auto)]
 
-mod converse;
 mod laws;
-mod list;
-mod objects;
+mod listing;
 mod outcome;
 mod pending;
 mod query;
+mod report;
 mod stop;
+mod talk;
 
-pub use converse::converse;
 pub use laws::one_cut;
-pub use list::list;
-pub use objects::objects;
+pub use listing::list;
+pub use report::objects;
 pub use stop::{Stop, line_of};
+pub use talk::converse;

@@ -8,7 +8,9 @@ use pickle_objects::ObjId;
 use pickle_ops::{Failed, Sink};
 use pickle_report::{TextStop, write_memo, write_objects, write_show, write_stack};
 use pickle_session::{Past, Session};
-use pickle_text::{Line, Query, Syntax, write_items, write_no_such_object, write_syntax, write_where};
+use pickle_text::{
+    Line, Query, Syntax, write_items, write_no_such_object, write_syntax, write_where,
+};
 use std::alloc::Global;
 
 /// The object of this number, where there is one.
@@ -75,7 +77,7 @@ fn write_shown<P: Past, K: Sink>(
 }
 
 /// Writes what is asked of a session. Memory is asked for to show an object that is there, and for nothing else.
-#[tactic(auto, using(crate::proofs::Refusals::telling_steps))]
+#[tactic(auto, using(crate::proofs::Refusals::telling_steps, crate::proofs::Queries::line_told))]
 pub fn write_query<P: Past, K: Sink>(
     alloc: Global,
     session: &Session<P>,

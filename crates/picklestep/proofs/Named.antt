@@ -1,8 +1,8 @@
 -- What clap's matches name.
-use Rattle.std.proofs.Common.{◌≡◌, ℕ, ◌<◌, ◌≤◌, ◌^◌, List, [], Option, Some, None, Result, Ok, Err, refl, sym, ap, subst, ◌∙◌, arith, codes}
+use Rattle.std.proofs.Common.{◌≡◌, true, ℕ, ◌<◌, ◌≤◌, ◌^◌, List, [], Option, Some, None, Result, Ok, Err, refl, sym, ap, subst, ◌∙◌, arith, codes}
 use Rattle.std.specs.Prelude.{IfSome, IfErr, IsErrAnd, option_map}
 use Rattle.std.specs.Str.Parse.{IsNumeral, digits_value, without_leading_plus}
-use Rattle.clap.specs.Words.{Row, Text, TriesOne, first_of, kind_of}
+use Rattle.clap.specs.Words.{App, Row, Text, TriesOne, first_of, kind_of, takes}
 use Rattle.clap.specs.declared.error.Error.{Error}
 use Rattle.clap.specs.declared.error.kind.ErrorKind.TheVariants as kind
 use Rattle.picklestep.specs.declared.task.Task.{Task}
@@ -91,3 +91,6 @@ no_number o t (Some m) e not h =
 pub refused_memory : (r : Result Task Usage) (e : Error) → IsErrAnd r (λ u. u ≡ usage.Words e) → kind_of e ≡ kind.OutOfMemory → IfErr r IsMemory
 refused_memory (Ok x) e is m = absurd is
 refused_memory (Err u) e is m = rw is m
+
+pub taken_by : (a b : App) (words : List Text) → a ≡ b → takes b words ≡ true → takes a words ≡ true
+taken_by a b words e t = ap (λ (x : App). takes x words) e ∙ t

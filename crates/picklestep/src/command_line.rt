@@ -49,11 +49,7 @@ fn save_argument<'a>(alloc: Global) -> Arg<'a>
 }
 
 /// A command that is done on one file.
-fn on_file<'a>(
-    alloc: Global,
-    name: &'a str,
-    about: &'a str,
-) -> Result<Command<'a>, AllocError>
+fn on_file<'a>(alloc: Global, name: &'a str, about: &'a str) -> Result<Command<'a>, AllocError>
     ensures { IfOk result (λ c. app_of c ≡ on_file name.now) }
 {
     Command::new(alloc, name)

@@ -38,8 +38,16 @@ const CONVERSATIONS: [(&[&str], Option<&str>, Option<usize>); 7] = [
     (&["debug", "--save=b", "a"], Some("b"), None),
     (&["debug", "a", "--save", "a"], Some("a"), None),
     (&["debug", "a", "--window", "1"], None, Some(1)),
-    (&["debug", "a", "--window", "1000000"], None, Some(1_000_000)),
-    (&["debug", "--window", "7", "--save", "b", "a"], Some("b"), Some(7)),
+    (
+        &["debug", "a", "--window", "1000000"],
+        None,
+        Some(1_000_000),
+    ),
+    (
+        &["debug", "--window", "7", "--save", "b", "a"],
+        Some("b"),
+        Some(7),
+    ),
 ];
 
 #[test]

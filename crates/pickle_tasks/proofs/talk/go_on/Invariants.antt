@@ -1,6 +1,6 @@
 use Rattle.std.proofs.Common.{◌≡◌}
 use Rattle.pickle_tasks.proofs.Endings.{Moment}
-use Rattle.pickle_tasks.proofs.converse.go_on.Given as goal
+use Rattle.pickle_tasks.proofs.talk.go_on.Given as goal
 
 abbrev pub invariant-turns : goal.invariant-turns
 invariant-turns g l = record {

@@ -1,7 +1,7 @@
 use Rattle.std.proofs.Common.{rules}
 use Rattle.std.proofs.lemmas.Result.{err_from_is_err_and}
 use Rattle.pickle_tasks.proofs.Feeding.{line_ends, line_quits, line_breaks}
-use Rattle.pickle_tasks.proofs.converse.end_line.Goals as goal
+use Rattle.pickle_tasks.proofs.talk.end_line.Goals as goal
 
 pub returns-then-quits : goal.returns-then-quits
 returns-then-quits g c = λ s old given w. line_quits _ _ _ _ _ _ _ w c.says-says.ensures (search rules)

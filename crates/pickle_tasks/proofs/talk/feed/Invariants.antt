@@ -2,7 +2,7 @@ use Rattle.std.proofs.Common.{ℕ, ◌++◌, List, take}
 use Rattle.pickle_ops.specs.Device.{Told}
 use Rattle.pickle_session.specs.Allowed.{Standing}
 use Rattle.pickle_tasks.specs.Progress.{SoFar}
-use Rattle.pickle_tasks.proofs.converse.feed.Given as goal
+use Rattle.pickle_tasks.proofs.talk.feed.Given as goal
 
 abbrev pub invariant-loop-byte : goal.invariant-loop-byte
 invariant-loop-byte g l =

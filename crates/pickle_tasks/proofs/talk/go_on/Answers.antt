@@ -2,7 +2,7 @@ use Rattle.std.proofs.Common.{◌<◌, length, [], Ok, ap, refl, append-nil, ari
 use Rattle.std.proofs.KnownBytes.{Consumes-trans}
 use Rattle.pickle_tasks.proofs.Feeding.{fed_on, fed_quit}
 use Rattle.pickle_tasks.proofs.Endings.{nothing_yet, gave_nothing, finishes_whole, finishes_quit, breaks_at_end, breaks_before}
-use Rattle.pickle_tasks.proofs.converse.go_on.Goals as goal
+use Rattle.pickle_tasks.proofs.talk.go_on.Goals as goal
 
 pub turns-init : goal.turns-init
 turns-init g c = record { moment = nothing_yet _ _ _ _ c.requires; calm = refl }

@@ -1,7 +1,7 @@
 use Rattle.std.proofs.Common.{rules}
 use Rattle.std.proofs.lemmas.Result.{err_from_is_err_and}
 use Rattle.pickle_tasks.proofs.Endings.{ends_at_line, ends_after_last, breaks_in_last}
-use Rattle.pickle_tasks.proofs.converse.finish.Goals as goal
+use Rattle.pickle_tasks.proofs.talk.finish.Goals as goal
 
 pub returns-then-is_empty : goal.returns-then-is_empty
 returns-then-is_empty g c = λ s old given w. ends_at_line _ _ _ _ _ _ _ w (search rules) c.status.ensures

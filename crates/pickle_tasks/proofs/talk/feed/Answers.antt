@@ -1,7 +1,7 @@
 use Rattle.std.proofs.Common.{◌++◌, Ok, take, ap, refl}
 use Rattle.std.proofs.lemmas.Result.{err_from_is_err_and}
 use Rattle.pickle_tasks.proofs.Feeding.{fed_on, fed_quit, fed_broken, split_byte, one_byte}
-use Rattle.pickle_tasks.proofs.converse.feed.Goals as goal
+use Rattle.pickle_tasks.proofs.talk.feed.Goals as goal
 
 pub returns-in_err-feed_byte : goal.returns-in_err-feed_byte
 returns-in_err-feed_byte g c = λ s old given w.
