@@ -1,0 +1,6 @@
+-- The definitions that contracts cite.
+pub mod Device
+pub mod Wrapped
+pub mod Trial
+pub mod Whole
+pub mod Text

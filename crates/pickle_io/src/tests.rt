@@ -1,0 +1,32 @@
+//! What sinks take, and what sources give.
+
+mod whole;
+
+use crate::sink::{Failed, Sink, write_all};
+use crate::text::{write_decimal, write_hex, write_quoted, write_signed};
+use crate::to_write::ToWrite;
+use std::io::Cursor;
+use std::test::Fail;
+
+/// Calls each writer.
+fn write_pieces<S: Sink>(sink: &mut S) -> Result<(), Failed> {
+    write_decimal(7, sink)?;
+    write_signed(-7, sink)?;
+    write_hex(b"\x0f", sink)?;
+    write_quoted(b"it's", sink)?;
+    write_all(sink, b".")
+}
+
+/// What a sink takes that has room for a part of the text: a front of it, and then it is not called again.
+#[test]
+fn full_sinks(rt: HostRuntime) -> Result<(), Fail> {
+    let mut sink = ToWrite::new(Vec::new(rt.alloc()));
+    write_pieces(&mut sink)?;
+    let whole = sink.into_inner();
+    assert_eq!(rt; whole.as_slice(), b"7-70f'it\\'s'.".as_slice());
+    let mut small = ToWrite::new(Cursor::new([0u8; 8]));
+    assert!(rt; write_pieces(&mut small) == Err(Failed));
+    let taken = small.into_inner().into_inner();
+    assert_eq!(rt; taken.as_slice(), b"7-70f'it".as_slice());
+    Ok(())
+}

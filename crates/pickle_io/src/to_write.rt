@@ -1,0 +1,53 @@
+//! A writer of the standard library as a sink.
+
+ghost use Rattle.std.specs.Prelude.{◌≡◌};
+ghost use Rattle.pickle_io.specs.Wrapped.{writer_of, write_failures_of};
+
+use crate::sink::{Failed, Sink};
+use std::io::Write;
+
+/// A writer of the standard library as a sink. Each error of the writer counts as a failure, and so does a write of
+/// nothing where bytes were offered.
+#[derive(Drop)]
+pub struct ToWrite<W> {
+    writer: W,
+    failures: u64,
+}
+
+impl<W> ToWrite<W> {
+    /// The sink that writes to this writer, and has not failed.
+    pub fn new(writer: W) -> ToWrite<W>
+        ensures writer { writer_of result ≡ writer }
+        ensures failures { write_failures_of result ≡ 0 }
+    {
+        ToWrite {
+            writer,
+            failures: 0,
+        }
+    }
+
+    /// The writer.
+    pub fn into_inner(self) -> W
+        ensures { result ≡ writer_of self }
+    {
+        let ToWrite {
+            writer,
+            failures: _,
+        } = self;
+        writer
+    }
+}
+
+impl<W: Write> Sink for ToWrite<W> {
+    ghost told = { λ s. record { taken = W.contents (writer_of s); failures = write_failures_of s } };
+
+    fn write(&mut self, bytes: &[u8]) -> Result<usize, Failed> {
+        match self.writer.write(bytes) {
+            Ok(n) if n > 0 || bytes.is_empty() => Ok(n),
+            _ => {
+                self.failures = self.failures.saturating_add(1);
+                Err(Failed)
+            }
+        }
+    }
+}
