@@ -4,7 +4,6 @@ use crate::drip::Drip;
 use crate::from_read::FromRead;
 use crate::whole::{ReadStop, read_limited};
 use std::io::Cursor;
-use std::test::Fail;
 
 /// A limit, how many calls a source answers that gives the six bytes `abcdef` and at most four a call, what comes of it, and
 /// what the source has yet to give then.
@@ -20,35 +19,39 @@ const READS: [(usize, u64, Result<&[u8], ReadStop>, &[u8]); 9] = [
     (6, 0, Err(ReadStop::Failed), b"abcdef"),
 ];
 
+/// Whether a read came to this.
+fn came_to(read: Result<Vec<u8>, ReadStop>, wanted: Result<&[u8], ReadStop>) -> bool {
+    match read {
+        Ok(bytes) => wanted == Ok(bytes.as_slice()),
+        Err(stop) => wanted == Err(stop),
+    }
+}
+
 #[test]
-fn sources(rt: HostRuntime) -> Result<(), Fail> {
+fn sources(rt: HostRuntime) {
     for (limit, calls, wanted, rest) in &READS {
         let mut source = Drip::new(b"abcdef", 4, *calls);
-        match (read_limited(rt.alloc(), &mut source, *limit), wanted) {
-            (Ok(bytes), Ok(wanted)) => assert_eq!(rt; bytes.as_slice(), *wanted),
-            (Err(stop), Err(wanted)) => assert_eq!(rt; stop, *wanted),
-            _ => assert!(rt; false),
-        }
-        assert_eq!(rt; source.failures() > 0, *wanted == Err(ReadStop::Failed));
-        if source.failures() == 0 {
-            let left = read_limited(rt.alloc(), &mut source, 6);
-            assert_eq!(rt; left.unwrap().as_slice(), *rest);
+        let read = read_limited(rt.alloc(), &mut source, *limit);
+        assert!(rt; came_to(read, *wanted));
+        let failed = source.failures() > 0;
+        assert_eq!(rt; failed, *wanted == Err(ReadStop::Failed));
+        if !failed {
+            let more = read_limited(rt.alloc(), &mut source, 6);
+            assert!(rt; came_to(more, Ok(*rest)));
         }
     }
-    Ok(())
 }
 
 /// What a reader of the standard library gives, in more than one block.
 #[test]
-fn readers(rt: HostRuntime) -> Result<(), Fail> {
+fn readers(rt: HostRuntime) {
     let bytes = [7u8; 100_000];
     let whole = read_limited(rt.alloc(), &mut FromRead::new(Cursor::new(bytes)), 100_000);
-    assert_eq!(rt; whole.unwrap().as_slice(), bytes.as_slice());
+    assert!(rt; came_to(whole, Ok(bytes.as_slice())));
     let more = read_limited(rt.alloc(), &mut FromRead::new(Cursor::new(bytes)), 99_999);
-    assert!(rt; more.is_err());
+    assert!(rt; came_to(more, Err(ReadStop::TooLarge)));
     let empty = read_limited(rt.alloc(), &mut FromRead::new(Cursor::new([0u8; 0])), 0);
-    assert!(rt; empty.unwrap().is_empty());
-    Ok(())
+    assert!(rt; came_to(empty, Ok(b"")));
 }
 
 /// With each allocation refused in turn: a source with bytes may meet want of memory and has then given them, and one without
@@ -56,7 +59,7 @@ fn readers(rt: HostRuntime) -> Result<(), Fail> {
 #[test]
 fn refused_memory(rt: HostRuntime) {
     let empty = read_limited(rt.alloc(), &mut Drip::new(b"", 4, 9), 6);
-    assert!(rt; empty.unwrap().is_empty());
+    assert!(rt; came_to(empty, Ok(b"")));
     let mut source = Drip::new(b"abc", 4, 9);
     match read_limited(rt.alloc(), &mut source, 6) {
         Ok(bytes) => assert_eq!(rt; bytes.as_slice(), b"abc".as_slice()),
@@ -64,5 +67,5 @@ fn refused_memory(rt: HostRuntime) {
     }
     assert_eq!(rt; source.failures(), 0);
     let again = read_limited(rt.alloc(), &mut source, 6);
-    assert!(rt; again.unwrap().is_empty());
+    assert!(rt; came_to(again, Ok(b"")));
 }
