@@ -9,6 +9,21 @@ pub enum Outcome {
     Refused,
 }
 
+impl Outcome {
+    ghost use Rattle.std.specs.Prelude.{◌≡◌};
+    ghost use Rattle.pickle_tasks.specs.Progress.{is_refused};
+
+    /// Whether it is a refusal.
+    pub fn is_refused(self) -> bool
+        ensures { result ≡ is_refused self }
+    {
+        match self {
+            Outcome::Accepted => false,
+            Outcome::Refused => true,
+        }
+    }
+}
+
 /// Whether a script goes on behind the bytes that were taken.
 #[derive(Clone, Copy, Debug, PartialEq, Eq)]
 pub enum Flow {

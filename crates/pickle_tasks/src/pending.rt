@@ -68,8 +68,9 @@ impl Pending {
     pub fn end_line(&mut self, outcome: Outcome)
         ensures { self.new ≡ record { line = []; refused = (self.old.refused || is_refused outcome) } }
     {
+        let refused = outcome.is_refused();
         self.line.clear();
-        self.refused = self.refused || matches!(outcome, Outcome::Refused);
+        self.refused = self.refused || refused;
     }
 
     /// The status: 1 where a line was refused, else 0.
