@@ -110,18 +110,23 @@ const MEMOS: [(&[u8], usize, &str); 3] = [
     (b"N.", 1, "memo\n"),
 ];
 
-/// The machine behind so many opcodes of a pickle.
-fn machine_of(alloc: Global, bytes: &[u8], count: usize) -> Result<Machine, Fail> {
-    let document = Document::read(alloc, bytes)?;
+/// The machine behind so many opcodes of a pickle, or nothing where memory is refused.
+fn try_machine(alloc: Global, bytes: &[u8], count: usize) -> Option<Machine> {
+    let document = Document::read(alloc, bytes).ok()?;
     let mut machine = Machine::new(alloc);
     for place in 0..count {
         if let Some(op) = document.item(place) {
             if machine.objects() < 1_000_000 {
-                machine.step(alloc, op, place)?;
+                let _record = machine.step(alloc, op, place).ok()?;
             }
         }
     }
-    Ok(machine)
+    Some(machine)
+}
+
+/// The machine behind so many opcodes of a pickle.
+fn machine_of(alloc: Global, bytes: &[u8], count: usize) -> Result<Machine, DocFault> {
+    try_machine(alloc, bytes, count).ok_or(DocFault::Memory)
 }
 
 /// The text and the status of a report.
@@ -251,10 +256,10 @@ fn insist_on_reading(alloc: Global, bytes: &[u8]) -> Result<Document, DocFault> 
 }
 
 /// A machine behind so many opcodes, where one request for memory may be refused.
-fn insist_on_running(alloc: Global, bytes: &[u8], count: usize) -> Result<Machine, Fail> {
-    match machine_of(alloc, bytes, count) {
-        Ok(machine) => Ok(machine),
-        Err(_) => machine_of(alloc, bytes, count),
+fn insist_on_running(alloc: Global, bytes: &[u8], count: usize) -> Result<Machine, DocFault> {
+    match try_machine(alloc, bytes, count) {
+        Some(machine) => Ok(machine),
+        None => machine_of(alloc, bytes, count),
     }
 }
 
