@@ -1,5 +1,5 @@
 -- Documents that are the same, identities apart, have one listing.
-use Rattle.std.proofs.Common.{◌≡◌, ℕ, zero, suc, ◌+◌, List, [], ◌∷◌, ◌++◌, length, map, take, Option, Some, None, refl, sym, ap, ap₂, subst, ◌∙◌, arith}
+use Rattle.std.proofs.Common.{◌≡◌, ℕ, zero, suc, ◌+◌, List, [], ◌∷◌, ◌++◌, length, map, take, Option, Some, None, refl, sym, ap, ap₂, ◌∙◌, arith}
 use Rattle.std.specs.Prelude.{slice_get}
 use Rattle.pickle_ops.specs.Spelling.{Operation, size_of}
 use Rattle.pickle_ops.specs.Text.{◌⧺◌}
@@ -8,10 +8,10 @@ use Rattle.pickle_doc.specs.declared.fault.Finish.{Finish}
 use Rattle.pickle_doc.specs.declared.fault.Finish.TheVariants as finish
 use Rattle.pickle_doc.specs.DocUnit.{DocUnit, Loose, Frame, flat, operations, sizes, frame_op}
 use Rattle.pickle_doc.specs.Document.{Contents, items_of, unnamed, unnamed_unit, SameApart}
-use Rattle.pickle_doc.specs.Place.{ops_of, item_at, offset_of, tail_offset}
+use Rattle.pickle_doc.specs.Place.{ops_of, item_at}
 use Rattle.pickle_machine.specs.State.{State, Marked}
 use Rattle.pickle_machine.specs.Run.{run}
-use Rattle.pickle_listing.specs.Listing.{Listing, topmost_offset, line_on, line_at, left_by, lines, end_lines, reached, listing_to, listing_with, listing}
+use Rattle.pickle_listing.specs.Listing.{topmost_offset, line_on, line_at, left_by, lines, end_lines, reached, listing_to, listing_with, listing}
 
 -- ---- the operations
 

@@ -1,5 +1,5 @@
 -- What a listing that is cut short leaves, and what is left of a document's.
-use Rattle.std.proofs.Common.{◌≡◌, ℕ, zero, suc, List, ◌++◌, take, Option, Some, None, Result, Ok, Err, refl, sym, ap, ap₂, subst, ◌∙◌, arith}
+use Rattle.std.proofs.Common.{◌≡◌, ℕ, List, Result, Ok, Err, sym, ap, ◌∙◌}
 use Rattle.std.specs.Prelude.{IfErr, IfOk, IsErrAnd}
 use Rattle.pickle_ops.specs.Device.{Told}
 use Rattle.pickle_doc.specs.Document.{Contents, document_bytes, ReadsAs, IsReadAgain}
