@@ -9,7 +9,7 @@ use Rattle.pickle_ops.specs.Device.{each}
 use Rattle.pickle_report.specs.Line.{newline}
 use Rattle.pickle_report.specs.ObjectText.{id_text, next_text, object_text}
 use Rattle.pickle_report.specs.Show.{Place, again_line, first_line, at_depth, found, content, walk, show_text}
-use Rattle.pickle_report.specs.Walking.{unseen, stacked, holders, waiting, place_line, seen_after, entered, pending, left_text, walk_text}
+use Rattle.pickle_report.specs.Walking.{unseen, place_line, seen_after, entered, pending, left_text, walk_text}
 
 -- a line is not empty
 pub one_line : (a b : List ℕ) → length (a ⧺ b) ≡ length a + length b
@@ -42,10 +42,6 @@ pending-push depth (f ∷ stack) ids =
     ∙ append_assoc (at_depth ((depth + 1) + length stack) ids) (pending (depth + 1) stack) (at_depth depth f)
     ∙ ap (λ (d : ℕ). at_depth d ids ++ (pending (depth + 1) stack ++ at_depth depth f)) e
 
-pending-stacked : (depth : ℕ) (stack : List (List ℕ)) (ids : List ℕ) → pending depth (stack ++ stacked ids) ≡ pending depth (stack ++ ids ∷ [])
-pending-stacked depth stack [] = ap (pending depth) (append-nil stack) ∙ sym (pending-push depth stack [])
-pending-stacked depth stack (id ∷ ids) = refl
-
 -- ---- the walk at one place
 
 walk-again : (n : ℕ) (heap : List Object) (seen : List Bool) (p : Place) (places : List Place) → found heap seen p.id ≡ None
@@ -73,72 +69,9 @@ fresh heap seen id o e same = go (get_or seen id false) refl e
 pub fits : (heap : List Object) (seen : List Bool) (id : ℕ) (o : Object) → found heap seen id ≡ Some o → length seen ≡ length heap → unseen seen ≡ suc (unseen (set seen id true))
 fits heap seen id o e same = let f = fresh heap seen id o e same in unseen-less seen id f.0 f.1
 
--- ---- room for the objects that have content
-
-there_is : (heap : List Object) (seen : List Bool) (id : ℕ) (o : Object) → found heap seen id ≡ Some o → slice_get heap id ≡ Some o
-there_is heap seen id o e = go (get_or seen id false) e
-  where
-    go : (t : Bool) → cond t None (slice_get heap id) ≡ Some o → slice_get heap id ≡ Some o
-    go true x = absurd cc
-    go false x = x
-
-waiting-less : (heap : List Object) (seen : List Bool) (id : ℕ) (o : Object) → slice_get heap id ≡ Some o → id < length seen → get_or seen id false ≡ false
-    → waiting heap seen ≡ length (stacked (content o)) + waiting heap (set seen id true)
-waiting-less [] seen id o there h e = elim (slice_get_cases [] id).1 [
-  | inl near ↦ absurd (omega (arith, near.0))
-  | inr far ↦ let y : None ≡ Some o = sym far.1 ∙ there in absurd cc
-]
-waiting-less (p ∷ heap) [] id o there h e = absurd (omega (arith, h))
-waiting-less (p ∷ heap) (false ∷ seen) zero o there h e = let same : p ≡ o = cc in ap (λ (q : Object). length (stacked (content q)) + waiting heap seen) same
-waiting-less (p ∷ heap) (true ∷ seen) zero o there h e = absurd cc
-waiting-less (p ∷ heap) (false ∷ seen) (suc id) o there h e = let less = waiting-less heap seen id o there (omega (arith, h)) e in omega (arith, less)
-waiting-less (p ∷ heap) (true ∷ seen) (suc id) o there h e = waiting-less heap seen id o there (omega (arith, h)) e
-
-waiting-all : (heap : List Object) → waiting heap (replicate (length heap) false) ≡ holders heap
-waiting-all [] = refl
-waiting-all (o ∷ heap) = ap (λ (n : ℕ). length (stacked (content o)) + n) (waiting-all heap)
-
-pub waiting-filled : (heap : List Object) (seen : List Bool) (n : ℕ) → seen ≡ replicate n false → n ≡ length heap → waiting heap seen ≡ holders heap
-waiting-filled heap seen n e h = ap (waiting heap) (e ∙ ap (λ (k : ℕ). replicate k false) h) ∙ waiting-all heap
-
-pub room-left : (heap : List Object) (seen : List Bool) (id : ℕ) (o : Object) (n cap : ℕ) → found heap seen id ≡ Some o → length seen ≡ length heap → n + waiting heap seen ≤ cap
-    → (n + length (stacked (content o)) ≤ cap) × ((n + length (stacked (content o))) + waiting heap (set seen id true) ≤ cap)
-room-left heap seen id o n cap e same h =
-    let f = fresh heap seen id o e same in
-    let less = waiting-less heap seen id o (there_is heap seen id o e) f.0 f.1 in
-    (omega (arith, less, h), omega (arith, less, h))
-
-pub stacked-none : (ids : List ℕ) → ids ≡ [] → stacked ids ≡ []
-stacked-none [] e = refl
-stacked-none (id ∷ ids) e = absurd cc
-
-pub stacked-some : (ids : List ℕ) (id : ℕ) (rest : List ℕ) → ids ≡ id ∷ rest → stacked ids ≡ ids ∷ []
-stacked-some [] id rest e = absurd cc
-stacked-some (x ∷ ids) id rest e = refl
-
-stacked-short : (ids : List ℕ) → length (stacked ids) ≤ 1
-stacked-short [] = omega arith
-stacked-short (id ∷ ids) = omega arith
-
-holders-short : (heap : List Object) → holders heap ≤ length heap
-holders-short [] = omega arith
-holders-short (o ∷ heap) = omega (arith, stacked-short (content o), holders-short heap)
-
--- one object more is counted
-pub holders-next : (heap : List Object) (k : ℕ) (o : Object) → k < length heap → o ≡ get_or heap k o → holders (take (suc k) heap) ≡ holders (take k heap) + length (stacked (content o))
-holders-next [] k o h e = absurd (omega (arith, h))
-holders-next (p ∷ heap) zero o h e =
-    let one : holders (take (suc zero) (p ∷ heap)) ≡ length (stacked (content p)) = omega arith in
-    one ∙ ap (λ (q : Object). length (stacked (content q))) (sym e)
-holders-next (p ∷ heap) (suc k) o h e = let next = holders-next heap k o (omega (arith, h)) e in omega (arith, next)
-
-pub holders-few : (heap : List Object) (k : ℕ) (o : Object) → (holders (take k heap) ≤ k) × (length (stacked (content o)) ≤ 1)
-holders-few heap k o = (omega (arith, holders-short (take k heap), length-take-most k heap), stacked-short (content o))
-  where
-    length-take-most : (k : ℕ) (xs : List Object) → length (take k xs) ≤ k
-    length-take-most zero xs = omega arith
-    length-take-most (suc k) [] = omega arith
-    length-take-most (suc k) (x ∷ xs) = omega (arith, length-take-most k xs)
+pub room-left : (heap : List Object) (seen : List Bool) (id : ℕ) (o : Object) (n cap : ℕ) → found heap seen id ≡ Some o → length seen ≡ length heap → n + unseen seen ≤ cap
+    → (n < cap) × ((n + 1) + unseen (set seen id true) ≤ cap)
+room-left heap seen id o n cap e same h = let less = fits heap seen id o e same in (omega (arith, less, h), omega (arith, less, h))
 
 -- ---- what is left, step by step
 
@@ -172,9 +105,8 @@ left-next heap seen stack id rest depth same d = go (found heap seen id) refl
         ∙ ap (λ (s : List (List ℕ)). again_line depth id ++ walk (unseen seen) heap seen (pending 1 s)) (sym (append-nil (stack ++ rest ∷ [])))
     go (Some o) h =
         let k : 1 + length (stack ++ rest ∷ []) ≡ depth + 1 = omega (arith, length-append stack (rest ∷ []), d) in
-        let inner : at_depth (depth + 1) (content o) ++ pending 1 (stack ++ rest ∷ []) ≡ pending 1 ((stack ++ rest ∷ []) ++ stacked (content o)) =
-        ap (λ (n : ℕ). at_depth n (content o) ++ pending 1 (stack ++ rest ∷ [])) (sym k) ∙ sym (pending-push 1 (stack ++ rest ∷ []) (content o))
-        ∙ sym (pending-stacked 1 (stack ++ rest ∷ []) (content o)) in
+        let inner : at_depth (depth + 1) (content o) ++ pending 1 (stack ++ rest ∷ []) ≡ pending 1 ((stack ++ rest ∷ []) ++ content o ∷ []) =
+        ap (λ (n : ℕ). at_depth n (content o) ++ pending 1 (stack ++ rest ∷ [])) (sym k) ∙ sym (pending-push 1 (stack ++ rest ∷ []) (content o)) in
         ap (walk (unseen seen) heap seen) places
         ∙ walk-first (unseen seen) (unseen (set seen id true)) heap seen (record { depth = depth; id = id }) (pending 1 (stack ++ rest ∷ [])) o h (fits heap seen id o h same)
         ∙ ap (λ (ps : List Place). first_line depth id o ++ walk (unseen (set seen id true)) heap (set seen id true) ps) inner
@@ -195,7 +127,7 @@ left-first heap id seen s = rw (← s) (go (found heap seen id) refl)
         → walk (length heap) heap seen (record { depth = 0; id = id } ∷ []) ≡ place_line 0 id f ++ walk (unseen (seen_after seen id f)) heap (seen_after seen id f) (pending 1 (entered f))
     go None h = walk-again (length heap) heap seen (record { depth = 0; id = id }) [] h ∙ ap (λ (n : ℕ). again_line 0 id ++ walk n heap seen []) (sym all)
     go (Some o) h = walk-first (length heap) (unseen (set seen id true)) heap seen (record { depth = 0; id = id }) [] o h (sym all ∙ fits heap seen id o h same)
-        ∙ ap (λ (ps : List Place). first_line 0 id o ++ walk (unseen (set seen id true)) heap (set seen id true) ps) (append-nil (at_depth 1 (content o)) ∙ sym (pending-stacked 1 [] (content o)))
+        ∙ ap (λ (ps : List Place). first_line 0 id o ++ walk (unseen (set seen id true)) heap (set seen id true) ps) (append-nil (at_depth 1 (content o)))
 
 -- ---- the loop over the stack
 
@@ -237,7 +169,7 @@ smaller-popped heap seen old new frame e h =
 
 entered-short : (f : Option Object) → length (entered f) ≤ 1
 entered-short None = omega arith
-entered-short (Some o) = stacked-short (content o)
+entered-short (Some o) = omega arith
 
 pub smaller-stepped : (heap : List Object) (seen seen-new : List Bool) (old popped pushed new : List (List ℕ)) (frame rest : List ℕ) (depth id : ℕ)
     → length seen ≡ length heap → old ≡ popped ++ frame ∷ [] → frame ≡ id ∷ rest → pushed ≡ popped ++ rest ∷ [] → depth ≡ length popped + 1
@@ -270,3 +202,6 @@ filled (Ok x) items old n k h o z e =
     let m : n - k ≡ n = omega (arith, z) in
     e ∙ ap (λ (xs : List Bool). xs ++ replicate (n - k) false) (take-none n old o) ∙ ap (λ (x : ℕ). replicate x false) m
 filled (Err x) items old n k h o z e = absurd cc
+
+pub unseen-filled : (seen : List Bool) (n : ℕ) → seen ≡ replicate n false → unseen seen ≡ n
+unseen-filled seen n e = ap unseen e ∙ unseen-none n

@@ -1,5 +1,5 @@
 -- How the writer of an object goes on with its walk. These are no definitions of the text.
-use Rattle.std.specs.Prelude.{ℕ, suc, ◌+◌, Bool, true, false, List, [], ◌∷◌, ◌++◌, length, set, Option, None, Some}
+use Rattle.std.specs.Prelude.{ℕ, suc, ◌+◌, Bool, true, false, List, [], ◌∷◌, ◌++◌, set, Option, None, Some}
 use Rattle.pickle_ops.specs.Text.{◌⧺◌}
 use Rattle.pickle_objects.specs.Object.{Object}
 use Rattle.pickle_report.specs.Show.{Place, content, first_line, again_line, at_depth, found, walk}
@@ -9,23 +9,6 @@ abbrev pub unseen : List Bool → ℕ
 unseen [] = 0
 unseen (true ∷ seen) = unseen seen
 unseen (false ∷ seen) = suc (unseen seen)
-
--- what content puts on the stack of the walk: nothing where there is none
-abbrev pub stacked : List ℕ → List (List ℕ)
-stacked [] = []
-stacked (id ∷ ids) = (id ∷ ids) ∷ []
-
--- how many objects have content
-abbrev pub holders : List Object → ℕ
-holders [] = 0
-holders (o ∷ heap) = length (stacked (content o)) + holders heap
-
--- how many of them were not seen
-abbrev pub waiting : List Object → List Bool → ℕ
-waiting [] seen = 0
-waiting (o ∷ heap) [] = 0
-waiting (o ∷ heap) (true ∷ seen) = waiting heap seen
-waiting (o ∷ heap) (false ∷ seen) = length (stacked (content o)) + waiting heap seen
 
 -- the line of a place, its object being this one if it was not seen
 abbrev pub place_line : ℕ → ℕ → Option Object → List ℕ
@@ -40,7 +23,7 @@ seen_after seen id (Some o) = set seen id true
 -- what that place puts on the stack of the walk
 abbrev pub entered : Option Object → List (List ℕ)
 entered None = []
-entered (Some o) = stacked (content o)
+entered (Some o) = content o ∷ []
 
 -- the places that are still to be walked, where the stack has what is left of the content of the objects on the way down,
 -- that of the lowest first

@@ -4,8 +4,8 @@ ghost use Rattle.std.specs.Prelude.{◌≡◌, ◌+◌, ◌≤◌, [], ◌++◌,
 ghost use Rattle.std.specs.Option.{option_copied};
 ghost use Rattle.std.specs.Vec.{vec_capacity};
 ghost use Rattle.pickle_ops.specs.Device.{Wrote, Broke, Writes};
-ghost use Rattle.pickle_report.specs.Show.{content, again_line, first_line, found, show_text};
-ghost use Rattle.pickle_report.specs.Walking.{stacked, holders, waiting, place_line, seen_after, entered, left_text, walk_text};
+ghost use Rattle.pickle_report.specs.Show.{again_line, first_line, found, show_text};
+ghost use Rattle.pickle_report.specs.Walking.{unseen, place_line, seen_after, entered, left_text, walk_text};
 
 use crate::content::Content;
 use crate::object::{write_next, write_object};
@@ -62,40 +62,6 @@ fn find<'a>(machine: &'a Machine, seen: &[bool], id: ObjId) -> Option<&'a Object
     }
 }
 
-/// How many places of the walk's stack an object needs: one, or none where it contains nothing.
-fn places(object: &Object) -> usize
-    ensures { result ≡ length (stacked (content object.now)) }
-{
-    match Content::of(object).next() {
-        None => 0,
-        Some(_) => 1,
-    }
-}
-
-/// How many objects contain others.
-fn holders(objects: &[Object]) -> usize
-    ensures { result ≡ holders objects.now }
-{
-    let mut count = 0;
-    for object in objects {
-        count += places(object);
-    }
-    count
-}
-
-/// Puts what an object contains on the stack, if there is anything.
-fn enter<'a>(object: &'a Object, stack: &mut Vec<Content<'a>>)
-    requires { length stack.old.items + length (stacked (content object.now)) ≤ vec_capacity stack.old }
-    ensures stack { stack.new.items ≡ stack.old.items ++ stacked (content object.now) }
-    ensures capacity { vec_capacity stack.new ≡ vec_capacity stack.old }
-{
-    let content = Content::of(object);
-    match content.next() {
-        None => {}
-        Some(_) => stack.push_reserved(content),
-    }
-}
-
 /// Writes the line of a place; where it is the first of its object, that is seen, and its content is put on the stack.
 fn visit<'a, S: Sink>(
     machine: &'a Machine,
@@ -106,19 +72,19 @@ fn visit<'a, S: Sink>(
     sink: &mut S,
 ) -> Result<(), Failed>
     requires seen { length seen.old.items ≡ length machine.now.state.heap }
-    requires room { length stack.old.items + waiting machine.now.state.heap seen.old.items ≤ vec_capacity stack.old }
+    requires room { length stack.old.items + unseen seen.old.items ≤ vec_capacity stack.old }
     ensures line { Writes (S.told sink.old) (S.told sink.new) result (place_line depth id (found machine.now.state.heap seen.old.items id)) }
     ensures seen { OnOk result (seen.new.items ≡ seen_after seen.old.items id (found machine.now.state.heap seen.old.items id)) }
     ensures stack { OnOk result (stack.new.items ≡ stack.old.items ++ entered (found machine.now.state.heap seen.old.items id)) }
     ensures length { OnOk result (length seen.new.items ≡ length seen.old.items) }
-    ensures fits { OnOk result (length stack.new.items + waiting machine.now.state.heap seen.new.items ≤ vec_capacity stack.new) }
+    ensures fits { OnOk result (length stack.new.items + unseen seen.new.items ≤ vec_capacity stack.new) }
 {
     match find(machine, seen.as_slice(), id) {
         None => write_again(depth, id, sink),
         Some(object) => {
             write_first(depth, id, object, sink)?;
             seen[id as usize] = true;
-            enter(object, stack);
+            stack.push_reserved(Content::of(object));
             Ok(())
         }
     }
@@ -132,7 +98,7 @@ fn go_on<'a, S: Sink>(
     sink: &mut S,
 ) -> Result<(), Failed>
     requires seen { length seen.old.items ≡ length machine.now.state.heap }
-    requires room { length stack.old.items + waiting machine.now.state.heap seen.old.items ≤ vec_capacity stack.old }
+    requires room { length stack.old.items + unseen seen.old.items ≤ vec_capacity stack.old }
     ensures { Writes (S.told sink.old) (S.told sink.new) result (left_text machine.now.state.heap seen.old.items stack.old.items) }
 {
     while let Some(content) = stack.pop() {
@@ -154,7 +120,7 @@ fn walk_from<'a, S: Sink>(
     sink: &mut S,
 ) -> Result<(), Failed>
     requires seen { length seen.old.items ≡ length machine.now.state.heap }
-    requires room { waiting machine.now.state.heap seen.old.items ≤ vec_capacity stack.old }
+    requires room { unseen seen.old.items ≤ vec_capacity stack.old }
     requires empty { stack.old.items ≡ [] }
     ensures { Writes (S.told sink.old) (S.told sink.new) result (walk_text machine.now.state.heap seen.old.items id) }
 {
@@ -178,9 +144,8 @@ fn none_seen(alloc: Global, count: usize) -> Result<Vec<bool>, TextStop>
 /// object stands the object, and behind it come its parts and what was put into it, one deeper; a later place is only its number.
 /// It takes time linear in the lines, and does not recurse. A number that names no object is one short line.
 ///
-/// All memory is asked for before anything is written: a byte for each object of the machine, and a place of the walk for each
-/// that contains others. `Memory` where it is wanting, and then nothing was written. `Failed` where the sink fails; a front of
-/// the text was written then.
+/// All memory is asked for before anything is written, some bytes for each object of the machine: `Memory` where it is wanting,
+/// and then nothing was written. `Failed` where the sink fails; a front of the text was written then.
 pub fn write_show<S: Sink>(
     alloc: Global,
     machine: &Machine,
@@ -191,7 +156,7 @@ pub fn write_show<S: Sink>(
     ensures failed { result ≡ Err TextStop.Failed → Broke (S.told sink.old) (S.told sink.new) (show_text machine.now.state.heap id) }
     ensures memory { result ≡ Err TextStop.Memory → sink.new ≡ sink.old }
 {
-    let mut stack = Vec::with_capacity(alloc, holders(machine.heap()))?;
+    let mut stack = Vec::with_capacity(alloc, machine.objects())?;
     let mut seen = none_seen(alloc, machine.objects())?;
     walk_from(machine, id, &mut stack, &mut seen, sink)?;
     Ok(())

@@ -2,14 +2,14 @@
 use Rattle.std.proofs.Common.{◌≡◌, ◌+◌, ◌≤◌, length}
 use Rattle.std.specs.Vec.{vec_capacity}
 use Rattle.pickle_ops.specs.Device.{WroteAllBut}
-use Rattle.pickle_report.specs.Walking.{waiting, left_text}
+use Rattle.pickle_report.specs.Walking.{unseen, left_text}
 use Rattle.pickle_report.proofs.show.go_on.Given as goal
 
 abbrev pub invariant-loop-content : goal.invariant-loop-content
 invariant-loop-content g l = record {
   wrote : WroteAllBut (g.S.Sink.told l.initial.sink) (g.S.Sink.told l.sink) (left_text l.machine.state.heap l.initial.seen.items l.initial.stack.items) (left_text l.machine.state.heap l.seen.items l.stack.items);
   seen : length l.seen.items ≡ length l.machine.state.heap;
-  room : length l.stack.items + waiting l.machine.state.heap l.seen.items ≤ vec_capacity l.stack;
+  room : length l.stack.items + unseen l.seen.items ≤ vec_capacity l.stack;
 }
 
 abbrev pub decreases-loop-content : goal.decreases-loop-content
