@@ -6,7 +6,8 @@ use Rattle.pickle_ops.specs.Device.{Told, Wrote, Broke}
 use Rattle.pickle_doc.specs.Document.{document_bytes, size_limit}
 use Rattle.pickle_objects.specs.Object.{Object}
 use Rattle.pickle_machine.specs.State.{State}
-use Rattle.pickle_session.specs.Session.{Session, state_at, len_of, ops_of}
+use Rattle.pickle_doc.specs.Place.{ops_of}
+use Rattle.pickle_session.specs.Session.{Session, state_at, len_of}
 use Rattle.pickle_session.specs.Allowed.{Standing}
 use Rattle.pickle_session.proofs.Trails.{run_heap}
 use Rattle.pickle_report.specs.Show.{show_text}
