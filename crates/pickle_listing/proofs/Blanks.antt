@@ -1,6 +1,6 @@
 -- A code in its column.
 use Rattle.std.proofs.Common.{◌≡◌, ℕ, List, [], ◌∷◌, ◌&&◌, false, nat_lt, slice_index_or, codes, refl}
-use Rattle.pickle_ops.specs.Text.{◌⧺◌}
+use Rattle.pickle_io.specs.Text.{◌⧺◌}
 use Rattle.hex.specs.Hex.{encode_with}
 use Rattle.pickle_page.specs.Column.{left}
 use Rattle.pickle_listing.specs.Column.{hex_byte, code_text}

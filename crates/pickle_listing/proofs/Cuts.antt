@@ -1,7 +1,7 @@
 -- What a listing that is cut short leaves, and what is left of a document's.
 use Rattle.std.proofs.Common.{◌≡◌, ℕ, List, Result, Ok, Err, sym, ap, ◌∙◌}
 use Rattle.std.specs.Prelude.{IfErr, IfOk, IsErrAnd}
-use Rattle.pickle_ops.specs.Device.{Told}
+use Rattle.pickle_io.specs.Device.{Told}
 use Rattle.pickle_doc.specs.Document.{Contents, document_bytes, ReadsAs, IsReadAgain}
 use Rattle.pickle_report.specs.declared.stop.TextStop.{TextStop}
 use Rattle.pickle_report.specs.declared.stop.TextStop.TheVariants as stop

@@ -5,11 +5,11 @@ use Rattle.std.specs.Option.{option_map}
 use Rattle.std.proofs.lemmas.List.{take_all, length-map, append-nil}
 use Rattle.pickle_ops.specs.declared.opcode.Opcode.{Opcode}
 use Rattle.pickle_ops.specs.declared.opcode.Opcode.TheVariants as op
-use Rattle.pickle_ops.specs.Text.{◌⧺◌}
-use Rattle.pickle_ops.specs.Device.{Told, Wrote, Broke, WroteAllBut}
+use Rattle.pickle_io.specs.Text.{◌⧺◌}
+use Rattle.pickle_io.specs.Device.{Told, Wrote, Broke, WroteAllBut}
 use Rattle.pickle_ops.specs.Table.{protocol_of}
 use Rattle.pickle_ops.specs.Spelling.{Operation, size_of}
-use Rattle.pickle_ops.proofs.Devices.{Wrote-trans, Broke-after, WroteAllBut-none, WroteAllBut-front}
+use Rattle.pickle_io.proofs.Devices.{Wrote-trans, Broke-after, WroteAllBut-none, WroteAllBut-front}
 use Rattle.pickle_doc.specs.declared.item.Item.{Item}
 use Rattle.pickle_doc.specs.declared.fault.TailFault.{TailFault}
 use Rattle.pickle_doc.specs.declared.fault.Finish.{Finish}

@@ -3,11 +3,11 @@ use Rattle.std.proofs.Common.{◌≡◌, ℕ, suc, ◌+◌, ◌-◌, ◌<◌, �
 use Rattle.std.specs.Prelude.{slice_get}
 use Rattle.std.proofs.lemmas.List.{take_more, append-nil}
 use Rattle.std.proofs.lemmas.Option.{get_or_from_slice_get, slice_get_past, slice_get_cases}
-use Rattle.pickle_ops.specs.Text.{◌⧺◌}
-use Rattle.pickle_ops.specs.Device.{Told, AppendsFront, Wrote, Broke}
+use Rattle.pickle_io.specs.Text.{◌⧺◌}
+use Rattle.pickle_io.specs.Device.{Told, AppendsFront, Wrote, Broke}
 use Rattle.pickle_ops.specs.Table.{protocol_of}
 use Rattle.pickle_ops.specs.Spelling.{Operation, size_of}
-use Rattle.pickle_ops.proofs.Devices.{AppendsFront-more, Wrote-trans, Broke-after, Broke-more}
+use Rattle.pickle_io.proofs.Devices.{AppendsFront-more, Wrote-trans, Broke-after, Broke-more}
 use Rattle.pickle_doc.specs.DocUnit.{bytes_of}
 use Rattle.pickle_doc.specs.Document.{Contents, document_bytes}
 use Rattle.pickle_doc.specs.Place.{ops_of, item_at, offset_of}

@@ -1,7 +1,7 @@
 -- The name of an operation with its argument and its note.
 use Rattle.std.proofs.Common.{◌≡◌, List, ℕ, Option, Some, None, refl, true, false}
 use Rattle.std.specs.Prelude.{is_some, unwrap_or, [], codes}
-use Rattle.pickle_ops.specs.Text.{◌⧺◌}
+use Rattle.pickle_io.specs.Text.{◌⧺◌}
 use Rattle.pickle_listing.specs.declared.note.Note.{Note}
 use Rattle.pickle_page.specs.Column.{left}
 use Rattle.pickle_listing.specs.Line.{described, note_text}

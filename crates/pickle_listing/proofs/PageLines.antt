@@ -5,9 +5,9 @@ use Rattle.std.proofs.lemmas.Bool.{cases_lt}
 use Rattle.std.proofs.lemmas.List.{take-append-le, take_at, replicate-append-replicate, append-nil}
 use lib.ListN.{length-replicate}
 use Rattle.std.proofs.Math.Seq.{take-length}
-use Rattle.pickle_ops.specs.Device.{Told, Broke, WroteAllBut}
+use Rattle.pickle_io.specs.Device.{Told, Broke, WroteAllBut}
 use Rattle.pickle_ops.specs.Spelling.{Operation}
-use Rattle.pickle_ops.specs.Text.{◌⧺◌}
+use Rattle.pickle_io.specs.Text.{◌⧺◌}
 use Rattle.pickle_page.proofs.Puts.{page_more, then_put_next, then_broken_next, puts_last, puts_broken, puts_no_room, puts_pushed}
 use Rattle.pickle_listing.specs.declared.note.Note.{Note}
 use Rattle.pickle_page.specs.Column.{blanks, left, right, newline}

@@ -4,7 +4,8 @@ use Rattle.std.specs.Prelude.{ℕ, ◌*◌, max, List, [], ◌∷◌, decimal, c
 use Rattle.pickle_ops.specs.declared.opcode.Opcode.{Opcode}
 use Rattle.pickle_ops.specs.Spelling.{Operation}
 use Rattle.pickle_ops.specs.Table.{code_of, name_of, protocol_of}
-use Rattle.pickle_ops.specs.Text.{arg_text, ◌⧺◌}
+use Rattle.pickle_io.specs.Text.{◌⧺◌}
+use Rattle.pickle_ops.specs.Text.{arg_text}
 use Rattle.pickle_machine.specs.declared.refusal.Refusal.{Refusal}
 use Rattle.pickle_page.specs.Column.{blanks, left, right, newline}
 use Rattle.pickle_report.specs.Line.{refusal_text}

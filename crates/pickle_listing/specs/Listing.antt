@@ -6,7 +6,7 @@ use Rattle.std.specs.Option.{option_map}
 use Rattle.pickle_ops.specs.declared.opcode.Opcode.{Opcode}
 use Rattle.pickle_ops.specs.declared.opcode.Opcode.TheVariants as op
 use Rattle.pickle_ops.specs.Spelling.{Operation}
-use Rattle.pickle_ops.specs.Text.{◌⧺◌}
+use Rattle.pickle_io.specs.Text.{◌⧺◌}
 use Rattle.pickle_doc.specs.declared.fault.Finish.{Finish}
 use Rattle.pickle_doc.specs.declared.fault.Finish.TheVariants as finish
 use Rattle.pickle_doc.specs.DocUnit.{is_stop}

@@ -1,6 +1,6 @@
 -- What became of a listing that was to be written.
 use Rattle.std.specs.Prelude.{◌≡◌, ℕ, List}
-use Rattle.pickle_ops.specs.Device.{Told, AppendsFront, Wrote, Broke}
+use Rattle.pickle_io.specs.Device.{Told, AppendsFront, Wrote, Broke}
 use Rattle.pickle_doc.specs.Document.{Contents, ReadsAs}
 use Rattle.pickle_report.specs.declared.stop.TextStop.{TextStop}
 use Rattle.pickle_report.specs.declared.stop.TextStop.TheVariants as stop

@@ -1,7 +1,7 @@
 //! Texts in columns.
 
 ghost use Rattle.std.specs.Prelude.{◌≡◌, ◌&&◌, codes, nat_lt};
-ghost use Rattle.pickle_ops.specs.Text.{◌⧺◌};
+ghost use Rattle.pickle_io.specs.Text.{◌⧺◌};
 ghost use Rattle.pickle_page.specs.Column.{left};
 ghost use Rattle.pickle_listing.specs.Column.{hex_byte, code_text};
 

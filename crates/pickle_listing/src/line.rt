@@ -1,8 +1,8 @@
 //! The lines of a listing.
 
 ghost use Rattle.std.specs.Prelude.{◌≡◌};
-ghost use Rattle.pickle_ops.specs.Device.{Writes};
-ghost use Rattle.pickle_ops.specs.Text.{◌⧺◌};
+ghost use Rattle.pickle_io.specs.Device.{Writes};
+ghost use Rattle.pickle_io.specs.Text.{◌⧺◌};
 ghost use Rattle.pickle_listing.specs.Line.{refused_line, left_text, left_line, kept_text, kept_line, kept_words, protocol_words, protocol_text, protocol_line};
 
 use pickle_machine::Refusal;
@@ -10,7 +10,7 @@ use pickle_ops::{Failed, Sink, write_all, write_decimal};
 use pickle_report::write_refusal;
 
 /// Writes the line of a refused step.
-#[tactic(auto, using(pickle_ops::proofs::Devices::text_steps), unfolding(crate::specs::Line::refused_line))]
+#[tactic(auto, using(pickle_io::proofs::Devices::text_steps), unfolding(crate::specs::Line::refused_line))]
 fn write_refused<S: Sink>(refusal: Refusal, sink: &mut S) -> Result<(), Failed>
     ensures { Writes (S.told sink.old) (S.told sink.new) result (refused_line refusal) }
 {
@@ -20,7 +20,7 @@ fn write_refused<S: Sink>(refusal: Refusal, sink: &mut S) -> Result<(), Failed>
 }
 
 /// Writes how many objects and marks STOP left on the stack.
-#[tactic(auto, using(pickle_ops::proofs::Devices::text_steps), unfolding(crate::specs::Line::left_text))]
+#[tactic(auto, using(pickle_io::proofs::Devices::text_steps), unfolding(crate::specs::Line::left_text))]
 fn write_left_text<S: Sink>(objects: usize, marks: usize, sink: &mut S) -> Result<(), Failed>
     ensures { Writes (S.told sink.old) (S.told sink.new) result (left_text objects marks) }
 {
@@ -33,7 +33,7 @@ fn write_left_text<S: Sink>(objects: usize, marks: usize, sink: &mut S) -> Resul
 }
 
 /// Writes what STOP left on the stack, if anything.
-#[tactic(auto, using(pickle_ops::proofs::Devices::text_steps), unfolding(crate::specs::Line::left_line))]
+#[tactic(auto, using(pickle_io::proofs::Devices::text_steps), unfolding(crate::specs::Line::left_line))]
 fn write_left_line<S: Sink>(objects: usize, marks: usize, sink: &mut S) -> Result<(), Failed>
     ensures { Writes (S.told sink.old) (S.told sink.new) result (left_line objects marks) }
 {
@@ -45,7 +45,7 @@ fn write_left_line<S: Sink>(objects: usize, marks: usize, sink: &mut S) -> Resul
 }
 
 /// Writes how many bytes stand after STOP.
-#[tactic(auto, using(pickle_ops::proofs::Devices::text_steps), unfolding(crate::specs::Line::kept_text, crate::specs::Line::kept_words))]
+#[tactic(auto, using(pickle_io::proofs::Devices::text_steps), unfolding(crate::specs::Line::kept_text, crate::specs::Line::kept_words))]
 fn write_kept_text<S: Sink>(count: u64, sink: &mut S) -> Result<(), Failed>
     ensures { Writes (S.told sink.old) (S.told sink.new) result (kept_text count) }
 {
@@ -64,7 +64,7 @@ fn words_after_stop() -> &'static str
 }
 
 /// Writes how many bytes stand after STOP, if any.
-#[tactic(auto, using(pickle_ops::proofs::Devices::text_steps), unfolding(crate::specs::Line::kept_line))]
+#[tactic(auto, using(pickle_io::proofs::Devices::text_steps), unfolding(crate::specs::Line::kept_line))]
 fn write_kept_line<S: Sink>(count: u64, sink: &mut S) -> Result<(), Failed>
     ensures { Writes (S.told sink.old) (S.told sink.new) result (kept_line count) }
 {
@@ -76,7 +76,7 @@ fn write_kept_line<S: Sink>(count: u64, sink: &mut S) -> Result<(), Failed>
 }
 
 /// Writes what is left where reading ended by STOP: on the stack, and behind STOP.
-#[tactic(auto, using(pickle_ops::proofs::Devices::text_steps))]
+#[tactic(auto, using(pickle_io::proofs::Devices::text_steps))]
 pub fn write_stopped<S: Sink>(
     objects: usize,
     marks: usize,
@@ -98,7 +98,7 @@ fn words_of_protocol() -> &'static str
 }
 
 /// Writes the line of a protocol.
-#[tactic(auto, using(pickle_ops::proofs::Devices::text_steps), unfolding(crate::specs::Line::protocol_text))]
+#[tactic(auto, using(pickle_io::proofs::Devices::text_steps), unfolding(crate::specs::Line::protocol_text))]
 fn write_protocol_text<S: Sink>(protocol: u8, sink: &mut S) -> Result<(), Failed>
     ensures { Writes (S.told sink.old) (S.told sink.new) result (protocol_text protocol) }
 {
@@ -108,7 +108,7 @@ fn write_protocol_text<S: Sink>(protocol: u8, sink: &mut S) -> Result<(), Failed
 }
 
 /// Writes the greatest protocol of the items that were listed, if any was.
-#[tactic(auto, using(pickle_ops::proofs::Devices::text_steps), unfolding(crate::specs::Line::protocol_line))]
+#[tactic(auto, using(pickle_io::proofs::Devices::text_steps), unfolding(crate::specs::Line::protocol_line))]
 pub fn write_protocol<S: Sink>(highest: Option<u8>, sink: &mut S) -> Result<(), Failed>
     ensures { Writes (S.told sink.old) (S.told sink.new) result (protocol_line highest) }
 {
@@ -119,7 +119,7 @@ pub fn write_protocol<S: Sink>(highest: Option<u8>, sink: &mut S) -> Result<(), 
 }
 
 /// Writes the lines behind a refused item.
-#[tactic(auto, using(pickle_ops::proofs::Devices::text_steps))]
+#[tactic(auto, using(pickle_io::proofs::Devices::text_steps))]
 pub fn write_refused_end<S: Sink>(
     refusal: Refusal,
     highest: Option<u8>,

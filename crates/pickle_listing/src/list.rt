@@ -1,8 +1,8 @@
 //! The listing of items, one after another.
 
 ghost use Rattle.std.specs.Prelude.{◌≡◌, ◌≤◌, length, OnOk, IfOk, IfErr};
-ghost use Rattle.pickle_ops.specs.Device.{Writes};
-ghost use Rattle.pickle_ops.specs.Text.{◌⧺◌};
+ghost use Rattle.pickle_io.specs.Device.{Writes};
+ghost use Rattle.pickle_io.specs.Text.{◌⧺◌};
 ghost use Rattle.pickle_doc.specs.Document.{Contents, ReadsAs, size_limit};
 ghost use Rattle.pickle_objects.specs.Row.{row_of};
 ghost use Rattle.pickle_machine.specs.State.{stack_size};
@@ -69,7 +69,7 @@ fn note_of(op: &OpRef<'_>, row: Row, lean: &Lean, opened: &[u64]) -> Option<Note
 }
 
 /// Writes the lines behind all items where bytes are left that are no further item.
-#[tactic(auto, using(pickle_ops::proofs::Devices::text_steps))]
+#[tactic(auto, using(pickle_io::proofs::Devices::text_steps))]
 fn write_fault_end<S: Sink>(
     fault: TailFault,
     offset: u64,
@@ -83,7 +83,7 @@ fn write_fault_end<S: Sink>(
 }
 
 /// Writes the lines behind STOP.
-#[tactic(auto, using(pickle_ops::proofs::Devices::text_steps))]
+#[tactic(auto, using(pickle_io::proofs::Devices::text_steps))]
 fn write_stopped_end<S: Sink>(
     lean: &Lean,
     kept: u64,

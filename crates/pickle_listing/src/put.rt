@@ -2,7 +2,8 @@
 
 ghost use Rattle.std.specs.Prelude.{◌≡◌, ◌≤◌, ◌<◌, ◌^◌, ◌+◌, ◌-◌, ◌*◌, ◌++◌, length, codes, unwrap_or, [], None, Some, OnOk};
 ghost use Rattle.pickle_ops.specs.Table.{name_of};
-ghost use Rattle.pickle_ops.specs.Text.{◌⧺◌, arg_text};
+ghost use Rattle.pickle_io.specs.Text.{◌⧺◌};
+ghost use Rattle.pickle_ops.specs.Text.{arg_text};
 ghost use Rattle.pickle_page.specs.Page.{Puts};
 ghost use Rattle.pickle_page.specs.Column.{blanks, left};
 ghost use Rattle.pickle_listing.specs.Line.{offset_column, code_column, note_text, described, named, item_line};

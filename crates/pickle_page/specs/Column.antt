@@ -1,6 +1,6 @@
 -- Texts in columns.
 use Rattle.std.specs.Prelude.{ℕ, ◌-◌, List, [], ◌∷◌, length, replicate}
-use Rattle.pickle_ops.specs.Text.{◌⧺◌}
+use Rattle.pickle_io.specs.Text.{◌⧺◌}
 
 abbrev pub blanks : ℕ → List ℕ
 blanks n = replicate n 32

@@ -1,10 +1,10 @@
 -- The lines of objects, one after another.
 use Rattle.std.proofs.Common.{◌≡◌, ℕ, suc, ◌+◌, ◌<◌, List, [], ◌∷◌, ◌++◌, length, take, drop, get_or, sym, ap, ◌∙◌, append_assoc, append-nil, arith}
 use Rattle.std.proofs.lemmas.List.{take_more, take-append-drop, length-take-le}
-use Rattle.pickle_ops.specs.Text.{◌⧺◌}
+use Rattle.pickle_io.specs.Text.{◌⧺◌}
 use Rattle.pickle_objects.specs.Object.{Object}
-use Rattle.pickle_ops.specs.Device.{Told, Wrote, Broke}
-use Rattle.pickle_ops.proofs.Devices.{Wrote-none, Wrote-trans, Broke-after, Broke-more}
+use Rattle.pickle_io.specs.Device.{Told, Wrote, Broke}
+use Rattle.pickle_io.proofs.Devices.{Wrote-none, Wrote-trans, Broke-after, Broke-more}
 use Rattle.pickle_report.specs.ObjectText.{object_line, lines_from}
 
 lines-append : (id : ℕ) (xs ys : List Object) → lines_from id (xs ++ ys) ≡ lines_from id xs ++ lines_from (length xs + id) ys

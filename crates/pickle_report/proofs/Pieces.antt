@@ -1,7 +1,7 @@
 -- Texts that are written piece by piece.
 use Rattle.std.proofs.Common.{◌≡◌, ℕ, List, ◌++◌, sym, ap, ◌∙◌, append_assoc}
-use Rattle.pickle_ops.specs.Device.{Told, Wrote, Broke, WroteAllBut}
-use Rattle.pickle_ops.proofs.Devices.{Wrote-trans, Broke-after, Broke-more}
+use Rattle.pickle_io.specs.Device.{Told, Wrote, Broke, WroteAllBut}
+use Rattle.pickle_io.proofs.Devices.{Wrote-trans, Broke-after, Broke-more}
 
 pub WroteAllBut-same : (a b : Told) (text rest more : List ℕ) → WroteAllBut a b text rest → rest ≡ more → WroteAllBut a b text more
 WroteAllBut-same a b text rest more w e = record { front = w.front; parts = w.parts ∙ ap (λ (t : List ℕ). w.front ++ t) e; wrote = w.wrote }

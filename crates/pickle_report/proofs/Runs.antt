@@ -22,7 +22,7 @@ use Rattle.pickle_machine.specs.State.{State, empty, last_result}
 use Rattle.pickle_machine.specs.Move.{deep, next, next_of, outcome, refusal_at, move}
 use Rattle.pickle_machine.specs.Run.{after, run}
 use Rattle.pickle_machine.proofs.Shown.{last_of_more}
-use Rattle.pickle_ops.specs.Device.{Told, Wrote, Broke}
+use Rattle.pickle_io.specs.Device.{Told, Wrote, Broke}
 use Rattle.pickle_report.specs.declared.report.Closing.{Closing}
 use Rattle.pickle_report.specs.Report.{closing_status, report_text, Closes, WroteReport, BrokeReport}
 

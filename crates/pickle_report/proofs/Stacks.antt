@@ -8,11 +8,11 @@ use Rattle.std.proofs.lemmas.List.{take_more, take_all, drop_all, drop-append-le
 use Rattle.std.proofs.lemmas.List.Concat.{flat_map-append}
 use Rattle.std.proofs.lemmas.Option.{slice_get-get_or, slice_get_past}
 use Rattle.std.proofs.Math.Seq.{take-append_seam, drop-append_seam}
-use Rattle.pickle_ops.specs.Text.{◌⧺◌}
+use Rattle.pickle_io.specs.Text.{◌⧺◌}
 use Rattle.pickle_machine.specs.State.{Marked, State, objects_below, stack_of, stack_size, marks_of}
 use Rattle.pickle_machine.proofs.Shown.{length-stack_of, length-marks_of, last_mark}
-use Rattle.pickle_ops.specs.Device.{Told, Wrote, Broke, each}
-use Rattle.pickle_ops.proofs.Devices.{Wrote-none, Wrote-trans, Broke-after, Broke-more}
+use Rattle.pickle_io.specs.Device.{Told, Wrote, Broke, each}
+use Rattle.pickle_io.proofs.Devices.{Wrote-none, Wrote-trans, Broke-after, Broke-more}
 use Rattle.pickle_report.specs.Between.{between}
 use Rattle.pickle_report.specs.ObjectText.{next_text}
 use Rattle.pickle_report.specs.StackText.{section_text, marked_text}

@@ -3,9 +3,9 @@ use Rattle.std.proofs.Common.{◌≡◌, ℕ, zero, suc, ◌+◌, ◌<◌, ◌�
 use Rattle.std.specs.Prelude.{slice_get, Result, Ok, Err, is_ok, is_err, if◌then◌else◌, codes, decimal}
 use Rattle.std.proofs.lemmas.Option.{slice_get_cases}
 use Rattle.std.proofs.lemmas.List.{length-replicate}
-use Rattle.pickle_ops.specs.Text.{◌⧺◌}
+use Rattle.pickle_io.specs.Text.{◌⧺◌}
 use Rattle.pickle_objects.specs.Object.{Object}
-use Rattle.pickle_ops.specs.Device.{each}
+use Rattle.pickle_io.specs.Device.{each}
 use Rattle.pickle_report.specs.Line.{newline}
 use Rattle.pickle_report.specs.ObjectText.{id_text, next_text, object_text}
 use Rattle.pickle_report.specs.Show.{Place, again_line, first_line, at_depth, found, content, walk, show_text}

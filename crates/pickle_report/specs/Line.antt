@@ -2,7 +2,7 @@
 -- Source: own.
 use Rattle.std.specs.Prelude.{ℕ, List, [], ◌∷◌, decimal, codes}
 use Rattle.std.specs.Fmt.{signed_decimal}
-use Rattle.pickle_ops.specs.Text.{◌⧺◌, hexadecimal}
+use Rattle.pickle_io.specs.Text.{◌⧺◌, hexadecimal}
 use Rattle.pickle_doc.specs.declared.fault.TailFault.{TailFault}
 use Rattle.pickle_doc.specs.declared.fault.TailFault.TheVariants as tail
 use Rattle.pickle_machine.specs.declared.refusal.Refusal.{Refusal}

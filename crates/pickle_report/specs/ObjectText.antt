@@ -2,13 +2,14 @@
 -- Source: own. The kinds are named after what `pickle` calls them: reduce, new object, persistent object, extension.
 use Rattle.std.specs.Prelude.{ℕ, suc, List, [], ◌∷◌, codes, decimal}
 use Rattle.std.specs.Fmt.{signed_decimal}
-use Rattle.pickle_ops.specs.Text.{◌⧺◌, quoted, float_text, long_text}
+use Rattle.pickle_io.specs.Text.{◌⧺◌, quoted}
+use Rattle.pickle_ops.specs.Text.{float_text, long_text}
 use Rattle.pickle_objects.specs.declared.kind.Kind.{Kind}
 use Rattle.pickle_objects.specs.declared.kind.Kind.TheVariants as kind
 use Rattle.pickle_objects.specs.declared.object.Change.{Change}
 use Rattle.pickle_objects.specs.declared.object.Change.TheVariants as change
 use Rattle.pickle_objects.specs.Object.{Object}
-use Rattle.pickle_ops.specs.Device.{each}
+use Rattle.pickle_io.specs.Device.{each}
 use Rattle.pickle_report.specs.Line.{newline}
 
 -- an object by its number

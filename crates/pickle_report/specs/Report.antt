@@ -2,7 +2,7 @@
 -- Source: own.
 use Rattle.std.specs.Prelude.{◌≡◌, ℕ, List, length, codes, Option, Some, None}
 use Rattle.pickle_ops.specs.Spelling.{Operation}
-use Rattle.pickle_ops.specs.Text.{◌⧺◌}
+use Rattle.pickle_io.specs.Text.{◌⧺◌}
 use Rattle.pickle_doc.specs.declared.fault.End.TheVariants as end
 use Rattle.pickle_doc.specs.DocUnit.{operations}
 use Rattle.pickle_doc.specs.Document.{Contents, items_of}
@@ -12,7 +12,7 @@ use Rattle.pickle_machine.specs.declared.refusal.Refusal.{Refusal}
 use Rattle.pickle_machine.specs.State.{State, last_result}
 use Rattle.pickle_machine.specs.Move.{refusal_at}
 use Rattle.pickle_machine.specs.Run.{run}
-use Rattle.pickle_ops.specs.Device.{Told, Wrote, Broke}
+use Rattle.pickle_io.specs.Device.{Told, Wrote, Broke}
 use Rattle.pickle_report.specs.declared.report.Closing.{Closing}
 use Rattle.pickle_report.specs.declared.report.Closing.TheVariants as closing
 use Rattle.pickle_report.specs.Line.{newline, item_refused, fault_line}

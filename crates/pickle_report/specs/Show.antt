@@ -4,11 +4,11 @@
 use Rattle.std.specs.Prelude.{ℕ, zero, suc, ◌+◌, Bool, true, false, List, [], ◌∷◌, ◌++◌, length, replicate, get_or, set, codes, decimal, if◌then◌else◌, Option, None, slice_get}
 use Rattle.std.specs.Option.{option_map_or}
 use Rattle.std.specs.List.{flat_map}
-use Rattle.pickle_ops.specs.Text.{◌⧺◌}
+use Rattle.pickle_io.specs.Text.{◌⧺◌}
 use Rattle.pickle_objects.specs.declared.object.Change.{Change}
 use Rattle.pickle_objects.specs.declared.object.Change.TheVariants as change
 use Rattle.pickle_objects.specs.Object.{Object}
-use Rattle.pickle_ops.specs.Device.{each}
+use Rattle.pickle_io.specs.Device.{each}
 use Rattle.pickle_report.specs.Line.{newline}
 use Rattle.pickle_report.specs.ObjectText.{next_text, object_text}
 

@@ -1,9 +1,9 @@
 -- The line of the stack.
 -- Source: own.
 use Rattle.std.specs.Prelude.{ℕ, List, [], ◌∷◌, codes, decimal}
-use Rattle.pickle_ops.specs.Text.{◌⧺◌}
+use Rattle.pickle_io.specs.Text.{◌⧺◌}
 use Rattle.pickle_machine.specs.State.{Marked, State}
-use Rattle.pickle_ops.specs.Device.{each}
+use Rattle.pickle_io.specs.Device.{each}
 use Rattle.pickle_report.specs.Line.{newline}
 use Rattle.pickle_report.specs.ObjectText.{next_text}
 

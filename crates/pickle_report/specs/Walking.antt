@@ -1,6 +1,6 @@
 -- How the writer of an object goes on with its walk. These are no definitions of the text.
 use Rattle.std.specs.Prelude.{ℕ, suc, ◌+◌, Bool, true, false, List, [], ◌∷◌, ◌++◌, set, Option, None, Some}
-use Rattle.pickle_ops.specs.Text.{◌⧺◌}
+use Rattle.pickle_io.specs.Text.{◌⧺◌}
 use Rattle.pickle_objects.specs.Object.{Object}
 use Rattle.pickle_report.specs.Show.{Place, content, first_line, again_line, at_depth, found, walk}
 

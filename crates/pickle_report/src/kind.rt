@@ -2,8 +2,9 @@
 
 ghost use Rattle.std.specs.Prelude.{codes, decimal};
 ghost use Rattle.std.specs.Fmt.{signed_decimal};
-ghost use Rattle.pickle_ops.specs.Text.{◌⧺◌, quoted, float_text, long_text};
-ghost use Rattle.pickle_ops.specs.Device.{Writes};
+ghost use Rattle.pickle_io.specs.Text.{◌⧺◌, quoted};
+ghost use Rattle.pickle_ops.specs.Text.{float_text, long_text};
+ghost use Rattle.pickle_io.specs.Device.{Writes};
 ghost use Rattle.pickle_report.specs.ObjectText.{kind_text};
 
 use pickle_objects::Kind;
@@ -12,7 +13,7 @@ use pickle_ops::{
 };
 
 /// Writes a word and a text in quotes.
-#[tactic(auto, using(pickle_ops::proofs::Devices::text_steps))]
+#[tactic(auto, using(pickle_io::proofs::Devices::text_steps))]
 fn write_with_text<S: Sink>(word: &[u8], text: &[u8], sink: &mut S) -> Result<(), Failed>
     ensures { Writes (S.told sink.old) (S.told sink.new) result (word.now ⧺ quoted text.now) }
 {
@@ -21,7 +22,7 @@ fn write_with_text<S: Sink>(word: &[u8], text: &[u8], sink: &mut S) -> Result<()
 }
 
 /// Writes a word and two texts in quotes.
-#[tactic(auto, using(pickle_ops::proofs::Devices::text_steps))]
+#[tactic(auto, using(pickle_io::proofs::Devices::text_steps))]
 fn write_with_texts<S: Sink>(
     word: &[u8],
     first: &[u8],
@@ -37,7 +38,7 @@ fn write_with_texts<S: Sink>(
 }
 
 /// Writes a word and a number with its sign.
-#[tactic(auto, using(pickle_ops::proofs::Devices::text_steps))]
+#[tactic(auto, using(pickle_io::proofs::Devices::text_steps))]
 fn write_with_signed<S: Sink>(word: &[u8], number: i64, sink: &mut S) -> Result<(), Failed>
     ensures { Writes (S.told sink.old) (S.told sink.new) result (word.now ⧺ signed_decimal number) }
 {
@@ -46,7 +47,7 @@ fn write_with_signed<S: Sink>(word: &[u8], number: i64, sink: &mut S) -> Result<
 }
 
 /// Writes a word and a number.
-#[tactic(auto, using(pickle_ops::proofs::Devices::text_steps))]
+#[tactic(auto, using(pickle_io::proofs::Devices::text_steps))]
 fn write_with_number<S: Sink>(word: &[u8], number: u64, sink: &mut S) -> Result<(), Failed>
     ensures { Writes (S.told sink.old) (S.told sink.new) result (word.now ⧺ decimal number) }
 {
@@ -55,7 +56,7 @@ fn write_with_number<S: Sink>(word: &[u8], number: u64, sink: &mut S) -> Result<
 }
 
 /// Writes a word and a long number.
-#[tactic(auto, using(pickle_ops::proofs::Devices::text_steps))]
+#[tactic(auto, using(pickle_io::proofs::Devices::text_steps))]
 fn write_with_long<S: Sink>(word: &[u8], bytes: &[u8], sink: &mut S) -> Result<(), Failed>
     ensures { Writes (S.told sink.old) (S.told sink.new) result (word.now ⧺ long_text bytes.now) }
 {
@@ -64,7 +65,7 @@ fn write_with_long<S: Sink>(word: &[u8], bytes: &[u8], sink: &mut S) -> Result<(
 }
 
 /// Writes a word and a floating point number.
-#[tactic(auto, using(pickle_ops::proofs::Devices::text_steps))]
+#[tactic(auto, using(pickle_io::proofs::Devices::text_steps))]
 fn write_with_float<S: Sink>(word: &[u8], bytes: &[u8], sink: &mut S) -> Result<(), Failed>
     ensures { Writes (S.told sink.old) (S.told sink.new) result (word.now ⧺ float_text bytes.now) }
 {

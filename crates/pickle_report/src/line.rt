@@ -1,7 +1,7 @@
 //! Why an item is refused, and why reading ended.
 
 ghost use Rattle.std.specs.Prelude.{◌≡◌};
-ghost use Rattle.pickle_ops.specs.Device.{Writes};
+ghost use Rattle.pickle_io.specs.Device.{Writes};
 ghost use Rattle.pickle_report.specs.Line.{refusal_words, refusal_number, refusal_text, item_refused, fault_words, fault_byte, fault_text, fault_line};
 
 use pickle_doc::TailFault;
@@ -30,7 +30,7 @@ fn words_of_refusal(refusal: Refusal) -> &'static str
 }
 
 /// Writes the number behind the words of a refusal, if it has one.
-#[tactic(auto, using(pickle_ops::proofs::Devices::text_steps), unfolding(crate::specs::Line::refusal_number))]
+#[tactic(auto, using(pickle_io::proofs::Devices::text_steps), unfolding(crate::specs::Line::refusal_number))]
 fn write_refusal_number<S: Sink>(refusal: Refusal, sink: &mut S) -> Result<(), Failed>
     ensures { Writes (S.told sink.old) (S.told sink.new) result (refusal_number refusal) }
 {
@@ -51,7 +51,7 @@ fn write_refusal_number<S: Sink>(refusal: Refusal, sink: &mut S) -> Result<(), F
 }
 
 /// Writes why an item is refused: S1 to S11, or M. Where the sink fails, a front of the text was written.
-#[tactic(auto, using(pickle_ops::proofs::Devices::text_steps), unfolding(crate::specs::Line::refusal_text))]
+#[tactic(auto, using(pickle_io::proofs::Devices::text_steps), unfolding(crate::specs::Line::refusal_text))]
 pub fn write_refusal<S: Sink>(refusal: Refusal, sink: &mut S) -> Result<(), Failed>
     ensures { Writes (S.told sink.old) (S.told sink.new) result (refusal_text refusal) }
 {
@@ -60,7 +60,7 @@ pub fn write_refusal<S: Sink>(refusal: Refusal, sink: &mut S) -> Result<(), Fail
 }
 
 /// Writes which item is refused, by its place, and why. Where the sink fails, a front of the text was written.
-#[tactic(auto, using(pickle_ops::proofs::Devices::text_steps), unfolding(crate::specs::Line::item_refused))]
+#[tactic(auto, using(pickle_io::proofs::Devices::text_steps), unfolding(crate::specs::Line::item_refused))]
 pub fn write_item_refused<S: Sink>(
     place: usize,
     refusal: Refusal,
@@ -92,7 +92,7 @@ fn words_of_fault(fault: TailFault) -> &'static str
 }
 
 /// Writes the byte that is no opcode's code, where that is the fault.
-#[tactic(auto, using(pickle_ops::proofs::Devices::text_steps), unfolding(crate::specs::Line::fault_byte))]
+#[tactic(auto, using(pickle_io::proofs::Devices::text_steps), unfolding(crate::specs::Line::fault_byte))]
 fn write_fault_byte<S: Sink>(fault: TailFault, sink: &mut S) -> Result<(), Failed>
     ensures { Writes (S.told sink.old) (S.told sink.new) result (fault_byte fault) }
 {
@@ -103,7 +103,7 @@ fn write_fault_byte<S: Sink>(fault: TailFault, sink: &mut S) -> Result<(), Faile
 }
 
 /// Writes the fault of a tail, F1 to F8. Where the sink fails, a front of the text was written.
-#[tactic(auto, using(pickle_ops::proofs::Devices::text_steps), unfolding(crate::specs::Line::fault_text))]
+#[tactic(auto, using(pickle_io::proofs::Devices::text_steps), unfolding(crate::specs::Line::fault_text))]
 pub fn write_fault_text<S: Sink>(fault: TailFault, sink: &mut S) -> Result<(), Failed>
     ensures { Writes (S.told sink.old) (S.told sink.new) result (fault_text fault) }
 {
@@ -113,7 +113,7 @@ pub fn write_fault_text<S: Sink>(fault: TailFault, sink: &mut S) -> Result<(), F
 
 /// Writes the line of the fault of a tail that begins at this offset, in bytes. Where the sink fails, a front of the line was
 /// written.
-#[tactic(auto, using(pickle_ops::proofs::Devices::text_steps), unfolding(crate::specs::Line::fault_line))]
+#[tactic(auto, using(pickle_io::proofs::Devices::text_steps), unfolding(crate::specs::Line::fault_line))]
 pub fn write_fault<S: Sink>(fault: TailFault, offset: u64, sink: &mut S) -> Result<(), Failed>
     ensures { Writes (S.told sink.old) (S.told sink.new) result (fault_line fault offset) }
 {

@@ -1,6 +1,6 @@
 //! The line of the memo.
 
-ghost use Rattle.pickle_ops.specs.Device.{Writes, each};
+ghost use Rattle.pickle_io.specs.Device.{Writes, each};
 ghost use Rattle.pickle_report.specs.MemoText.{entry_text, memo_text};
 
 use crate::object::write_id;
@@ -10,7 +10,7 @@ use pickle_ops::{Failed, Sink, write_all, write_decimal};
 use std::collections::BTreeMap;
 
 /// Writes a key, and the object that it has.
-#[tactic(auto, using(pickle_ops::proofs::Devices::text_steps), unfolding(crate::specs::MemoText::entry_text))]
+#[tactic(auto, using(pickle_io::proofs::Devices::text_steps), unfolding(crate::specs::MemoText::entry_text))]
 fn write_entry<S: Sink>(key: u64, id: ObjId, sink: &mut S) -> Result<(), Failed>
     ensures { Writes (S.told sink.old) (S.told sink.new) result (entry_text (key, id)) }
 {
@@ -33,7 +33,7 @@ fn write_entries<S: Sink>(memo: &BTreeMap<u64, ObjId>, sink: &mut S) -> Result<(
 
 /// Writes the memo of a machine: `memo`, and ` key=#n` for each entry, by rising key. It takes no memory. `Failed` where the sink
 /// fails; a front of the line was written then.
-#[tactic(auto, using(pickle_ops::proofs::Devices::text_steps), unfolding(crate::specs::MemoText::memo_text))]
+#[tactic(auto, using(pickle_io::proofs::Devices::text_steps), unfolding(crate::specs::MemoText::memo_text))]
 pub fn write_memo<S: Sink>(machine: &Machine, sink: &mut S) -> Result<(), Failed>
     ensures { Writes (S.told sink.old) (S.told sink.new) result (memo_text machine.now.state.memo) }
 {

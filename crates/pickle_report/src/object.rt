@@ -1,8 +1,8 @@
 //! The text of an object, and the lines of all objects.
 
 ghost use Rattle.std.specs.Prelude.{◌≡◌};
-ghost use Rattle.pickle_ops.specs.Text.{◌⧺◌};
-ghost use Rattle.pickle_ops.specs.Device.{Writes, each};
+ghost use Rattle.pickle_io.specs.Text.{◌⧺◌};
+ghost use Rattle.pickle_io.specs.Device.{Writes, each};
 ghost use Rattle.pickle_report.specs.ObjectText.{id_text, next_text, some_parts, parts_text, set_text, change_text, object_text, object_line, objects_text};
 
 use crate::kind::write_kind;
@@ -11,7 +11,7 @@ use pickle_objects::{Change, ObjId, Object};
 use pickle_ops::{Failed, Sink, write_all, write_decimal};
 
 /// Writes an object by its number.
-#[tactic(auto, using(pickle_ops::proofs::Devices::text_steps), unfolding(crate::specs::ObjectText::id_text))]
+#[tactic(auto, using(pickle_io::proofs::Devices::text_steps), unfolding(crate::specs::ObjectText::id_text))]
 pub(crate) fn write_id<S: Sink>(id: u64, sink: &mut S) -> Result<(), Failed>
     ensures { Writes (S.told sink.old) (S.told sink.new) result (id_text id) }
 {
@@ -20,7 +20,7 @@ pub(crate) fn write_id<S: Sink>(id: u64, sink: &mut S) -> Result<(), Failed>
 }
 
 /// Writes one object more, by its number behind a blank.
-#[tactic(auto, using(pickle_ops::proofs::Devices::text_steps), unfolding(crate::specs::ObjectText::next_text))]
+#[tactic(auto, using(pickle_io::proofs::Devices::text_steps), unfolding(crate::specs::ObjectText::next_text))]
 pub(crate) fn write_next<S: Sink>(id: ObjId, sink: &mut S) -> Result<(), Failed>
     ensures { Writes (S.told sink.old) (S.told sink.new) result (next_text id) }
 {
@@ -29,7 +29,7 @@ pub(crate) fn write_next<S: Sink>(id: ObjId, sink: &mut S) -> Result<(), Failed>
 }
 
 /// Writes objects by their numbers, each behind a blank.
-#[tactic(auto, using(pickle_ops::proofs::Devices::each_steps))]
+#[tactic(auto, using(pickle_io::proofs::Devices::each_steps))]
 fn write_all_next<S: Sink>(ids: &[ObjId], sink: &mut S) -> Result<(), Failed>
     ensures { Writes (S.told sink.old) (S.told sink.new) result (each next_text ids.now) }
 {
@@ -40,7 +40,7 @@ fn write_all_next<S: Sink>(ids: &[ObjId], sink: &mut S) -> Result<(), Failed>
 }
 
 /// Writes the parts of an object that has some.
-#[tactic(auto, using(pickle_ops::proofs::Devices::text_steps), unfolding(crate::specs::ObjectText::some_parts))]
+#[tactic(auto, using(pickle_io::proofs::Devices::text_steps), unfolding(crate::specs::ObjectText::some_parts))]
 fn write_some_parts<S: Sink>(first: ObjId, rest: &[ObjId], sink: &mut S) -> Result<(), Failed>
     ensures { Writes (S.told sink.old) (S.told sink.new) result (some_parts first rest.now) }
 {
@@ -51,7 +51,7 @@ fn write_some_parts<S: Sink>(first: ObjId, rest: &[ObjId], sink: &mut S) -> Resu
 }
 
 /// Writes the parts of an object, if it has any.
-#[tactic(auto, using(pickle_ops::proofs::Devices::text_steps))]
+#[tactic(auto, using(pickle_io::proofs::Devices::text_steps))]
 fn write_parts<S: Sink>(parts: &[ObjId], sink: &mut S) -> Result<(), Failed>
     ensures { Writes (S.told sink.old) (S.told sink.new) result (parts_text parts.now) }
 {
@@ -62,7 +62,7 @@ fn write_parts<S: Sink>(parts: &[ObjId], sink: &mut S) -> Result<(), Failed>
 }
 
 /// Writes signs, and an object by its number.
-#[tactic(auto, using(pickle_ops::proofs::Devices::text_steps))]
+#[tactic(auto, using(pickle_io::proofs::Devices::text_steps))]
 fn write_behind<S: Sink>(signs: &[u8], id: ObjId, sink: &mut S) -> Result<(), Failed>
     ensures { Writes (S.told sink.old) (S.told sink.new) result (signs.now ⧺ id_text id) }
 {
@@ -71,7 +71,7 @@ fn write_behind<S: Sink>(signs: &[u8], id: ObjId, sink: &mut S) -> Result<(), Fa
 }
 
 /// Writes that a key was mapped to a value.
-#[tactic(auto, using(pickle_ops::proofs::Devices::text_steps), unfolding(crate::specs::ObjectText::set_text))]
+#[tactic(auto, using(pickle_io::proofs::Devices::text_steps), unfolding(crate::specs::ObjectText::set_text))]
 fn write_set<S: Sink>(key: ObjId, value: ObjId, sink: &mut S) -> Result<(), Failed>
     ensures { Writes (S.told sink.old) (S.told sink.new) result (set_text key value) }
 {
@@ -82,7 +82,7 @@ fn write_set<S: Sink>(key: ObjId, value: ObjId, sink: &mut S) -> Result<(), Fail
 }
 
 /// Writes what was done to an object.
-#[tactic(auto, using(pickle_ops::proofs::Devices::text_steps), unfolding(crate::specs::ObjectText::change_text))]
+#[tactic(auto, using(pickle_io::proofs::Devices::text_steps), unfolding(crate::specs::ObjectText::change_text))]
 fn write_change<S: Sink>(change: Change, sink: &mut S) -> Result<(), Failed>
     ensures { Writes (S.told sink.old) (S.told sink.new) result (change_text change) }
 {
@@ -95,7 +95,7 @@ fn write_change<S: Sink>(change: Change, sink: &mut S) -> Result<(), Failed>
 }
 
 /// Writes all that was done to an object, the earliest first.
-#[tactic(auto, using(pickle_ops::proofs::Devices::each_steps))]
+#[tactic(auto, using(pickle_io::proofs::Devices::each_steps))]
 fn write_changes<S: Sink>(changes: &[Change], sink: &mut S) -> Result<(), Failed>
     ensures { Writes (S.told sink.old) (S.told sink.new) result (each change_text changes.now) }
 {
@@ -108,7 +108,7 @@ fn write_changes<S: Sink>(changes: &[Change], sink: &mut S) -> Result<(), Failed
 /// Writes an object: `#` and its number, the word of its kind with what its opcode gave it, its parts in brackets, and what was
 /// done to it: ` +#v` for an item put behind the others, ` [#k]=#v` for a key mapped to a value, ` &#v` for a member of a set,
 /// ` !#s` for a state. It takes no memory. `Failed` where the sink fails; a front of the text was written then.
-#[tactic(auto, using(pickle_ops::proofs::Devices::text_steps), unfolding(crate::specs::ObjectText::object_text))]
+#[tactic(auto, using(pickle_io::proofs::Devices::text_steps), unfolding(crate::specs::ObjectText::object_text))]
 pub fn write_object<S: Sink>(id: u64, object: &Object, sink: &mut S) -> Result<(), Failed>
     ensures { Writes (S.told sink.old) (S.told sink.new) result (object_text id object.now) }
 {
@@ -120,7 +120,7 @@ pub fn write_object<S: Sink>(id: u64, object: &Object, sink: &mut S) -> Result<(
 }
 
 /// Writes the line of an object.
-#[tactic(auto, using(pickle_ops::proofs::Devices::text_steps), unfolding(crate::specs::ObjectText::object_line))]
+#[tactic(auto, using(pickle_io::proofs::Devices::text_steps), unfolding(crate::specs::ObjectText::object_line))]
 fn write_object_line<S: Sink>(id: u64, object: &Object, sink: &mut S) -> Result<(), Failed>
     ensures { Writes (S.told sink.old) (S.told sink.new) result (object_line id object.now) }
 {

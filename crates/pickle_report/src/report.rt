@@ -6,7 +6,7 @@ ghost use Rattle.pickle_doc.specs.Document.{items_of, IsDocument};
 ghost use Rattle.pickle_doc.specs.Place.{item_at};
 ghost use Rattle.pickle_machine.specs.State.{empty, last_result};
 ghost use Rattle.pickle_machine.specs.Run.{run};
-ghost use Rattle.pickle_ops.specs.Device.{Writes};
+ghost use Rattle.pickle_io.specs.Device.{Writes};
 ghost use Rattle.pickle_report.specs.Report.{result_line, refused_line, closing_line, closing_status, report_text, refused_on, Closes, WroteReport, BrokeReport};
 
 use crate::line::{write_fault, write_item_refused};
@@ -30,7 +30,7 @@ pub enum Closing {
 }
 
 /// Writes the line of a result.
-#[tactic(auto, using(pickle_ops::proofs::Devices::text_steps), unfolding(crate::specs::Report::result_line))]
+#[tactic(auto, using(pickle_io::proofs::Devices::text_steps), unfolding(crate::specs::Report::result_line))]
 fn write_result<S: Sink>(id: ObjId, sink: &mut S) -> Result<(), Failed>
     ensures { Writes (S.told sink.old) (S.told sink.new) result (result_line id) }
 {
@@ -40,7 +40,7 @@ fn write_result<S: Sink>(id: ObjId, sink: &mut S) -> Result<(), Failed>
 }
 
 /// Writes the line of an item that is refused.
-#[tactic(auto, using(pickle_ops::proofs::Devices::text_steps), unfolding(crate::specs::Report::refused_line))]
+#[tactic(auto, using(pickle_io::proofs::Devices::text_steps), unfolding(crate::specs::Report::refused_line))]
 fn write_refused<S: Sink>(place: usize, refusal: Refusal, sink: &mut S) -> Result<(), Failed>
     ensures { Writes (S.told sink.old) (S.told sink.new) result (refused_line place refusal) }
 {
@@ -73,7 +73,7 @@ fn status_of(closing: Closing) -> u8
 }
 
 /// Writes all objects, and how the run that made them ended.
-#[tactic(auto, using(pickle_ops::proofs::Devices::text_steps), unfolding(crate::specs::Report::report_text))]
+#[tactic(auto, using(pickle_io::proofs::Devices::text_steps), unfolding(crate::specs::Report::report_text))]
 fn write_lines<S: Sink>(machine: &Machine, closing: Closing, sink: &mut S) -> Result<(), Failed>
     ensures { Writes (S.told sink.old) (S.told sink.new) result (report_text machine.now.state.heap closing) }
 {

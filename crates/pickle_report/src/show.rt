@@ -3,7 +3,7 @@
 ghost use Rattle.std.specs.Prelude.{◌≡◌, ◌+◌, ◌≤◌, [], ◌++◌, get_or, false, length, replicate, OnOk, IfOk, IfErr, Err};
 ghost use Rattle.std.specs.Option.{option_copied};
 ghost use Rattle.std.specs.Vec.{vec_capacity};
-ghost use Rattle.pickle_ops.specs.Device.{Wrote, Broke, Writes};
+ghost use Rattle.pickle_io.specs.Device.{Wrote, Broke, Writes};
 ghost use Rattle.pickle_report.specs.Show.{again_line, first_line, found, show_text};
 ghost use Rattle.pickle_report.specs.Walking.{unseen, place_line, seen_after, entered, left_text, walk_text};
 
@@ -16,7 +16,7 @@ use pickle_ops::{Failed, Sink, write_all, write_decimal};
 use std::alloc::Global;
 
 /// Writes the line of an object that is shown elsewhere.
-#[tactic(auto, using(pickle_ops::proofs::Devices::text_steps), unfolding(crate::specs::Show::again_line))]
+#[tactic(auto, using(pickle_io::proofs::Devices::text_steps), unfolding(crate::specs::Show::again_line))]
 fn write_again<S: Sink>(depth: usize, id: ObjId, sink: &mut S) -> Result<(), Failed>
     ensures { Writes (S.told sink.old) (S.told sink.new) result (again_line depth id) }
 {
@@ -26,7 +26,7 @@ fn write_again<S: Sink>(depth: usize, id: ObjId, sink: &mut S) -> Result<(), Fai
 }
 
 /// Writes the line of an object at its first place.
-#[tactic(auto, using(pickle_ops::proofs::Devices::text_steps), unfolding(crate::specs::Show::first_line))]
+#[tactic(auto, using(pickle_io::proofs::Devices::text_steps), unfolding(crate::specs::Show::first_line))]
 fn write_first<S: Sink>(
     depth: usize,
     id: ObjId,
@@ -111,7 +111,7 @@ fn go_on<'a, S: Sink>(
 }
 
 /// Writes the walk from an object, where there is room for it.
-#[tactic(auto, using(pickle_ops::proofs::Devices::text_steps))]
+#[tactic(auto, using(pickle_io::proofs::Devices::text_steps))]
 fn walk_from<'a, S: Sink>(
     machine: &'a Machine,
     id: ObjId,

@@ -2,7 +2,7 @@
 
 ghost use Rattle.std.specs.Prelude.{◌≡◌, length, slice_get, IfOk};
 ghost use Rattle.std.specs.Option.{option_to_list};
-ghost use Rattle.pickle_ops.specs.Device.{Writes, each};
+ghost use Rattle.pickle_io.specs.Device.{Writes, each};
 ghost use Rattle.pickle_machine.specs.State.{objects_below, stack_of};
 ghost use Rattle.pickle_report.specs.ObjectText.{next_text};
 ghost use Rattle.pickle_report.specs.StackText.{mark_text, section_text, marked_text, stack_text};
@@ -13,7 +13,7 @@ use pickle_machine::Machine;
 use pickle_ops::{Failed, Sink, write_all, write_decimal};
 
 /// Writes a mark, by the place of its item.
-#[tactic(auto, using(pickle_ops::proofs::Devices::text_steps), unfolding(crate::specs::StackText::mark_text))]
+#[tactic(auto, using(pickle_io::proofs::Devices::text_steps), unfolding(crate::specs::StackText::mark_text))]
 fn write_mark<S: Sink>(place: usize, sink: &mut S) -> Result<(), Failed>
     ensures { Writes (S.told sink.old) (S.told sink.new) result (mark_text place) }
 {
@@ -47,7 +47,7 @@ fn write_between<S: Sink>(
 }
 
 /// Writes the section of the stack from one height up to another, and the mark above it.
-#[tactic(auto, using(pickle_ops::proofs::Devices::text_steps), unfolding(crate::specs::StackText::section_text))]
+#[tactic(auto, using(pickle_io::proofs::Devices::text_steps), unfolding(crate::specs::StackText::section_text))]
 fn write_section<S: Sink>(
     machine: &Machine,
     from: usize,
@@ -87,7 +87,7 @@ fn write_top<S: Sink>(machine: &Machine, below: usize, sink: &mut S) -> Result<(
 
 /// Writes the stack of a machine: `stack`, and from the bottom ` #n` for an object and ` (k` for a mark of item k. It takes no
 /// memory. `Failed` where the sink fails; a front of the line was written then.
-#[tactic(auto, using(pickle_ops::proofs::Devices::text_steps), unfolding(crate::specs::StackText::stack_text))]
+#[tactic(auto, using(pickle_io::proofs::Devices::text_steps), unfolding(crate::specs::StackText::stack_text))]
 pub fn write_stack<S: Sink>(machine: &Machine, sink: &mut S) -> Result<(), Failed>
     ensures { Writes (S.told sink.old) (S.told sink.new) result (stack_text machine.now.state) }
 {

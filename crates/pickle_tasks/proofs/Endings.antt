@@ -2,9 +2,9 @@
 use Rattle.std.proofs.Common.{◌≡◌, ◌≢◌, ℕ, Bool, false, ◌||◌, if◌then◌else◌, List, [], ◌∷◌, ◌++◌, take, Option, Some, None, Result, Ok, Err, refl, sym, ap, subst, ◌∙◌, append-nil, inl, inr}
 use Rattle.std.specs.Io.KnownBytes.{Consumes, IsAtEnd}
 use Rattle.std.proofs.KnownBytes.{Consumes-nil, Consumes-trans}
-use Rattle.pickle_ops.specs.declared.sink.Failed.{Failed}
-use Rattle.pickle_ops.specs.Device.{Told, KeepsOrForgets}
-use Rattle.pickle_ops.proofs.Devices.{Wrote-none}
+use Rattle.pickle_io.specs.declared.sink.Failed.{Failed}
+use Rattle.pickle_io.specs.Device.{Told, KeepsOrForgets}
+use Rattle.pickle_io.proofs.Devices.{Wrote-none}
 use Rattle.pickle_session.specs.Allowed.{Standing}
 use Rattle.pickle_text.specs.declared.line.Line.{Line}
 use Rattle.pickle_text.specs.declared.line.Syntax.{Syntax}

@@ -3,12 +3,12 @@ use Rattle.std.proofs.Common.{◌≡◌, ◌≢◌, ℕ, ◌+◌, ◌<◌, ◌�
 use Rattle.std.specs.Prelude.{nat_le, nat_lt, if◌then◌else◌}
 use Rattle.std.specs.List.{concat, list_any}
 use Rattle.std.specs.Io.KnownBytes.{Appends}
-use Rattle.pickle_ops.proofs.Devices.{Wrote-trans}
+use Rattle.pickle_io.proofs.Devices.{Wrote-trans}
 use Rattle.std.proofs.lemmas.Bool.{cases_lt}
 use Rattle.std.proofs.lemmas.List.{take_all, take_more, take-append-drop, take-append-le, length-take-le}
 use Rattle.std.proofs.lemmas.List.Folds.{concat-append, list_any-append}
-use Rattle.pickle_ops.specs.Device.{Told, AppendsFront, Wrote, Broke}
-use Rattle.pickle_ops.specs.declared.sink.Failed.{Failed}
+use Rattle.pickle_io.specs.Device.{Told, AppendsFront, Wrote, Broke}
+use Rattle.pickle_io.specs.declared.sink.Failed.{Failed}
 use Rattle.pickle_session.specs.Allowed.{Standing}
 use Rattle.pickle_text.specs.declared.line.Line.{Line}
 use Rattle.pickle_text.specs.declared.line.Line.TheVariants as line

@@ -1,8 +1,8 @@
 -- What `list` answers, from what writing the one document answers.
 use Rattle.std.proofs.Common.{◌≡◌, ℕ, List, Result, Ok, Err, refl}
 use Rattle.std.specs.Prelude.{IfErr}
-use Rattle.pickle_ops.specs.Device.{Told}
-use Rattle.pickle_ops.proofs.Devices.{WroteAllBut-none, WroteAllBut-front}
+use Rattle.pickle_io.specs.Device.{Told}
+use Rattle.pickle_io.proofs.Devices.{WroteAllBut-none, WroteAllBut-front}
 use Rattle.pickle_doc.specs.Document.{AreBytes}
 use Rattle.pickle_doc.proofs.Existence.{some_document}
 use Rattle.pickle_report.specs.declared.stop.TextStop.{TextStop}

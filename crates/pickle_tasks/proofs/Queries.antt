@@ -1,8 +1,8 @@
 -- What is told of a session.
 use Rattle.std.proofs.Common.{◌≡◌, ℕ, ◌^◌, ◌<◌, ◌≤◌, Bool, true, false, List, length, Some, Result, Ok, Err, refl, inl, inr, arith}
 use Rattle.std.proofs.lemmas.Bool.{lt-ltb, le-ltb}
-use Rattle.pickle_ops.specs.declared.sink.Failed.{Failed}
-use Rattle.pickle_ops.specs.Device.{Told, Wrote, Broke}
+use Rattle.pickle_io.specs.declared.sink.Failed.{Failed}
+use Rattle.pickle_io.specs.Device.{Told, Wrote, Broke}
 use Rattle.pickle_doc.specs.Document.{document_bytes, size_limit}
 use Rattle.pickle_objects.specs.Object.{Object}
 use Rattle.pickle_machine.specs.State.{State}

@@ -2,8 +2,8 @@
 use Rattle.std.proofs.Common.{◌≡◌, ℕ, zero, suc, ◌+◌, ◌==◌, ◌&&◌, eqb, Bool, true, false, List, [], ◌∷◌, ◌++◌, length, set, Option, Some, None, refl}
 use Rattle.std.specs.Prelude.{replicate}
 use Rattle.std.specs.Option.{option_map_or}
-use Rattle.pickle_ops.specs.Device.{each, each_below}
-use Rattle.pickle_ops.specs.Text.{◌⧺◌}
+use Rattle.pickle_io.specs.Device.{each, each_below}
+use Rattle.pickle_io.specs.Text.{◌⧺◌}
 use Rattle.pickle_doc.specs.declared.fault.End.{End}
 use Rattle.pickle_doc.specs.Place.{item_at}
 use Rattle.pickle_ops.specs.Spelling.{Operation}

@@ -3,7 +3,7 @@
 use Rattle.std.specs.Prelude.{◌≡◌, ℕ, ◌≤◌, List, [], ◌∷◌, ◌++◌, true, false, ◌⊎◌, Option, None, Some, ⊤}
 use Rattle.std.specs.List.{concat}
 use Rattle.std.specs.Io.KnownBytes.{Consumes, IsAtEnd}
-use Rattle.pickle_ops.specs.Device.{Told, IsFront, HasFailed, Wrote}
+use Rattle.pickle_io.specs.Device.{Told, IsFront, HasFailed, Wrote}
 use Rattle.pickle_tasks.specs.Script.{Cut, IsCut, lines_of}
 use Rattle.pickle_session.specs.Allowed.{Standing}
 use Rattle.pickle_tasks.specs.Transcript.{Runs, IsTranscript, has_quit, status_of}

@@ -1,6 +1,6 @@
 -- What `list` answers where it is not finished.
 use Rattle.std.specs.Prelude.{ℕ, List}
-use Rattle.pickle_ops.specs.Device.{Told}
+use Rattle.pickle_io.specs.Device.{Told}
 use Rattle.pickle_listing.specs.Written.{BreaksListing, LeavesListing}
 use Rattle.pickle_tasks.specs.declared.stop.Stop.{Stop}
 use Rattle.pickle_tasks.specs.declared.stop.Stop.TheVariants as stop

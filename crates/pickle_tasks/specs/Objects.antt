@@ -1,6 +1,6 @@
 -- What `objects` answers.
 use Rattle.std.specs.Prelude.{◌≡◌, ℕ, List}
-use Rattle.pickle_ops.specs.Device.{Told}
+use Rattle.pickle_io.specs.Device.{Told}
 use Rattle.pickle_doc.specs.Document.{Contents, ReadsAs}
 use Rattle.pickle_report.specs.Report.{WroteReport, BrokeReport}
 use Rattle.pickle_tasks.specs.declared.stop.Stop.{Stop}

@@ -2,8 +2,8 @@
 -- of this.
 use Rattle.std.specs.Prelude.{◌≡◌, ℕ, ◌+◌, List, [], ◌∷◌, ◌++◌, length, take, nat_le, if◌then◌else◌, Bool, true, false, Result, Ok, Err, IfOk}
 use Rattle.std.specs.List.{concat, list_any}
-use Rattle.pickle_ops.specs.declared.sink.Failed.{Failed}
-use Rattle.pickle_ops.specs.Device.{Told, Wrote, Writes}
+use Rattle.pickle_io.specs.declared.sink.Failed.{Failed}
+use Rattle.pickle_io.specs.Device.{Told, Wrote, Writes}
 use Rattle.pickle_machine.specs.State.{State}
 use Rattle.pickle_session.specs.Session.{Session}
 use Rattle.pickle_session.specs.Allowed.{Standing}

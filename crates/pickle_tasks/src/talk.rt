@@ -1,7 +1,7 @@
 //! A conversation: the lines of a source, obeyed one by one, and their texts, written to a sink.
 
 ghost use Rattle.std.specs.Prelude.{◌≡◌, ◌≢◌, ◌∷◌, [], false, IfOk, Ok, Err};
-ghost use Rattle.pickle_ops.specs.Device.{HasFailed};
+ghost use Rattle.pickle_io.specs.Device.{HasFailed};
 ghost use Rattle.pickle_doc.specs.declared.fault.End.{End};
 ghost use Rattle.pickle_text.specs.ReplyText.{reply_text};
 ghost use Rattle.pickle_tasks.specs.Transcript.{is_refusal, quits};

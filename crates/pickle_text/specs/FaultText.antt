@@ -3,7 +3,7 @@
 use Rattle.std.specs.Prelude.{ℕ, List, codes, decimal}
 use Rattle.pickle_ops.specs.declared.fault.OpFault.{OpFault}
 use Rattle.pickle_ops.specs.declared.fault.OpFault.TheVariants as fault
-use Rattle.pickle_ops.specs.Text.{◌⧺◌}
+use Rattle.pickle_io.specs.Text.{◌⧺◌}
 use Rattle.pickle_doc.specs.declared.fault.TailFault.TheVariants as tail
 use Rattle.pickle_doc.specs.declared.fault.End.{End}
 use Rattle.pickle_doc.specs.declared.fault.End.TheVariants as end

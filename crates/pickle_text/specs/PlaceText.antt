@@ -4,8 +4,9 @@ use Rattle.std.specs.Prelude.{ℕ, List, [], ◌∷◌, codes, decimal, Bool, �
 use Rattle.std.specs.Option.{option_map_or}
 use Rattle.pickle_ops.specs.Spelling.{Operation}
 use Rattle.pickle_ops.specs.Table.{name_of}
-use Rattle.pickle_ops.specs.Text.{◌⧺◌, arg_text}
-use Rattle.pickle_ops.specs.Device.{each_below}
+use Rattle.pickle_io.specs.Text.{◌⧺◌}
+use Rattle.pickle_ops.specs.Text.{arg_text}
+use Rattle.pickle_io.specs.Device.{each_below}
 use Rattle.pickle_doc.specs.declared.fault.End.{End}
 use Rattle.pickle_doc.specs.Place.{item_at, offset_of, end_of}
 use Rattle.pickle_machine.specs.State.{State, last_result}

@@ -1,7 +1,7 @@
 -- The lines that commands and lines of a script are answered with.
 -- Source: own.
 use Rattle.std.specs.Prelude.{ℕ, List, [], codes, decimal}
-use Rattle.pickle_ops.specs.Text.{◌⧺◌}
+use Rattle.pickle_io.specs.Text.{◌⧺◌}
 use Rattle.pickle_doc.specs.declared.edit.EditFault.{EditFault}
 use Rattle.pickle_doc.specs.declared.edit.EditFault.TheVariants as edit
 use Rattle.pickle_doc.specs.declared.fault.End.{End}

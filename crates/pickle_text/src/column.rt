@@ -1,7 +1,7 @@
 //! Numbers in columns.
 
 ghost use Rattle.std.specs.Prelude.{◌≤◌, decimal};
-ghost use Rattle.pickle_ops.specs.Device.{Writes};
+ghost use Rattle.pickle_io.specs.Device.{Writes};
 ghost use Rattle.pickle_page.specs.Column.{blanks, right};
 
 use itoa::Buffer;
@@ -23,7 +23,7 @@ fn write_blanks<S: Sink>(count: usize, sink: &mut S) -> Result<(), Failed>
 }
 
 /// Writes a text at the right of a column.
-#[tactic(auto, using(pickle_ops::proofs::Devices::text_steps), unfolding(pickle_page::specs::Column::right))]
+#[tactic(auto, using(pickle_io::proofs::Devices::text_steps), unfolding(pickle_page::specs::Column::right))]
 fn write_right_text<S: Sink>(text: &[u8], sink: &mut S) -> Result<(), Failed>
     ensures { Writes (S.told sink.old) (S.told sink.new) result (right 5 text.now) }
 {

@@ -1,7 +1,7 @@
 //! Why a document ends, and why bytes are no opcode, in words. Each writer writes its text; where the sink fails, a front of
 //! it was written.
 
-ghost use Rattle.pickle_ops.specs.Device.{Writes};
+ghost use Rattle.pickle_io.specs.Device.{Writes};
 ghost use Rattle.pickle_text.specs.FaultText.{end_text, op_fault_text};
 
 use pickle_doc::{End, TailFault};
@@ -9,7 +9,7 @@ use pickle_ops::{Failed, OpFault, Sink, write_all, write_decimal};
 use pickle_report::write_fault_text;
 
 /// Writes why a document ends.
-#[tactic(auto, using(pickle_ops::proofs::Devices::text_steps), unfolding(crate::specs::FaultText::end_text))]
+#[tactic(auto, using(pickle_io::proofs::Devices::text_steps), unfolding(crate::specs::FaultText::end_text))]
 pub fn write_end<S: Sink>(end: End, sink: &mut S) -> Result<(), Failed>
     ensures { Writes (S.told sink.old) (S.told sink.new) result (end_text end) }
 {

@@ -1,7 +1,7 @@
 //! The items of a session's document, a line each.
 
 ghost use Rattle.std.specs.Prelude.{◌≡◌, ◌+◌, IfOk};
-ghost use Rattle.pickle_ops.specs.Device.{Writes};
+ghost use Rattle.pickle_io.specs.Device.{Writes};
 ghost use Rattle.pickle_doc.specs.Place.{offset_of};
 ghost use Rattle.pickle_text.specs.PlaceText.{sign_if, signs, op_text, place_columns, item_line, line_at, items_text};
 
@@ -24,7 +24,7 @@ fn signs(at_cursor: bool, breaks: bool) -> [u8; 2]
 }
 
 /// Writes a place and an offset, each at the right of a column.
-#[tactic(auto, using(pickle_ops::proofs::Devices::text_steps), unfolding(crate::specs::PlaceText::place_columns))]
+#[tactic(auto, using(pickle_io::proofs::Devices::text_steps), unfolding(crate::specs::PlaceText::place_columns))]
 fn write_columns<S: Sink>(place: usize, offset: u64, sink: &mut S) -> Result<(), Failed>
     ensures { Writes (S.told sink.old) (S.told sink.new) result (place_columns place offset) }
 {
@@ -34,7 +34,7 @@ fn write_columns<S: Sink>(place: usize, offset: u64, sink: &mut S) -> Result<(),
 }
 
 /// Writes the name of an opcode, and behind a blank the text of its argument where there is one.
-#[tactic(auto, using(pickle_ops::proofs::Devices::text_steps, crate::proofs::PlaceLemmas::name_steps), unfolding(crate::specs::PlaceText::op_text))]
+#[tactic(auto, using(pickle_io::proofs::Devices::text_steps, crate::proofs::PlaceLemmas::name_steps), unfolding(crate::specs::PlaceText::op_text))]
 fn write_op<S: Sink>(op: &Op, sink: &mut S) -> Result<(), Failed>
     ensures { Writes (S.told sink.old) (S.told sink.new) result (op_text op.now) }
 {
@@ -48,7 +48,7 @@ fn write_op<S: Sink>(op: &Op, sink: &mut S) -> Result<(), Failed>
 }
 
 /// Writes the line of the item at a place, which begins at this offset.
-#[tactic(auto, using(pickle_ops::proofs::Devices::text_steps), unfolding(crate::specs::PlaceText::item_line))]
+#[tactic(auto, using(pickle_io::proofs::Devices::text_steps), unfolding(crate::specs::PlaceText::item_line))]
 fn write_item<P: Past, S: Sink>(
     session: &Session<P>,
     place: usize,
@@ -68,7 +68,7 @@ fn write_item<P: Past, S: Sink>(
 }
 
 /// Writes the line of the item at a place, and answers the offset of the place behind it.
-#[tactic(auto, using(pickle_ops::proofs::Devices::text_steps, crate::proofs::PlaceLemmas::offset_steps), unfolding(crate::specs::PlaceText::line_at))]
+#[tactic(auto, using(pickle_io::proofs::Devices::text_steps, crate::proofs::PlaceLemmas::offset_steps), unfolding(crate::specs::PlaceText::line_at))]
 fn write_line_at<P: Past, S: Sink>(
     session: &Session<P>,
     place: usize,
@@ -94,7 +94,7 @@ fn write_line_at<P: Past, S: Sink>(
 /// Writes a line for each item: `>` at the cursor, `*` with a breakpoint, its place, its offset, its name, and the text of
 /// its argument where there is one. It takes no memory, and time linear in the items. Where the sink fails, a front of the
 /// lines was written.
-#[tactic(auto, using(pickle_ops::proofs::Devices::below_steps), unfolding(crate::specs::PlaceText::items_text))]
+#[tactic(auto, using(pickle_io::proofs::Devices::below_steps), unfolding(crate::specs::PlaceText::items_text))]
 pub fn write_items<P: Past, S: Sink>(session: &Session<P>, sink: &mut S) -> Result<(), Failed>
     ensures { Writes (S.told sink.old) (S.told sink.new) result (items_text session.now.session) }
 {

@@ -1,6 +1,6 @@
 //! Where a session stands.
 
-ghost use Rattle.pickle_ops.specs.Device.{Writes};
+ghost use Rattle.pickle_io.specs.Device.{Writes};
 ghost use Rattle.pickle_text.specs.PlaceText.{cursor_text, offset_text, result_text, reached_text, ending_text, where_text};
 
 use crate::fault_text::write_end;
@@ -10,7 +10,7 @@ use pickle_ops::{Failed, Sink, write_all, write_decimal};
 use pickle_session::{Past, Session};
 
 /// Writes a place, and how many items there are.
-#[tactic(auto, using(pickle_ops::proofs::Devices::text_steps), unfolding(crate::specs::PlaceText::cursor_text))]
+#[tactic(auto, using(pickle_io::proofs::Devices::text_steps), unfolding(crate::specs::PlaceText::cursor_text))]
 fn write_cursor<S: Sink>(place: usize, len: usize, sink: &mut S) -> Result<(), Failed>
     ensures { Writes (S.told sink.old) (S.told sink.new) result (cursor_text place len) }
 {
@@ -21,7 +21,7 @@ fn write_cursor<S: Sink>(place: usize, len: usize, sink: &mut S) -> Result<(), F
 }
 
 /// Writes an offset.
-#[tactic(auto, using(pickle_ops::proofs::Devices::text_steps), unfolding(crate::specs::PlaceText::offset_text))]
+#[tactic(auto, using(pickle_io::proofs::Devices::text_steps), unfolding(crate::specs::PlaceText::offset_text))]
 fn write_offset<S: Sink>(offset: u64, sink: &mut S) -> Result<(), Failed>
     ensures { Writes (S.told sink.old) (S.told sink.new) result (offset_text offset) }
 {
@@ -30,7 +30,7 @@ fn write_offset<S: Sink>(offset: u64, sink: &mut S) -> Result<(), Failed>
 }
 
 /// Writes the number of an object, or that there is none.
-#[tactic(auto, using(pickle_ops::proofs::Devices::text_steps), unfolding(crate::specs::PlaceText::result_text))]
+#[tactic(auto, using(pickle_io::proofs::Devices::text_steps), unfolding(crate::specs::PlaceText::result_text))]
 fn write_result<S: Sink>(id: Option<ObjId>, sink: &mut S) -> Result<(), Failed>
     ensures { Writes (S.told sink.old) (S.told sink.new) result (result_text id) }
 {
@@ -44,7 +44,7 @@ fn write_result<S: Sink>(id: Option<ObjId>, sink: &mut S) -> Result<(), Failed>
 }
 
 /// Writes the count of buffers and the result of a machine.
-#[tactic(auto, using(pickle_ops::proofs::Devices::text_steps), unfolding(crate::specs::PlaceText::reached_text))]
+#[tactic(auto, using(pickle_io::proofs::Devices::text_steps), unfolding(crate::specs::PlaceText::reached_text))]
 fn write_reached<S: Sink>(machine: &Machine, sink: &mut S) -> Result<(), Failed>
     ensures { Writes (S.told sink.old) (S.told sink.new) result (reached_text machine.now.state) }
 {
@@ -55,7 +55,7 @@ fn write_reached<S: Sink>(machine: &Machine, sink: &mut S) -> Result<(), Failed>
 }
 
 /// Writes why a document ends, and ends the line.
-#[tactic(auto, using(pickle_ops::proofs::Devices::text_steps), unfolding(crate::specs::PlaceText::ending_text))]
+#[tactic(auto, using(pickle_io::proofs::Devices::text_steps), unfolding(crate::specs::PlaceText::ending_text))]
 fn write_ending<S: Sink>(end: End, sink: &mut S) -> Result<(), Failed>
     ensures { Writes (S.told sink.old) (S.told sink.new) result (ending_text end) }
 {
@@ -67,7 +67,7 @@ fn write_ending<S: Sink>(end: End, sink: &mut S) -> Result<(), Failed>
 /// Writes where a session stands: the cursor, how many items there are, the offset of the cursor, the count of buffers, the
 /// result of the machine, and why the document ends. It takes no memory. Where the sink fails, a front of the line was
 /// written.
-#[tactic(auto, using(pickle_ops::proofs::Devices::text_steps), unfolding(crate::specs::PlaceText::where_text))]
+#[tactic(auto, using(pickle_io::proofs::Devices::text_steps), unfolding(crate::specs::PlaceText::where_text))]
 pub fn write_where<P: Past, S: Sink>(session: &Session<P>, sink: &mut S) -> Result<(), Failed>
     ensures { Writes (S.told sink.old) (S.told sink.new) result (where_text session.now.session session.now.machine.state) }
 {

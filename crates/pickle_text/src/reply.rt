@@ -1,7 +1,7 @@
 //! The lines that commands are answered with. Each writer writes its text; where the sink fails, a front of it was written.
 
 ghost use Rattle.std.specs.Prelude.{◌≡◌};
-ghost use Rattle.pickle_ops.specs.Device.{Writes};
+ghost use Rattle.pickle_io.specs.Device.{Writes};
 ghost use Rattle.pickle_text.specs.ReplyText.{edit_words, fault_words, item_text, behind_text, fault_rest, refused_command, why_text, ran_text, placed_text, reply_text};
 
 use crate::fault_text::write_end;
@@ -49,7 +49,7 @@ fn words_of_fault(fault: Fault) -> &'static str
 }
 
 /// Writes the place of an item that is refused, and why.
-#[tactic(auto, using(pickle_ops::proofs::Devices::text_steps), unfolding(crate::specs::ReplyText::item_text))]
+#[tactic(auto, using(pickle_io::proofs::Devices::text_steps), unfolding(crate::specs::ReplyText::item_text))]
 fn write_refused_item<S: Sink>(place: usize, refusal: Refusal, sink: &mut S) -> Result<(), Failed>
     ensures { Writes (S.told sink.old) (S.told sink.new) result (item_text place refusal) }
 {
@@ -67,7 +67,7 @@ fn behind_words() -> &'static str
 }
 
 /// Writes what stands behind the words of a fault.
-#[tactic(auto, using(pickle_ops::proofs::Devices::text_steps), unfolding(crate::specs::ReplyText::fault_rest))]
+#[tactic(auto, using(pickle_io::proofs::Devices::text_steps), unfolding(crate::specs::ReplyText::fault_rest))]
 fn write_fault_rest<S: Sink>(fault: Fault, sink: &mut S) -> Result<(), Failed>
     ensures { Writes (S.told sink.old) (S.told sink.new) result (fault_rest fault) }
 {
@@ -89,7 +89,7 @@ fn write_fault_rest<S: Sink>(fault: Fault, sink: &mut S) -> Result<(), Failed>
 }
 
 /// Writes the line of a command that is refused.
-#[tactic(auto, using(pickle_ops::proofs::Devices::text_steps), unfolding(crate::specs::ReplyText::refused_command))]
+#[tactic(auto, using(pickle_io::proofs::Devices::text_steps), unfolding(crate::specs::ReplyText::refused_command))]
 fn write_refused_command<S: Sink>(fault: Fault, sink: &mut S) -> Result<(), Failed>
     ensures { Writes (S.told sink.old) (S.told sink.new) result (refused_command fault) }
 {
@@ -100,7 +100,7 @@ fn write_refused_command<S: Sink>(fault: Fault, sink: &mut S) -> Result<(), Fail
 }
 
 /// Writes why a run stopped in a document that ends so.
-#[tactic(auto, using(pickle_ops::proofs::Devices::text_steps), unfolding(crate::specs::ReplyText::why_text))]
+#[tactic(auto, using(pickle_io::proofs::Devices::text_steps), unfolding(crate::specs::ReplyText::why_text))]
 fn write_why<S: Sink>(end: End, why: Why, sink: &mut S) -> Result<(), Failed>
     ensures { Writes (S.told sink.old) (S.told sink.new) result (why_text end why) }
 {
@@ -118,7 +118,7 @@ fn write_why<S: Sink>(end: End, why: Why, sink: &mut S) -> Result<(), Failed>
 }
 
 /// Writes where a run stopped, and why.
-#[tactic(auto, using(pickle_ops::proofs::Devices::text_steps), unfolding(crate::specs::ReplyText::ran_text))]
+#[tactic(auto, using(pickle_io::proofs::Devices::text_steps), unfolding(crate::specs::ReplyText::ran_text))]
 fn write_ran<S: Sink>(end: End, place: usize, why: Why, sink: &mut S) -> Result<(), Failed>
     ensures { Writes (S.told sink.old) (S.told sink.new) result (ran_text end place why) }
 {
@@ -129,7 +129,7 @@ fn write_ran<S: Sink>(end: End, place: usize, why: Why, sink: &mut S) -> Result<
 }
 
 /// Writes a word and the place that it is about.
-#[tactic(auto, using(pickle_ops::proofs::Devices::text_steps), unfolding(crate::specs::ReplyText::placed_text))]
+#[tactic(auto, using(pickle_io::proofs::Devices::text_steps), unfolding(crate::specs::ReplyText::placed_text))]
 fn write_placed<S: Sink>(word: &str, place: usize, sink: &mut S) -> Result<(), Failed>
     ensures { Writes (S.told sink.old) (S.told sink.new) result (placed_text word.now place) }
 {

@@ -2,7 +2,7 @@
 //! sink fails, a front of it was written.
 
 ghost use Rattle.std.specs.Prelude.{◌≡◌};
-ghost use Rattle.pickle_ops.specs.Device.{Writes};
+ghost use Rattle.pickle_io.specs.Device.{Writes};
 ghost use Rattle.pickle_text.specs.ReplyText.{syntax_words, syntax_rest, syntax_line, no_object_line};
 
 use crate::fault_text::write_op_fault;
@@ -28,7 +28,7 @@ fn words_of_syntax(syntax: Syntax) -> &'static str
 }
 
 /// Writes the fault of an opcode behind the words.
-#[tactic(auto, using(pickle_ops::proofs::Devices::text_steps), unfolding(crate::specs::ReplyText::syntax_rest))]
+#[tactic(auto, using(pickle_io::proofs::Devices::text_steps), unfolding(crate::specs::ReplyText::syntax_rest))]
 fn write_syntax_rest<S: Sink>(syntax: Syntax, sink: &mut S) -> Result<(), Failed>
     ensures { Writes (S.told sink.old) (S.told sink.new) result (syntax_rest syntax) }
 {
@@ -40,7 +40,7 @@ fn write_syntax_rest<S: Sink>(syntax: Syntax, sink: &mut S) -> Result<(), Failed
 
 /// Writes the line that a line is answered with which says nothing. It takes no memory. Where the sink fails, a front of the
 /// line was written.
-#[tactic(auto, using(pickle_ops::proofs::Devices::text_steps), unfolding(crate::specs::ReplyText::syntax_line))]
+#[tactic(auto, using(pickle_io::proofs::Devices::text_steps), unfolding(crate::specs::ReplyText::syntax_line))]
 pub fn write_syntax<S: Sink>(syntax: Syntax, sink: &mut S) -> Result<(), Failed>
     ensures { Writes (S.told sink.old) (S.told sink.new) result (syntax_line syntax) }
 {

@@ -1,6 +1,7 @@
 use Rattle.std.specs.Prelude.{codes, unwrap_or, []}
 use Rattle.pickle_ops.specs.Table.{name_of}
-use Rattle.pickle_ops.specs.Text.{◌⧺◌, arg_text}
+use Rattle.pickle_io.specs.Text.{◌⧺◌}
+use Rattle.pickle_ops.specs.Text.{arg_text}
 use Rattle.pickle_page.specs.Column.{left}
 use Rattle.pickle_listing.specs.Line.{note_text}
 use Rattle.pickle_page.proofs.Puts.{puts_stop}

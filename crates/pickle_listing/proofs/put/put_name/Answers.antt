@@ -2,7 +2,8 @@
 use Rattle.std.proofs.Common.{◌≡◌, true, sym, ◌∙◌}
 use Rattle.std.specs.Prelude.{codes, unwrap_or, is_some, []}
 use Rattle.pickle_ops.specs.Table.{name_of}
-use Rattle.pickle_ops.specs.Text.{◌⧺◌, arg_text}
+use Rattle.pickle_io.specs.Text.{◌⧺◌}
+use Rattle.pickle_ops.specs.Text.{arg_text}
 use Rattle.pickle_page.specs.Column.{left}
 use Rattle.pickle_page.proofs.Puts.{puts_next, puts_pushed}
 use Rattle.pickle_listing.proofs.Names.{described-some}

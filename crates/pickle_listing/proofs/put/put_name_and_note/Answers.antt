@@ -1,6 +1,6 @@
 use Rattle.std.specs.Prelude.{codes}
 use Rattle.pickle_ops.specs.Table.{name_of}
-use Rattle.pickle_ops.specs.Text.{◌⧺◌}
+use Rattle.pickle_io.specs.Text.{◌⧺◌}
 use Rattle.pickle_page.specs.Column.{left}
 use Rattle.pickle_page.proofs.Puts.{puts_last, puts_pushed}
 use Rattle.pickle_listing.proofs.put.put_name_and_note.Goals as goal

@@ -1,7 +1,7 @@
 -- One entry more, or an end.
 use Rattle.std.proofs.Common.{ap, ◌∙◌}
-use Rattle.pickle_ops.specs.Device.{each}
-use Rattle.pickle_ops.proofs.Devices.{WroteAllBut-all, Writes-stop, each-cons, each-nil}
+use Rattle.pickle_io.specs.Device.{each}
+use Rattle.pickle_io.proofs.Devices.{WroteAllBut-all, Writes-stop, each-cons, each-nil}
 use Rattle.pickle_report.specs.MemoText.{entry_text}
 use Rattle.pickle_report.proofs.Pieces.{WroteAllBut-piece, WroteAllBut-broke}
 use Rattle.pickle_report.proofs.memo.write_entries.Goals as goal

@@ -1,6 +1,6 @@
 -- What the loop over the entries keeps.
 use Rattle.std.proofs.Common.{length}
-use Rattle.pickle_ops.specs.Device.{WroteAllBut, each}
+use Rattle.pickle_io.specs.Device.{WroteAllBut, each}
 use Rattle.pickle_report.specs.MemoText.{entry_text}
 use Rattle.pickle_report.proofs.memo.write_entries.Given as goal
 

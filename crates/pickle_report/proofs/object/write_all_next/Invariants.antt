@@ -1,6 +1,6 @@
 -- What the loop over the numbers keeps.
 use Rattle.std.proofs.Common.{take}
-use Rattle.pickle_ops.specs.Device.{Wrote, each}
+use Rattle.pickle_io.specs.Device.{Wrote, each}
 use Rattle.pickle_report.specs.ObjectText.{next_text}
 use Rattle.pickle_report.proofs.object.write_all_next.Given as goal
 

@@ -1,6 +1,6 @@
 -- What the loop over the changes keeps.
 use Rattle.std.proofs.Common.{take}
-use Rattle.pickle_ops.specs.Device.{Wrote, each}
+use Rattle.pickle_io.specs.Device.{Wrote, each}
 use Rattle.pickle_report.specs.ObjectText.{change_text}
 use Rattle.pickle_report.proofs.object.write_changes.Given as goal
 

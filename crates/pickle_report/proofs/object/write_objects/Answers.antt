@@ -1,6 +1,6 @@
 -- One line more, or an end.
 use Rattle.std.proofs.Common.{◌≡◌, ◌<◌, length, get_or, ap, arith}
-use Rattle.pickle_ops.proofs.Devices.{Writes-stop}
+use Rattle.pickle_io.proofs.Devices.{Writes-stop}
 use Rattle.pickle_report.specs.ObjectText.{objects_text}
 use Rattle.pickle_report.proofs.Objects.{objects-none, objects-next, objects-stopped}
 use Rattle.pickle_report.proofs.object.write_objects.Goals as goal

@@ -1,6 +1,6 @@
 -- What the loop over the objects keeps.
 use Rattle.std.proofs.Common.{take}
-use Rattle.pickle_ops.specs.Device.{Wrote}
+use Rattle.pickle_io.specs.Device.{Wrote}
 use Rattle.pickle_report.specs.ObjectText.{lines_from}
 use Rattle.pickle_report.proofs.object.write_objects.Given as goal
 

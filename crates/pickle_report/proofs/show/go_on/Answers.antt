@@ -2,7 +2,7 @@
 use Rattle.std.proofs.Common.{◌≡◌, [], ◌+◌, length, ◌∙◌, ap, arith, refl}
 use Rattle.std.proofs.lemmas.List.{nil_from_length}
 use Rattle.pickle_report.specs.Walking.{left_text}
-use Rattle.pickle_ops.proofs.Devices.{Writes-stop, WroteAllBut-all}
+use Rattle.pickle_io.proofs.Devices.{Writes-stop, WroteAllBut-all}
 use Rattle.pickle_report.proofs.Pieces.{WroteAllBut-same, WroteAllBut-piece, WroteAllBut-broke}
 use Rattle.pickle_report.proofs.Walks.{left-none, left-popped, left-stepped, smaller-popped, smaller-stepped}
 use Rattle.pickle_report.proofs.show.go_on.Goals as goal

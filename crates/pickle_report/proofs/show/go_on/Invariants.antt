@@ -1,7 +1,7 @@
 -- What the loop over the stack keeps.
 use Rattle.std.proofs.Common.{◌≡◌, ◌+◌, ◌≤◌, length}
 use Rattle.std.specs.Vec.{vec_capacity}
-use Rattle.pickle_ops.specs.Device.{WroteAllBut}
+use Rattle.pickle_io.specs.Device.{WroteAllBut}
 use Rattle.pickle_report.specs.Walking.{unseen, left_text}
 use Rattle.pickle_report.proofs.show.go_on.Given as goal
 

@@ -1,6 +1,6 @@
 -- An object that is there is written, and no other.
 use Rattle.std.proofs.Common.{List, ℕ, subst, sym, ◌∙◌}
-use Rattle.pickle_ops.specs.Device.{Writes}
+use Rattle.pickle_io.specs.Device.{Writes}
 use Rattle.pickle_report.proofs.Stacks.{one_object, Wrote-no_object}
 use Rattle.pickle_report.proofs.stack.write_at.Goals as goal
 

@@ -1,7 +1,7 @@
 -- One object more, or an end.
 use Rattle.std.proofs.Common.{arith}
 use Rattle.pickle_machine.specs.State.{stack_of}
-use Rattle.pickle_ops.proofs.Devices.{Writes-stop}
+use Rattle.pickle_io.proofs.Devices.{Writes-stop}
 use Rattle.pickle_report.proofs.Stacks.{nexts-none, nexts-next, nexts-stopped, nexts-all}
 use Rattle.pickle_report.proofs.stack.write_between.Goals as goal
 

@@ -1,7 +1,7 @@
 -- What the loop over the heights keeps.
 use Rattle.std.proofs.Common.{◌≤◌}
 use Rattle.pickle_machine.specs.State.{stack_of}
-use Rattle.pickle_ops.specs.Device.{Wrote, each}
+use Rattle.pickle_io.specs.Device.{Wrote, each}
 use Rattle.pickle_report.specs.Between.{between}
 use Rattle.pickle_report.specs.ObjectText.{next_text}
 use Rattle.pickle_report.proofs.stack.write_between.Given as goal

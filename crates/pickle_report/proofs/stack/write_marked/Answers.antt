@@ -1,6 +1,6 @@
 -- One section more, or an end.
 use Rattle.std.proofs.Common.{◌<◌, length, sym, ◌∙◌, arith}
-use Rattle.pickle_ops.proofs.Devices.{Writes-stop}
+use Rattle.pickle_io.proofs.Devices.{Writes-stop}
 use Rattle.pickle_report.proofs.Stacks.{sections-none, from-none, sections-next, from-next, sections-stopped, mark_there, sections-all, from-all}
 use Rattle.pickle_report.proofs.stack.write_marked.Goals as goal
 

@@ -1,7 +1,7 @@
 -- What the loop over the marks keeps.
 use Rattle.std.proofs.Common.{◌≡◌, length}
 use Rattle.pickle_machine.specs.State.{objects_below}
-use Rattle.pickle_ops.specs.Device.{Wrote}
+use Rattle.pickle_io.specs.Device.{Wrote}
 use Rattle.pickle_report.specs.StackText.{marked_text}
 use Rattle.pickle_report.proofs.Stacks.{lowest}
 use Rattle.pickle_report.proofs.stack.write_marked.Given as goal

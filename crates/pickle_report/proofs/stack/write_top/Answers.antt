@@ -1,6 +1,6 @@
 -- The top section stands above all others.
 use Rattle.std.proofs.Common.{List, ℕ, subst}
-use Rattle.pickle_ops.specs.Device.{Writes, each}
+use Rattle.pickle_io.specs.Device.{Writes, each}
 use Rattle.pickle_report.specs.ObjectText.{next_text}
 use Rattle.pickle_report.proofs.Stacks.{top_between}
 use Rattle.pickle_report.proofs.stack.write_top.Goals as goal

@@ -1,6 +1,6 @@
 -- What the loop over the places keeps.
 use Rattle.std.proofs.Common.{◌≡◌}
-use Rattle.pickle_ops.specs.Device.{Wrote, each_below}
+use Rattle.pickle_io.specs.Device.{Wrote, each_below}
 use Rattle.pickle_doc.specs.Place.{offset_of}
 use Rattle.pickle_text.specs.PlaceText.{line_at}
 use Rattle.pickle_text.proofs.items.write_items.Given as goal
