@@ -23,7 +23,7 @@ use borrow.Table.OneValue.{part_in, part_out}
 use Rattle.std.specs.Prelude.{Option, Some, None}
 use Rattle.std.specs.Mem.{type_size}
 use Rattle.core.proofs.mem.Param.{El, R, el_x, elτ, lawful, Good}
-use Rattle.gap_list.specs.Ownership.{place, places, place_seen, places_seen}
+use Rattle.gap_list.specs.Inside.Ownership.{place, places, place_seen, places_seen}
 
 module _ (E : El) where
   abbrev pub sz : ℕ

@@ -13,7 +13,7 @@ use denote.Sharing.{ShrLaws, nothing, said, beside}
 use denote.SharingLaws.{beside_shr_laws, nothing_shr_laws, said_shr_laws}
 use denote.Shares.{Shares-less}
 use denote.Struct.Lending.{Lends, Lends-both, Lends-nothing, Lends-said, Lends-false}
-use Rattle.gap_list.specs.Ownership.{place, places, place_seen, places_seen, small, deed, block_owns, block_lends}
+use Rattle.gap_list.specs.Inside.Ownership.{place, places, place_seen, places_seen, small, deed, block_owns, block_lends}
 
 module _ (R : RattleType) (L : RowLaws R) where
   seen-laws : (b o : ℕ) (cs : List (Option R.Denot)) → ShrLaws (places_seen R b o cs)

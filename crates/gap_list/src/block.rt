@@ -2,8 +2,8 @@
 ghost use Rattle.std.specs.Prelude.{◌≡◌, ◌<◌, List, Option, Some, None, length, replicate, get_or, slice_set, IfOk};
 ghost use Rattle.std.specs.Vec.Ownership.{FitsInBlock};
 ghost use denote.RawPtr.{Ptr};
-ghost use Rattle.gap_list.specs.Places.{IsFilled};
-ghost use Rattle.gap_list.specs.Ownership.{block_owns, block_lends};
+ghost use Rattle.gap_list.specs.Inside.Places.{IsFilled};
+ghost use Rattle.gap_list.specs.Inside.Ownership.{block_owns, block_lends};
 
 use std::alloc::{AllocError, Allocator};
 use std::marker::{Model, PhantomData};

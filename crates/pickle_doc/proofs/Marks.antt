@@ -7,14 +7,13 @@ use Rattle.pickle_doc.specs.declared.item.Item.{Item}
 use Rattle.pickle_doc.specs.declared.mark.FrameMark.{FrameMark}
 use Rattle.pickle_doc.specs.declared.mark.Mark.{Mark}
 use Rattle.pickle_doc.specs.declared.fault.Finish.{Finish}
-use Rattle.pickle_doc.specs.DocUnit.{DocUnit, Loose, Frame, is_frame, item_size, sizes, frame_item, flat, operations, bytes_of}
+use Rattle.pickle_doc.specs.DocUnit.{DocUnit, Loose, Frame, is_frame, item_size, sizes, frame_item, flat, operations, bytes_of, frame_number}
 use Rattle.pickle_doc.specs.Document.{IsUnit, size_limit}
 use Rattle.pickle_doc.specs.Alike.{AreAlike, AgreeBefore}
 use Rattle.pickle_doc.specs.Edit.{is_frame_item}
-use Rattle.pickle_doc.specs.Grouping.{frame_number}
-use Rattle.pickle_doc.specs.Mark.{NoFrameBetween, IsLast, IsLastFrame, IsMark}
-use Rattle.pickle_doc.specs.Next.{AreParts}
-use Rattle.pickle_doc.specs.Walk.{walk}
+use Rattle.pickle_doc.specs.Inside.Mark.{NoFrameBetween, IsLast, IsLastFrame, IsMark}
+use Rattle.pickle_doc.specs.Inside.Kept.{AreParts}
+use Rattle.pickle_doc.specs.Inside.Walk.{walk}
 use Rattle.pickle_doc.proofs.Units.{length_bytes}
 use Rattle.pickle_doc.proofs.Readers.{sizes-less}
 use Rattle.pickle_doc.proofs.Lists.{within, get-within, get-behind}

@@ -6,13 +6,11 @@ use Rattle.std.proofs.lemmas.Option.{slice_get_within, slice_get_cases}
 use Rattle.pickle_ops.specs.Spelling.{Operation, spelling, size_of}
 use Rattle.pickle_doc.specs.declared.stream.NextRef.{NextRef}
 use Rattle.pickle_doc.specs.declared.stream.NextRef.TheVariants as next
-use Rattle.pickle_doc.specs.DocUnit.{is_frame, ends_reading, bytes_of}
+use Rattle.pickle_doc.specs.DocUnit.{is_frame, ends_reading, bytes_of, frame_number}
 use Rattle.pickle_doc.specs.Document.{Contents, document_bytes, IsDocument, size_limit}
 use Rattle.pickle_doc.specs.Place.{ops_of}
-use Rattle.pickle_doc.specs.Grouping.{frame_number}
 use Rattle.pickle_doc.specs.Fitting.{Fits, IsLast, left_behind}
-use Rattle.pickle_doc.specs.Next.{IsNextItem}
-use Rattle.pickle_doc.specs.Unread.{Unread, Follows, unread_at, IsPlaced}
+use Rattle.pickle_doc.specs.Unread.{IsNextItem, Unread, Follows, unread_at, IsPlaced}
 use Rattle.pickle_doc.proofs.Opcodes.{frame_no_stop}
 use Rattle.pickle_doc.proofs.Fits.{reaches}
 use Rattle.pickle_doc.proofs.Units.{small_document, document_fits}

@@ -4,7 +4,7 @@
 ghost use Rattle.std.specs.Prelude.{◌≡◌, ◌+◌, ◌≤◌, if◌then◌else◌, Some, None, length, take};
 ghost use Rattle.pickle_doc.specs.Document.{size_limit};
 ghost use Rattle.pickle_doc.specs.DocUnit.{is_frame, sizes};
-ghost use Rattle.pickle_doc.specs.Mark.{IsLastFrame, IsMark};
+ghost use Rattle.pickle_doc.specs.Inside.Mark.{IsLastFrame, IsMark};
 
 use crate::item::Item;
 use crate::next::is_frame;

@@ -18,7 +18,7 @@ use Rattle.pickle_doc.specs.DocUnit.{sizes, is_stop, ends_reading}
 use Rattle.pickle_doc.specs.Document.{Contents, items_of, document_bytes, ReadsAs, size_limit}
 use Rattle.pickle_doc.specs.Tail.{HasTailFault}
 use Rattle.pickle_doc.specs.Fitting.{left_behind}
-use Rattle.pickle_doc.specs.Next.{IsNextItem}
+use Rattle.pickle_doc.specs.Unread.{IsNextItem}
 use Rattle.pickle_doc.specs.Place.{ops_of, item_at, tail_offset}
 use Rattle.pickle_objects.specs.declared.kind.Kind.{Kind}
 use Rattle.pickle_objects.specs.declared.row.Row.{Row}
@@ -38,7 +38,7 @@ use Rattle.pickle_listing.specs.declared.note.Note.TheVariants as note
 use Rattle.pickle_report.specs.Line.{fault_line}
 use Rattle.pickle_listing.specs.Line.{item_line, refused_line, left_line, kept_line, protocol_line, raised}
 use Rattle.pickle_listing.specs.Listing.{note_with, note_unless, key_note, line_at, left_by, lines, end_lines, end_status}
-use Rattle.pickle_listing.specs.Marks.{last_of, followed}
+use Rattle.pickle_listing.specs.Inside.Marks.{last_of, followed}
 use Rattle.pickle_listing.specs.Written.{IsListed, BreaksListing, LeavesListing}
 use Rattle.pickle_listing.proofs.Listings.{Progress, Progress-none, Progress-more, line_is, begun_so_far, broken_so_far, EndsWith, refused, ended, ended_left, end_breaks, end_written, end_front, within, place_within, offset_within, ops_within}
 use Rattle.pickle_listing.proofs.Places.{lines_with, lines-zero, lines-suc}

@@ -17,7 +17,7 @@ use Rattle.pickle_machine.specs.Move.{move, refusal_at}
 use Rattle.pickle_machine.specs.Run.{run}
 use Rattle.pickle_listing.specs.Line.{item_line, refused_line, protocol_line, raised, highest_protocol}
 use Rattle.pickle_listing.specs.Listing.{topmost_offset, note_with, note_unless, line_at, left_by, lines, reached, end_lines, end_status, refused_lines, listing, listing_to}
-use Rattle.pickle_listing.specs.Marks.{last_of, followed, mark_offsets}
+use Rattle.pickle_listing.specs.Inside.Marks.{last_of, followed, mark_offsets}
 use Rattle.pickle_listing.proofs.Moves.{move_heap, refused_move, move_marks, marks_grow, offsets_follow}
 use Rattle.pickle_listing.proofs.Places.{offset_next, offset_small, length-bytes_of, highest_protocol-push, run-suc, reached_here, reached_last, is_reached, lines_with, lines-suc, lines_first}
 

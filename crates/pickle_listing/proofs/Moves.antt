@@ -19,7 +19,7 @@ use Rattle.pickle_machine.specs.State.{Marked, State}
 use Rattle.pickle_machine.specs.Move.{next_of, refusal_of, refusal_at, next, outcome, move, cut, deeper, without, changed, unless, deep, object_meets, last_of as last_objects, change_top, changes_of}
 use Rattle.pickle_doc.specs.Document.{Contents}
 use Rattle.pickle_doc.specs.Place.{offset_of}
-use Rattle.pickle_listing.specs.Marks.{followed, mark_offsets}
+use Rattle.pickle_listing.specs.Inside.Marks.{followed, mark_offsets}
 
 one_more : (x : Object) (xs : List Object) → length (xs ++ x ∷ []) ≤ length xs + 1
 one_more x xs = omega (arith, length-append xs (x ∷ []))

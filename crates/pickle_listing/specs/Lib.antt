@@ -2,5 +2,5 @@
 pub mod Column
 pub mod Line
 pub mod Listing
-pub mod Marks
 pub mod Written
+pub mod Inside

@@ -9,7 +9,7 @@ ghost use Rattle.pickle_machine.specs.State.{stack_size};
 ghost use Rattle.pickle_report.specs.Line.{fault_line};
 ghost use Rattle.pickle_listing.specs.Line.{raised, left_line, kept_line, protocol_line};
 ghost use Rattle.pickle_listing.specs.Listing.{note_with, note_unless};
-ghost use Rattle.pickle_listing.specs.Marks.{last_of, followed};
+ghost use Rattle.pickle_listing.specs.Inside.Marks.{last_of, followed};
 ghost use Rattle.pickle_listing.specs.Written.{WroteListing, LeftListing, IsListed, CutsListing};
 
 use crate::line::{write_protocol, write_refused_end, write_stopped};

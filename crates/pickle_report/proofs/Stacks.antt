@@ -13,7 +13,7 @@ use Rattle.pickle_machine.specs.State.{Marked, State, objects_below, stack_of, s
 use Rattle.pickle_machine.proofs.Shown.{length-stack_of, length-marks_of, last_mark}
 use Rattle.pickle_io.specs.Device.{Told, Wrote, Broke, each}
 use Rattle.pickle_io.proofs.Devices.{Wrote-none, Wrote-trans, Broke-after, Broke-more}
-use Rattle.pickle_report.specs.Between.{between}
+use Rattle.pickle_report.specs.Inside.Between.{between}
 use Rattle.pickle_report.specs.ObjectText.{next_text}
 use Rattle.pickle_report.specs.StackText.{section_text, marked_text}
 

@@ -9,7 +9,7 @@ use Rattle.pickle_io.specs.Device.{each}
 use Rattle.pickle_report.specs.Line.{newline}
 use Rattle.pickle_report.specs.ObjectText.{id_text, next_text, object_text}
 use Rattle.pickle_report.specs.Show.{Place, again_line, first_line, at_depth, found, content, walk, show_text}
-use Rattle.pickle_report.specs.Walking.{unseen, place_line, seen_after, entered, pending, left_text, walk_text}
+use Rattle.pickle_report.specs.Inside.Walking.{unseen, place_line, seen_after, entered, pending, left_text, walk_text}
 
 -- a line is not empty
 pub one_line : (a b : List ℕ) → length (a ⧺ b) ≡ length a + length b

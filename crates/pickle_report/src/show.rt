@@ -5,7 +5,7 @@ ghost use Rattle.std.specs.Option.{option_copied};
 ghost use Rattle.std.specs.Vec.{vec_capacity};
 ghost use Rattle.pickle_io.specs.Device.{Wrote, Broke, Writes};
 ghost use Rattle.pickle_report.specs.Show.{again_line, first_line, found, show_text};
-ghost use Rattle.pickle_report.specs.Walking.{unseen, place_line, seen_after, entered, left_text, walk_text};
+ghost use Rattle.pickle_report.specs.Inside.Walking.{unseen, place_line, seen_after, entered, left_text, walk_text};
 
 use crate::content::Content;
 use crate::object::{write_next, write_object};

@@ -6,7 +6,7 @@ ghost use Rattle.pickle_io.specs.Device.{Writes, each};
 ghost use Rattle.pickle_machine.specs.State.{objects_below, stack_of};
 ghost use Rattle.pickle_report.specs.ObjectText.{next_text};
 ghost use Rattle.pickle_report.specs.StackText.{mark_text, section_text, marked_text, stack_text};
-ghost use Rattle.pickle_report.specs.Between.{between};
+ghost use Rattle.pickle_report.specs.Inside.Between.{between};
 
 use crate::object::write_next;
 use pickle_machine::Machine;

@@ -12,7 +12,7 @@ use Rattle.pickle_tasks.specs.Script.{last_line, lines_of}
 use Rattle.pickle_tasks.specs.Transcript.{IsRead, Runs, up_to_quit}
 use Rattle.pickle_tasks.specs.Conversation.{Gave, Finishes, StopsReading, StopsWriting}
 use Rattle.pickle_tasks.specs.declared.outcome.Outcome.{Outcome}
-use Rattle.pickle_tasks.specs.Progress.{is_refused, Pending, shortened, WritesLine, SoFar, HasQuit, Breaks, HasBroken, IsWhole, IsBroken}
+use Rattle.pickle_tasks.specs.Inside.Progress.{is_refused, Pending, shortened, WritesLine, SoFar, HasQuit, Breaks, HasBroken, IsWhole, IsBroken}
 use Rattle.pickle_tasks.proofs.Cuts.{nothing, IsCut-none}
 use Rattle.pickle_tasks.proofs.Feeding.{pend, shortened-nil, nil-shortened, Runs-push, Wrote-push, up_to_quit-none, up_to_quit-last, up_to_quit-more, gives_so, refused_so, last_breaks}
 

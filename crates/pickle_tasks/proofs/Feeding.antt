@@ -20,7 +20,7 @@ use Rattle.pickle_tasks.specs.Conversation.{AppendsPast, BrokePast}
 use Rattle.pickle_tasks.specs.declared.outcome.Outcome.{Outcome}
 use Rattle.pickle_tasks.specs.declared.outcome.Flow.{Flow}
 use Rattle.pickle_tasks.specs.declared.outcome.Flow.TheVariants as flow
-use Rattle.pickle_tasks.specs.Progress.{is_refused, Pending, shortened, longer, WritesLine, SoFar, HasQuit, Breaks, HasBroken, Fed}
+use Rattle.pickle_tasks.specs.Inside.Progress.{is_refused, Pending, shortened, longer, WritesLine, SoFar, HasQuit, Breaks, HasBroken, Fed}
 use Rattle.pickle_tasks.proofs.Cuts.{after, ended, lengthened, IsCut-more, IsCut-newline, IsCut-byte, some_cut}
 
 -- ---- what is held of a line

@@ -21,7 +21,7 @@ use Rattle.pickle_tasks.specs.Query.{shown, query_text, asks_memory}
 use Rattle.pickle_tasks.specs.Transcript.{is_refusal}
 use Rattle.pickle_tasks.specs.declared.outcome.Outcome.{Outcome}
 use Rattle.pickle_tasks.specs.declared.outcome.Outcome.TheVariants as outcome
-use Rattle.pickle_tasks.specs.Progress.{is_refused, WritesTold, WritesLine}
+use Rattle.pickle_tasks.specs.Inside.Progress.{is_refused, WritesTold, WritesLine}
 use Rattle.pickle_tasks.proofs.Refusals.{line_refuses, missing_refuses, show_accepts}
 
 -- each item makes one object at most

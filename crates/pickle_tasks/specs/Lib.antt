@@ -5,4 +5,4 @@ pub mod Script
 pub mod Query
 pub mod Transcript
 pub mod Conversation
-pub mod Progress
+pub mod Inside

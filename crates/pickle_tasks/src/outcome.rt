@@ -11,7 +11,7 @@ pub enum Outcome {
 
 impl Outcome {
     ghost use Rattle.std.specs.Prelude.{◌≡◌};
-    ghost use Rattle.pickle_tasks.specs.Progress.{is_refused};
+    ghost use Rattle.pickle_tasks.specs.Inside.Progress.{is_refused};
 
     /// Whether it is a refusal.
     pub fn is_refused(self) -> bool

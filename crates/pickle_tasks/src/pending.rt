@@ -15,7 +15,7 @@ pub struct Pending {
 impl Model for Pending {
     ghost use Rattle.std.specs.Prelude.{◌<◌, vec_capacity};
     ghost use Rattle.pickle_text.specs.Grammar.{longest};
-    ghost use Rattle.pickle_tasks.specs.Progress.{Pending};
+    ghost use Rattle.pickle_tasks.specs.Inside.Progress.{Pending};
 
     ghost Value = { Pending };
 
@@ -27,7 +27,7 @@ impl Model for Pending {
 impl Pending {
     ghost use Rattle.std.specs.Prelude.{◌≡◌, ◌↔◌, ◌||◌, [], IfOk, IsTrue, false, if◌then◌else◌};
     ghost use Rattle.pickle_tasks.specs.Transcript.{IsRead};
-    ghost use Rattle.pickle_tasks.specs.Progress.{longer, is_refused};
+    ghost use Rattle.pickle_tasks.specs.Inside.Progress.{longer, is_refused};
 
     /// No byte of a line, and no line refused. All the room that is ever needed is made here; it fails
     /// only for want of memory.
@@ -41,7 +41,7 @@ impl Pending {
     }
 
     /// Adds a byte to the line.
-    #[tactic(auto, unfolding(crate::specs::Progress::longer))]
+    #[tactic(auto, unfolding(crate::specs::Inside::Progress::longer))]
     pub fn push(&mut self, byte: u8)
         ensures { self.new ≡ record self.old { line = longer self.old.line byte } }
     {

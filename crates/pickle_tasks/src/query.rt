@@ -1,7 +1,7 @@
 //! What is told of a session.
 
 ghost use Rattle.std.specs.Prelude.{◌≡◌, ◌<◌, ◌≤◌, length, MatchOption, Ok};
-ghost use Rattle.pickle_tasks.specs.Progress.{WritesTold, WritesLine};
+ghost use Rattle.pickle_tasks.specs.Inside.Progress.{WritesTold, WritesLine};
 
 use crate::outcome::Outcome;
 use pickle_objects::ObjId;

@@ -6,7 +6,7 @@ ghost use Rattle.pickle_doc.specs.declared.fault.End.{End};
 ghost use Rattle.pickle_text.specs.ReplyText.{reply_text};
 ghost use Rattle.pickle_tasks.specs.Transcript.{is_refusal, quits};
 ghost use Rattle.pickle_tasks.specs.Conversation.{Finishes, StopsReading, StopsWriting};
-ghost use Rattle.pickle_tasks.specs.Progress.{WritesLine, Feeds, Ends, is_refused};
+ghost use Rattle.pickle_tasks.specs.Inside.Progress.{WritesLine, Feeds, Ends, is_refused};
 
 use crate::outcome::{Flow, Outcome};
 use crate::pending::Pending;

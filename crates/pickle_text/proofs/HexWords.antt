@@ -6,7 +6,8 @@ use Rattle.std.proofs.lemmas.List.Sums.{AllPass-from_list_all, list_all-from_All
 use Rattle.hex.specs.Hex.{decode_of, decode_pairs, is_hex_digit}
 use Rattle.hex.specs.declared.error.FromHexError.{FromHexError}
 use Rattle.hex.proofs.HexLemmas.{decode_of-ok, decode_of-digits}
-use Rattle.pickle_text.specs.Grammar.{is_hex, found_bytes, bytes_of_word}
+use Rattle.pickle_text.specs.Inside.Words.{is_hex}
+use Rattle.pickle_text.specs.Grammar.{found_bytes, bytes_of_word}
 
 -- digits have bytes
 pub hex-bytes : (w : List ℕ) → true ≡ is_hex w → (bytes : List ℕ) × (decode_of w ≡ Ok bytes)

@@ -1,15 +1,14 @@
 -- The words of a line, and what the line says: the word that it begins with decides which words may stand behind it.
 -- Source: own.
-use Rattle.std.specs.Prelude.{◌≡◌, ◌≢◌, ℕ, List, [], ◌∷◌, length, filter, codes, Bool, true, false, nat_lt, ◌==◌, ◌||◌, ◌&&◌, ◌%◌, if◌then◌else◌, Option, Some, None, Result, Ok, Err, ⊤}
+use Rattle.std.specs.Prelude.{◌≡◌, ◌≢◌, ℕ, List, [], ◌∷◌, length, filter, codes, Bool, true, false, nat_lt, ◌==◌, ◌||◌, if◌then◌else◌, Option, Some, None, Result, Ok, Err, ⊤}
 use Rattle.std.specs.Option.{option_map_or}
-use Rattle.std.specs.List.{slice_split, list_all}
+use Rattle.std.specs.List.{slice_split}
 use Rattle.std.specs.Str.{bytes_eq}
-use Rattle.hex.specs.Hex.{decode_of, is_hex_digit}
+use Rattle.hex.specs.Hex.{decode_of}
 use Rattle.pickle_ops.specs.Shape.{decimal_of}
 use Rattle.pickle_ops.specs.Spelling.{Operation, IsSpelled, FailsAsArg}
 use Rattle.pickle_ops.specs.Table.{opcode_named}
 use Rattle.pickle_ops.specs.declared.opcode.Opcode.{Opcode}
-use Rattle.pickle_ops.specs.declared.fault.OpFault.{OpFault}
 use Rattle.pickle_ops.specs.declared.fault.OpFault.TheVariants as fault
 use Rattle.pickle_session.specs.declared.command.Command.TheVariants as command
 use Rattle.pickle_text.specs.declared.line.Query.TheVariants as query
@@ -139,10 +138,6 @@ abbrev pub name_first : List (List ℕ) → Result (Opcode × List (List ℕ)) S
 name_first [] = Err syntax.MissingWord
 name_first (w ∷ words) = option_map_or (λ (o : Opcode). Ok (o, words)) (opcode_named w) (Err syntax.UnknownOpcodeName)
 
--- whether a word is hexadecimal digits of both cases, two a byte
-abbrev pub is_hex : List ℕ → Bool
-is_hex w = length w % 2 == 0 && list_all is_hex_digit w
-
 -- bytes behind which no word stands
 abbrev pub last_bytes : Option (List ℕ) → List (List ℕ) → Result (List ℕ) Syntax
 last_bytes None words = Err syntax.BadHex
@@ -199,11 +194,6 @@ abbrev pub OpFails : Option Operation → Syntax → Type 0
 OpFails (Some o) (syntax.BadOp f) = (f ≢ fault.Memory) × FailsAsArg o.opcode o.arg f
 OpFails (Some o) syntax.Memory = ⊤
 OpFails _ _ = ⊥
-
--- how a fault of an operation is answered
-abbrev pub fault_syntax : OpFault → Syntax
-fault_syntax fault.Memory = syntax.Memory
-fault_syntax f = syntax.BadOp f
 
 -- an answer where the words say this: their fault; or what they say, or else the fault of their operation
 abbrev pub Answers : Result Line Syntax → Result Line Syntax → Type 0

@@ -3,3 +3,4 @@ pub mod Grammar
 pub mod FaultText
 pub mod ReplyText
 pub mod PlaceText
+pub mod Inside

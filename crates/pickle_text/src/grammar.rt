@@ -2,7 +2,8 @@
 
 ghost use Rattle.std.specs.Prelude.{◌≡◌, ℕ, List, MatchResult, Ok, Err};
 ghost use Rattle.hex.specs.Hex.{decode_of, is_hex_digit};
-ghost use Rattle.pickle_text.specs.Grammar.{words_of, alone, plain_line, number_first, number_says, pair_says, name_first, is_hex, arg_last, last_bytes, bytes_of_word, fault_syntax, op_line, op_says, word_says, line_says, Answers};
+ghost use Rattle.pickle_text.specs.Grammar.{words_of, alone, plain_line, number_first, number_says, pair_says, name_first, arg_last, last_bytes, bytes_of_word, op_line, op_says, word_says, line_says, Answers};
+ghost use Rattle.pickle_text.specs.Inside.Words.{is_hex, fault_syntax};
 
 use crate::keyword::{
     NumberWord, OpWord, PlainWord, Word, keyword, number_line, op_line, plain_line,

@@ -48,7 +48,7 @@ use Rattle.std_alloc.proofs.Pairs.{pair_of, pair_val}
 use Rattle.std_alloc.proofs.RawLayout.{as_written}
 use Rattle.std_alloc.proofs.RcSteps.{word, word-Good}
 use Rattle.std_alloc.proofs.ResultValues.{ok_of, err_of}
-use Rattle.gap_list.specs.Ownership.{places, deed}
+use Rattle.gap_list.specs.Inside.Ownership.{places, deed}
 use Rattle.gap_list.proofs.Memory.{sz, of_room}
 use Rattle.gap_list.proofs.Values.{start_own, start_made, block_val, mark_own, mark_made}
 use Rattle.gap_list.specs.contracts.block.Block as block

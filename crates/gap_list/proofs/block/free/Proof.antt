@@ -37,7 +37,7 @@ use Rattle.std.proofs.raw_atomic.Walks.{proved_at, leaves}
 use Rattle.std.specs.Prelude.{None}
 use Rattle.std_alloc.proofs.RawLayout.{as_raw}
 use Rattle.std_alloc.proofs.RcSteps.{word}
-use Rattle.gap_list.specs.Ownership.{deed, block_owns}
+use Rattle.gap_list.specs.Inside.Ownership.{deed, block_owns}
 use Rattle.gap_list.proofs.Memory.{sz, Place, to_room}
 use Rattle.gap_list.proofs.Values.{block_val, block_told}
 use Rattle.gap_list.specs.contracts.block.Block as block

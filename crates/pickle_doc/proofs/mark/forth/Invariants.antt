@@ -1,6 +1,6 @@
 use Rattle.std.proofs.Common.{◌≡◌, ◌≤◌, take}
 use Rattle.pickle_doc.specs.DocUnit.{sizes}
-use Rattle.pickle_doc.specs.Mark.{IsLastFrame}
+use Rattle.pickle_doc.specs.Inside.Mark.{IsLastFrame}
 use Rattle.pickle_doc.proofs.mark.forth.Given as goal
 
 -- what is known at the place so far

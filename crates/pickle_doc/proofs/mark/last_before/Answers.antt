@@ -1,7 +1,7 @@
 use Rattle.std.proofs.Common.{◌≡◌, ◌+◌, ◌-◌, ◌<◌, ℕ, false, length, take, ap, sym, ◌∙◌, arith}
 use Rattle.pickle_doc.specs.declared.item.Item.{Item}
 use Rattle.pickle_doc.specs.DocUnit.{is_frame, sizes}
-use Rattle.pickle_doc.specs.Mark.{NoFrameBetween}
+use Rattle.pickle_doc.specs.Inside.Mark.{NoFrameBetween}
 use Rattle.pickle_doc.proofs.Readers.{sizes-more}
 use Rattle.pickle_doc.proofs.Replacements.{at_some}
 use Rattle.pickle_doc.proofs.Marks.{none-within, none-back}

@@ -1,6 +1,6 @@
 use Rattle.std.proofs.Common.{◌≡◌, ◌≤◌, take}
 use Rattle.pickle_doc.specs.DocUnit.{sizes}
-use Rattle.pickle_doc.specs.Mark.{NoFrameBetween}
+use Rattle.pickle_doc.specs.Inside.Mark.{NoFrameBetween}
 use Rattle.pickle_doc.proofs.mark.last_before.Given as goal
 
 -- no FRAME so far

@@ -3,8 +3,7 @@ use Rattle.pickle_ops.specs.Spelling.{size_of}
 use Rattle.pickle_doc.specs.Tail.{HasTailFault}
 use Rattle.pickle_doc.specs.Fitting.{left_behind}
 use Rattle.pickle_doc.specs.DocUnit.{ends_reading}
-use Rattle.pickle_doc.specs.Next.{IsNextItem}
-use Rattle.pickle_doc.specs.Unread.{Unread}
+use Rattle.pickle_doc.specs.Unread.{IsNextItem, Unread}
 use Rattle.pickle_objects.specs.Row.{row_of, kind_of}
 use Rattle.pickle_machine.specs.Move.{refusal_of}
 use Rattle.pickle_outline.specs.Class.{sample}

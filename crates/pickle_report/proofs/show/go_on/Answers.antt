@@ -1,7 +1,7 @@
 -- One place more, or an end.
 use Rattle.std.proofs.Common.{◌≡◌, [], ◌+◌, length, ◌∙◌, ap, arith, refl}
 use Rattle.std.proofs.lemmas.List.{nil_from_length}
-use Rattle.pickle_report.specs.Walking.{left_text}
+use Rattle.pickle_report.specs.Inside.Walking.{left_text}
 use Rattle.pickle_io.proofs.Devices.{Writes-stop, WroteAllBut-all}
 use Rattle.pickle_report.proofs.Pieces.{WroteAllBut-same, WroteAllBut-piece, WroteAllBut-broke}
 use Rattle.pickle_report.proofs.Walks.{left-none, left-popped, left-stepped, smaller-popped, smaller-stepped}

@@ -2,7 +2,7 @@
 use Rattle.std.proofs.Common.{◌≡◌, ◌+◌, ◌≤◌, length}
 use Rattle.std.specs.Vec.{vec_capacity}
 use Rattle.pickle_io.specs.Device.{WroteAllBut}
-use Rattle.pickle_report.specs.Walking.{unseen, left_text}
+use Rattle.pickle_report.specs.Inside.Walking.{unseen, left_text}
 use Rattle.pickle_report.proofs.show.go_on.Given as goal
 
 abbrev pub invariant-loop-content : goal.invariant-loop-content

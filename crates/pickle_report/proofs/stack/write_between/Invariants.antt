@@ -2,7 +2,7 @@
 use Rattle.std.proofs.Common.{◌≤◌}
 use Rattle.pickle_machine.specs.State.{stack_of}
 use Rattle.pickle_io.specs.Device.{Wrote, each}
-use Rattle.pickle_report.specs.Between.{between}
+use Rattle.pickle_report.specs.Inside.Between.{between}
 use Rattle.pickle_report.specs.ObjectText.{next_text}
 use Rattle.pickle_report.proofs.stack.write_between.Given as goal
 

@@ -1,7 +1,7 @@
 use Rattle.std.proofs.Common.{ℕ, ◌++◌, List, take}
 use Rattle.pickle_io.specs.Device.{Told}
 use Rattle.pickle_session.specs.Allowed.{Standing}
-use Rattle.pickle_tasks.specs.Progress.{SoFar}
+use Rattle.pickle_tasks.specs.Inside.Progress.{SoFar}
 use Rattle.pickle_tasks.proofs.talk.feed.Given as goal
 
 abbrev pub invariant-loop-byte : goal.invariant-loop-byte

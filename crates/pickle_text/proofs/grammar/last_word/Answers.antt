@@ -1,6 +1,6 @@
 -- A word that is no digits, and one that is the last, or not.
 use Rattle.std.proofs.Common.{◌≡◌, arith, refl, true, false}
-use Rattle.pickle_text.specs.Grammar.{is_hex}
+use Rattle.pickle_text.specs.Inside.Words.{is_hex}
 use Rattle.pickle_text.proofs.HexWords.{hex-bytes, no_hex}
 use Rattle.pickle_text.proofs.grammar.last_word.Goals as goal
 

@@ -37,8 +37,8 @@ use Rattle.core.proofs.slots.Leases.{args, P}
 use Rattle.std.proofs.raw_atomic.Walks.{proved_at, leaves}
 use Rattle.std.specs.Prelude.{Some, None}
 use Rattle.std_alloc.proofs.RcSteps.{word, word-Good}
-use Rattle.gap_list.specs.Places.{IsFilled}
-use Rattle.gap_list.specs.Ownership.{place_seen, block_lends}
+use Rattle.gap_list.specs.Inside.Places.{IsFilled}
+use Rattle.gap_list.specs.Inside.Ownership.{place_seen, block_lends}
 use Rattle.gap_list.proofs.Memory.{sz, Place, within, place_shown}
 use Rattle.gap_list.specs.contracts.block.Block as block
 use Rattle.gap_list.specs.contracts.block.Start as start

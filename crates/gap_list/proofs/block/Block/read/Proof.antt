@@ -35,8 +35,8 @@ use Rattle.std.proofs.raw_atomic.Walks.{proved_at, leaves}
 use Rattle.std.specs.Prelude.{Some, None}
 use Rattle.std_alloc.proofs.RawLayout.{as_raw}
 use Rattle.std_alloc.proofs.RcSteps.{word, word-Good}
-use Rattle.gap_list.specs.Places.{IsFilled}
-use Rattle.gap_list.specs.Ownership.{place, places, deed, block_owns}
+use Rattle.gap_list.specs.Inside.Places.{IsFilled}
+use Rattle.gap_list.specs.Inside.Ownership.{place, places, deed, block_owns}
 use Rattle.gap_list.proofs.Memory.{sz, Place, within, item_out, Besides, place_out, place_in}
 use Rattle.gap_list.specs.contracts.block.Block as block
 use Rattle.gap_list.specs.contracts.block.Start as start

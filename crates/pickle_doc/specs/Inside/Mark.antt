@@ -6,7 +6,7 @@ use Rattle.pickle_doc.specs.declared.mark.Mark.{Mark}
 use Rattle.pickle_doc.specs.Document.{size_limit}
 use Rattle.pickle_doc.specs.declared.fault.Finish.{Finish}
 use Rattle.pickle_doc.specs.DocUnit.{is_frame, sizes}
-use Rattle.pickle_doc.specs.Fitting.{IsKept}
+use Rattle.pickle_doc.specs.Inside.Kept.{IsKept}
 
 -- no item from place a on and before place b is a FRAME
 abbrev pub NoFrameBetween : ℕ → ℕ → List Item → Type 0

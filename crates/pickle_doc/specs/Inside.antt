@@ -1,0 +1,7 @@
+-- What only proofs and the contracts of private functions cite. No contract of a public item needs it.
+pub mod Grouping
+pub mod Joined
+pub mod Kept
+pub mod Mark
+pub mod Turn
+pub mod Walk
