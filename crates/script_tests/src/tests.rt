@@ -222,7 +222,11 @@ fn refused_memory(rt: HostRuntime) -> Result<(), Fail> {
             Ok(session) => session,
             Err(_) => opened(rt.alloc(), script.bytes)?,
         };
-        assert_eq!(rt; follow(rt.alloc(), &mut session, script), None, "script {k}");
+        assert_eq!(rt;
+            follow(rt.alloc(), &mut session, script),
+            None,
+            "script {k}"
+        );
         let mut session = match opened_in_a_window(rt.alloc(), script.bytes) {
             Ok(session) => session,
             Err(_) => opened_in_a_window(rt.alloc(), script.bytes)?,
@@ -242,7 +246,11 @@ fn failing_sinks_of_objects(rt: HostRuntime) {
                 let mut sink = Sip::new(rt.alloc(), most.max(1), calls);
                 let answer = objects(rt.alloc(), bytes, &mut sink);
                 let is_whole = sink.taken().len() == text.len();
-                let wanted = if is_whole { Ok(*status) } else { Err(Stop::Write) };
+                let wanted = if is_whole {
+                    Ok(*status)
+                } else {
+                    Err(Stop::Write)
+                };
                 assert_eq!(rt; answer, wanted, "report {k}");
                 assert_eq!(rt; sink.failures(), u64::from(!is_whole), "report {k}");
                 assert!(rt; text.as_bytes().starts_with(sink.taken()), "report {k}");
@@ -259,7 +267,10 @@ fn refused_memory_of_objects(rt: HostRuntime) -> Result<(), Fail> {
         let mut answer = objects(rt.alloc(), bytes, &mut sink);
         let mut taken = sink.into_inner();
         if answer.is_err() {
-            assert!(rt; answer == Err(Stop::Write) || taken.is_empty(), "report {k}");
+            assert!(rt;
+                answer == Err(Stop::Write) || taken.is_empty(),
+                "report {k}"
+            );
             assert!(rt; text.as_bytes().starts_with(taken.as_slice()), "report {k}");
             let mut again = ToWrite::new(Vec::new(rt.alloc()));
             answer = objects(rt.alloc(), bytes, &mut again);

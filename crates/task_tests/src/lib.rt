@@ -4,6 +4,5 @@
 
 #[cfg(test)]
 mod conversations;
-
 #[cfg(test)]
 mod listings;

@@ -1,9 +1,8 @@
 //! Listings over memory. The expected texts are what `pickletools.dis` prints for these bytes, in this program's form
 //! of arguments, notes and closing lines.
 
-use pickle_tasks::list;
 use pickle_ops::{Failed, Sink, ToWrite};
-use pickle_tasks::Stop;
+use pickle_tasks::{Stop, list};
 use std::alloc::Global;
 use std::test::Fail;
 
