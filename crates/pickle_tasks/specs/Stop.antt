@@ -2,6 +2,8 @@
 use Rattle.std.specs.Prelude.{ℕ, List, codes}
 use Rattle.pickle_doc.specs.declared.fault.DocFault.{DocFault}
 use Rattle.pickle_doc.specs.declared.fault.DocFault.TheVariants as doc
+use Rattle.pickle_io.specs.declared.whole.ReadStop.{ReadStop}
+use Rattle.pickle_io.specs.declared.whole.ReadStop.TheVariants as read
 use Rattle.pickle_report.specs.declared.stop.TextStop.{TextStop}
 use Rattle.pickle_report.specs.declared.stop.TextStop.TheVariants as text
 use Rattle.pickle_tasks.specs.declared.stop.Stop.{Stop}
@@ -18,6 +20,12 @@ words_of stop.Memory = codes "out of memory"
 abbrev pub stop_of : DocFault → Stop
 stop_of doc.TooLarge = stop.TooLarge
 stop_of doc.Memory = stop.Memory
+
+-- why a run is not finished where an input is not read whole
+abbrev pub stop_of_read : ReadStop → Stop
+stop_of_read read.Failed = stop.Read
+stop_of_read read.TooLarge = stop.TooLarge
+stop_of_read read.Memory = stop.Memory
 
 -- why a run is not finished where a text is not
 abbrev pub stop_of_text : TextStop → Stop

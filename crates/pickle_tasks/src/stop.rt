@@ -1,10 +1,10 @@
 //! Why a run of the program was not finished.
 
 ghost use Rattle.std.specs.Prelude.{◌≡◌};
-ghost use Rattle.pickle_tasks.specs.Stop.{words_of, stop_of, stop_of_text};
+ghost use Rattle.pickle_tasks.specs.Stop.{words_of, stop_of, stop_of_read, stop_of_text};
 
 use pickle_doc::DocFault;
-use pickle_ops::Failed;
+use pickle_ops::{Failed, ReadStop};
 use pickle_report::TextStop;
 use std::alloc::AllocError;
 
@@ -48,6 +48,18 @@ impl From<DocFault> for Stop {
         match fault {
             DocFault::TooLarge => Stop::TooLarge,
             DocFault::Memory => Stop::Memory,
+        }
+    }
+}
+
+impl From<ReadStop> for Stop {
+    ghost from_gives = { λ r e. e ≡ stop_of_read r };
+
+    fn from(stop: ReadStop) -> Stop {
+        match stop {
+            ReadStop::Failed => Stop::Read,
+            ReadStop::TooLarge => Stop::TooLarge,
+            ReadStop::Memory => Stop::Memory,
         }
     }
 }
