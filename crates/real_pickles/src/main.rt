@@ -1,6 +1,6 @@
 //! Reads files as documents and prints what it finds of each: its name, the offset and the name of every item, how reading
 //! ended, and whether the document writes back the bytes that it was read from. Then each document is edited beside a plain
-//! list, and the edits are taken back. Test equipment.
+//! list, and the edits are taken back; and each beginning of the bytes is read and written back. Test equipment.
 #![tactic(auto)]
 
 mod edits;
@@ -24,6 +24,8 @@ pub enum Stop {
     Room,
     /// A document and a plain list are not the same after an edit.
     Edits,
+    /// The first so many bytes are written back otherwise.
+    Cut(usize),
 }
 
 impl From<io::Error> for Stop {
@@ -105,6 +107,21 @@ pub fn written(alloc: Global, document: &Document) -> Result<Vec<u8>, Stop> {
     Ok(sink.into_inner())
 }
 
+/// At how many bytes each file is cut, at most.
+const CUTS: usize = 2000;
+
+/// Reads each beginning of some bytes, and compares what is written back with it.
+fn cut_everywhere(alloc: Global, bytes: &[u8]) -> Result<(), Stop> {
+    for len in 0..bytes.len().min(CUTS) {
+        let front = bytes.get(..len).unwrap_or_default();
+        let document = Document::read(alloc, front)?;
+        if written(alloc, &document)?.as_slice() != front {
+            return Err(Stop::Cut(len));
+        }
+    }
+    Ok(())
+}
+
 /// How many edits are made of each document.
 const EDITS: usize = 24;
 
@@ -123,16 +140,18 @@ fn print_file(rt: &HostRuntime, path: &str, dice: &mut Dice) -> Result<(), Stop>
     } else {
         println!(rt; "different")?;
     }
+    cut_everywhere(rt.alloc(), &bytes)?;
     edit_by_dice(rt.alloc(), &mut document, &bytes, dice, EDITS)
 }
 
-/// Prints what is found in each file that the words of the command line name, and that the edits of all were the same.
+/// Prints what is found in each file that the words of the command line name, and that the edits and the cuts of all were the same.
 fn print_files(rt: &HostRuntime) -> Result<(), Stop> {
     let mut dice = Dice::new(11);
     for path in env::args(rt)?.skip(1) {
         print_file(rt, &path, &mut dice)?;
     }
     println!(rt; "edits: same")?;
+    println!(rt; "cuts: same")?;
     Ok(())
 }
 

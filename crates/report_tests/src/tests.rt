@@ -1,9 +1,12 @@
 //! Texts over memory. The expected ones were worked out by hand or by a slow reference, from what the texts are to be.
 
-use pickle_doc::Document;
+mod devices;
+
+use crate::tests::devices::{Text, every_break};
+use pickle_doc::{DocFault, Document};
 use pickle_machine::Machine;
-use pickle_ops::ToWrite;
-use pickle_report::{write_document_report, write_memo, write_show, write_stack};
+use pickle_ops::{Failed, ToWrite};
+use pickle_report::{TextStop, write_document_report, write_memo, write_show, write_stack};
 use std::alloc::Global;
 use std::test::Fail;
 
@@ -107,18 +110,23 @@ const MEMOS: [(&[u8], usize, &str); 3] = [
     (b"N.", 1, "memo\n"),
 ];
 
-/// The machine behind so many opcodes of a pickle.
-fn machine_of(alloc: Global, bytes: &[u8], count: usize) -> Result<Machine, Fail> {
-    let document = Document::read(alloc, bytes)?;
+/// The machine behind so many opcodes of a pickle, or nothing where memory is refused.
+fn try_machine(alloc: Global, bytes: &[u8], count: usize) -> Option<Machine> {
+    let document = Document::read(alloc, bytes).ok()?;
     let mut machine = Machine::new(alloc);
     for place in 0..count {
         if let Some(op) = document.item(place) {
             if machine.objects() < 1_000_000 {
-                machine.step(alloc, op, place)?;
+                let _record = machine.step(alloc, op, place).ok()?;
             }
         }
     }
-    Ok(machine)
+    Some(machine)
+}
+
+/// The machine behind so many opcodes of a pickle.
+fn machine_of(alloc: Global, bytes: &[u8], count: usize) -> Result<Machine, DocFault> {
+    try_machine(alloc, bytes, count).ok_or(DocFault::Memory)
 }
 
 /// The text and the status of a report.
@@ -191,6 +199,150 @@ fn deep_object(rt: HostRuntime) -> Result<(), Fail> {
         shown
             .as_slice()
             .ends_with(b"\n99999 #1 tuple (#0)\n100000 #0 tuple\n")
+    );
+    let lines = shown.iter().filter(|byte| **byte == b'\n').count();
+    assert_eq!(rt; lines, 100_001);
+    Ok(())
+}
+
+/// Every text goes to sinks that fail at each of their calls in turn: each takes a beginning and is not called again.
+#[test]
+fn failing_sinks(rt: HostRuntime) -> Result<(), Fail> {
+    for (k, (bytes, count, id, text)) in SHOWN.iter().enumerate() {
+        let machine = machine_of(rt.alloc(), bytes, *count)?;
+        let found = every_break(rt.alloc(), &machine, Text::Show(*id), text.as_bytes());
+        assert!(rt; found > 0, "shown {k}");
+    }
+    for (k, (bytes, count, text)) in STACKS.iter().enumerate() {
+        let machine = machine_of(rt.alloc(), bytes, *count)?;
+        let found = every_break(rt.alloc(), &machine, Text::Stack, text.as_bytes());
+        assert!(rt; found > 0, "stack {k}");
+    }
+    for (k, (bytes, count, text)) in MEMOS.iter().enumerate() {
+        let machine = machine_of(rt.alloc(), bytes, *count)?;
+        let found = every_break(rt.alloc(), &machine, Text::Memo, text.as_bytes());
+        assert!(rt; found > 0, "memo {k}");
+    }
+    for (k, (bytes, text, _)) in REPORTS.iter().enumerate() {
+        let machine = Machine::new(rt.alloc());
+        let found = every_break(rt.alloc(), &machine, Text::Report(bytes), text.as_bytes());
+        assert!(rt; found > 0, "report {k}");
+    }
+    Ok(())
+}
+
+/// The objects of the last report, as a machine shows them: the report without its closing line.
+#[test]
+fn failing_sinks_of_objects(rt: HostRuntime) -> Result<(), Fail> {
+    let (bytes, text, _) = REPORTS[10];
+    let document = Document::read(rt.alloc(), bytes)?;
+    let machine = machine_of(rt.alloc(), bytes, document.len())?;
+    let objects = text.strip_suffix("result #58\n").unwrap_or_default();
+    let found = every_break(rt.alloc(), &machine, Text::Objects, objects.as_bytes());
+    assert!(rt; found > 0);
+    let list = text.get(..8).unwrap_or_default();
+    assert_eq!(rt; list, "#0 none\n");
+    let found = every_break(rt.alloc(), &machine, Text::Object(0), b"#0 none");
+    assert!(rt; found > 0);
+    Ok(())
+}
+
+/// A document, where one request for memory may be refused.
+fn insist_on_reading(alloc: Global, bytes: &[u8]) -> Result<Document, DocFault> {
+    match Document::read(alloc, bytes) {
+        Err(DocFault::Memory) => Document::read(alloc, bytes),
+        other => other,
+    }
+}
+
+/// A machine behind so many opcodes, where one request for memory may be refused.
+fn insist_on_running(alloc: Global, bytes: &[u8], count: usize) -> Result<Machine, DocFault> {
+    match try_machine(alloc, bytes, count) {
+        Some(machine) => Ok(machine),
+        None => machine_of(alloc, bytes, count),
+    }
+}
+
+/// What was taken of a text that may meet one refused request: all of it, or a beginning where the sink's own growth was
+/// refused, or nothing.
+fn is_answer(taken: &[u8], text: &[u8], answer: Result<(), TextStop>) -> bool {
+    match answer {
+        Ok(()) => taken == text,
+        Err(TextStop::Failed) => text.starts_with(taken),
+        Err(TextStop::Memory) => taken.is_empty(),
+    }
+}
+
+/// A report where one request for memory may be refused, and asked for again then.
+fn report_with_little(alloc: Global, bytes: &[u8], text: &str, status: u8) -> Result<bool, Fail> {
+    let document = insist_on_reading(alloc, bytes)?;
+    let mut sink = ToWrite::new(Vec::new(alloc));
+    let answer = write_document_report(alloc, &document, &mut sink);
+    let taken = sink.into_inner();
+    match answer {
+        Ok(found) => Ok(found == status && taken.as_slice() == text.as_bytes()),
+        Err(stop) => {
+            let (again, found) = reported(alloc, bytes)?;
+            let is_whole = again.as_slice() == text.as_bytes() && found == status;
+            Ok(is_whole && is_answer(&taken, text.as_bytes(), Err(stop)))
+        }
+    }
+}
+
+/// What an object shows, where one request for memory may be refused, and asked for again then.
+fn show_with_little(alloc: Global, machine: &Machine, id: u32, text: &str) -> Result<bool, Failed> {
+    let mut sink = ToWrite::new(Vec::new(alloc));
+    let answer = write_show(alloc, machine, id, &mut sink);
+    let taken = sink.into_inner();
+    if !is_answer(&taken, text.as_bytes(), answer) {
+        return Ok(false);
+    }
+    let mut again = ToWrite::new(Vec::new(alloc));
+    match write_show(alloc, machine, id, &mut again) {
+        Ok(()) => Ok(again.into_inner().as_slice() == text.as_bytes()),
+        // (the only refused request is that of the sink here)
+        Err(_) => Ok(answer.is_ok()),
+    }
+}
+
+/// Run with each request for memory refused in turn.
+#[test]
+fn refused_memory(rt: HostRuntime) -> Result<(), Fail> {
+    for (k, (bytes, text, status)) in REPORTS.iter().enumerate() {
+        let is_right = report_with_little(rt.alloc(), bytes, text, *status)?;
+        assert!(rt; is_right, "report {k}");
+    }
+    for (k, (bytes, count, id, text)) in SHOWN.iter().enumerate() {
+        let machine = insist_on_running(rt.alloc(), bytes, *count)?;
+        let is_right = show_with_little(rt.alloc(), &machine, *id, text)?;
+        assert!(rt; is_right, "shown {k}");
+    }
+    Ok(())
+}
+
+/// Forty pairs, each of the one before twice: what is shown is as many lines as there are pairs and second places.
+#[test]
+fn forty_doublings(rt: HostRuntime) -> Result<(), Fail> {
+    let mut bytes = Vec::new(rt.alloc());
+    bytes.push(b')')?;
+    for _ in 0..40 {
+        bytes.extend_from_slice(b"2\x86")?;
+    }
+    let machine = machine_of(rt.alloc(), &bytes, bytes.len())?;
+    let mut sink = ToWrite::new(Vec::new(rt.alloc()));
+    write_show(rt.alloc(), &machine, 40, &mut sink)?;
+    let shown = sink.into_inner();
+    let lines = shown.iter().filter(|byte| **byte == b'\n').count();
+    assert_eq!(rt; lines, 81);
+    assert!(rt;
+        shown
+            .as_slice()
+            .starts_with(b"0 #40 tuple (#39 #39)\n1 #39 tuple (#38 #38)\n")
+    );
+    assert!(rt;
+        shown.as_slice().ends_with(
+            b"\n40 #0 tuple\n40 #0\n39 #1\n38 #2\n37 #3\n36 #4\n35 #5\n34 #6\n33 #7\n32 #8\n31 #9\n30 #10\n29 #11\n28 #12\n27 #13\n26 #14\n25 #15\n24 #16\n23 #17\n22 #18\n21 #19\n20 #20\n19 #21\n18 #22\n17 #23\n16 #24\n15 #25\n14 #26\n13 #27\n12 #28\n11 #29\n10 #30\n9 #31\n8 #32\n7 #33\n6 #34\n5 #35\n4 #36\n3 #37\n2 #38\n1 #39\n"
+        )
     );
     Ok(())
 }

@@ -1,4 +1,4 @@
-//! Tests of worked scripts, listings and reports over devices that fail at each of their calls, and where each request for memory is
+//! Tests of worked scripts and reports over devices that fail at each of their calls, and where each request for memory is
 //! refused in turn. Test equipment.
 #![tactic(auto)]
 

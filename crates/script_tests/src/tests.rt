@@ -144,7 +144,8 @@ fn is_written_to_its_end(
     let answer = converse(alloc, &mut session, &mut source, &mut sink);
     let obeyed = answered_lines(script, sink.taken().len()).saturating_add(1);
     let stands = standing(alloc, &mut session)?;
-    let is_there = stands == standing_after(alloc, script, obeyed)?;
+    let wanted = standing_after(alloc, script, obeyed)?;
+    let is_there = stands.as_slice() == wanted.as_slice();
     if !text.starts_with(sink.taken()) || !is_there {
         return Ok(None);
     }
@@ -193,7 +194,7 @@ fn insist_on_line<P: Past>(
             return reply.as_bytes().starts_with(sink.taken());
         }
         let is_lacking = match answer {
-            Ok(1) => sink.taken() == b"refused: M out of memory\n",
+            Ok(1) => sink.taken() == b"refused: M out of memory\n".as_slice(),
             Err(Stop::Memory) => sink.taken().is_empty(),
             _ => false,
         };

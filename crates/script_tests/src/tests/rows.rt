@@ -1,4 +1,4 @@
-//! Worked scripts, line by line, and worked listings and reports.
+//! Worked scripts, line by line, and worked reports of objects.
 
 /// Bytes, and lines with their answers.
 #[derive(Clone, Copy)]
@@ -136,26 +136,6 @@ pub const REPORTS: [(&[u8], &str, u8); 4] = [
     (
         b"K\x01q\x00K\x02q\x00h\x07.",
         "#0 int 1\n#1 int 2\nrefused: item 4: S3 no memo entry 7\n",
-        1,
-    ),
-    (b"X\x05\x00\x00\x00ab", "fault: F3 truncated at 0\n", 1),
-];
-
-/// Bytes, and their listing with its status.
-pub const LISTINGS: [(&[u8], &str, u8); 4] = [
-    (
-        DUMP,
-        "    0: \\x80 PROTO      4\n    2: \\x95 FRAME      6\n   11: ]    EMPTY_LIST\n   12: \\x94 MEMOIZE    (as 0)\n   13: K    BININT1    1\n   15: a    APPEND\n   16: .    STOP\nhighest protocol among opcodes = 4\n",
-        0,
-    ),
-    (
-        BY_MEMO,
-        "    0: ]    EMPTY_LIST\n    1: q    BINPUT     0\n    3: (    MARK\n    4: h        BINGET     0\n    6: h        BINGET     0\n    8: e        APPENDS    (MARK at 3)\n    9: .    STOP\nhighest protocol among opcodes = 1\n",
-        0,
-    ),
-    (
-        b"g007\n.",
-        "    0: g    GET        7\nrefused: S3 no memo entry 7\nhighest protocol among opcodes = 0\n",
         1,
     ),
     (b"X\x05\x00\x00\x00ab", "fault: F3 truncated at 0\n", 1),
