@@ -89,6 +89,11 @@ fn may_lack<P: Past>(session: &Session<P>, k: usize) -> bool {
     }
 }
 
+/// What is shown behind command k differs.
+fn differs_at(k: usize) -> Stop {
+    Stop::Differs(u32::try_from(k).unwrap_or(u32::MAX))
+}
+
 /// Obeys command k. Where memory is refused, everything is as it was; and told again it is obeyed.
 fn obey_noted<P: Past>(
     alloc: Global,
@@ -101,7 +106,7 @@ fn obey_noted<P: Past>(
     let mut reply = session.obey(alloc, &command);
     if reply == Reply::Refused(Fault::Memory) {
         if !may_lack || !is_noted(session, notes.get(k)) {
-            return Err(Stop::Differs(k as u32));
+            return Err(differs_at(k));
         }
         reply = session.obey(alloc, &command);
     }
@@ -110,7 +115,7 @@ fn obey_noted<P: Past>(
     if wanted == Some(reply) && is_noted(session, note) {
         Ok(())
     } else {
-        Err(Stop::Differs(k as u32))
+        Err(differs_at(k))
     }
 }
 
