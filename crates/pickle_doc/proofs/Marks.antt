@@ -189,7 +189,7 @@ alike-frame : (x y : Item) → AreAlike x.op y.op → is_frame x.op.opcode ≡ i
 alike-frame x y (inl e) = ap (λ (o : _). is_frame o.opcode) e
 alike-frame x y (inr e) = ap is_frame e.0 ∙ sym (ap is_frame e.1)
 
-alike-size : (x y : Item) → AreAlike x.op y.op → (is_frame x.op.opcode ≡ true → item_size x ≡ 9) → (is_frame y.op.opcode ≡ true → item_size y ≡ 9) → item_size x ≡ item_size y
+pub alike-size : (x y : Item) → AreAlike x.op y.op → (is_frame x.op.opcode ≡ true → item_size x ≡ 9) → (is_frame y.op.opcode ≡ true → item_size y ≡ 9) → item_size x ≡ item_size y
 alike-size x y (inl e) f g = ap (λ (o : _). item_size (record { id = 0; op = o })) e
 alike-size x y (inr e) f g = f (ap is_frame e.0) ∙ sym (g (ap is_frame e.1))
 

@@ -25,7 +25,6 @@ impl Document {
             place: k,
             change: Change::Take,
             frame,
-            start: self.start - size,
         })
     }
 

@@ -64,7 +64,6 @@ impl Document {
                 op: Op::frame(number),
             }),
             frame: None,
-            start: self.start + 9,
         }
     }
 

@@ -58,7 +58,6 @@ impl Document {
                 op,
             }),
             frame,
-            start: self.start + size,
         }
     }
 

@@ -57,7 +57,6 @@ impl Document {
             place: k,
             change: Change::Set(Item { id, op }),
             frame,
-            start: self.start - old + size,
         }
     }
 

@@ -29,12 +29,10 @@ impl Document {
                 if is_open_at(&self.items, self.mark, k, item, self.start) {
                     return Err(EditFault::OpenFrame);
                 }
-                let size = item.op.size() as u64;
                 Ok(EditRecord {
                     place: k,
                     change: Change::Take,
                     frame: None,
-                    start: self.start - size,
                 })
             }
         }

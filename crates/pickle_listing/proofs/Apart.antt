@@ -7,7 +7,7 @@ use Rattle.pickle_doc.specs.declared.item.Item.{Item}
 use Rattle.pickle_doc.specs.declared.fault.Finish.{Finish}
 use Rattle.pickle_doc.specs.declared.fault.Finish.TheVariants as finish
 use Rattle.pickle_doc.specs.DocUnit.{DocUnit, Loose, Frame, flat, operations, sizes, frame_op}
-use Rattle.pickle_doc.specs.Document.{Contents, items_of, unnamed, unnamed_unit, SameApart}
+use Rattle.pickle_doc.specs.Document.{Contents, items_of, unnamed, unnamed_unit, SameApart, finish_of}
 use Rattle.pickle_doc.specs.Place.{ops_of, item_at}
 use Rattle.pickle_machine.specs.State.{State, Marked}
 use Rattle.pickle_machine.specs.Run.{run}
@@ -86,13 +86,13 @@ end_same : (d e : Contents) (f : Finish) → ops_of d ≡ ops_of e → d.tail �
 end_same d e finish.Stopped h t = rw t refl
 end_same d e (finish.Fault f) h t = rw (size_same (items_of d) (items_of e) h) refl
 
-to_same : (d e : Contents) (k : ℕ) (o : Option Operation) (s : Option State) → ops_of d ≡ ops_of e → d.tail ≡ e.tail → d.finish ≡ e.finish → listing_to d k o s ≡ listing_to e k o s
-to_same d e k None (Some s) h t f = rw (lines_same d e k h, end_same d e d.finish h t, f, h) refl
+to_same : (d e : Contents) (k : ℕ) (o : Option Operation) (s : Option State) → ops_of d ≡ ops_of e → d.tail ≡ e.tail → finish_of d ≡ finish_of e → listing_to d k o s ≡ listing_to e k o s
+to_same d e k None (Some s) h t f = rw (lines_same d e k h, end_same d e (finish_of d) h t, f, h) refl
 to_same d e k (Some o) (Some s) h t f = rw (lines_same d e (suc k) h, h) refl
 to_same d e k None None h t f = refl
 to_same d e k (Some o) None h t f = refl
 
-with_same : (d e : Contents) (j k : ℕ) → ops_of d ≡ ops_of e → d.tail ≡ e.tail → d.finish ≡ e.finish → j ≡ k → listing_with d j ≡ listing_with e k
+with_same : (d e : Contents) (j k : ℕ) → ops_of d ≡ ops_of e → d.tail ≡ e.tail → finish_of d ≡ finish_of e → j ≡ k → listing_with d j ≡ listing_with e k
 with_same d e j k h t f n =
     to_same d e j (item_at d j) (run (ops_of d) j) h t f
     ∙ ap (λ (ops : List Operation). listing_to e j (slice_get ops j) (run ops j)) h

@@ -9,7 +9,7 @@ use Rattle.pickle_ops.specs.Table.{protocol_of}
 use Rattle.pickle_ops.specs.Spelling.{Operation, size_of}
 use Rattle.pickle_io.proofs.Devices.{AppendsFront-more, Wrote-trans, Broke-after, Broke-more}
 use Rattle.pickle_doc.specs.DocUnit.{bytes_of}
-use Rattle.pickle_doc.specs.Document.{Contents, document_bytes}
+use Rattle.pickle_doc.specs.Document.{Contents, document_bytes, finish_of}
 use Rattle.pickle_doc.specs.Place.{ops_of, item_at, offset_of}
 use Rattle.pickle_machine.specs.declared.refusal.Refusal.{Refusal}
 use Rattle.pickle_machine.specs.State.{State, Marked, empty}
@@ -112,7 +112,7 @@ begins_at d k j None s h le e = elim (slice_get_cases (ops_of d) j).1 [
   | inl there ↦ let x : Some there.0 ≡ None = sym there.2 ∙ e in cc
   | inr past ↦
       let first = behind_line d k j (omega (arith, past.0)) in
-      (_, ap (λ (t : List ℕ). t ++ (end_lines d d.finish ++ protocol_line (highest_protocol (take j (ops_of d))))) first.1 ∙ append_assoc (lines_with d k) first.0 _)
+      (_, ap (λ (t : List ℕ). t ++ (end_lines d (finish_of d) ++ protocol_line (highest_protocol (take j (ops_of d))))) first.1 ∙ append_assoc (lines_with d k) first.0 _)
 ]
 
 begins : (d : Contents) (k : ℕ) (s : State) → run (ops_of d) k ≡ Some s → k < length (ops_of d) → (rest : List ℕ) × ((listing d).text ≡ lines_with d k ++ rest)
@@ -156,7 +156,7 @@ refused d k offset o s opened r highest p e f =
 
 -- behind all items
 pub ended : (d : Contents) (k offset : ℕ) (s : State) (opened : List ℕ) (highest : Option ℕ) → Progress d k offset s opened highest → length (ops_of d) ≡ k
-    → EndsWith d (lines d k) (end_lines d d.finish ⧺ protocol_line highest) (end_status d.finish)
+    → EndsWith d (lines d k) (end_lines d (finish_of d) ⧺ protocol_line highest) (end_status (finish_of d))
 unfolding listing ◌⧺◌
 ended d k offset s opened highest p all =
     let here : run (ops_of d) (length (ops_of d)) ≡ Some s = subst (λ (n : ℕ). run (ops_of d) n ≡ Some s) (sym all) p.reached in

@@ -10,7 +10,7 @@ use Rattle.pickle_io.specs.Text.{◌⧺◌}
 use Rattle.pickle_doc.specs.declared.fault.Finish.{Finish}
 use Rattle.pickle_doc.specs.declared.fault.Finish.TheVariants as finish
 use Rattle.pickle_doc.specs.DocUnit.{is_stop}
-use Rattle.pickle_doc.specs.Document.{Contents}
+use Rattle.pickle_doc.specs.Document.{Contents, finish_of}
 use Rattle.pickle_doc.specs.Place.{ops_of, item_at, offset_of, tail_offset}
 use Rattle.pickle_objects.specs.Row.{row_of}
 use Rattle.pickle_machine.specs.declared.refusal.Refusal.{Refusal}
@@ -92,7 +92,7 @@ reached ops (suc n) = if is_some (run ops (suc n)) then suc n else reached ops n
 
 -- the listing, k being the greatest place that is reached: behind all items, or with the refused item k as the last
 abbrev pub listing_to : Contents → ℕ → Option Operation → Option State → Listing
-listing_to d k None (Some s) = record { text = lines d k ⧺ (end_lines d d.finish ⧺ protocol_line (highest_protocol (take k (ops_of d)))); status = end_status d.finish }
+listing_to d k None (Some s) = record { text = lines d k ⧺ (end_lines d (finish_of d) ⧺ protocol_line (highest_protocol (take k (ops_of d)))); status = end_status (finish_of d) }
 listing_to d k (Some o) (Some s) =
     record { text = lines d (suc k) ⧺ (refused_lines (refusal_at o s) ⧺ protocol_line (highest_protocol (take (suc k) (ops_of d)))); status = 1 }
 listing_to d k o None = record { text = []; status = 0 }

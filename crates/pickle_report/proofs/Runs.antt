@@ -12,8 +12,10 @@ use Rattle.pickle_doc.specs.declared.fault.Finish.{Finish}
 use Rattle.pickle_doc.specs.declared.fault.Finish.TheVariants as finish
 use Rattle.pickle_doc.specs.declared.fault.End.TheVariants as end
 use Rattle.pickle_doc.specs.DocUnit.{is_stop, operations, bytes_of}
-use Rattle.pickle_doc.specs.Document.{Contents, items_of, document_bytes, stops, open_of, IsFinish, IsDocument}
+use Rattle.pickle_doc.specs.Document.{Contents, items_of, document_bytes, stops, open_of, IsDocument, finish_of}
 use Rattle.pickle_doc.specs.Place.{end_at, end_of, tail_offset}
+use Rattle.pickle_doc.specs.Fitting.{IsFinish}
+use Rattle.pickle_doc.proofs.Finishes.{finished}
 use Rattle.pickle_objects.specs.declared.row.Row.{Row}
 use Rattle.pickle_objects.specs.declared.row.Row.TheVariants as row
 use Rattle.pickle_objects.specs.Row.{row_of, row_of_opcode, kind_of}
@@ -113,7 +115,7 @@ result_of_stop o n s t e h =
 pub result_there : (d : Contents) (s : State) → IsDocument d → end_of d ≡ end.Stopped → run (operations (items_of d)) (length (items_of d)) ≡ Some s → IsSome (last_result s)
 result_there d s is e r =
     let ops : List Operation = operations (items_of d) in
-    let l : LastStop (items_of d) = last_stop (items_of d) (stopped (stops (items_of d)) (open_of d.units) (tail_offset d) d.tail d.finish is.formed.finish e) in
+    let l : LastStop (items_of d) = last_stop (items_of d) (stopped (stops (items_of d)) (open_of d.units) (tail_offset d) d.tail (finish_of d) (finished d is.formed) e) in
     let long : length ops ≡ suc l.place = length-map (items_of d) (λ (i : Item). i.op) ∙ l.last in
     let there : slice_get ops l.place ≡ Some l.operation = slice_get_read ops (length ops) l.place l.operation refl (omega (arith, long)) l.there in
     let at : run ops (suc l.place) ≡ Some s = ap (run ops) (sym l.last) ∙ r in

@@ -34,9 +34,8 @@ undo_number (Some f) items = number_of f.place (slice_get items f.place)
 
 -- the document on the other side
 abbrev pub other_side : EditRecord → Contents → Contents
-other_side r d = contents_of (turned r (items_of d)) d.tail d.finish d.next
+other_side r d = contents_of (turned r (items_of d)) d.tail d.next
 
--- the record that leads back, to where the tail begins at start
-abbrev pub turn_back : EditRecord → List Item → ℕ → EditRecord
-turn_back r items start =
-    record { place = r.place; change = undo r.change r.place items; frame = undo_number r.frame items; start = start }
+-- the record that leads back
+abbrev pub turn_back : EditRecord → List Item → EditRecord
+turn_back r items = record { place = r.place; change = undo r.change r.place items; frame = undo_number r.frame items }
