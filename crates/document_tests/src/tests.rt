@@ -6,6 +6,7 @@ mod memory;
 mod nest;
 mod rows;
 mod shown;
+mod worked;
 
 use crate::tests::cost::edit_many;
 use crate::tests::hostile::{CUTS, LENGTHS, end_of, first_wrong_cut, single_bytes};

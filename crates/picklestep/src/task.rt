@@ -149,6 +149,3 @@ pub fn task_of(alloc: Global, words: &[&str]) -> Result<Task, Usage>
         None => Err(Usage::Words(command.error(ErrorKind::InvalidSubcommand, "this is no task")?)),
     }
 }
-
-#[cfg(test)]
-mod tests;
