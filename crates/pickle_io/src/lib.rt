@@ -7,8 +7,6 @@ mod from_read;
 mod sink;
 mod sip;
 mod source;
-#[cfg(test)]
-mod tests;
 mod text;
 mod to_write;
 mod whole;

@@ -1,10 +1,8 @@
 //! What sinks take, and what sources give.
 
-mod whole;
-
-use crate::sink::{Failed, Sink, write_all};
-use crate::text::{write_decimal, write_hex, write_quoted, write_signed};
-use crate::to_write::ToWrite;
+use pickle_io::{
+    Failed, Sink, ToWrite, write_all, write_decimal, write_hex, write_quoted, write_signed,
+};
 use std::io::Cursor;
 use std::test::Fail;
 

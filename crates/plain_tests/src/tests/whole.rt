@@ -1,8 +1,6 @@
 //! Sources that are read whole.
 
-use crate::drip::Drip;
-use crate::from_read::FromRead;
-use crate::whole::{ReadStop, read_limited};
+use pickle_io::{Drip, FromRead, ReadStop, Source, read_limited};
 use std::io::Cursor;
 
 /// A limit, how many calls a source answers that gives the six bytes `abcdef` and at most four a call, what comes of it, and
