@@ -2,16 +2,14 @@
 //! made again. Behind the word `memory`, a script over each file where a request for memory may be refused. Test equipment.
 #![tactic(auto)]
 
-mod memory;
-
 ghost use Rattle.std.specs.Prelude.{◌≡◌, []};
 
-use crate::memory::{follow, note_down, open_whole, open_window};
 use pickle_doc::{DocFault, LIMIT};
 use pickle_machine::Machine;
-use pickle_ops::{Failed, OpFault, Opcode, ToWrite, op_of};
+use pickle_ops::{Failed, Op, OpFault, Opcode, ToWrite, op_of};
 use pickle_session::{Command, Reply, Session, Whole};
-use std::alloc::{AllocError, AllocFailed, Global};
+use session_notes::{ScriptFault, follow_whole, follow_window, note_whole, note_window};
+use std::alloc::{AllocError, Global};
 use std::fs::File;
 use std::io::Read;
 use std::process::ExitCode;
@@ -49,9 +47,12 @@ impl From<AllocError> for Stop {
     }
 }
 
-impl<T: Drop> From<AllocFailed<T>> for Stop {
-    fn from(_error: AllocFailed<T>) -> Stop {
-        Stop::Room
+impl From<ScriptFault> for Stop {
+    fn from(fault: ScriptFault) -> Stop {
+        match fault {
+            ScriptFault::Memory => Stop::Room,
+            ScriptFault::Differs(number) => Stop::Differs(number),
+        }
     }
 }
 
@@ -97,34 +98,46 @@ const PUT_IN: [(Opcode, &[u8]); 8] = [
     (Opcode::Stop, b""),
 ];
 
+/// A command without an operation, by a number below 13.
+fn plain_command(number: usize, place: usize, ahead: usize, count: usize) -> Command {
+    match number {
+        0 => Command::Back,
+        1 => Command::Goto(place),
+        2 => Command::Goto(ahead),
+        3 => Command::Run,
+        4 => Command::Break(place),
+        5 => Command::Clear(place),
+        6 => Command::Delete(place),
+        7 => Command::Frame(place, count),
+        8 => Command::Unframe(ahead),
+        9 => Command::Undo,
+        10 => Command::Redo,
+        _ => Command::Step,
+    }
+}
+
+/// An operation that is put in.
+fn any_op(alloc: Global, chance: &mut Chance) -> Result<Op, OpFault> {
+    let (opcode, arg) = PUT_IN[chance.below(8).min(7)];
+    op_of(alloc, opcode, arg)
+}
+
 /// A command at places that are there, or one behind them.
 fn any_command(
     alloc: Global,
     chance: &mut Chance,
     len: usize,
     cursor: usize,
-) -> Result<Command, Stop> {
-    let kind = chance.below(16);
+) -> Result<Command, OpFault> {
     let place = chance.below(len.saturating_add(2));
     let ahead = cursor.saturating_add(chance.below(4));
-    let (opcode, arg) = PUT_IN[chance.below(8).min(7)];
-    Ok(match kind {
-        0 | 1 => Command::Step,
-        2 => Command::Back,
-        3 => Command::Goto(place),
-        4 => Command::Goto(ahead),
-        5 => Command::Run,
-        6 => Command::Break(place),
-        7 => Command::Clear(place),
-        8 => Command::Replace(place, op_of(alloc, opcode, arg)?),
-        9 => Command::Insert(place, op_of(alloc, opcode, arg)?),
-        10 => Command::Insert(ahead, op_of(alloc, opcode, arg)?),
-        11 => Command::Delete(place),
-        12 => Command::Frame(place, chance.below(5)),
-        13 => Command::Unframe(ahead),
-        14 => Command::Undo,
-        _ => Command::Redo,
-    })
+    let count = chance.below(5);
+    match chance.below(16) {
+        13 => Ok(Command::Replace(place, any_op(alloc, chance)?)),
+        14 => Ok(Command::Insert(place, any_op(alloc, chance)?)),
+        15 => Ok(Command::Insert(ahead, any_op(alloc, chance)?)),
+        number => Ok(plain_command(number, place, ahead, count)),
+    }
 }
 
 /// The bytes of a session's document.
@@ -246,13 +259,11 @@ fn try_file(rt: &HostRuntime, path: &str, chance: &mut Chance) -> Result<(), Sto
 /// A request for memory that is made behind that line may be refused.
 fn try_memory(rt: &HostRuntime, path: &str) -> Result<(), Stop> {
     let bytes = bytes_at(rt, path)?;
-    let whole = note_down(rt.alloc(), &mut open_whole(rt.alloc(), &bytes)?)?;
-    let window = note_down(rt.alloc(), &mut open_window(rt.alloc(), &bytes)?)?;
+    let whole = note_whole(rt.alloc(), &bytes)?;
+    let window = note_window(rt.alloc(), &bytes)?;
     println!(rt; "noted")?;
-    let mut session = open_whole(rt.alloc(), &bytes)?;
-    follow(rt.alloc(), &mut session, &whole)?;
-    let mut session = open_window(rt.alloc(), &bytes)?;
-    follow(rt.alloc(), &mut session, &window)?;
+    follow_whole(rt.alloc(), &bytes, &whole)?;
+    follow_window(rt.alloc(), &bytes, &window)?;
     println!(rt; "as noted")?;
     Ok(())
 }

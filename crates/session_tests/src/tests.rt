@@ -12,7 +12,7 @@ use pickle_doc::{EditFault, LIMIT};
 use pickle_ops::{Opcode, ToWrite};
 use pickle_session::{Command, Fault, Past, Reply, Session, Whole, Why};
 use session_notes::{Beside, shows, write_session};
-use std::alloc::Global;
+use std::alloc::{AllocError, Global};
 use std::test::Fail;
 
 /// Follows a script and goes all the way back, where one request for memory may be refused; the number of rows that are as
@@ -30,33 +30,38 @@ fn try_window(alloc: Global, count: usize, script: &Script) -> Option<(usize, bo
     Some((rows, go_home(&mut session, alloc, script.bytes)))
 }
 
+/// Follows all scripts and goes back, with all records or with so many of the latest; the first script that is answered in
+/// another way, if one is.
+fn first_wrong(alloc: Global, window: Option<usize>) -> Option<usize> {
+    for (k, script) in SCRIPTS.iter().enumerate() {
+        let found = match window {
+            Some(count) => try_window(alloc, count, script),
+            None => try_whole(alloc, script),
+        };
+        if found != Some((script.rows.len(), true)) {
+            return Some(k);
+        }
+    }
+    None
+}
+
 /// Run also with each request for memory refused in turn: a command that is refused so leaves every reader as it was, and
 /// told again it is answered as with ample memory. Then comes the way back to the bytes that were opened.
 #[test]
 fn refused_memory(rt: HostRuntime) {
-    for (k, script) in SCRIPTS.iter().enumerate() {
-        let all = Some((script.rows.len(), true));
-        assert_eq!(rt; try_whole(rt.alloc(), script), all, "script {k}");
-        assert_eq!(rt;
-            try_window(rt.alloc(), 2, script),
-            all,
-            "script {k} in a window"
-        );
-    }
+    assert_eq!(rt; first_wrong(rt.alloc(), None), None);
+    assert_eq!(rt; first_wrong(rt.alloc(), Some(2)), None);
 }
 
 /// Every script is answered alike whatever the window.
 #[test]
 fn in_every_window(rt: HostRuntime) {
     for count in [1, 2, 3, 1000] {
-        for (k, script) in SCRIPTS.iter().enumerate() {
-            let all = Some((script.rows.len(), true));
-            assert_eq!(rt;
-                try_window(rt.alloc(), count, script),
-                all,
-                "script {k} in a window of {count}"
-            );
-        }
+        assert_eq!(rt;
+            first_wrong(rt.alloc(), Some(count)),
+            None,
+            "a window of {count}"
+        );
     }
 }
 
@@ -198,16 +203,23 @@ const WINDOWS: [(usize, &[Counts]); 3] = [
     ),
 ];
 
+/// Whether a command has this reply, and these counts stand behind it.
+fn is_counted<P: Past>(session: &mut Session<P>, alloc: Global, row: &Counts) -> bool {
+    let (told, reply, cursor, kept, work) = *row;
+    let Some(command) = command(alloc, told) else {
+        return false;
+    };
+    let found = session.obey(alloc, &command);
+    found == reply && session.cursor() == cursor && session.kept() == kept && session.work() == work
+}
+
 #[test]
 fn counts_in_a_window(rt: HostRuntime) {
     for (w, (count, rows)) in WINDOWS.iter().enumerate() {
         let mut session = open_window(rt.alloc(), *count, PAIR).expect(&rt, "room");
         for (k, row) in rows.iter().enumerate() {
-            let told = command(rt.alloc(), row.0).expect(&rt, "room");
-            let reply = session.obey(rt.alloc(), &told);
-            assert_eq!(rt; reply, row.1, "row {k} of window {w}");
-            let found = (session.cursor(), session.kept(), session.work());
-            assert_eq!(rt; found, (row.2, row.3, row.4), "row {k} of window {w}");
+            let is_counted = is_counted(&mut session, rt.alloc(), row);
+            assert!(rt; is_counted, "row {k} of window {w}");
         }
     }
 }
@@ -270,6 +282,22 @@ fn undone_and_made_again_a_thousand_times(rt: HostRuntime) -> Result<(), Fail> {
     Ok(())
 }
 
+/// Undoes or makes again a thousand edits at the start; how many were refused.
+fn turn_a_thousand<P: Past>(session: &mut Session<P>, alloc: Global, is_undo: bool) -> usize {
+    let mut refused = 0usize;
+    for _ in 0..1000 {
+        let (command, wanted) = if is_undo {
+            (Command::Undo, Reply::Undone(0))
+        } else {
+            (Command::Redo, Reply::Redone(0))
+        };
+        if session.obey(alloc, &command) != wanted {
+            refused = refused.saturating_add(1);
+        }
+    }
+    refused
+}
+
 #[test]
 fn a_thousand_insertions(rt: HostRuntime) -> Result<(), Fail> {
     let mut bytes = vec![in rt.alloc(); b'N'; 1000]?;
@@ -281,24 +309,17 @@ fn a_thousand_insertions(rt: HostRuntime) -> Result<(), Fail> {
         assert_eq!(rt; reply, Reply::Edited(0), "insertion {k}");
     }
     assert!(rt; has_bytes(&session, &bytes));
-    for k in 0..1000 {
-        let reply = session.obey(rt.alloc(), &Command::Undo);
-        assert_eq!(rt; reply, Reply::Undone(0), "undo {k}");
-    }
+    assert_eq!(rt; turn_a_thousand(&mut session, rt.alloc(), true), 0);
     assert!(rt; has_bytes(&session, b"."));
-    for k in 0..1000 {
-        let reply = session.obey(rt.alloc(), &Command::Redo);
-        assert_eq!(rt; reply, Reply::Redone(0), "redo {k}");
-    }
+    assert_eq!(rt; turn_a_thousand(&mut session, rt.alloc(), false), 0);
     assert!(rt; has_bytes(&session, &bytes));
     assert_eq!(rt; (session.undos(), session.redos()), (1000, 0));
     Ok(())
 }
 
-/// The most bytes that a session may have: it goes to their end, and an opcode more would be too many.
-#[test]
-fn largest_input(rt: HostRuntime) -> Result<(), Fail> {
-    let mut bytes = vec![in rt.alloc(); 0u8; LIMIT]?;
+/// The most bytes that a session may have: one BINBYTES and STOP.
+fn largest(alloc: Global) -> Result<Vec<u8>, AllocError> {
+    let mut bytes = vec![in alloc; 0u8; LIMIT]?;
     let front: &[u8] = b"B\xfa\xff\xff\x0f";
     for (byte, want) in bytes.iter_mut().zip(front) {
         *byte = *want;
@@ -306,17 +327,24 @@ fn largest_input(rt: HostRuntime) -> Result<(), Fail> {
     if let Some(last) = bytes.last_mut() {
         *last = b'.';
     }
+    Ok(bytes)
+}
+
+/// A session over the most bytes goes to their end, and an opcode more would be too many.
+#[test]
+fn largest_input(rt: HostRuntime) -> Result<(), Fail> {
+    let bytes = largest(rt.alloc())?;
     let mut session = Session::open(rt.alloc(), Whole::new(rt.alloc()), &bytes)?;
-    let insert = command(rt.alloc(), Told::Insert(0, Opcode::None, b"")).expect(&rt, "room");
-    let refused = session.obey(rt.alloc(), &insert);
-    assert_eq!(rt; refused, Reply::Refused(Fault::Edit(EditFault::TooLarge)));
-    assert_eq!(rt; (session.undos(), session.redos()), (0, 0));
-    assert_eq!(rt; (session.cursor(), session.kept()), (0, 0));
-    assert_eq!(rt; (session.offset(), session.work()), (0, 0));
-    let run = session.obey(rt.alloc(), &Command::Run);
-    assert_eq!(rt; run, Reply::Ran(2, Why::End));
-    assert_eq!(rt; (session.cursor(), session.kept()), (2, 2));
-    assert_eq!(rt; (session.offset(), session.work()), (LIMIT as u64, 2));
+    let too_large = Reply::Refused(Fault::Edit(EditFault::TooLarge));
+    let insert = (Told::Insert(0, Opcode::None, b""), too_large, 0, 0, 0);
+    assert!(rt; is_counted(&mut session, rt.alloc(), &insert));
+    assert_eq!(rt;
+        (session.undos(), session.redos(), session.offset()),
+        (0, 0, 0)
+    );
+    let run = (Told::Run, Reply::Ran(2, Why::End), 2, 2, 2);
+    assert!(rt; is_counted(&mut session, rt.alloc(), &run));
+    assert_eq!(rt; session.offset(), LIMIT as u64);
     assert!(rt; has_bytes(&session, &bytes));
     Ok(())
 }

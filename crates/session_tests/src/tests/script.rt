@@ -37,21 +37,21 @@ pub struct Script {
 
 /// The command, or nothing where memory is refused or the opcode has no such argument.
 fn try_command(alloc: Global, told: Told) -> Option<Command> {
-    match told {
-        Told::Step => Some(Command::Step),
-        Told::Back => Some(Command::Back),
-        Told::Run => Some(Command::Run),
-        Told::Goto(k) => Some(Command::Goto(k)),
-        Told::Break(k) => Some(Command::Break(k)),
-        Told::Clear(k) => Some(Command::Clear(k)),
-        Told::Replace(k, opcode, arg) => Some(Command::Replace(k, op_of(alloc, opcode, arg).ok()?)),
-        Told::Insert(k, opcode, arg) => Some(Command::Insert(k, op_of(alloc, opcode, arg).ok()?)),
-        Told::Delete(k) => Some(Command::Delete(k)),
-        Told::Frame(k, count) => Some(Command::Frame(k, count)),
-        Told::Unframe(k) => Some(Command::Unframe(k)),
-        Told::Undo => Some(Command::Undo),
-        Told::Redo => Some(Command::Redo),
-    }
+    Some(match told {
+        Told::Step => Command::Step,
+        Told::Back => Command::Back,
+        Told::Run => Command::Run,
+        Told::Goto(k) => Command::Goto(k),
+        Told::Break(k) => Command::Break(k),
+        Told::Clear(k) => Command::Clear(k),
+        Told::Replace(k, opcode, arg) => Command::Replace(k, op_of(alloc, opcode, arg).ok()?),
+        Told::Insert(k, opcode, arg) => Command::Insert(k, op_of(alloc, opcode, arg).ok()?),
+        Told::Delete(k) => Command::Delete(k),
+        Told::Frame(k, count) => Command::Frame(k, count),
+        Told::Unframe(k) => Command::Unframe(k),
+        Told::Undo => Command::Undo,
+        Told::Redo => Command::Redo,
+    })
 }
 
 /// The command, where one request for memory may be refused.

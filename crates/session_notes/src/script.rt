@@ -3,11 +3,50 @@
 
 ghost use Rattle.std.specs.Prelude.{◌≡◌, []};
 
-use crate::Stop;
-use pickle_ops::{OpFault, Opcode, ToWrite, op_of};
+use crate::session::{shows, write_session};
+use pickle_doc::DocFault;
+use pickle_ops::{Failed, OpFault, Opcode, ToWrite, op_of};
 use pickle_session::{Command, Fault, Past, Reply, Session, Whole, Window};
-use session_notes::{shows, write_session};
-use std::alloc::Global;
+use std::alloc::{AllocError, AllocFailed, Global};
+
+/// Why a script did not go as noted.
+#[derive(Clone, Copy, Debug, PartialEq, Eq)]
+pub enum ScriptFault {
+    /// Memory was refused where it should not be, or more than once.
+    Memory,
+    /// Another thing is shown, behind so many commands.
+    Differs(u32),
+}
+
+impl From<AllocError> for ScriptFault {
+    fn from(_error: AllocError) -> ScriptFault {
+        ScriptFault::Memory
+    }
+}
+
+impl<T: Drop> From<AllocFailed<T>> for ScriptFault {
+    fn from(_error: AllocFailed<T>) -> ScriptFault {
+        ScriptFault::Memory
+    }
+}
+
+impl From<OpFault> for ScriptFault {
+    fn from(_fault: OpFault) -> ScriptFault {
+        ScriptFault::Memory
+    }
+}
+
+impl From<DocFault> for ScriptFault {
+    fn from(_fault: DocFault) -> ScriptFault {
+        ScriptFault::Memory
+    }
+}
+
+impl From<Failed> for ScriptFault {
+    fn from(_failed: Failed) -> ScriptFault {
+        ScriptFault::Memory
+    }
+}
 
 /// The commands: to the end, half way back, an edit ahead, to the end again, to the start, and the edit undone.
 const COMMANDS: usize = 6;
@@ -24,7 +63,7 @@ fn command(alloc: Global, k: usize, len: usize) -> Result<Command, OpFault> {
 }
 
 /// Command k, where one request for memory may be refused.
-fn insist_on_command(alloc: Global, k: usize, len: usize) -> Result<Command, Stop> {
+fn insist_on_command(alloc: Global, k: usize, len: usize) -> Result<Command, ScriptFault> {
     match command(alloc, k, len) {
         Ok(command) => Ok(command),
         Err(_) => Ok(command(alloc, k, len)?),
@@ -45,7 +84,7 @@ fn note_of<P: Past>(
     alloc: Global,
     session: &Session<P>,
     reply: Option<Reply>,
-) -> Result<Note, Stop> {
+) -> Result<Note, ScriptFault> {
     let mut shown = ToWrite::new(Vec::new(alloc));
     let mut bytes = ToWrite::new(Vec::new(alloc));
     write_session(session, &mut shown)?;
@@ -59,7 +98,7 @@ fn note_of<P: Past>(
 }
 
 /// What a session shows at first and behind each command.
-pub fn note_down<P: Past>(alloc: Global, session: &mut Session<P>) -> Result<Vec<Note>, Stop> {
+fn note_down<P: Past>(alloc: Global, session: &mut Session<P>) -> Result<Vec<Note>, ScriptFault> {
     let len = session.document().len();
     let mut notes = Vec::new(alloc);
     notes.push(note_of(alloc, session, None)?)?;
@@ -90,8 +129,8 @@ fn may_lack<P: Past>(session: &Session<P>, k: usize) -> bool {
 }
 
 /// What is shown behind command k differs.
-fn differs_at(k: usize) -> Stop {
-    Stop::Differs(u32::try_from(k).unwrap_or(u32::MAX))
+fn differs_at(k: usize) -> ScriptFault {
+    ScriptFault::Differs(u32::try_from(k).unwrap_or(u32::MAX))
 }
 
 /// Obeys command k. Where memory is refused, everything is as it was; and told again it is obeyed.
@@ -100,7 +139,7 @@ fn obey_noted<P: Past>(
     session: &mut Session<P>,
     notes: &[Note],
     k: usize,
-) -> Result<(), Stop> {
+) -> Result<(), ScriptFault> {
     let command = insist_on_command(alloc, k, session.document().len())?;
     let may_lack = may_lack(session, k);
     let mut reply = session.obey(alloc, &command);
@@ -120,13 +159,13 @@ fn obey_noted<P: Past>(
 }
 
 /// Obeys all commands, and compares what is shown with the notes.
-pub fn follow<P: Past>(
+fn follow<P: Past>(
     alloc: Global,
     session: &mut Session<P>,
     notes: &[Note],
-) -> Result<(), Stop> {
+) -> Result<(), ScriptFault> {
     if !is_noted(session, notes.first()) {
-        return Err(Stop::Differs(0));
+        return Err(ScriptFault::Differs(0));
     }
     for k in 0..COMMANDS {
         obey_noted(alloc, session, notes, k)?;
@@ -135,7 +174,7 @@ pub fn follow<P: Past>(
 }
 
 /// A session with all records, where one request for memory may be refused.
-pub fn open_whole(alloc: Global, bytes: &[u8]) -> Result<Session<Whole>, Stop> {
+fn open_whole(alloc: Global, bytes: &[u8]) -> Result<Session<Whole>, ScriptFault> {
     match Session::open(alloc, Whole::new(alloc), bytes) {
         Ok(session) => Ok(session),
         Err(_) => Ok(Session::open(alloc, Whole::new(alloc), bytes)?),
@@ -143,14 +182,35 @@ pub fn open_whole(alloc: Global, bytes: &[u8]) -> Result<Session<Whole>, Stop> {
 }
 
 /// A session with the latest two records.
-fn try_window(alloc: Global, bytes: &[u8]) -> Result<Session<Window>, Stop> {
+fn try_window(alloc: Global, bytes: &[u8]) -> Result<Session<Window>, ScriptFault> {
     Ok(Session::open(alloc, Window::new(alloc, 2)?, bytes)?)
 }
 
 /// A session with the latest two records, where one request for memory may be refused.
-pub fn open_window(alloc: Global, bytes: &[u8]) -> Result<Session<Window>, Stop> {
+fn open_window(alloc: Global, bytes: &[u8]) -> Result<Session<Window>, ScriptFault> {
     match try_window(alloc, bytes) {
         Ok(session) => Ok(session),
         Err(_) => try_window(alloc, bytes),
     }
+}
+
+/// What the script shows over some bytes with all records and ample memory.
+pub fn note_whole(alloc: Global, bytes: &[u8]) -> Result<Vec<Note>, ScriptFault> {
+    note_down(alloc, &mut open_whole(alloc, bytes)?)
+}
+
+/// What the script shows over some bytes with the latest two records and ample memory.
+pub fn note_window(alloc: Global, bytes: &[u8]) -> Result<Vec<Note>, ScriptFault> {
+    note_down(alloc, &mut open_window(alloc, bytes)?)
+}
+
+/// Follows the script with all records, where one request for memory may be refused, and compares what is shown with the notes.
+pub fn follow_whole(alloc: Global, bytes: &[u8], notes: &[Note]) -> Result<(), ScriptFault> {
+    follow(alloc, &mut open_whole(alloc, bytes)?, notes)
+}
+
+/// Follows the script with the latest two records, where one request for memory may be refused, and compares what is shown with
+/// the notes.
+pub fn follow_window(alloc: Global, bytes: &[u8], notes: &[Note]) -> Result<(), ScriptFault> {
+    follow(alloc, &mut open_window(alloc, bytes)?, notes)
 }
