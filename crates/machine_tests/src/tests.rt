@@ -30,11 +30,16 @@ fn walk_twice(alloc: Global, noted: &Noted) -> Result<(), Fault> {
     }
 }
 
-/// Goes the way of a row, and compares the states that the row gives, of which the last is where its way ends.
-fn try_row(alloc: Global, row: &Row) -> Result<(), Fault> {
-    let (bytes, states) = *row;
-    let noted = note_down(alloc, bytes)?;
-    walk_twice(alloc, &noted)?;
+/// What is shown on the way of these bytes, where a request for memory may be refused once.
+fn insist_on_notes(alloc: Global, bytes: &[u8]) -> Result<Noted, Fault> {
+    match note_down(alloc, bytes) {
+        Err(Fault::Memory) => note_down(alloc, bytes),
+        other => other,
+    }
+}
+
+/// Compares the states that a row gives with what is shown on its way. The last of them is where the way ends.
+fn has_states(noted: &Noted, states: &[(usize, &str)]) -> Result<(), Fault> {
     let mut last = 0;
     for (place, text) in states {
         let found = noted.notes.get(*place).map(|note| note.as_slice());
@@ -50,30 +55,61 @@ fn try_row(alloc: Global, row: &Row) -> Result<(), Fault> {
     }
 }
 
+/// How the way of a row is gone.
+#[derive(Clone, Copy)]
+enum Trip {
+    /// Forwards and back, twice, with a look at the states.
+    Twice,
+    /// Forwards, or also back. The way back takes no memory, so both ask for as much.
+    Once { and_back: bool },
+}
+
+/// Goes the way of a row, where a request for memory may be refused once. The code of the opcode that ends the row.
+fn try_row(alloc: Global, row: &Row, trip: Trip) -> Result<u8, Fault> {
+    let (bytes, states) = *row;
+    let noted = insist_on_notes(alloc, bytes)?;
+    match trip {
+        Trip::Twice => {
+            walk_twice(alloc, &noted)?;
+            has_states(&noted, states)?;
+        }
+        Trip::Once { and_back } => go(alloc, &noted, and_back)?,
+    }
+    Ok(noted.ops.last().map_or(0, |op| op.opcode().code()))
+}
+
+/// Goes the ways of the rows in which each opcode ends one; how many opcodes end one, or the first row that differs.
+fn try_opcodes(alloc: Global, trip: Trip) -> Result<usize, (usize, Fault)> {
+    let mut met = [false; 256];
+    for (k, row) in OPCODES.iter().enumerate() {
+        match try_row(alloc, row, trip) {
+            Ok(code) => met[usize::from(code)] = true,
+            Err(fault) => return Err((k, fault)),
+        }
+    }
+    Ok(met.iter().filter(|is_met| **is_met).count())
+}
+
 #[test]
 fn states_on_the_way(rt: HostRuntime) {
     for (k, row) in WORKED.iter().enumerate() {
-        assert_eq!(rt; try_row(rt.alloc(), row), Ok(()), "worked row {k}");
+        assert!(rt;
+            try_row(rt.alloc(), row, Trip::Twice).is_ok(),
+            "worked row {k}"
+        );
     }
     for (k, row) in FURTHER.iter().enumerate() {
-        assert_eq!(rt; try_row(rt.alloc(), row), Ok(()), "further row {k}");
+        assert!(rt;
+            try_row(rt.alloc(), row, Trip::Twice).is_ok(),
+            "further row {k}"
+        );
     }
-    assert_eq!(rt; try_row(rt.alloc(), &ALL_SHAPES), Ok(()));
 }
 
 /// Each opcode ends a row, and each a row of its own.
 #[test]
-fn states_of_each_opcode(rt: HostRuntime) -> Result<(), Fail> {
-    let mut met = [false; 256];
-    for (k, row) in OPCODES.iter().enumerate() {
-        assert_eq!(rt; try_row(rt.alloc(), row), Ok(()), "row {k}");
-        let ops = ops_of(rt.alloc(), row.0)?;
-        if let Some(op) = ops.last() {
-            met[usize::from(op.opcode().code())] = true;
-        }
-    }
-    assert_eq!(rt; met.iter().filter(|is_met| **is_met).count(), 68);
-    Ok(())
+fn states_of_each_opcode(rt: HostRuntime) {
+    assert_eq!(rt; try_opcodes(rt.alloc(), Trip::Twice), Ok(68));
 }
 
 /// A mark, a thousand objects, all of them dropped with the mark, and one more object.
@@ -174,23 +210,12 @@ fn refusals(rt: HostRuntime) -> Result<(), Fail> {
     Ok(())
 }
 
-/// Goes the way of these bytes, where a request for memory may be refused once.
-fn insist(alloc: Global, bytes: &[u8]) -> Result<(), Fault> {
-    let noted = match note_down(alloc, bytes) {
-        Err(Fault::Memory) => note_down(alloc, bytes)?,
-        other => other?,
-    };
-    walk_twice(alloc, &noted)
-}
-
 /// Run with each request for memory refused in turn: a step that is refused for want of memory leaves every reader as it
 /// was, and asked again it succeeds; a free step is never refused so.
 #[test]
 fn refused_memory(rt: HostRuntime) {
-    assert_eq!(rt; insist(rt.alloc(), ALL_SHAPES.0), Ok(()));
-    for (k, (bytes, _)) in OPCODES.iter().enumerate() {
-        assert_eq!(rt; insist(rt.alloc(), bytes), Ok(()), "row {k}");
-    }
+    assert!(rt; try_row(rt.alloc(), &ALL_SHAPES, Trip::Twice).is_ok());
+    assert_eq!(rt; try_opcodes(rt.alloc(), Trip::Twice), Ok(68));
 }
 
 /// Goes a way forwards, or also back. The way back takes no memory, so both ask for as much.
@@ -227,27 +252,26 @@ fn go_freely(alloc: Global, times: usize) -> Result<(), Fault> {
     Ok(())
 }
 
-/// Goes all of these ways.
+/// Goes the ways of a thousand objects and of every shape.
 fn go_all(alloc: Global, and_back: bool) -> Result<(), Fault> {
-    for (bytes, _) in &OPCODES {
-        let noted = note_down(alloc, bytes)?;
-        go(alloc, &noted, and_back)?;
-    }
     let noted = thousand(alloc)?;
     go(alloc, &noted, and_back)?;
-    let noted = note_down(alloc, ALL_SHAPES.0)?;
-    go(alloc, &noted, and_back)?;
+    try_row(alloc, &ALL_SHAPES, Trip::Once { and_back })?;
     go_freely(alloc, if and_back { 3 } else { 0 })
 }
 
 /// Asks for memory as often as `there_and_back_again`.
 #[test]
 fn forwards(rt: HostRuntime) {
+    let trip = Trip::Once { and_back: false };
+    assert_eq!(rt; try_opcodes(rt.alloc(), trip), Ok(68));
     assert_eq!(rt; go_all(rt.alloc(), false), Ok(()));
 }
 
 /// Asks for memory no more often than `forwards`: no step back asks for any, and no free step.
 #[test]
 fn there_and_back_again(rt: HostRuntime) {
+    let trip = Trip::Once { and_back: true };
+    assert_eq!(rt; try_opcodes(rt.alloc(), trip), Ok(68));
     assert_eq!(rt; go_all(rt.alloc(), true), Ok(()));
 }
