@@ -13,9 +13,11 @@ use crate::tests::hostile::{CUTS, LENGTHS, end_of, first_wrong_cut, single_bytes
 use crate::tests::memory::edit_with_little;
 use crate::tests::nest::put_and_back;
 use crate::tests::rows::{ACCEPTED, REFUSED};
-use crate::tests::shown::{Row, Wrong, are_alike, make, place_of, shows, turn, written};
+use crate::tests::shown::{
+    Edit, Row, Wrong, are_alike, have_same_ids, make, place_of, shows, turn, written,
+};
 use pickle_doc::{Document, EditFault, LIMIT, there_and_back};
-use pickle_ops::{Opcode, op_of};
+use pickle_ops::Opcode;
 use std::alloc::Global;
 use std::test::Fail;
 
@@ -35,48 +37,64 @@ fn try_row(alloc: Global, row: &Row) -> Result<(), Wrong> {
 
 #[test]
 fn accepted_edits(rt: HostRuntime) {
-    for (k, row) in ACCEPTED.iter().enumerate() {
-        assert_eq!(rt; try_row(rt.alloc(), row), Ok(()), "row {k}");
+    for row in &ACCEPTED {
+        let bytes = row.before.bytes;
+        assert_eq!(rt; try_row(rt.alloc(), row), Ok(()), "{bytes:?}");
     }
 }
 
-/// A refused edit leaves the document as it was read.
-#[test]
-fn refused_edits(rt: HostRuntime) -> Result<(), Fail> {
-    for (k, (bytes, edit, fault)) in REFUSED.iter().enumerate() {
-        let opened = Document::read(rt.alloc(), bytes)?;
-        let mut document = Document::read(rt.alloc(), bytes)?;
-        let found = make(rt.alloc(), &mut document, edit).err();
-        assert_eq!(rt; found, Some(*fault), "row {k}");
-        assert_eq!(rt; are_alike(&document, &opened), Ok(()), "row {k}");
-        for j in 0..opened.len() {
-            assert_eq!(rt; document.id(j), opened.id(j), "row {k}, item {j}");
-        }
-        let bytes_now = written(rt.alloc(), &document);
-        let same = bytes_now.is_ok_and(|now| now.as_slice() == *bytes);
-        assert!(rt; same, "row {k}");
+/// Why an edit is refused, which leaves the document as it was read.
+fn refusal_of(alloc: Global, bytes: &[u8], edit: &Edit) -> Result<Option<EditFault>, Wrong> {
+    let opened = Document::read(alloc, bytes)?;
+    let mut document = Document::read(alloc, bytes)?;
+    let found = make(alloc, &mut document, edit).err();
+    are_alike(&document, &opened)?;
+    if !have_same_ids(&document, &opened) {
+        return Err(Wrong::Ids);
     }
-    Ok(())
+    if written(alloc, &document)?.as_slice() != bytes {
+        return Err(Wrong::Bytes);
+    }
+    Ok(found)
+}
+
+#[test]
+fn refused_edits(rt: HostRuntime) {
+    for (k, (bytes, edit, fault)) in REFUSED.iter().enumerate() {
+        assert_eq!(rt;
+            refusal_of(rt.alloc(), bytes, edit),
+            Ok(Some(*fault)),
+            "row {k}"
+        );
+    }
+}
+
+/// The identities of the first two items behind an edit, which is taken back.
+fn ids_behind(
+    alloc: Global,
+    document: &mut Document,
+    edit: &Edit,
+) -> Result<[Option<u32>; 2], Wrong> {
+    let mut record = make(alloc, document, edit)?;
+    let ids = [document.id(0), document.id(1)];
+    document.swap(&mut record);
+    Ok(ids)
 }
 
 /// The identity of an item that was put in and taken out again is not given to another.
 #[test]
 fn identities_are_given_once(rt: HostRuntime) -> Result<(), Fail> {
     let mut document = Document::read(rt.alloc(), b".")?;
-    let op = op_of(rt.alloc(), Opcode::None, b"")?;
-    let mut record = document.insert(0, op)?;
-    assert_eq!(rt; document.id(0), Some(1));
-    assert_eq!(rt; document.id(1), Some(0));
-    document.swap(&mut record);
-    assert_eq!(rt; document.id(0), Some(0));
-    assert_eq!(rt; document.id(1), None);
-    let mut further = document.frame(0, 1)?;
-    assert_eq!(rt; document.id(0), Some(2));
-    assert_eq!(rt; document.id(1), Some(0));
-    document.swap(&mut further);
-    let op = op_of(rt.alloc(), Opcode::None, b"")?;
-    let _last = document.insert(0, op)?;
-    assert_eq!(rt; document.id(0), Some(3));
+    let edits = [
+        (Edit::Insert(0, Opcode::None, b""), 1),
+        (Edit::Frame(0, 1), 2),
+        (Edit::Insert(0, Opcode::None, b""), 3),
+    ];
+    for (edit, id) in &edits {
+        let found = ids_behind(rt.alloc(), &mut document, edit);
+        assert_eq!(rt; found, Ok([Some(*id), Some(0)]));
+        assert_eq!(rt; [document.id(0), document.id(1)], [Some(0), None]);
+    }
     Ok(())
 }
 
@@ -108,10 +126,11 @@ fn insertions_back_and_again(rt: HostRuntime) -> Result<(), Fail> {
     Ok(())
 }
 
-/// The most bytes that a document may have: no edit makes more of them, and one that makes less is accepted.
-#[test]
-fn largest_input(rt: HostRuntime) -> Result<(), Fail> {
-    let mut bytes = vec![in rt.alloc(); 0u8; LIMIT]?;
+/// The most bytes that a document may have: one BINBYTES and STOP.
+fn largest(alloc: Global) -> Result<Vec<u8>, Wrong> {
+    let Ok(mut bytes) = vec![in alloc; 0u8; LIMIT] else {
+        return Err(Wrong::Memory);
+    };
     let front: &[u8] = b"B\xfa\xff\xff\x0f";
     for (byte, want) in bytes.iter_mut().zip(front) {
         *byte = *want;
@@ -119,16 +138,35 @@ fn largest_input(rt: HostRuntime) -> Result<(), Fail> {
     if let Some(last) = bytes.last_mut() {
         *last = b'.';
     }
-    let mut document = Document::read(rt.alloc(), &bytes)?;
-    assert_eq!(rt; document.len(), 2);
-    let op = op_of(rt.alloc(), Opcode::None, b"")?;
-    assert_eq!(rt; document.insert(0, op).err(), Some(EditFault::TooLarge));
-    assert_eq!(rt; document.frame(0, 2).err(), Some(EditFault::TooLarge));
-    let op = op_of(rt.alloc(), Opcode::None, b"")?;
-    let mut record = document.replace(0, op)?;
-    assert_eq!(rt; document.total(), 2);
+    Ok(bytes)
+}
+
+/// How many bytes there are behind an edit, which is taken back.
+fn total_behind(alloc: Global, document: &mut Document, edit: &Edit) -> Result<u64, Wrong> {
+    let mut record = make(alloc, document, edit)?;
+    let total = document.total();
     document.swap(&mut record);
-    assert_eq!(rt; document.total(), LIMIT as u64);
+    Ok(total)
+}
+
+/// No edit makes more bytes than a document may have, and one that makes less is accepted.
+#[test]
+fn largest_input(rt: HostRuntime) -> Result<(), Fail> {
+    let bytes = largest(rt.alloc())?;
+    let mut document = Document::read(rt.alloc(), &bytes)?;
+    let edits = [
+        (
+            Edit::Insert(0, Opcode::None, b""),
+            Err(Wrong::Refused(EditFault::TooLarge)),
+        ),
+        (Edit::Frame(0, 2), Err(Wrong::Refused(EditFault::TooLarge))),
+        (Edit::Replace(0, Opcode::None, b""), Ok(2)),
+    ];
+    for (edit, total) in &edits {
+        assert_eq!(rt; total_behind(rt.alloc(), &mut document, edit), *total);
+        assert_eq!(rt; document.len(), 2);
+        assert_eq!(rt; document.total(), LIMIT as u64);
+    }
     Ok(())
 }
 

@@ -28,7 +28,8 @@ fn first_lines(
 ) -> Result<(Vec<u8>, Vec<u8>), AllocError> {
     let mut lines = Vec::new(alloc);
     let mut text = Vec::new(alloc);
-    for (line, reply) in script.lines.iter().take(count) {
+    for k in 0..count.min(script.lines.len()) {
+        let (line, reply) = script.lines[k];
         lines.extend_from_slice(line.as_bytes())?;
         text.extend_from_slice(reply.as_bytes())?;
     }
@@ -84,12 +85,12 @@ fn calls_for(len: usize, most: usize) -> u64 {
 
 #[test]
 fn failing_sources(rt: HostRuntime) -> Result<(), Fail> {
-    for script in [BREAKPOINTS, APPENDED_BY_MEMO] {
+    for script in &[BREAKPOINTS, APPENDED_BY_MEMO] {
         for most in [1, 2, 7] {
-            let (lines, _) = first_lines(rt.alloc(), &script, script.lines.len())?;
+            let (lines, _) = first_lines(rt.alloc(), script, script.lines.len())?;
             let needed = calls_for(lines.len(), most);
             for calls in 0..=needed {
-                let found = is_read_to_its_end(rt.alloc(), &script, most, calls)?;
+                let found = is_read_to_its_end(rt.alloc(), script, most, calls)?;
                 assert_eq!(rt; found, Some(calls == needed), "{calls} calls of {most}");
             }
         }
@@ -159,11 +160,11 @@ fn is_written_to_its_end(
 
 #[test]
 fn failing_sinks(rt: HostRuntime) -> Result<(), Fail> {
-    for script in [BREAKPOINTS, APPENDED_BY_MEMO] {
+    for script in &[BREAKPOINTS, APPENDED_BY_MEMO] {
         for most in [1, 2, 7] {
             let mut is_done = false;
             for calls in 0..200 {
-                let found = is_written_to_its_end(rt.alloc(), &script, most, calls)?;
+                let found = is_written_to_its_end(rt.alloc(), script, most, calls)?;
                 assert!(rt; found.is_some(), "{calls} calls of {most}");
                 is_done = found == Some(true);
             }

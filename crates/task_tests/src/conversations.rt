@@ -10,8 +10,11 @@ use std::test::Fail;
 /// 1, twice, and the pair of both.
 const PAIR: &[u8] = b"K\x012\x86.";
 
+/// How many lines there are on the pair.
+const COUNT: usize = 26;
+
 /// Lines on the pair, and what they are answered.
-const LINES: [(&str, &str); 26] = [
+const LINES: [(&str, &str); COUNT] = [
     ("step\n", "at 1\n"),
     ("show 0\n", "0 #0 int 1\n"),
     ("show 1\n", "refused: V1 no such object\n"),
@@ -229,11 +232,17 @@ fn answered(alloc: Global, bytes: &[u8], script: &[u8]) -> Result<(Vec<u8>, u8),
     Ok((sink.into_inner(), status))
 }
 
+/// A line on the pair, and what it is answered.
+fn line_at(k: usize) -> (&'static str, &'static str) {
+    LINES.get(k).copied().unwrap_or(("", ""))
+}
+
 /// The first lines on the pair, and their transcript.
 fn first_lines(alloc: Global, count: usize) -> Result<(Vec<u8>, Vec<u8>), AllocError> {
     let mut script = Vec::new(alloc);
     let mut text = Vec::new(alloc);
-    for (line, reply) in LINES.iter().take(count) {
+    for k in 0..count {
+        let (line, reply) = line_at(k);
         script.extend_from_slice(line.as_bytes())?;
         text.extend_from_slice(reply.as_bytes())?;
     }
@@ -260,12 +269,12 @@ fn standing_after(alloc: Global, count: usize) -> Result<Vec<u8>, Stop> {
 
 #[test]
 fn rows(rt: HostRuntime) -> Result<(), Fail> {
-    for (bytes, script, text, status) in ROWS {
+    for (bytes, script, text, status) in &ROWS {
         let found = answered(rt.alloc(), bytes, script.as_bytes())?;
         assert_eq!(rt; found.0.as_slice(), text.as_bytes());
-        assert_eq!(rt; found.1, status);
+        assert_eq!(rt; found.1, *status);
     }
-    let (script, text) = first_lines(rt.alloc(), LINES.len())?;
+    let (script, text) = first_lines(rt.alloc(), COUNT)?;
     let found = answered(rt.alloc(), PAIR, script.as_slice())?;
     assert_eq!(rt; found.0.as_slice(), text.as_slice());
     assert_eq!(rt; found.1, 1);
@@ -278,7 +287,7 @@ fn rows(rt: HostRuntime) -> Result<(), Fail> {
 fn long_lines(rt: HostRuntime) -> Result<(), Fail> {
     let blanks = vec![in rt.alloc(); b' '; 65_532]?;
     let mut script = Vec::new(rt.alloc());
-    for (before, behind) in [
+    for (before, behind) in &[
         ("    ", "\n"),
         ("     ", "\n"),
         ("", "step\n"),
@@ -303,7 +312,7 @@ fn long_lines(rt: HostRuntime) -> Result<(), Fail> {
 /// called again.
 #[test]
 fn failing_source(rt: HostRuntime) -> Result<(), Fail> {
-    let (script, _) = first_lines(rt.alloc(), LINES.len())?;
+    let (script, _) = first_lines(rt.alloc(), COUNT)?;
     for most in 1..8 {
         for calls in 0..140 {
             let mut session = opened(rt.alloc(), PAIR)?;
@@ -337,7 +346,7 @@ fn failing_source(rt: HostRuntime) -> Result<(), Fail> {
 /// is not called again.
 #[test]
 fn failing_sink(rt: HostRuntime) -> Result<(), Fail> {
-    let (script, text) = first_lines(rt.alloc(), LINES.len())?;
+    let (script, text) = first_lines(rt.alloc(), COUNT)?;
     for most in 1..8 {
         for calls in 0..220 {
             let mut session = opened(rt.alloc(), PAIR)?;
@@ -368,7 +377,8 @@ fn refused_memory(rt: HostRuntime) -> Result<(), Fail> {
             opened(rt.alloc(), PAIR)?
         }
     };
-    for (line, reply) in LINES {
+    for k in 0..COUNT {
+        let (line, reply) = line_at(k);
         let mut is_answered = false;
         for _ in 0..2 {
             if !is_answered {
@@ -409,9 +419,9 @@ const REPORTS: [(&[u8], &str, u8); 4] = [
 
 #[test]
 fn reports(rt: HostRuntime) -> Result<(), Fail> {
-    for (bytes, text, status) in REPORTS {
+    for (bytes, text, status) in &REPORTS {
         let mut sink = ToWrite::new(Vec::new(rt.alloc()));
-        assert_eq!(rt; objects(rt.alloc(), bytes, &mut sink), Ok(status));
+        assert_eq!(rt; objects(rt.alloc(), bytes, &mut sink), Ok(*status));
         assert_eq!(rt; sink.into_inner().as_slice(), text.as_bytes());
         let mut broken = Sip::new(rt.alloc(), 1, 3);
         assert_eq!(rt; objects(rt.alloc(), bytes, &mut broken), Err(Stop::Write));

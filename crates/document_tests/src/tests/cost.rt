@@ -3,7 +3,7 @@
 ghost use Rattle.std.specs.Prelude.{◌≡◌, ◌+◌, ◌≤◌, length};
 
 use crate::tests::shown::{Wrong, written};
-use pickle_doc::Document;
+use pickle_doc::{Document, there_and_back};
 use pickle_ops::{Opcode, op_of};
 use std::alloc::Global;
 
@@ -54,13 +54,11 @@ fn put_and_take(
     };
     let mut record = document.insert(place, op)?;
     if and_back {
-        document.swap(&mut record);
-        document.swap(&mut record);
+        there_and_back(document, &mut record);
     }
     let mut record = document.delete(place)?;
     if and_back {
-        document.swap(&mut record);
-        document.swap(&mut record);
+        there_and_back(document, &mut record);
     }
     Ok(())
 }

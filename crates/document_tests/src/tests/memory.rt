@@ -39,22 +39,39 @@ fn insist_on_reading(alloc: Global, bytes: &[u8]) -> Result<Document, Wrong> {
     }
 }
 
+/// Puts an opcode in and takes it out again, so that there is room for one item.
+fn make_room(alloc: Global, document: &mut Document) -> Result<(), Wrong> {
+    let mut record = make(alloc, document, &Edit::Insert(0, Opcode::None, b""))?;
+    document.swap(&mut record);
+    Ok(())
+}
+
+/// Puts in an opcode and an empty frame, of which the frame is taken off again. An edit that takes no memory finds it never
+/// wanting.
+fn insert_and_frame(alloc: Global, document: &mut Document) -> Result<(), Wrong> {
+    insist(alloc, document, &Edit::Insert(1, Opcode::None, b""))?;
+    insist(alloc, document, &Edit::Frame(0, 0))?;
+    let _record = document.unframe(0)?;
+    Ok(())
+}
+
+/// Puts an opcode with a long argument in the place of another, and takes it out.
+fn replace_and_delete(alloc: Global, document: &mut Document) -> Result<(), Wrong> {
+    let long = Edit::Replace(1, Opcode::ShortBinBytes, b"\x14abcdefghijklmnopqrst");
+    insist(alloc, document, &long)?;
+    let _record = document.delete(1)?;
+    Ok(())
+}
+
 /// Reads, and makes every edit so often that the list of items grows more than once.
 pub fn edit_with_little(alloc: Global, bytes: &[u8]) -> Result<(), Wrong> {
     let mut document = insist_on_reading(alloc, bytes)?;
-    // there is room for one item
-    let mut first = make(alloc, &mut document, &Edit::Insert(0, Opcode::None, b""))?;
-    document.swap(&mut first);
+    make_room(alloc, &mut document)?;
     for _ in 0..40 {
-        insist(alloc, &mut document, &Edit::Insert(1, Opcode::None, b""))?;
-        insist(alloc, &mut document, &Edit::Frame(0, 0))?;
-        // an edit that takes no memory finds it never wanting
-        let _record = document.unframe(0)?;
+        insert_and_frame(alloc, &mut document)?;
     }
     for _ in 0..20 {
-        let long = Edit::Replace(1, Opcode::ShortBinBytes, b"\x14abcdefghijklmnopqrst");
-        insist(alloc, &mut document, &long)?;
-        let _record = document.delete(1)?;
+        replace_and_delete(alloc, &mut document)?;
     }
     Ok(())
 }

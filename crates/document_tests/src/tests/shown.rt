@@ -43,6 +43,8 @@ pub enum Wrong {
     Memory,
     /// There are other items, from this place on.
     Items(usize),
+    /// The identities are others.
+    Ids,
     /// The tail, the end or the total is another.
     Tail,
     /// Other bytes are written.
@@ -109,6 +111,16 @@ pub fn are_alike(left: &Document, right: &Document) -> Result<(), Wrong> {
     }
 }
 
+/// Whether the items of both documents have the same identities.
+pub fn have_same_ids(left: &Document, right: &Document) -> bool {
+    for k in 0..left.len() {
+        if left.id(k) != right.id(k) {
+            return false;
+        }
+    }
+    true
+}
+
 /// Whether item k of a document is this one.
 fn is_item(document: &Document, k: usize, want: &Want) -> bool {
     let (offset, name, frame, id) = want;
@@ -116,6 +128,15 @@ fn is_item(document: &Document, k: usize, want: &Want) -> bool {
         && document.offset(k) == Some(*offset)
         && document.frame_of(k) == *frame
         && document.id(k) == Some(*id)
+}
+
+/// Whether there is no item behind the last one.
+fn has_no_more(document: &Document) -> bool {
+    let len = document.len();
+    document.item(len).is_none()
+        && document.id(len).is_none()
+        && document.frame_of(len).is_none()
+        && document.is_empty() == (len == 0)
 }
 
 /// Whether a document shows this, and its bytes read as it.
@@ -127,7 +148,7 @@ pub fn shows(alloc: Global, document: &Document, want: &Shown) -> Result<(), Wro
     }
     let len = document.len();
     let start = want.bytes.len().saturating_sub(want.tail.len()) as u64;
-    if len != want.items.len() || document.offset(len) != Some(start) {
+    if len != want.items.len() || document.offset(len) != Some(start) || !has_no_more(document) {
         return Err(Wrong::Items(len));
     }
     let total = want.bytes.len() as u64;
