@@ -139,20 +139,20 @@ fn reported(alloc: Global, bytes: &[u8]) -> Result<(Vec<u8>, u8), Fail> {
 
 #[test]
 fn reports(rt: HostRuntime) -> Result<(), Fail> {
-    for (bytes, text, status) in REPORTS {
+    for (bytes, text, status) in &REPORTS {
         let found = reported(rt.alloc(), bytes)?;
         assert_eq!(rt; found.0.as_slice(), text.as_bytes());
-        assert_eq!(rt; found.1, status);
+        assert_eq!(rt; found.1, *status);
     }
     Ok(())
 }
 
 #[test]
 fn shown_objects(rt: HostRuntime) -> Result<(), Fail> {
-    for (bytes, count, id, text) in SHOWN {
-        let machine = machine_of(rt.alloc(), bytes, count)?;
+    for (bytes, count, id, text) in &SHOWN {
+        let machine = machine_of(rt.alloc(), bytes, *count)?;
         let mut sink = ToWrite::new(Vec::new(rt.alloc()));
-        write_show(rt.alloc(), &machine, id, &mut sink)?;
+        write_show(rt.alloc(), &machine, *id, &mut sink)?;
         assert_eq!(rt; sink.into_inner().as_slice(), text.as_bytes());
     }
     Ok(())
@@ -160,8 +160,8 @@ fn shown_objects(rt: HostRuntime) -> Result<(), Fail> {
 
 #[test]
 fn stacks(rt: HostRuntime) -> Result<(), Fail> {
-    for (bytes, count, text) in STACKS {
-        let machine = machine_of(rt.alloc(), bytes, count)?;
+    for (bytes, count, text) in &STACKS {
+        let machine = machine_of(rt.alloc(), bytes, *count)?;
         let mut sink = ToWrite::new(Vec::new(rt.alloc()));
         write_stack(&machine, &mut sink)?;
         assert_eq!(rt; sink.into_inner().as_slice(), text.as_bytes());
@@ -171,8 +171,8 @@ fn stacks(rt: HostRuntime) -> Result<(), Fail> {
 
 #[test]
 fn memos(rt: HostRuntime) -> Result<(), Fail> {
-    for (bytes, count, text) in MEMOS {
-        let machine = machine_of(rt.alloc(), bytes, count)?;
+    for (bytes, count, text) in &MEMOS {
+        let machine = machine_of(rt.alloc(), bytes, *count)?;
         let mut sink = ToWrite::new(Vec::new(rt.alloc()));
         write_memo(&machine, &mut sink)?;
         assert_eq!(rt; sink.into_inner().as_slice(), text.as_bytes());

@@ -308,35 +308,47 @@ fn long_lines(rt: HostRuntime) -> Result<(), Fail> {
     Ok(())
 }
 
+/// How many of some bytes end a line.
+fn count_lines(bytes: &[u8]) -> usize {
+    bytes.iter().filter(|byte| **byte == b'\n').count()
+}
+
+/// A conversation whose source gives at most so many bytes a call and fails after so many calls: its answer and how often the
+/// source failed, or nothing where other lines were obeyed or answered than those that the source gave whole.
+fn read_with(
+    alloc: Global,
+    script: &[u8],
+    most: usize,
+    calls: u64,
+) -> Result<Option<(Result<u8, Stop>, u64)>, Stop> {
+    let mut session = opened(alloc, PAIR)?;
+    let mut source = Drip::new(script, most.max(1), calls);
+    let mut sink = Sip::new(alloc, most.max(1), u64::MAX);
+    let answer = converse(alloc, &mut session, &mut source, &mut sink);
+    let given = most.saturating_mul(calls as usize);
+    let count = count_lines(script.get(..given).unwrap_or(script));
+    let (_, text) = first_lines(alloc, count)?;
+    let stands = standing(alloc, &mut session)?;
+    let expected = standing_after(alloc, count)?;
+    let is_so = sink.taken() == text.as_slice() && stands.as_slice() == expected.as_slice();
+    Ok(is_so.then_some((answer, source.failures())))
+}
+
 /// A source that fails at each of its calls in turn: the lines that it gave whole are obeyed and answered, and it is not
 /// called again.
 #[test]
 fn failing_source(rt: HostRuntime) -> Result<(), Fail> {
     let (script, _) = first_lines(rt.alloc(), COUNT)?;
-    for most in 1..8 {
+    for most in 1..8usize {
         for calls in 0..140 {
-            let mut session = opened(rt.alloc(), PAIR)?;
-            let mut source = Drip::new(script.as_slice(), most, calls);
-            let mut sink = Sip::new(rt.alloc(), most, u64::MAX);
-            let answer = converse(rt.alloc(), &mut session, &mut source, &mut sink);
             let given = most.saturating_mul(calls as usize);
-            let count = script
-                .iter()
-                .take(given)
-                .filter(|byte| **byte == b'\n')
-                .count();
-            let (_, text) = first_lines(rt.alloc(), count)?;
-            assert_eq!(rt; sink.taken(), text.as_slice());
-            if given < script.len().saturating_add(most) {
-                assert_eq!(rt; answer, Err(Stop::Read));
-                assert_eq!(rt; source.failures(), 1);
+            let wanted = if given < script.len().saturating_add(most) {
+                (Err(Stop::Read), 1)
             } else {
-                assert_eq!(rt; answer, Ok(1));
-                assert_eq!(rt; source.failures(), 0);
-            }
-            let stands = standing(rt.alloc(), &mut session)?;
-            let expected = standing_after(rt.alloc(), count)?;
-            assert_eq!(rt; stands.as_slice(), expected.as_slice());
+                (Ok(1), 0)
+            };
+            let found = read_with(rt.alloc(), script.as_slice(), most, calls)?;
+            assert_eq!(rt; found, Some(wanted), "{calls} calls of {most}");
         }
     }
     Ok(())
@@ -357,7 +369,7 @@ fn failing_sink(rt: HostRuntime) -> Result<(), Fail> {
             let whole = sink.taken().len() == text.len();
             assert_eq!(rt; answer, if whole { Ok(1) } else { Err(Stop::Write) });
             assert_eq!(rt; sink.failures(), if whole { 0 } else { 1 });
-            let count = sink.taken().iter().filter(|byte| **byte == b'\n').count();
+            let count = count_lines(sink.taken());
             let stands = standing(rt.alloc(), &mut session)?;
             let expected = standing_after(rt.alloc(), count.saturating_add(1))?;
             assert_eq!(rt; stands.as_slice(), expected.as_slice());

@@ -67,7 +67,7 @@ fn write_answer<P: Past, S: Sink>(
 /// Each line of each script is answered as the table says.
 #[test]
 fn worked_scripts(rt: HostRuntime) -> Result<(), Fail> {
-    for script in SCRIPTS {
+    for script in &SCRIPTS {
         let mut session = opened(rt.alloc(), script.bytes)?;
         for (line, reply) in script.lines {
             let mut sink = ToWrite::new(Vec::new(rt.alloc()));
@@ -104,9 +104,9 @@ fn longest_line(rt: HostRuntime) -> Result<(), Fail> {
 /// The texts of replies that no script of the table meets.
 #[test]
 fn other_replies(rt: HostRuntime) -> Result<(), Fail> {
-    for (reply, text) in REPLIES {
+    for (reply, text) in &REPLIES {
         let mut sink = ToWrite::new(Vec::new(rt.alloc()));
-        write_reply(End::Stopped, reply, &mut sink)?;
+        write_reply(End::Stopped, *reply, &mut sink)?;
         assert_eq!(rt; sink.into_inner().as_slice(), text.as_bytes());
     }
     Ok(())
@@ -154,7 +154,7 @@ fn breaks_right(
 
 #[test]
 fn failing_sinks(rt: HostRuntime) -> Result<(), Fail> {
-    for script in SCRIPTS {
+    for script in &SCRIPTS {
         let mut session = opened(rt.alloc(), script.bytes)?;
         for (line, reply) in script.lines {
             let answer = obeyed(rt.alloc(), &mut session, line.as_bytes());
@@ -165,8 +165,8 @@ fn failing_sinks(rt: HostRuntime) -> Result<(), Fail> {
         }
     }
     let session = opened(rt.alloc(), b"N.")?;
-    for (reply, text) in REPLIES {
-        let answer = Answer::Reply(End::Stopped, reply);
+    for (reply, text) in &REPLIES {
+        let answer = Answer::Reply(End::Stopped, *reply);
         for most in [1, 2, 7] {
             let is_right = breaks_right(rt.alloc(), &session, answer, text.as_bytes(), most);
             assert!(rt; is_right, "{text}");
