@@ -204,7 +204,7 @@ const WINDOWS: [(usize, &[Counts]); 3] = [
 ];
 
 /// Whether a command has this reply, and these counts stand behind it.
-fn is_counted<P: Past>(session: &mut Session<P>, alloc: Global, row: &Counts) -> bool {
+fn is_answered<P: Past>(session: &mut Session<P>, alloc: Global, row: &Counts) -> bool {
     let (told, reply, cursor, kept, work) = *row;
     let Some(command) = command(alloc, told) else {
         return false;
@@ -218,8 +218,8 @@ fn counts_in_a_window(rt: HostRuntime) {
     for (w, (count, rows)) in WINDOWS.iter().enumerate() {
         let mut session = open_window(rt.alloc(), *count, PAIR).expect(&rt, "room");
         for (k, row) in rows.iter().enumerate() {
-            let is_counted = is_counted(&mut session, rt.alloc(), row);
-            assert!(rt; is_counted, "row {k} of window {w}");
+            let is_answered = is_answered(&mut session, rt.alloc(), row);
+            assert!(rt; is_answered, "row {k} of window {w}");
         }
     }
 }
@@ -337,13 +337,13 @@ fn largest_input(rt: HostRuntime) -> Result<(), Fail> {
     let mut session = Session::open(rt.alloc(), Whole::new(rt.alloc()), &bytes)?;
     let too_large = Reply::Refused(Fault::Edit(EditFault::TooLarge));
     let insert = (Told::Insert(0, Opcode::None, b""), too_large, 0, 0, 0);
-    assert!(rt; is_counted(&mut session, rt.alloc(), &insert));
+    assert!(rt; is_answered(&mut session, rt.alloc(), &insert));
     assert_eq!(rt;
         (session.undos(), session.redos(), session.offset()),
         (0, 0, 0)
     );
     let run = (Told::Run, Reply::Ran(2, Why::End), 2, 2, 2);
-    assert!(rt; is_counted(&mut session, rt.alloc(), &run));
+    assert!(rt; is_answered(&mut session, rt.alloc(), &run));
     assert_eq!(rt; session.offset(), LIMIT as u64);
     assert!(rt; has_bytes(&session, &bytes));
     Ok(())
