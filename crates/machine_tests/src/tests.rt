@@ -2,11 +2,10 @@
 
 mod path;
 mod rows;
-mod state;
 
 use crate::tests::path::{Fault, Noted, Way, note_down, notes_of, ops_of, run, walk};
 use crate::tests::rows::{ALL_SHAPES, FURTHER, OPCODES, Row, WORKED};
-use crate::tests::state::stands;
+use machine_notes::stands;
 use pickle_machine::{Machine, Refusal};
 use std::alloc::Global;
 use std::test::Fail;

@@ -6,7 +6,7 @@ use Rattle.pickle_doc.specs.Document.{Contents, document_bytes, ReadsAs, IsReadA
 use Rattle.pickle_report.specs.declared.stop.TextStop.{TextStop}
 use Rattle.pickle_report.specs.declared.stop.TextStop.TheVariants as stop
 use Rattle.pickle_listing.specs.Listing.{listing}
-use Rattle.pickle_listing.specs.Written.{WroteListing, LeftListing, IsListed, BreaksListing, LeavesListing, CutsListing}
+use Rattle.pickle_listing.specs.Written.{WroteListing, CutListing, IsListed, BreaksListing, BeginsListing, CutsListing}
 use Rattle.pickle_listing.proofs.Apart.{same_listing}
 
 -- the sink has failed
@@ -15,7 +15,7 @@ cut_failed bytes a b (Ok x) h w = absurd h
 cut_failed bytes a b (Err e) h w = rw h w
 
 -- there was no memory
-pub cut_memory : (bytes : List ℕ) (a b : Told) (r : Result ℕ TextStop) → IsErrAnd r (λ e. e ≡ stop.Memory) → LeavesListing bytes a b → IfErr r (CutsListing bytes a b)
+pub cut_memory : (bytes : List ℕ) (a b : Told) (r : Result ℕ TextStop) → IsErrAnd r (λ e. e ≡ stop.Memory) → BeginsListing bytes a b → IfErr r (CutsListing bytes a b)
 cut_memory bytes a b (Ok x) h w = absurd h
 cut_memory bytes a b (Err e) h w = rw h w
 
@@ -25,13 +25,13 @@ listed_as : (d e : Contents) → IsReadAgain d → ReadsAs (document_bytes d) e 
 listed_as d e again r = ap listing (sym (again.only e r)) ∙ sym (same_listing d again.read again.same)
 
 pub wrote_document : (d : Contents) (a b : Told) (r : Result ℕ TextStop) → IsReadAgain d → IfOk r (IsListed (document_bytes d) a b) → IfOk r (WroteListing d a b)
-wrote_document d a b (Ok status) again (e, reads, wrote, answers) = let same = listed_as d e again reads in rw (← same) (wrote, answers)
+wrote_document d a b (Ok status) again (e, reads, (wrote, answers)) = let same = listed_as d e again reads in rw (← same) (wrote, answers)
 wrote_document d a b (Err x) again h = tt
 
-left_document : (d : Contents) (a b : Told) (x : TextStop) → IsReadAgain d → CutsListing (document_bytes d) a b x → LeftListing d a b x
-left_document d a b stop.Failed again (e, reads, broke) = let same = listed_as d e again reads in rw (← same) broke
-left_document d a b stop.Memory again (e, reads, front, calm) = let same = listed_as d e again reads in rw (← same) (front, calm)
+document_cut : (d : Contents) (a b : Told) (x : TextStop) → IsReadAgain d → CutsListing (document_bytes d) a b x → CutListing d a b x
+document_cut d a b stop.Failed again (e, reads, broke) = let same = listed_as d e again reads in rw (← same) broke
+document_cut d a b stop.Memory again (e, reads, (rest, wrote)) = let same = listed_as d e again reads in rw (← same) (rest, wrote)
 
-pub cut_document : (d : Contents) (a b : Told) (r : Result ℕ TextStop) → IsReadAgain d → IfErr r (CutsListing (document_bytes d) a b) → IfErr r (LeftListing d a b)
+pub cut_document : (d : Contents) (a b : Told) (r : Result ℕ TextStop) → IsReadAgain d → IfErr r (CutsListing (document_bytes d) a b) → IfErr r (CutListing d a b)
 cut_document d a b (Ok status) again h = tt
-cut_document d a b (Err x) again h = left_document d a b x again h
+cut_document d a b (Err x) again h = document_cut d a b x again h

@@ -1,15 +1,16 @@
 -- The loop that lists items as they are read.
 use Rattle.std.proofs.Common.{◌≡◌, ℕ, suc, ◌+◌, ◌<◌, ◌≤◌, Bool, true, false, List, [], ◌++◌, length, drop, Option, Some, None, Ok, refl, sym, ap, ◌∙◌, add-one, append_assoc, arith}
-use Rattle.std.specs.Prelude.{MatchBool, if◌then◌else◌}
+use Rattle.std.specs.Prelude.{⊤, Result, Err, IfOk, IfErr, MatchBool, if◌then◌else◌}
 use Rattle.std.specs.Option.{option_map}
 use Rattle.std.proofs.lemmas.List.{take_all, length-map, append-nil}
 use Rattle.pickle_ops.specs.declared.opcode.Opcode.{Opcode}
 use Rattle.pickle_ops.specs.declared.opcode.Opcode.TheVariants as op
 use Rattle.pickle_io.specs.Text.{◌⧺◌}
-use Rattle.pickle_io.specs.Device.{Told, Wrote, Broke, WroteAllBut}
+use Rattle.pickle_io.specs.declared.sink.Failed.{Failed}
+use Rattle.pickle_io.specs.Device.{Told, Wrote, Broke, Writes, WroteAllBut}
 use Rattle.pickle_ops.specs.Table.{protocol_of}
 use Rattle.pickle_ops.specs.Spelling.{Operation, size_of}
-use Rattle.pickle_io.proofs.Devices.{Wrote-trans, Broke-after, WroteAllBut-none, WroteAllBut-front}
+use Rattle.pickle_io.proofs.Devices.{WroteAllBut-none}
 use Rattle.pickle_doc.specs.declared.item.Item.{Item}
 use Rattle.pickle_doc.specs.declared.fault.TailFault.{TailFault}
 use Rattle.pickle_doc.specs.declared.fault.Finish.{Finish}
@@ -35,12 +36,14 @@ use Rattle.pickle_doc.proofs.Streams.{stands_first, item_is, fault_is}
 use Rattle.pickle_page.proofs.Puts.{then_put, then_broken}
 use Rattle.pickle_listing.specs.declared.note.Note.{Note}
 use Rattle.pickle_listing.specs.declared.note.Note.TheVariants as note
+use Rattle.pickle_report.specs.declared.stop.TextStop.{TextStop}
 use Rattle.pickle_report.specs.Line.{fault_line}
 use Rattle.pickle_listing.specs.Line.{item_line, refused_line, left_line, kept_line, protocol_line, raised}
 use Rattle.pickle_listing.specs.Listing.{note_with, note_unless, key_note, line_at, left_by, lines, end_lines, end_status}
 use Rattle.pickle_listing.specs.Inside.Marks.{last_of, followed}
-use Rattle.pickle_listing.specs.Written.{IsListed, BreaksListing, LeavesListing}
-use Rattle.pickle_listing.proofs.Listings.{Progress, Progress-none, Progress-more, line_is, begun_so_far, broken_so_far, EndsWith, refused, ended, ended_left, end_breaks, end_written, end_front, within, place_within, offset_within, ops_within}
+use Rattle.pickle_listing.specs.Inside.Answer.{IsAnswer}
+use Rattle.pickle_listing.specs.Written.{IsListed, BreaksListing, BeginsListing, CutsListing}
+use Rattle.pickle_listing.proofs.Listings.{Progress, Progress-none, Progress-more, line_is, begun_so_far, broken_so_far, EndsWith, refused, ended, ended_left, end_breaks, end_written, behind_page, within, place_within, offset_within, ops_within}
 use Rattle.pickle_listing.proofs.Places.{lines_with, lines-zero, lines-suc}
 
 -- of the document that the bytes are, k items were read, and have moves; this is the outline of the state that they
@@ -142,27 +145,15 @@ line_breaks bytes a b c page rest left k offset o t opened highest w n q =
     let front : Broke a c (lines_with w.d k) = rw whole (then_broken a b c (lines w.d k) page (line_of o offset t opened) q w.written) in
     (w.d, w.reads, broken_so_far a c w.d k w.s w.progress.reached (within (ops_of w.d) k o here.at) front)
 
--- where a beginning of the page was written
-flush_broken : (a b c : Told) (text page : List ℕ) → WroteAllBut a b text page → Broke b c page → Broke a c text
-flush_broken a b c text page w q = rw w.parts (Broke-after a b c w.front page w.wrote q)
-
-flushed : (a b c : Told) (text page : List ℕ) → WroteAllBut a b text page → Wrote b c page → Wrote a c text
-flushed a b c text page w q = rw w.parts (Wrote-trans a b c w.front page w.wrote q)
-
 -- where the page is dropped
 pub line_stops : (bytes : List ℕ) (a b : Told) (page rest : List ℕ) (left k offset : ℕ) (o : Operation) (t : State) (opened : List ℕ) (highest : Option ℕ)
-    → WithLine bytes a b page rest left k offset o t opened highest → LeavesListing bytes a b
+    → WithLine bytes a b page rest left k offset o t opened highest → BeginsListing bytes a b
 line_stops bytes a b page rest left k offset o t opened highest w =
-    (w.d, w.reads, begun_so_far a.taken b.taken w.d k w.s w.progress.reached (within (ops_of w.d) k o w.gives.there) (WroteAllBut-front a b _ page w.written), w.written.wrote.calm)
-
-pub line_unflushed : (bytes : List ℕ) (a b c : Told) (page rest : List ℕ) (left k offset : ℕ) (o : Operation) (t : State) (opened : List ℕ) (highest : Option ℕ)
-    → WithLine bytes a b page rest left k offset o t opened highest → Broke b c page → BreaksListing bytes a c
-line_unflushed bytes a b c page rest left k offset o t opened highest w q =
-    (w.d, w.reads, broken_so_far a c w.d k w.s w.progress.reached (within (ops_of w.d) k o w.gives.there) (flush_broken a b c _ page w.written q))
+    (w.d, w.reads, begun_so_far a b w.d k w.s page w.progress.reached (within (ops_of w.d) k o w.gives.there) w.written)
 
 -- ---- ends
 
--- the lines are written, and this text is what is left of the listing
+-- what is left of the listing is this text, with what stands on the page
 pub record Closes (bytes : List ℕ) (old new : Told) (text : List ℕ) (status : ℕ) : Type 0 where
   pub d : Contents
   pub reads : ReadsAs bytes d
@@ -170,58 +161,62 @@ pub record Closes (bytes : List ℕ) (old new : Told) (text : List ℕ) (status 
   pub written : Wrote old new front
   pub ends : EndsWith d front text status
 
-pub closed : (bytes : List ℕ) (a b c : Told) (text : List ℕ) (status : ℕ) → Closes bytes a b text status → Wrote b c text → IsListed bytes a c status
-closed bytes a b c text status w q = (w.d, w.reads, end_written a b c w.d w.front text status w.ends w.written q, sym w.ends.answers)
+closed : (bytes : List ℕ) (a b c : Told) (text : List ℕ) (status : ℕ) → Closes bytes a b text status → Wrote b c text → IsListed bytes a c status
+closed bytes a b c text status w q = (w.d, w.reads, (end_written a b c w.d w.front text status w.ends w.written q, sym w.ends.answers))
 
-pub close_breaks : (bytes : List ℕ) (a b c : Told) (text : List ℕ) (status : ℕ) → Closes bytes a b text status → Broke b c text → BreaksListing bytes a c
+close_breaks : (bytes : List ℕ) (a b c : Told) (text : List ℕ) (status : ℕ) → Closes bytes a b text status → Broke b c text → BreaksListing bytes a c
 close_breaks bytes a b c text status w q = (w.d, w.reads, end_breaks a b c w.d w.front text status w.ends w.written q)
+
+pub closes_ok : (bytes : List ℕ) (a b c : Told) (text : List ℕ) (status : ℕ) (w : Result ⊤ Failed) (r : Result ℕ TextStop)
+    → Closes bytes a b text status → Writes b c w text → IsAnswer w status r → IfOk r (IsListed bytes a c)
+closes_ok bytes a b c text status (Ok x) r w q e = rw e (closed bytes a b c text status w q)
+closes_ok bytes a b c text status (Err x) r w q e = rw e tt
+
+pub closes_err : (bytes : List ℕ) (a b c : Told) (text : List ℕ) (status : ℕ) (w : Result ⊤ Failed) (r : Result ℕ TextStop)
+    → Closes bytes a b text status → Writes b c w text → IsAnswer w status r → IfErr r (CutsListing bytes a c)
+closes_err bytes a b c text status (Ok x) r w q e = rw e tt
+closes_err bytes a b c text status (Err x) r w q e = rw e (close_breaks bytes a b c text status w q)
 
 refusal_is : (o : Operation) (s t : State) (r : Option Refusal) → outline s ≡ t → refusal_of (row_of o) t ≡ r → refusal_at o s ≡ r
 refusal_is o s t r e f = sym (refusals_read_outlines (row_of o) s) ∙ ap (λ (u : State). refusal_of (row_of o) u) e ∙ f
 
-pub refused_closes : (bytes : List ℕ) (a b c : Told) (page rest : List ℕ) (left k offset : ℕ) (o : Operation) (t : State) (opened : List ℕ) (highest : Option ℕ) (r : Refusal)
-    → WithLine bytes a b page rest left k offset o t opened highest → refusal_of (row_of o) t ≡ Some r → Wrote b c page
-    → Closes bytes a c (refused_line r ⧺ protocol_line (raised highest (protocol_of o.opcode))) 1
-refused_closes bytes a b c page rest left k offset o t opened highest r w f q = record {
+pub refused_closes : (bytes : List ℕ) (a b : Told) (page rest : List ℕ) (left k offset : ℕ) (o : Operation) (t : State) (opened : List ℕ) (highest : Option ℕ) (r : Refusal)
+    → WithLine bytes a b page rest left k offset o t opened highest → refusal_of (row_of o) t ≡ Some r
+    → Closes bytes a b (page ⧺ refused_line r ⧺ protocol_line (raised highest (protocol_of o.opcode))) 1
+refused_closes bytes a b page rest left k offset o t opened highest r w f = record {
   d = w.d;
   reads = w.reads;
-  front = lines_with w.d k;
-  written = flushed a b c _ page w.written q;
-  ends = refused w.d k offset o w.s opened r highest w.progress w.gives.there (refusal_is o w.s t (Some r) w.outlines f);
+  front = w.written.front;
+  written = w.written.wrote;
+  ends = behind_page a b w.d (lines_with w.d k) page (refused_line r) (protocol_line (raised highest (protocol_of o.opcode))) 1 w.written
+      (refused w.d k offset o w.s opened r highest w.progress w.gives.there (refusal_is o w.s t (Some r) w.outlines f));
 }
 
 sizes_all : (d : Contents) (k offset : ℕ) (s : State) (opened : List ℕ) (highest : Option ℕ) → Progress d k offset s opened highest → length (ops_of d) ≡ k → tail_offset d ≡ offset
 sizes_all d k offset s opened highest p all =
     ap sizes (sym (take_all k (items_of d) (omega (arith, all, length-map (items_of d) (λ (i : Item). i.op))))) ∙ sym p.stands
 
-pub fault_closes : (bytes : List ℕ) (a b c : Told) (page rest : List ℕ) (left k offset : ℕ) (t : State) (opened : List ℕ) (highest : Option ℕ) (f : TailFault)
-    → Listed bytes a b page rest left k offset t opened highest → HasTailFault left rest f → Wrote b c page → Closes bytes a c (fault_line f offset ⧺ protocol_line highest) 1
-fault_closes bytes a b c page rest left k offset t opened highest f w h q =
+pub fault_closes : (bytes : List ℕ) (a b : Told) (page rest : List ℕ) (left k offset : ℕ) (t : State) (opened : List ℕ) (highest : Option ℕ) (f : TailFault)
+    → Listed bytes a b page rest left k offset t opened highest → HasTailFault left rest f → Closes bytes a b (page ⧺ fault_line f offset ⧺ protocol_line highest) 1
+fault_closes bytes a b page rest left k offset t opened highest f w h =
     let done = fault_is w.d k left rest f w.stands h in
     let e = ended w.d k offset w.s opened highest w.progress done.all in
     let at = sizes_all w.d k offset w.s opened highest w.progress done.all in
     record {
       d = w.d;
       reads = w.reads;
-      front = lines w.d k;
-      written = flushed a b c _ page w.written q;
-      ends = record {
+      front = w.written.front;
+      written = w.written.wrote;
+      ends = behind_page a b w.d (lines w.d k) page (fault_line f offset) (protocol_line highest) 1 w.written (record {
         whole = e.whole ∙ ap (λ (x : List ℕ). lines w.d k ++ x)
             (ap (λ (x : Finish). end_lines w.d x ⧺ protocol_line highest) done.finish ∙ ap (λ (n : ℕ). fault_line f n ⧺ protocol_line highest) at);
         answers = e.answers ∙ ap end_status done.finish;
-      };
+      });
     }
-
-pub fault_unflushed : (bytes : List ℕ) (a b c : Told) (page rest : List ℕ) (left k offset : ℕ) (t : State) (opened : List ℕ) (highest : Option ℕ) (f : TailFault)
-    → Listed bytes a b page rest left k offset t opened highest → HasTailFault left rest f → Broke b c page → BreaksListing bytes a c
-fault_unflushed bytes a b c page rest left k offset t opened highest f w h q =
-    let done = fault_is w.d k left rest f w.stands h in
-    let e = ended w.d k offset w.s opened highest w.progress done.all in
-    (w.d, w.reads, end_front a c w.d _ _ _ e (flush_broken a b c _ page w.written q))
 
 -- ---- a step
 
--- item k has moved: what is read now stands behind it
+-- item k has moved: what is read now stands after it
 pub record Moved (bytes : List ℕ) (old new : Told) (page rest : List ℕ) (left k offset : ℕ) (o : Operation) (outlined : State) (opened : List ℕ) (highest : Option ℕ) : Type 0 where
   pub d : Contents
   pub reads : ReadsAs bytes d
@@ -293,21 +288,17 @@ stop_ends bytes a b page rest left k offset o t opened highest w hit =
       answers = last.answers;
     }
 
-pub stop_closes : (bytes : List ℕ) (a b c : Told) (page rest : List ℕ) (left k offset : ℕ) (o : Operation) (t : State) (opened : List ℕ) (highest : Option ℕ)
-    → Moved bytes a b page rest left k offset o t opened highest → ends_reading o.opcode ≡ true → Wrote b c page
-    → Closes bytes a c (left_line (stack_size t) (length t.marked) ⧺ kept_line (length rest) ⧺ protocol_line highest) 0
-stop_closes bytes a b c page rest left k offset o t opened highest w hit q = record {
+pub stop_closes : (bytes : List ℕ) (a b : Told) (page rest : List ℕ) (left k offset : ℕ) (o : Operation) (t : State) (opened : List ℕ) (highest : Option ℕ)
+    → Moved bytes a b page rest left k offset o t opened highest → ends_reading o.opcode ≡ true
+    → Closes bytes a b (page ⧺ (left_line (stack_size t) (length t.marked) ⧺ kept_line (length rest)) ⧺ protocol_line highest) 0
+stop_closes bytes a b page rest left k offset o t opened highest w hit = record {
   d = w.d;
   reads = w.reads;
-  front = lines_with w.d k;
-  written = flushed a b c _ page w.written q;
-  ends = stop_ends bytes a b page rest left k offset o t opened highest w hit;
+  front = w.written.front;
+  written = w.written.wrote;
+  ends = behind_page a b w.d (lines_with w.d k) page (left_line (stack_size t) (length t.marked) ⧺ kept_line (length rest)) (protocol_line highest) 0 w.written
+      (stop_ends bytes a b page rest left k offset o t opened highest w hit);
 }
-
-pub stop_unflushed : (bytes : List ℕ) (a b c : Told) (page rest : List ℕ) (left k offset : ℕ) (o : Operation) (t : State) (opened : List ℕ) (highest : Option ℕ)
-    → Moved bytes a b page rest left k offset o t opened highest → ends_reading o.opcode ≡ true → Broke b c page → BreaksListing bytes a c
-stop_unflushed bytes a b c page rest left k offset o t opened highest w hit q =
-    (w.d, w.reads, end_front a c w.d _ _ _ (stop_ends bytes a b page rest left k offset o t opened highest w hit) (flush_broken a b c _ page w.written q))
 
 -- ---- bounds
 

@@ -4,10 +4,10 @@ use Rattle.std.specs.Prelude.{slice_get}
 use Rattle.std.proofs.lemmas.List.{take_more, append-nil}
 use Rattle.std.proofs.lemmas.Option.{get_or_from_slice_get, slice_get_past, slice_get_cases}
 use Rattle.pickle_io.specs.Text.{◌⧺◌}
-use Rattle.pickle_io.specs.Device.{Told, AppendsFront, Wrote, Broke}
+use Rattle.pickle_io.specs.Device.{Told, Wrote, Broke, WroteAllBut}
 use Rattle.pickle_ops.specs.Table.{protocol_of}
 use Rattle.pickle_ops.specs.Spelling.{Operation, size_of}
-use Rattle.pickle_io.proofs.Devices.{AppendsFront-more, Wrote-trans, Broke-after, Broke-more}
+use Rattle.pickle_io.proofs.Devices.{Wrote-trans, Broke-after, Broke-more}
 use Rattle.pickle_doc.specs.DocUnit.{bytes_of}
 use Rattle.pickle_doc.specs.Document.{Contents, document_bytes, finish_of}
 use Rattle.pickle_doc.specs.Place.{ops_of, item_at, offset_of}
@@ -18,6 +18,8 @@ use Rattle.pickle_machine.specs.Run.{run}
 use Rattle.pickle_listing.specs.Line.{item_line, refused_line, protocol_line, raised, highest_protocol}
 use Rattle.pickle_listing.specs.Listing.{topmost_offset, note_with, note_unless, line_at, left_by, lines, reached, end_lines, end_status, refused_lines, listing, listing_to}
 use Rattle.pickle_listing.specs.Inside.Marks.{last_of, followed, mark_offsets}
+use Rattle.pickle_listing.specs.Written.{BeganListing}
+use Rattle.pickle_page.proofs.Puts.{page_more}
 use Rattle.pickle_listing.proofs.Moves.{move_heap, refused_move, move_marks, marks_grow, offsets_follow}
 use Rattle.pickle_listing.proofs.Places.{offset_next, offset_small, length-bytes_of, highest_protocol-push, run-suc, reached_here, reached_last, is_reached, lines_with, lines-suc, lines_first}
 
@@ -94,7 +96,7 @@ Progress-more d k offset o s t opened next highest p e m n =
 
 -- ---- beginnings of the listing
 
--- what stands behind lines stands behind the line of item k
+-- what stands after lines stands after the line of item k
 behind_line : (d : Contents) (k j : ℕ) → suc k ≤ j → (rest : List ℕ) × (lines d j ≡ lines_with d k ++ rest)
 behind_line d k j h =
     let first = lines_first d (suc k) j h in
@@ -123,21 +125,22 @@ begins d k s r h =
     let more = begins_at d k (reached (ops_of d) (length (ops_of d))) (item_at d (reached (ops_of d) (length (ops_of d)))) far.state h le refl in
     (more.0, ap (λ (x : Option State). (listing_to d (reached (ops_of d) (length (ops_of d))) (item_at d (reached (ops_of d) (length (ops_of d)))) x).text) far.is ∙ more.1)
 
--- where item k is reached, a beginning of its line and those before is one of the listing
-pub begun_so_far : (a b : Option (List ℕ)) (d : Contents) (k : ℕ) (s : State) → run (ops_of d) k ≡ Some s → k < length (ops_of d) → AppendsFront a b (lines_with d k) → AppendsFront a b (listing d).text
-begun_so_far a b d k s r h q = let text = begins d k s r h in rw text.1 (AppendsFront-more a b (lines_with d k) text.0 q)
+-- where item k is reached, what was taken of its line and those before is a beginning of the listing
+pub begun_so_far : (a b : Told) (d : Contents) (k : ℕ) (s : State) (page : List ℕ) → run (ops_of d) k ≡ Some s → k < length (ops_of d)
+    → WroteAllBut a b (lines_with d k) page → BeganListing d a b
+begun_so_far a b d k s page r h w = let text = begins d k s r h in (page ++ text.0, rw text.1 (page_more a b (lines_with d k) page (page ++ text.0) text.0 refl w))
 
 pub broken_so_far : (a b : Told) (d : Contents) (k : ℕ) (s : State) → run (ops_of d) k ≡ Some s → k < length (ops_of d) → Broke a b (lines_with d k) → Broke a b (listing d).text
 broken_so_far a b d k s r h q = let text = begins d k s r h in rw text.1 (Broke-more a b (lines_with d k) text.0 q)
 
 -- ---- the end
 
--- the listing is what is written so far and a text behind it, with this status
+-- the listing is what is written so far and a text after it, with this status
 pub record EndsWith (d : Contents) (front text : List ℕ) (status : ℕ) : Type 0 where
   pub whole : (listing d).text ≡ front ++ text
   pub answers : (listing d).status ≡ status
 
--- behind a refused item
+-- after a refused item
 pub refused : (d : Contents) (k offset : ℕ) (o : Operation) (s : State) (opened : List ℕ) (r : Refusal) (highest : Option ℕ)
     → Progress d k offset s opened highest → item_at d k ≡ Some o → refusal_at o s ≡ Some r
     → EndsWith d (lines_with d k) (refused_line r ⧺ protocol_line (raised highest (protocol_of o.opcode))) 1
@@ -154,7 +157,7 @@ refused d k offset o s opened r highest p e f =
       answers = rw (last, e, p.reached) refl;
     }
 
--- behind all items
+-- after all items
 pub ended : (d : Contents) (k offset : ℕ) (s : State) (opened : List ℕ) (highest : Option ℕ) → Progress d k offset s opened highest → length (ops_of d) ≡ k
     → EndsWith d (lines d k) (end_lines d (finish_of d) ⧺ protocol_line highest) (end_status (finish_of d))
 unfolding listing ◌⧺◌
@@ -167,7 +170,7 @@ ended d k offset s opened highest p all =
       answers = rw (last, none, here) refl;
     }
 
--- what an item left is the first that stands behind its line
+-- what an item left is the first that stands after its line
 pub ended_left : (d : Contents) (k : ℕ) (left text : List ℕ) (status : ℕ) → left_by (item_at d k) (run (ops_of d) (suc k)) ≡ left
     → EndsWith d (lines d (suc k)) text status → EndsWith d (lines_with d k) (left ++ text) status
 ended_left d k left text status e w = record {
@@ -181,8 +184,14 @@ end_breaks a b c d front text status w p q = rw w.whole (Broke-after a b c front
 pub end_written : (a b c : Told) (d : Contents) (front text : List ℕ) (status : ℕ) → EndsWith d front text status → Wrote a b front → Wrote b c text → Wrote a c (listing d).text
 end_written a b c d front text status w p q = rw w.whole (Wrote-trans a b c front text p q)
 
-pub end_front : (a b : Told) (d : Contents) (front text : List ℕ) (status : ℕ) → EndsWith d front text status → Broke a b front → Broke a b (listing d).text
-end_front a b d front text status w p = rw w.whole (Broke-more a b front text p)
+-- where a part of what is written so far stands on the page
+pub behind_page : (a b : Told) (d : Contents) (lines page x y : List ℕ) (status : ℕ)
+    → (w : WroteAllBut a b lines page) → EndsWith d lines (x ⧺ y) status → EndsWith d w.front (page ⧺ x ⧺ y) status
+unfolding ◌⧺◌
+behind_page a b d lines page x y status w e = record {
+  whole = e.whole ∙ ap (λ (t : List ℕ). t ++ (x ++ y)) w.parts ∙ append_assoc w.front page (x ++ y) ∙ ap (λ (t : List ℕ). w.front ++ t) (sym (append_assoc page x y));
+  answers = e.answers;
+}
 
 -- ---- bounds
 

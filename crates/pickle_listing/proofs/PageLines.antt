@@ -10,11 +10,11 @@ use Rattle.pickle_ops.specs.Spelling.{Operation}
 use Rattle.pickle_io.specs.Text.{◌⧺◌}
 use Rattle.pickle_page.proofs.Puts.{page_more, then_put_next, then_broken_next, puts_last, puts_broken, puts_no_room, puts_pushed}
 use Rattle.pickle_listing.specs.declared.note.Note.{Note}
-use Rattle.pickle_page.specs.Column.{blanks, left, right, newline}
+use Rattle.pickle_page.specs.Column.{blanks, left_aligned, right_aligned, newline}
 use Rattle.pickle_listing.specs.Line.{offset_column, code_column, item_line, named, mark_text, as_text}
 
 pub head_behind : (t code : List ℕ) (offset : ℕ) → (t ++ (blanks (5 - length (decimal offset)) ++ decimal offset)) ++ code ≡ t ++ (offset_column offset ⧺ code)
-unfolding offset_column right ◌⧺◌
+unfolding offset_column right_aligned ◌⧺◌
 head_behind t code offset = append_assoc t (blanks (5 - length (decimal offset)) ++ decimal offset) code
 
 -- a name that was filled with blanks
@@ -36,8 +36,8 @@ take_filled name h = elim (cases_lt (length name) 10) [
       take_at name (blanks (16 - length name)) (max (length name) 10) (omega (arith, high)) ∙ sym (append-nil name) ∙ ap (λ (l : List ℕ). name ++ l) (sym none)
 ]
 
-pub filled_there : (text name next : List ℕ) → length name ≤ 16 → next ≡ (text ++ take (max (length name) 10) (name ++ blanks (16 - length name))) ++ 32 ∷ [] → next ≡ text ++ (left 10 name ⧺ codes " ")
-unfolding left ◌⧺◌
+pub filled_there : (text name next : List ℕ) → length name ≤ 16 → next ≡ (text ++ take (max (length name) 10) (name ++ blanks (16 - length name))) ++ 32 ∷ [] → next ≡ text ++ (left_aligned 10 name ⧺ codes " ")
+unfolding left_aligned ◌⧺◌
 filled_there text name next h e = e ∙ append_assoc text (take (max (length name) 10) (name ++ blanks (16 - length name))) (32 ∷ []) ∙ ap (λ (l : List ℕ). text ++ (l ++ 32 ∷ [])) (take_filled name h)
 
 pub mark_behind : (t : List ℕ) (n : ℕ) → ((t ++ codes "(MARK at ") ++ decimal n) ++ codes ")" ≡ t ++ mark_text n

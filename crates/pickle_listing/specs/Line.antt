@@ -7,7 +7,7 @@ use Rattle.pickle_ops.specs.Table.{code_of, name_of, protocol_of}
 use Rattle.pickle_io.specs.Text.{◌⧺◌}
 use Rattle.pickle_ops.specs.Text.{arg_text}
 use Rattle.pickle_machine.specs.declared.refusal.Refusal.{Refusal}
-use Rattle.pickle_page.specs.Column.{blanks, left, right, newline}
+use Rattle.pickle_page.specs.Column.{blanks, left_aligned, right_aligned, newline}
 use Rattle.pickle_report.specs.Line.{refusal_text}
 use Rattle.pickle_listing.specs.declared.note.Note.{Note}
 use Rattle.pickle_listing.specs.declared.note.Note.TheVariants as note
@@ -15,13 +15,13 @@ use Rattle.pickle_listing.specs.Column.{code_text}
 
 -- ---- the line of an item
 
--- where it stands, right in five places
+-- where it stands, at the right of five places
 unfoldable pub offset_column : ℕ → List ℕ
-offset_column offset = right 5 (decimal offset)
+offset_column offset = right_aligned 5 (decimal offset)
 
--- a colon, and its code, left in four
+-- a colon, and its code, at the left of four places
 unfoldable pub code_column : Opcode → List ℕ
-code_column o = codes ": " ⧺ left 4 (code_text (code_of o)) ⧺ codes " "
+code_column o = codes ": " ⧺ left_aligned 4 (code_text (code_of o)) ⧺ codes " "
 
 -- what an opcode that takes a mark or counts the memo says besides: where that mark was set, or under which key the memo
 -- gets the top
@@ -35,12 +35,12 @@ abbrev pub note_text : Note → List ℕ
 note_text (note.MarkAt offset) = mark_text offset
 note_text (note.As key) = as_text key
 
--- the name; where there is an argument text or a note, the name fills ten places and each stands behind a blank
+-- the name; where there is an argument text or a note, the name fills ten places and each stands after a blank
 abbrev pub described : List ℕ → Option (List ℕ) → Option Note → List ℕ
 described name None None = name
-described name (Some arg) None = left 10 name ⧺ codes " " ⧺ arg
-described name None (Some n) = left 10 name ⧺ codes " " ⧺ note_text n
-described name (Some arg) (Some n) = left 10 name ⧺ codes " " ⧺ arg ⧺ codes " " ⧺ note_text n
+described name (Some arg) None = left_aligned 10 name ⧺ codes " " ⧺ arg
+described name None (Some n) = left_aligned 10 name ⧺ codes " " ⧺ note_text n
+described name (Some arg) (Some n) = left_aligned 10 name ⧺ codes " " ⧺ arg ⧺ codes " " ⧺ note_text n
 
 unfoldable pub named : Operation → Option Note → List ℕ
 named o n = described (name_of o.opcode) (arg_text o) n

@@ -52,20 +52,20 @@ line_on d k None s = []
 unfoldable pub line_at : Contents → ℕ → List ℕ
 line_at d k = line_on d k (item_at d k) (run (ops_of d) k)
 
--- what an item left, in the state behind it: STOP may leave something on the stack
+-- what an item left, in the state after it: STOP may leave something on the stack
 abbrev pub left_by : Option Operation → Option State → List ℕ
 left_by (Some o) (Some s) = if is_stop o.opcode then left_line (stack_size s) (length s.marked) else []
 left_by (Some o) None = []
 left_by None s = []
 
--- the lines of the first n items, behind each what it left
+-- the lines of the first n items, and after each what it left
 unfoldable pub lines : Contents → ℕ → List ℕ
 lines d zero = []
 lines d (suc k) = lines d k ⧺ line_at d k ⧺ left_by (item_at d k) (run (ops_of d) (suc k))
 
 -- ---- the closing lines
 
--- behind all items
+-- after all items
 abbrev pub end_lines : Contents → Finish → List ℕ
 end_lines d finish.Stopped = kept_line (length d.tail)
 end_lines d (finish.Fault f) = fault_line f (tail_offset d)
@@ -74,7 +74,7 @@ abbrev pub end_status : Finish → ℕ
 end_status finish.Stopped = 0
 end_status (finish.Fault f) = 1
 
--- behind an item that is refused
+-- after an item that is refused
 abbrev pub refused_lines : Option Refusal → List ℕ
 refused_lines None = []
 refused_lines (Some r) = refused_line r
@@ -90,7 +90,7 @@ unfoldable pub reached : List Operation → ℕ → ℕ
 reached ops zero = 0
 reached ops (suc n) = if is_some (run ops (suc n)) then suc n else reached ops n
 
--- the listing, k being the greatest place that is reached: behind all items, or with the refused item k as the last
+-- the listing, k being the greatest place that is reached: after all items, or with the refused item k as the last
 abbrev pub listing_to : Contents → ℕ → Option Operation → Option State → Listing
 listing_to d k None (Some s) = record { text = lines d k ⧺ (end_lines d (finish_of d) ⧺ protocol_line (highest_protocol (take k (ops_of d)))); status = end_status (finish_of d) }
 listing_to d k (Some o) (Some s) =

@@ -2,7 +2,7 @@
 
 ghost use Rattle.std.specs.Prelude.{◌≡◌, ◌&&◌, codes, nat_lt};
 ghost use Rattle.pickle_io.specs.Text.{◌⧺◌};
-ghost use Rattle.pickle_page.specs.Column.{left};
+ghost use Rattle.pickle_page.specs.Column.{left_aligned};
 ghost use Rattle.pickle_listing.specs.Column.{hex_byte, code_text};
 
 /// The two hexadecimal digits of a byte.
@@ -24,7 +24,7 @@ fn is_visible(byte: u8) -> bool
 /// A colon and a blank, a code at the left of a column of four, the character itself where it is visible, and a blank.
 #[tactic(auto, using(crate::proofs::Blanks::column_steps))]
 pub fn code_column(code: u8) -> [u8; 7]
-    ensures { result ≡ codes ": " ⧺ left 4 (code_text code) ⧺ codes " " }
+    ensures { result ≡ codes ": " ⧺ left_aligned 4 (code_text code) ⧺ codes " " }
 {
     if is_visible(code) {
         [b':', b' ', code, b' ', b' ', b' ', b' ']

@@ -11,7 +11,7 @@ use pickle_report::write_refusal;
 
 /// Writes the line of a refused step.
 #[tactic(auto, using(pickle_io::proofs::Devices::text_steps), unfolding(crate::specs::Line::refused_line))]
-fn write_refused<S: Sink>(refusal: Refusal, sink: &mut S) -> Result<(), Failed>
+pub fn write_refused<S: Sink>(refusal: Refusal, sink: &mut S) -> Result<(), Failed>
     ensures { Writes (S.told sink.old) (S.told sink.new) result (refused_line refusal) }
 {
     write_all(sink, b"refused: ")?;
@@ -75,7 +75,7 @@ fn write_kept_line<S: Sink>(count: u64, sink: &mut S) -> Result<(), Failed>
     }
 }
 
-/// Writes what is left where reading ended by STOP: on the stack, and behind STOP.
+/// Writes what is left where reading ended by STOP: on the stack, and after STOP.
 #[tactic(auto, using(pickle_io::proofs::Devices::text_steps))]
 pub fn write_stopped<S: Sink>(
     objects: usize,
@@ -116,17 +116,4 @@ pub fn write_protocol<S: Sink>(highest: Option<u8>, sink: &mut S) -> Result<(), 
         None => Ok(()),
         Some(protocol) => write_protocol_text(protocol, sink),
     }
-}
-
-/// Writes the lines behind a refused item.
-#[tactic(auto, using(pickle_io::proofs::Devices::text_steps))]
-pub fn write_refused_end<S: Sink>(
-    refusal: Refusal,
-    highest: Option<u8>,
-    sink: &mut S,
-) -> Result<(), Failed>
-    ensures { Writes (S.told sink.old) (S.told sink.new) result (refused_line refusal ⧺ protocol_line highest) }
-{
-    write_refused(refusal, sink)?;
-    write_protocol(highest, sink)
 }

@@ -1,18 +1,22 @@
 //! The listing of items, one after another.
 
-ghost use Rattle.std.specs.Prelude.{◌≡◌, ◌≤◌, length, OnOk, IfOk, IfErr};
+ghost use Rattle.std.specs.Prelude.{◌≡◌, ◌≤◌, ◌<◌, ◌-◌, ◌^◌, length, None, OnOk, IfOk, IfErr};
 ghost use Rattle.pickle_io.specs.Device.{Writes};
 ghost use Rattle.pickle_io.specs.Text.{◌⧺◌};
 ghost use Rattle.pickle_doc.specs.Document.{Contents, ReadsAs, size_limit};
 ghost use Rattle.pickle_objects.specs.Row.{row_of};
 ghost use Rattle.pickle_machine.specs.State.{stack_size};
+ghost use Rattle.pickle_machine.specs.Move.{next_of, refusal_of};
+ghost use Rattle.pickle_outline.specs.Class.{sample};
+ghost use Rattle.pickle_outline.specs.Outline.{outline};
 ghost use Rattle.pickle_report.specs.Line.{fault_line};
-ghost use Rattle.pickle_listing.specs.Line.{raised, left_line, kept_line, protocol_line};
+ghost use Rattle.pickle_listing.specs.Line.{raised, refused_line, left_line, kept_line, protocol_line};
 ghost use Rattle.pickle_listing.specs.Listing.{note_with, note_unless};
 ghost use Rattle.pickle_listing.specs.Inside.Marks.{last_of, followed};
-ghost use Rattle.pickle_listing.specs.Written.{WroteListing, LeftListing, IsListed, CutsListing};
+ghost use Rattle.pickle_listing.specs.Inside.Answer.{IsAnswer};
+ghost use Rattle.pickle_listing.specs.Written.{WroteListing, CutListing, IsListed, CutsListing};
 
-use crate::line::{write_protocol, write_refused_end, write_stopped};
+use crate::line::{write_protocol, write_refused, write_stopped};
 use crate::note::Note;
 use crate::put::put_item;
 use pickle_doc::{Document, DocumentItems, ItemSource, Items, NextRef, TailFault, ends_reading};
@@ -68,32 +72,59 @@ fn note_of(op: &OpRef<'_>, row: Row, lean: &Lean, opened: &[u64]) -> Option<Note
     }
 }
 
-/// Writes the lines behind all items where bytes are left that are no further item.
+/// Writes out the page, and the lines after all items where bytes are left that are no further item.
 #[tactic(auto, using(pickle_io::proofs::Devices::text_steps))]
 fn write_fault_end<S: Sink>(
+    page: &mut Page,
     fault: TailFault,
     offset: u64,
     highest: Option<u8>,
     sink: &mut S,
 ) -> Result<(), Failed>
-    ensures { Writes (S.told sink.old) (S.told sink.new) result (fault_line fault offset ⧺ protocol_line highest) }
+    ensures { Writes (S.told sink.old) (S.told sink.new) result (page.old ⧺ fault_line fault offset ⧺ protocol_line highest) }
 {
+    page.flush(sink)?;
     write_fault(fault, offset, sink)?;
     write_protocol(highest, sink)
 }
 
-/// Writes the lines behind STOP.
+/// Writes out the page, and the lines after an item that is refused.
+#[tactic(auto, using(pickle_io::proofs::Devices::text_steps))]
+fn write_refused_end<S: Sink>(
+    page: &mut Page,
+    refusal: Refusal,
+    highest: Option<u8>,
+    sink: &mut S,
+) -> Result<(), Failed>
+    ensures { Writes (S.told sink.old) (S.told sink.new) result (page.old ⧺ refused_line refusal ⧺ protocol_line highest) }
+{
+    page.flush(sink)?;
+    write_refused(refusal, sink)?;
+    write_protocol(highest, sink)
+}
+
+/// Writes out the page, and the lines after STOP.
 #[tactic(auto, using(pickle_io::proofs::Devices::text_steps))]
 fn write_stopped_end<S: Sink>(
+    page: &mut Page,
     lean: &Lean,
     kept: u64,
     highest: Option<u8>,
     sink: &mut S,
 ) -> Result<(), Failed>
-    ensures { Writes (S.told sink.old) (S.told sink.new) result (left_line (stack_size lean.now) (length lean.now.marked) ⧺ kept_line kept ⧺ protocol_line highest) }
+    ensures { Writes (S.told sink.old) (S.told sink.new) result (page.old ⧺ (left_line (stack_size lean.now) (length lean.now.marked) ⧺ kept_line kept) ⧺ protocol_line highest) }
 {
+    page.flush(sink)?;
     write_stopped(lean.stack_len(), lean.marks_len(), kept, sink)?;
     write_protocol(highest, sink)
+}
+
+/// The answer of a listing with this status whose last lines were written, or where the sink failed.
+fn answer(closed: Result<(), Failed>, status: u8) -> Result<u8, TextStop>
+    ensures { IsAnswer closed status result }
+{
+    closed?;
+    Ok(status)
 }
 
 /// What becomes of the offsets of the open marks when a step left so many.
@@ -111,6 +142,25 @@ fn follow_marks(
         opened.pop();
     }
     Ok(())
+}
+
+/// Moves the outline by an item that is not refused, and follows its marks.
+fn perform(
+    lean: &mut Lean,
+    opened: &mut Vec<u64>,
+    row: Row,
+    class: Class,
+    place: usize,
+    offset: u64,
+) -> Result<(), AllocError>
+    requires heap { length lean.old.heap < 2 ^ 32 - 1 }
+    requires good { refusal_of row lean.old ≡ None }
+    ensures moved { OnOk result (lean.new ≡ outline (next_of row (sample class) place lean.old)) }
+    ensures marks { OnOk result (opened.new.items ≡ followed opened.old.items (length lean.old.marked) (length lean.new.marked) offset) }
+{
+    let marks = lean.marks_len();
+    lean.perform(row, class, place)?;
+    follow_marks(opened, marks, lean.marks_len(), offset)
 }
 
 /// Writes the listing of the items that a source gives from the first on, and answers its status: 1 where an item is refused or the
@@ -138,30 +188,23 @@ pub fn list_items<'a, I: ItemSource<'a>, S: Sink>(
     'items: loop {
         match reader.next() {
             NextRef::Tail(fault) => {
-                page.flush(sink)?;
-                write_fault_end(fault, offset, highest, sink)?;
-                return Ok(1);
+                return answer(write_fault_end(&mut page, fault, offset, highest, sink), 1);
             }
             NextRef::Item(op) => {
                 let row = Row::of_ref(&op);
-                let marks = lean.marks_len();
                 let refusal = lean.refusal(row);
                 let note = note_unless_refused(refusal, &op, row, &lean, opened.as_slice());
-                put_item(&mut page, &op, offset, marks, note, sink)?;
+                put_item(&mut page, &op, offset, lean.marks_len(), note, sink)?;
                 highest = raise(highest, op.opcode().protocol());
                 if let Some(refusal) = refusal {
-                    page.flush(sink)?;
-                    write_refused_end(refusal, highest, sink)?;
-                    return Ok(1);
+                    return answer(write_refused_end(&mut page, refusal, highest, sink), 1);
                 }
-                lean.perform(row, Class::of(op.opcode()), place)?;
-                follow_marks(&mut opened, marks, lean.marks_len(), offset)?;
+                perform(&mut lean, &mut opened, row, Class::of(op.opcode()), place, offset)?;
                 offset += op.size() as u64;
                 place += 1;
                 if ends_reading(op.opcode()) {
-                    page.flush(sink)?;
-                    write_stopped_end(&lean, reader.unread_len(), highest, sink)?;
-                    return Ok(0);
+                    let kept = reader.unread_len();
+                    return answer(write_stopped_end(&mut page, &lean, kept, highest, sink), 0);
                 }
             }
         }
@@ -188,7 +231,7 @@ pub fn write_listing<S: Sink>(
     sink: &mut S,
 ) -> Result<u8, TextStop>
     ensures listed { IfOk result (WroteListing document.now.contents (S.told sink.old) (S.told sink.new)) }
-    ensures stopped { IfErr result (LeftListing document.now.contents (S.told sink.old) (S.told sink.new)) }
+    ensures stopped { IfErr result (CutListing document.now.contents (S.told sink.old) (S.told sink.new)) }
 {
     list_items(alloc, DocumentItems::new(document), sink)
 }

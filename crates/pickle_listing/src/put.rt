@@ -5,7 +5,7 @@ ghost use Rattle.pickle_ops.specs.Table.{name_of};
 ghost use Rattle.pickle_io.specs.Text.{◌⧺◌};
 ghost use Rattle.pickle_ops.specs.Text.{arg_text};
 ghost use Rattle.pickle_page.specs.Page.{Puts};
-ghost use Rattle.pickle_page.specs.Column.{blanks, left};
+ghost use Rattle.pickle_page.specs.Column.{blanks, left_aligned};
 ghost use Rattle.pickle_listing.specs.Line.{offset_column, code_column, note_text, described, named, item_line};
 
 use crate::column::code_column;
@@ -13,7 +13,7 @@ use crate::note::Note;
 use pickle_ops::{Failed, OpRef, Opcode, Sink};
 use pickle_page::Page;
 
-/// Puts a colon and the code of an opcode behind the text.
+/// Puts a colon and the code of an opcode after the text.
 #[tactic(auto, unfolding(crate::specs::Line::code_column))]
 #[inline(always)]
 fn push_code(page: &mut Page, op: &OpRef<'_>)
@@ -24,7 +24,7 @@ fn push_code(page: &mut Page, op: &OpRef<'_>)
     page.push_text(&code_column(op.code()));
 }
 
-/// Puts where an item stands, a colon and the code of its opcode behind the text.
+/// Puts where an item stands, a colon and the code of its opcode after the text.
 #[tactic(auto, using(crate::proofs::PageLines::head_behind))]
 #[inline(always)]
 fn push_head(page: &mut Page, op: &OpRef<'_>, offset: u64)
@@ -36,7 +36,7 @@ fn push_head(page: &mut Page, op: &OpRef<'_>, offset: u64)
     push_code(page, op);
 }
 
-/// Puts the name of an opcode behind the text.
+/// Puts the name of an opcode after the text.
 #[tactic(auto, using(crate::proofs::PageLines::name_there))]
 #[inline(always)]
 fn push_name(page: &mut Page, opcode: Opcode)
@@ -47,19 +47,19 @@ fn push_name(page: &mut Page, opcode: Opcode)
     page.push_piece(filled_name(opcode), name_len(opcode));
 }
 
-/// Puts the name of an opcode, filled to ten places, and a blank behind the text.
+/// Puts the name of an opcode, filled to ten places, and a blank after the text.
 #[tactic(auto, using(crate::proofs::PageLines::filled_there))]
 #[inline(always)]
 fn push_filled(page: &mut Page, opcode: Opcode)
     requires { length page.old + 17 ≤ 4096 }
-    ensures text { page.new ≡ page.old ++ (left 10 (name_of opcode) ⧺ codes " ") }
+    ensures text { page.new ≡ page.old ++ (left_aligned 10 (name_of opcode) ⧺ codes " ") }
     ensures len { length page.new ≤ length page.old + 17 }
 {
     page.push_piece(filled_name(opcode), name_len(opcode).max(10));
     page.push(b' ');
 }
 
-/// Puts a note behind the text.
+/// Puts a note after the text.
 #[tactic(auto, using(crate::proofs::PageLines::note_steps))]
 fn push_note(page: &mut Page, note: Note)
     requires { length page.old + 40 ≤ 4096 }
@@ -105,7 +105,7 @@ fn put_arg_and_note<S: Sink>(
     sink: &mut S,
 ) -> Result<(), Failed>
     requires { length page.old + 160 ≤ 4096 }
-    ensures puts { Puts (S.told sink.old) (S.told sink.new) page.old page.new result (left 10 (name_of op.now.opcode) ⧺ codes " " ⧺ unwrap_or (arg_text op.now) [] ⧺ codes " " ⧺ note_text note) }
+    ensures puts { Puts (S.told sink.old) (S.told sink.new) page.old page.new result (left_aligned 10 (name_of op.now.opcode) ⧺ codes " " ⧺ unwrap_or (arg_text op.now) [] ⧺ codes " " ⧺ note_text note) }
     ensures room { OnOk result (length page.new + 1 ≤ 4096) }
 {
     push_filled(page, op.opcode());
@@ -124,7 +124,7 @@ fn put_name_and_note<S: Sink>(
     sink: &mut S,
 ) -> Result<(), Failed>
     requires { length page.old + 160 ≤ 4096 }
-    ensures puts { Puts (S.told sink.old) (S.told sink.new) page.old page.new result (left 10 (name_of op.now.opcode) ⧺ codes " " ⧺ note_text note) }
+    ensures puts { Puts (S.told sink.old) (S.told sink.new) page.old page.new result (left_aligned 10 (name_of op.now.opcode) ⧺ codes " " ⧺ note_text note) }
     ensures room { OnOk result (length page.new + 1 ≤ 4096) }
 {
     push_filled(page, op.opcode());

@@ -6,12 +6,12 @@ abbrev pub blanks : ℕ → List ℕ
 blanks n = replicate n 32
 
 -- a text at the right of a column; a longer text is not cut
-unfoldable pub right : ℕ → List ℕ → List ℕ
-right width text = blanks (width - length text) ⧺ text
+unfoldable pub right_aligned : ℕ → List ℕ → List ℕ
+right_aligned width text = blanks (width - length text) ⧺ text
 
 -- a text at the left of a column; a longer text is not cut
-unfoldable pub left : ℕ → List ℕ → List ℕ
-left width text = text ⧺ blanks (width - length text)
+unfoldable pub left_aligned : ℕ → List ℕ → List ℕ
+left_aligned width text = text ⧺ blanks (width - length text)
 
 abbrev pub newline : List ℕ
 newline = 10 ∷ []

@@ -9,9 +9,8 @@ use Rattle.pickle_doc.specs.declared.item.Item.{Item}
 use Rattle.pickle_doc.specs.declared.fault.TailFault.{TailFault}
 use Rattle.pickle_doc.specs.declared.fault.End.{End}
 use Rattle.pickle_doc.specs.declared.fault.End.TheVariants as end
-use Rattle.pickle_doc.specs.DocUnit.{operations}
 use Rattle.pickle_doc.specs.Document.{Contents, items_of}
-use Rattle.pickle_doc.specs.Place.{item_at, end_of}
+use Rattle.pickle_doc.specs.Place.{ops_of, item_at, end_of}
 use Rattle.pickle_machine.specs.declared.refusal.Refusal.{Refusal}
 use Rattle.pickle_machine.specs.State.{State, last_result}
 use Rattle.pickle_machine.specs.Move.{next, outcome, refusal_at, move}
@@ -59,20 +58,20 @@ some_same (Some x) a b e f = cc
 -- behind the last item none is refused
 none_behind : (d : Contents) (place : ℕ) (s : State) (r : Refusal) → place ≡ length (items_of d) → refused_on (item_at d place) s ≡ Some r → ⊥
 none_behind d place s r e h =
-    let far : item_at d place ≡ None = slice_get_past (operations (items_of d)) place (omega (arith, e, length-map (items_of d) (λ (i : Item). i.op))) in
+    let far : item_at d place ≡ None = slice_get_past (ops_of d) place (omega (arith, e, length-map (items_of d) (λ (i : Item). i.op))) in
     let no : None ≡ Some r = ap (λ (x : Option Operation). refused_on x s) (sym far) ∙ h in
     absurd cc
 
 -- a run closes where it cannot go on
-no_further : (d : Contents) (place : ℕ) (s : State) (c : Closing) → Stepped (item_at d place) (run (operations (items_of d)) place) → run (operations (items_of d)) place ≡ Some s → Closes d place s c → ⊥
+no_further : (d : Contents) (place : ℕ) (s : State) (c : Closing) → Stepped (item_at d place) (run (ops_of d) place) → run (ops_of d) place ≡ Some s → Closes d place s c → ⊥
 no_further d place s (closing.Result id) p e h =
-    let within : place < length (operations (items_of d)) = slice_get_within (operations (items_of d)) place p.item p.there in
+    let within : place < length (ops_of d) = slice_get_within (ops_of d) place p.item p.there in
     absurd (omega (arith, within, h.0, length-map (items_of d) (λ (i : Item). i.op)))
 no_further d place s (closing.Fault f offset) p e h =
-    let within : place < length (operations (items_of d)) = slice_get_within (operations (items_of d)) place p.item p.there in
+    let within : place < length (ops_of d) = slice_get_within (ops_of d) place p.item p.there in
     absurd (omega (arith, within, h.0, length-map (items_of d) (λ (i : Item). i.op)))
 no_further d place s (closing.Refused k r) p e h =
-    let same : p.before ≡ s = some_same (run (operations (items_of d)) place) p.before s p.reached e in
+    let same : p.before ≡ s = some_same (run (ops_of d) place) p.before s p.reached e in
     let taken : refusal_at p.item s ≡ None = ap (λ (t : State). refusal_at p.item t) (sym same) ∙ p.taken in
     let no : None ≡ Some r = sym taken ∙ ap (λ (x : Option Operation). refused_on x s) (sym p.there) ∙ h.1 in
     absurd cc
@@ -91,9 +90,9 @@ one_closing d place s (closing.Fault f offset) (closing.Fault q other) g h = let
 
 -- ---- reports
 
-one_place : (d : Contents) (p q : ℕ) (s t : State) (b c : Closing) → run (operations (items_of d)) p ≡ Some s → run (operations (items_of d)) q ≡ Some t → Closes d p s b → Closes d q t c → q ≤ p
+one_place : (d : Contents) (p q : ℕ) (s t : State) (b c : Closing) → run (ops_of d) p ≡ Some s → run (ops_of d) q ≡ Some t → Closes d p s b → Closes d q t c → q ≤ p
 one_place d p q s t b c e f g h = elim (cases_lt p q) [
-  | inl less ↦ absurd (no_further d p s b (stepped_at (operations (items_of d)) q p t f less) e g)
+  | inl less ↦ absurd (no_further d p s b (stepped_at (ops_of d) q p t f less) e g)
   | inr more ↦ more
 ]
 
@@ -102,8 +101,8 @@ one_report d text other status last x y =
     let up : y.place ≤ x.place = one_place d x.place y.place x.state y.state x.closing y.closing x.reached y.reached x.closes y.closes in
     let down : x.place ≤ y.place = one_place d y.place x.place y.state x.state y.closing x.closing y.reached x.reached y.closes x.closes in
     let place : y.place ≡ x.place = omega (arith, up, down) in
-    let reached : run (operations (items_of d)) x.place ≡ Some y.state = ap (run (operations (items_of d))) (sym place) ∙ y.reached in
-    let state : y.state ≡ x.state = some_same (run (operations (items_of d)) x.place) y.state x.state reached x.reached in
+    let reached : run (ops_of d) x.place ≡ Some y.state = ap (run (ops_of d)) (sym place) ∙ y.reached in
+    let state : y.state ≡ x.state = some_same (run (ops_of d) x.place) y.state x.state reached x.reached in
     let there : Closes d x.place y.state y.closing = subst (λ (n : ℕ). Closes d n y.state y.closing) place y.closes in
     let closes : Closes d x.place x.state y.closing = subst (λ (s : State). Closes d x.place s y.closing) state there in
     let ends : x.closing ≡ y.closing = one_closing d x.place x.state x.closing y.closing x.closes closes in (

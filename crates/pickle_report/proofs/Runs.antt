@@ -13,7 +13,7 @@ use Rattle.pickle_doc.specs.declared.fault.Finish.TheVariants as finish
 use Rattle.pickle_doc.specs.declared.fault.End.TheVariants as end
 use Rattle.pickle_doc.specs.DocUnit.{is_stop, operations, bytes_of}
 use Rattle.pickle_doc.specs.Document.{Contents, items_of, document_bytes, stops, open_of, IsDocument, finish_of}
-use Rattle.pickle_doc.specs.Place.{end_at, end_of, tail_offset}
+use Rattle.pickle_doc.specs.Place.{ops_of, end_at, end_of, tail_offset}
 use Rattle.pickle_doc.specs.Fitting.{IsFinish}
 use Rattle.pickle_doc.proofs.Finishes.{finished}
 use Rattle.pickle_objects.specs.declared.row.Row.{Row}
@@ -56,7 +56,7 @@ items_bytes (i ∷ items) = omega (arith, length-append (spelling i.op) (bytes_o
 
 -- each item takes a byte at least
 pub few_items : (d : Contents) → length (items_of d) ≤ length (document_bytes d)
-few_items d = omega (arith, items_bytes (items_of d), length-append (bytes_of (operations (items_of d))) d.tail)
+few_items d = omega (arith, items_bytes (items_of d), length-append (bytes_of (ops_of d)) d.tail)
 
 -- ---- the result
 
@@ -112,9 +112,9 @@ result_of_stop o n s t e h =
     let after_it : next_of row.Stop (kind_of o) n s ≡ t = ap (λ (r : Row). next_of r (kind_of o) n s) (sym ends) ∙ next_is (refusal_at o s) (next o n s) t h in
     subst (λ (u : State). IsSome (last_result u)) after_it (last_there s.results (deep 0 s.top))
 
-pub result_there : (d : Contents) (s : State) → IsDocument d → end_of d ≡ end.Stopped → run (operations (items_of d)) (length (items_of d)) ≡ Some s → IsSome (last_result s)
+pub result_there : (d : Contents) (s : State) → IsDocument d → end_of d ≡ end.Stopped → run (ops_of d) (length (items_of d)) ≡ Some s → IsSome (last_result s)
 result_there d s is e r =
-    let ops : List Operation = operations (items_of d) in
+    let ops : List Operation = ops_of d in
     let l : LastStop (items_of d) = last_stop (items_of d) (stopped (stops (items_of d)) (open_of d.units) (tail_offset d) d.tail (finish_of d) (finished d is.formed) e) in
     let long : length ops ≡ suc l.place = length-map (items_of d) (λ (i : Item). i.op) ∙ l.last in
     let there : slice_get ops l.place ≡ Some l.operation = slice_get_read ops (length ops) l.place l.operation refl (omega (arith, long)) l.there in
@@ -125,12 +125,12 @@ result_there d s is e r =
 -- ---- reports
 
 pub wrote_report : (d : Contents) (old new : Told) (s : State) (c : Closing) (status : ℕ)
-    → ((place : ℕ) × (run (operations (items_of d)) place ≡ Some s) × Closes d place s c) → status ≡ closing_status c → Wrote old new (report_text s.heap c)
+    → ((place : ℕ) × (run (ops_of d) place ≡ Some s) × Closes d place s c) → status ≡ closing_status c → Wrote old new (report_text s.heap c)
     → WroteReport d old new status
 wrote_report d old new s c status r e w =
     (report_text s.heap c, record { place = r.0; state = s; closing = c; reached = r.1; closes = r.2; lines = refl; answers = e }, w)
 
 pub broke_report : (d : Contents) (old new : Told) (s : State) (c : Closing)
-    → ((place : ℕ) × (run (operations (items_of d)) place ≡ Some s) × Closes d place s c) → Broke old new (report_text s.heap c) → BrokeReport d old new
+    → ((place : ℕ) × (run (ops_of d) place ≡ Some s) × Closes d place s c) → Broke old new (report_text s.heap c) → BrokeReport d old new
 broke_report d old new s c r b =
     (report_text s.heap c, closing_status c, record { place = r.0; state = s; closing = c; reached = r.1; closes = r.2; lines = refl; answers = refl }, b)

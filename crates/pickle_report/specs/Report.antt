@@ -4,9 +4,8 @@ use Rattle.std.specs.Prelude.{◌≡◌, ℕ, List, length, codes, Option, Some,
 use Rattle.pickle_ops.specs.Spelling.{Operation}
 use Rattle.pickle_io.specs.Text.{◌⧺◌}
 use Rattle.pickle_doc.specs.declared.fault.End.TheVariants as end
-use Rattle.pickle_doc.specs.DocUnit.{operations}
 use Rattle.pickle_doc.specs.Document.{Contents, items_of}
-use Rattle.pickle_doc.specs.Place.{item_at, end_of}
+use Rattle.pickle_doc.specs.Place.{ops_of, item_at, end_of}
 use Rattle.pickle_objects.specs.Object.{Object}
 use Rattle.pickle_machine.specs.declared.refusal.Refusal.{Refusal}
 use Rattle.pickle_machine.specs.State.{State, last_result}
@@ -61,7 +60,7 @@ pub record IsReport (d : Contents) (text : List ℕ) (status : ℕ) : Type 0 whe
   pub place : ℕ
   pub state : State
   pub closing : Closing
-  pub reached : run (operations (items_of d)) place ≡ Some state
+  pub reached : run (ops_of d) place ≡ Some state
   pub closes : Closes d place state closing
   pub lines : text ≡ report_text state.heap closing
   pub answers : status ≡ closing_status closing

@@ -1,9 +1,8 @@
 //! The report of a document.
 
 ghost use Rattle.std.specs.Prelude.{◌≡◌, ◌≢◌, ℕ, ◌+◌, ◌-◌, ◌^◌, ◌<◌, ◌≤◌, length, OnOk, OnErr, IfOk, IfErr, IsSome, Some, Err};
-ghost use Rattle.pickle_doc.specs.DocUnit.{operations};
 ghost use Rattle.pickle_doc.specs.Document.{items_of, IsDocument};
-ghost use Rattle.pickle_doc.specs.Place.{item_at};
+ghost use Rattle.pickle_doc.specs.Place.{ops_of, item_at};
 ghost use Rattle.pickle_machine.specs.State.{empty, last_result};
 ghost use Rattle.pickle_machine.specs.Run.{run};
 ghost use Rattle.pickle_io.specs.Device.{Writes};
@@ -106,7 +105,7 @@ fn result_of(machine: &Machine) -> ObjId
 /// How a run ends that went over all items.
 fn close(document: &Document, machine: &Machine) -> Closing
     requires document { IsDocument document.now.contents }
-    requires reached { run (operations (items_of document.now.contents)) (length (items_of document.now.contents)) ≡ Some machine.now.state }
+    requires reached { run (ops_of document.now.contents) (length (items_of document.now.contents)) ≡ Some machine.now.state }
     ensures { Closes document.now.contents (length (items_of document.now.contents)) machine.now.state result }
 {
     match document.end() {
@@ -124,8 +123,8 @@ fn step_over(
 ) -> Result<(), Refusal>
     requires few { length machine.old.state.heap < 2 ^ 32 - 1 }
     requires there { place < length (items_of document.now.contents) }
-    requires reached { run (operations (items_of document.now.contents)) place ≡ Some machine.old.state }
-    ensures ok { OnOk result (run (operations (items_of document.now.contents)) (place + 1) ≡ Some machine.new.state) }
+    requires reached { run (ops_of document.now.contents) place ≡ Some machine.old.state }
+    ensures ok { OnOk result (run (ops_of document.now.contents) (place + 1) ≡ Some machine.new.state) }
     ensures objects { length machine.new.state.heap ≤ length machine.old.state.heap + 1 }
     ensures err { OnErr result (machine.new.state ≡ machine.old.state) }
 
@@ -142,7 +141,7 @@ fn step_over(
 fn run_items(alloc: Global, document: &Document, machine: &mut Machine) -> Result<Closing, TextStop>
     requires empty { machine.old.state ≡ empty }
     requires few { length (items_of document.now.contents) < 2 ^ 32 }
-    ensures closes { IfOk result (λ c. (place : ℕ) × (run (operations (items_of document.now.contents)) place ≡ Some machine.new.state) × Closes document.now.contents place machine.new.state c) }
+    ensures closes { IfOk result (λ c. (place : ℕ) × (run (ops_of document.now.contents) place ≡ Some machine.new.state) × Closes document.now.contents place machine.new.state c) }
     ensures memory { IfErr result (λ e. e ≡ TextStop.Memory) }
 {
     for place in 0..document.len() {

@@ -12,8 +12,8 @@ use pickle_ops::Sink;
 use std::alloc::Global;
 
 /// Writes the listing of the pickle that the bytes are, and answers its status: 1 where an item is refused or the
-/// bytes have a fault, else 0. A `Stop` comes for want of memory, from the sink, or where there are more bytes than
-/// `LIMIT`; what was written then is a beginning of the listing.
+/// bytes have a fault, else 0. `Stop::TooLarge` comes where there are more bytes than `LIMIT`, `Stop::Memory` for
+/// want of memory, and `Stop::Write` from the sink; what was written then is a beginning of the listing.
 pub fn list<S: Sink>(alloc: Global, bytes: &[u8], sink: &mut S) -> Result<u8, Stop>
     ensures listed { IfOk result (IsListed bytes.now (S.told sink.old) (S.told sink.new)) }
 

@@ -11,9 +11,9 @@ use pickle_report::write_document_report;
 use std::alloc::Global;
 
 /// Writes the report of the pickle that the bytes are, and answers its status: the lines of all objects that its opcodes make, up
-/// to the end or to one that is refused, and a closing line; 0 where there is a result, else 1. A `Stop` comes for want of
-/// memory, from the sink, or where there are more bytes than `LIMIT`. Where the sink failed, what was written is a beginning of
-/// the report; else nothing was written.
+/// to the end or to one that is refused, and a closing line; 0 where there is a result, else 1. `Stop::TooLarge` comes
+/// where there are more bytes than `LIMIT`, and `Stop::Memory` for want of memory: nothing was written then. `Stop::Write` comes
+/// from the sink: what was written is a beginning of the report.
 pub fn objects<S: Sink>(alloc: Global, bytes: &[u8], sink: &mut S) -> Result<u8, Stop>
     ensures reported { IfOk result (IsReported bytes.now (S.told sink.old) (S.told sink.new)) }
 

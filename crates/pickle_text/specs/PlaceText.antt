@@ -11,7 +11,7 @@ use Rattle.pickle_doc.specs.declared.fault.End.{End}
 use Rattle.pickle_doc.specs.Place.{item_at, offset_of, end_of}
 use Rattle.pickle_machine.specs.State.{State, last_result}
 use Rattle.pickle_session.specs.Session.{Session, len_of, has_break}
-use Rattle.pickle_page.specs.Column.{right, newline}
+use Rattle.pickle_page.specs.Column.{right_aligned, newline}
 use Rattle.pickle_text.specs.FaultText.{end_text}
 
 -- ---- where the cursor stands: `at K of N, offset O, buffers B, result R, end E`
@@ -60,7 +60,7 @@ op_text o = behind_name (name_of o.opcode) (arg_text o)
 
 -- a place and an offset, each at the right of five places
 unfoldable pub place_columns : ℕ → ℕ → List ℕ
-place_columns k offset = right 5 (decimal k) ⧺ codes " " ⧺ right 5 (decimal offset)
+place_columns k offset = right_aligned 5 (decimal k) ⧺ codes " " ⧺ right_aligned 5 (decimal offset)
 
 -- the line of an item at a place
 unfoldable pub item_line : Session → ℕ → Operation → List ℕ

@@ -2,7 +2,7 @@
 
 ghost use Rattle.std.specs.Prelude.{◌≤◌, decimal};
 ghost use Rattle.pickle_io.specs.Device.{Writes};
-ghost use Rattle.pickle_page.specs.Column.{blanks, right};
+ghost use Rattle.pickle_page.specs.Column.{blanks, right_aligned};
 
 use itoa::Buffer;
 use pickle_ops::{Failed, Sink, write_all};
@@ -23,9 +23,9 @@ fn write_blanks<S: Sink>(count: usize, sink: &mut S) -> Result<(), Failed>
 }
 
 /// Writes a text at the right of a column.
-#[tactic(auto, using(pickle_io::proofs::Devices::text_steps), unfolding(pickle_page::specs::Column::right))]
+#[tactic(auto, using(pickle_io::proofs::Devices::text_steps), unfolding(pickle_page::specs::Column::right_aligned))]
 fn write_right_text<S: Sink>(text: &[u8], sink: &mut S) -> Result<(), Failed>
-    ensures { Writes (S.told sink.old) (S.told sink.new) result (right 5 text.now) }
+    ensures { Writes (S.told sink.old) (S.told sink.new) result (right_aligned 5 text.now) }
 {
     write_blanks(WIDTH.saturating_sub(text.len()), sink)?;
     write_all(sink, text)
@@ -33,7 +33,7 @@ fn write_right_text<S: Sink>(text: &[u8], sink: &mut S) -> Result<(), Failed>
 
 /// Writes a number at the right of a column of five places; a longer one is not cut.
 pub(crate) fn write_right<S: Sink>(number: u64, sink: &mut S) -> Result<(), Failed>
-    ensures { Writes (S.told sink.old) (S.told sink.new) result (right 5 (decimal number)) }
+    ensures { Writes (S.told sink.old) (S.told sink.new) result (right_aligned 5 (decimal number)) }
 {
     write_right_text(Buffer::new().format(number).as_bytes(), sink)
 }

@@ -44,7 +44,7 @@ fn save_argument<'a>(alloc: Global) -> Arg<'a>
     Arg::new(alloc, "save")
         .long("save")
         .value_name("OUT")
-        .help("write the pickle to OUT behind the last line")
+        .help("write the pickle to OUT after the last line")
         .action(ArgAction::Set)
 }
 

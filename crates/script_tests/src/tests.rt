@@ -20,20 +20,22 @@ fn opened_in_a_window(alloc: Global, bytes: &[u8]) -> Result<Session<Window>, Do
     Session::open(alloc, Window::new(alloc, 2)?, bytes)
 }
 
-/// The first lines of a script, and what they are answered.
-fn first_lines(
-    alloc: Global,
-    script: &Script,
-    count: usize,
-) -> Result<(Vec<u8>, Vec<u8>), AllocError> {
+/// The first lines of a script.
+fn first_lines(alloc: Global, script: &Script, count: usize) -> Result<Vec<u8>, AllocError> {
     let mut lines = Vec::new(alloc);
+    for k in 0..count.min(script.lines.len()) {
+        lines.extend_from_slice(script.lines[k].0.as_bytes())?;
+    }
+    Ok(lines)
+}
+
+/// What the first lines of a script are answered.
+fn first_replies(alloc: Global, script: &Script, count: usize) -> Result<Vec<u8>, AllocError> {
     let mut text = Vec::new(alloc);
     for k in 0..count.min(script.lines.len()) {
-        let (line, reply) = script.lines[k];
-        lines.extend_from_slice(line.as_bytes())?;
-        text.extend_from_slice(reply.as_bytes())?;
+        text.extend_from_slice(script.lines[k].1.as_bytes())?;
     }
-    Ok((lines, text))
+    Ok(text)
 }
 
 /// How many of some bytes end a line.
@@ -58,14 +60,14 @@ fn is_read_to_its_end(
     most: usize,
     calls: u64,
 ) -> Result<Option<bool>, Fail> {
-    let (lines, _) = first_lines(alloc, script, script.lines.len())?;
+    let lines = first_lines(alloc, script, script.lines.len())?;
     let mut session = opened(alloc, script.bytes)?;
     let mut source = Drip::new(&lines, most.max(1), calls);
     let mut sink = Sip::new(alloc, most.max(1), u64::MAX);
     let answer = converse(alloc, &mut session, &mut source, &mut sink);
     let given = most.saturating_mul(calls as usize).min(lines.len());
     let count = count_lines(lines.get(..given).unwrap_or_default());
-    let (_, text) = first_lines(alloc, script, count)?;
+    let text = first_replies(alloc, script, count)?;
     if sink.taken() != text.as_slice() {
         return Ok(None);
     }
@@ -87,7 +89,7 @@ fn calls_for(len: usize, most: usize) -> u64 {
 fn failing_sources(rt: HostRuntime) -> Result<(), Fail> {
     for script in &[BREAKPOINTS, APPENDED_BY_MEMO] {
         for most in [1, 2, 7] {
-            let (lines, _) = first_lines(rt.alloc(), script, script.lines.len())?;
+            let lines = first_lines(rt.alloc(), script, script.lines.len())?;
             let needed = calls_for(lines.len(), most);
             for calls in 0..=needed {
                 let found = is_read_to_its_end(rt.alloc(), script, most, calls)?;
@@ -108,7 +110,7 @@ fn standing<P: Past>(alloc: Global, session: &mut Session<P>) -> Result<Vec<u8>,
 
 /// What a session tells that has obeyed the first lines.
 fn standing_after(alloc: Global, script: &Script, count: usize) -> Result<Vec<u8>, Fail> {
-    let (lines, _) = first_lines(alloc, script, count)?;
+    let lines = first_lines(alloc, script, count)?;
     let mut session = opened(alloc, script.bytes)?;
     let mut source = FromRead::new(lines.as_slice());
     let mut sink = ToWrite::new(Vec::new(alloc));
@@ -138,7 +140,8 @@ fn is_written_to_its_end(
     most: usize,
     calls: u64,
 ) -> Result<Option<bool>, Fail> {
-    let (lines, text) = first_lines(alloc, script, script.lines.len())?;
+    let lines = first_lines(alloc, script, script.lines.len())?;
+    let text = first_replies(alloc, script, script.lines.len())?;
     let mut session = opened(alloc, script.bytes)?;
     let mut source = Drip::new(&lines, most.max(1), u64::MAX);
     let mut sink = Sip::new(alloc, most.max(1), calls);
@@ -216,24 +219,31 @@ fn follow<P: Past>(alloc: Global, session: &mut Session<P>, script: &Script) -> 
     None
 }
 
+/// Follows a script in a session with all records.
+fn follow_whole(alloc: Global, script: &Script) -> Result<Option<usize>, DocFault> {
+    let mut session = match opened(alloc, script.bytes) {
+        Ok(session) => session,
+        Err(_) => opened(alloc, script.bytes)?,
+    };
+    Ok(follow(alloc, &mut session, script))
+}
+
+/// Follows a script in a session with the latest two records.
+fn follow_window(alloc: Global, script: &Script) -> Result<Option<usize>, DocFault> {
+    let mut session = match opened_in_a_window(alloc, script.bytes) {
+        Ok(session) => session,
+        Err(_) => opened_in_a_window(alloc, script.bytes)?,
+    };
+    Ok(follow(alloc, &mut session, script))
+}
+
 /// Run with each request for memory refused in turn.
 #[test]
 fn refused_memory(rt: HostRuntime) -> Result<(), Fail> {
     for (k, script) in SCRIPTS.iter().enumerate() {
-        let mut session = match opened(rt.alloc(), script.bytes) {
-            Ok(session) => session,
-            Err(_) => opened(rt.alloc(), script.bytes)?,
-        };
-        assert_eq!(rt;
-            follow(rt.alloc(), &mut session, script),
-            None,
-            "script {k}"
-        );
-        let mut session = match opened_in_a_window(rt.alloc(), script.bytes) {
-            Ok(session) => session,
-            Err(_) => opened_in_a_window(rt.alloc(), script.bytes)?,
-        };
-        let found = follow(rt.alloc(), &mut session, script);
+        let found = follow_whole(rt.alloc(), script)?;
+        assert_eq!(rt; found, None, "script {k}");
+        let found = follow_window(rt.alloc(), script)?;
         assert_eq!(rt; found, None, "script {k} in a window");
     }
     Ok(())

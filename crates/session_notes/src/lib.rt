@@ -4,8 +4,7 @@
 
 mod script;
 mod session;
-mod state;
 
 pub use script::{Note, ScriptFault, follow_whole, follow_window, note_whole, note_window};
 pub use session::{shows, write_session};
-pub use state::{Beside, write_state};
+pub use machine_notes::{Beside, write_state};

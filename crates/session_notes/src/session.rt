@@ -1,6 +1,6 @@
 //! What a session shows as a text, by its readers.
 
-use crate::state::{Beside, write_state};
+use machine_notes::{Beside, write_state};
 use pickle_ops::{Failed, Sink, write_all, write_decimal};
 use pickle_session::{Past, Session};
 

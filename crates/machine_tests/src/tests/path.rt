@@ -4,7 +4,7 @@ ghost use Rattle.std.specs.Prelude.{◌≡◌, IfOk, OnOk, OnErr};
 ghost use Rattle.pickle_machine.specs.Held.{KeepsRooms, Fits};
 ghost use Rattle.pickle_machine.specs.Back.{Leads};
 
-use crate::tests::state::{stands, write_state};
+use machine_notes::{stands, write_state};
 use pickle_machine::{Machine, Refusal, StepRecord};
 use pickle_ops::{Failed, Op, OpFault, Opcode, ToWrite, read_op};
 use std::alloc::{AllocError, AllocFailed, Global};

@@ -8,63 +8,51 @@ use Rattle.pickle_objects.specs.Row.{row_of, kind_of}
 use Rattle.pickle_machine.specs.Move.{refusal_of}
 use Rattle.pickle_outline.specs.Class.{sample}
 use Rattle.pickle_outline.specs.Outline.{plain}
-use Rattle.pickle_listing.proofs.Listed.{listed_none, with_line, line_breaks, line_stops, line_unflushed, closed, close_breaks, refused_closes, fault_closes, fault_unflushed, moved, goes_on, stop_closes, stop_unflushed, bounds}
+use Rattle.pickle_listing.proofs.Listed.{listed_none, with_line, line_breaks, line_stops, closes_ok, closes_err, refused_closes, fault_closes, moved, goes_on, stop_closes, bounds}
 use Rattle.pickle_listing.proofs.Cuts.{cut_failed, cut_memory}
 use Rattle.pickle_listing.proofs.list.list_items.Goals as goal
 
 pub items-init : goal.items-init
 items-init g c = rw (c.requires.first, c.new-lean.ensures, c.new-opened.ensures.items, c.new-page.ensures) (listed_none _ _ c.requires.document c.requires.small)
 
-pub returns-in_err-flush-in-Tail-clause-err : goal.returns-in_err-flush-in-Tail-clause-err
-returns-in_err-flush-in-Tail-clause-err g c =
-    let f : HasTailFault (g.I.ItemSource.unread c.items.reader).left (g.I.ItemSource.unread c.items.reader).rest c.in-Tail.fault × (g.I.ItemSource.unread c.next.new.self ≡ g.I.ItemSource.unread c.items.reader) = rw c.in-Tail.is at c.next.ensures in
-    cut_failed _ _ _ _ c.from_residual.ensures.1 (fault_unflushed _ _ _ _ _ _ _ _ _ _ _ _ c.in-Tail.fault c.items.invariant f.0 c.in_err-flush-in-Tail.ensures.writes)
-
-pub returns-in_err-write_fault_end-in-Tail-clause-err : goal.returns-in_err-write_fault_end-in-Tail-clause-err
-returns-in_err-write_fault_end-in-Tail-clause-err g c =
-    let f : HasTailFault (g.I.ItemSource.unread c.items.reader).left (g.I.ItemSource.unread c.items.reader).rest c.in-Tail.fault × (g.I.ItemSource.unread c.next.new.self ≡ g.I.ItemSource.unread c.items.reader) = rw c.in-Tail.is at c.next.ensures in
-    cut_failed _ _ _ _ c.from_residual-in_err-write_fault_end-in-Tail.ensures.1 (close_breaks _ _ _ _ _ _ (fault_closes _ _ _ _ _ _ _ _ _ _ _ _ c.in-Tail.fault c.items.invariant f.0 c.in_ok-flush-in-Tail.ensures.writes) c.in_err-write_fault_end-in-Tail.ensures)
-
 pub returns-in-Tail-clause-ok : goal.returns-in-Tail-clause-ok
 returns-in-Tail-clause-ok g c =
     let f : HasTailFault (g.I.ItemSource.unread c.items.reader).left (g.I.ItemSource.unread c.items.reader).rest c.in-Tail.fault × (g.I.ItemSource.unread c.next.new.self ≡ g.I.ItemSource.unread c.items.reader) = rw c.in-Tail.is at c.next.ensures in
-    closed _ _ _ _ _ _ (fault_closes _ _ _ _ _ _ _ _ _ _ _ _ c.in-Tail.fault c.items.invariant f.0 c.in_ok-flush-in-Tail.ensures.writes) c.in_ok-write_fault_end-in-Tail.ensures
+    closes_ok _ _ _ _ _ _ _ _ (fault_closes _ _ _ _ _ _ _ _ _ _ _ c.in-Tail.fault c.items.invariant f.0) c.write_fault_end.ensures c.answer.ensures
+
+pub returns-in-Tail-clause-err : goal.returns-in-Tail-clause-err
+returns-in-Tail-clause-err g c =
+    let f : HasTailFault (g.I.ItemSource.unread c.items.reader).left (g.I.ItemSource.unread c.items.reader).rest c.in-Tail.fault × (g.I.ItemSource.unread c.next.new.self ≡ g.I.ItemSource.unread c.items.reader) = rw c.in-Tail.is at c.next.ensures in
+    closes_err _ _ _ _ _ _ _ _ (fault_closes _ _ _ _ _ _ _ _ _ _ _ c.in-Tail.fault c.items.invariant f.0) c.write_fault_end.ensures c.answer.ensures
 
 pub put_item-requires : goal.put_item-requires
 put_item-requires g c =
     let n : IsNextItem (g.I.ItemSource.unread c.items.reader).left (g.I.ItemSource.unread c.items.reader).rest c.in-Item.op (size_of c.in-Item.op)
     × (g.I.ItemSource.unread c.next.new.self ≡ record { rest = drop (size_of c.in-Item.op) (g.I.ItemSource.unread c.items.reader).rest; left = left_behind (g.I.ItemSource.unread c.items.reader).left c.in-Item.op }) = rw c.in-Item.is at c.next.ensures in
     let b = bounds _ _ _ _ _ _ _ _ c.in-Item.op _ _ _ c.items.invariant n.0 in
-    omega (arith, c.marks_len-marks.ensures, b.marks, b.place, c.requires.small)
+    omega (arith, c.marks_len.ensures, b.marks, b.place, c.requires.small)
 
 pub returns-in_err-put_item-in-Item-clause-err : goal.returns-in_err-put_item-in-Item-clause-err
 returns-in_err-put_item-in-Item-clause-err g c =
     let n : IsNextItem (g.I.ItemSource.unread c.items.reader).left (g.I.ItemSource.unread c.items.reader).rest c.in-Item.op (size_of c.in-Item.op)
     × (g.I.ItemSource.unread c.next.new.self ≡ record { rest = drop (size_of c.in-Item.op) (g.I.ItemSource.unread c.items.reader).rest; left = left_behind (g.I.ItemSource.unread c.items.reader).left c.in-Item.op }) = rw c.in-Item.is at c.next.ensures in
-    cut_failed _ _ _ _ c.from_residual-in_err-put_item-in-Item.ensures.1 (line_breaks _ _ _ _ _ _ _ _ _ c.in-Item.op _ _ _ c.items.invariant n.0 (rw (c.marks_len-marks.ensures, c.note_unless_refused-note.ensures, c.as_slice.ensures.value, c.refusal-refusal.ensures.first, c.of_ref-row.ensures) at c.in_err-put_item-in-Item.ensures))
-
-pub returns-in_err-flush-in-Item-clause-err : goal.returns-in_err-flush-in-Item-clause-err
-returns-in_err-flush-in-Item-clause-err g c =
-    let n : IsNextItem (g.I.ItemSource.unread c.items.reader).left (g.I.ItemSource.unread c.items.reader).rest c.in-Item.op (size_of c.in-Item.op)
-    × (g.I.ItemSource.unread c.next.new.self ≡ record { rest = drop (size_of c.in-Item.op) (g.I.ItemSource.unread c.items.reader).rest; left = left_behind (g.I.ItemSource.unread c.items.reader).left c.in-Item.op }) = rw c.in-Item.is at c.next.ensures in
-    let w = with_line _ _ _ _ _ _ _ _ _ _ c.in-Item.op _ _ _ c.items.invariant n.0 (rw (c.marks_len-marks.ensures, c.note_unless_refused-note.ensures, c.as_slice.ensures.value, c.refusal-refusal.ensures.first, c.of_ref-row.ensures) at c.in_ok-put_item-in-Item.ensures) in
-    cut_failed _ _ _ _ c.from_residual-in_err-flush-in-Item.ensures.1 (line_unflushed _ _ _ _ _ _ _ _ _ c.in-Item.op _ _ _ w c.in_err-flush-in-Item.ensures.writes)
-
-pub returns-in_err-write_refused_end-in-Item-clause-err : goal.returns-in_err-write_refused_end-in-Item-clause-err
-returns-in_err-write_refused_end-in-Item-clause-err g c =
-    let n : IsNextItem (g.I.ItemSource.unread c.items.reader).left (g.I.ItemSource.unread c.items.reader).rest c.in-Item.op (size_of c.in-Item.op)
-    × (g.I.ItemSource.unread c.next.new.self ≡ record { rest = drop (size_of c.in-Item.op) (g.I.ItemSource.unread c.items.reader).rest; left = left_behind (g.I.ItemSource.unread c.items.reader).left c.in-Item.op }) = rw c.in-Item.is at c.next.ensures in
-    let w = with_line _ _ _ _ _ _ _ _ _ _ c.in-Item.op _ _ _ c.items.invariant n.0 (rw (c.marks_len-marks.ensures, c.note_unless_refused-note.ensures, c.as_slice.ensures.value, c.refusal-refusal.ensures.first, c.of_ref-row.ensures) at c.in_ok-put_item-in-Item.ensures) in
-    let r : refusal_of (row_of c.in-Item.op) c.items.lean ≡ Some c.in-Some.refusal = rw c.of_ref-row.ensures at (sym c.in-Some.ensures.first) in
-    cut_failed _ _ _ _ c.from_residual-in_err-write_refused_end-in-Item.ensures.1 (close_breaks _ _ _ _ _ _ (refused_closes _ _ _ _ _ _ _ _ _ c.in-Item.op _ _ _ c.in-Some.refusal w r c.in_ok-flush-in-Item.ensures.writes) (rw (c.raise-highest.ensures, c.protocol.ensures, c.opcode.ensures) at c.in_err-write_refused_end-in-Item.ensures))
+    cut_failed _ _ _ _ c.from_residual.ensures.1 (line_breaks _ _ _ _ _ _ _ _ _ c.in-Item.op _ _ _ c.items.invariant n.0 (rw (c.marks_len.ensures, c.note_unless_refused-note.ensures, c.as_slice.ensures.value, c.refusal-refusal.ensures.first, c.of_ref-row.ensures) at c.in_err-put_item-in-Item.ensures))
 
 pub returns-in-Some-clause-ok : goal.returns-in-Some-clause-ok
 returns-in-Some-clause-ok g c =
     let n : IsNextItem (g.I.ItemSource.unread c.items.reader).left (g.I.ItemSource.unread c.items.reader).rest c.in-Item.op (size_of c.in-Item.op)
     × (g.I.ItemSource.unread c.next.new.self ≡ record { rest = drop (size_of c.in-Item.op) (g.I.ItemSource.unread c.items.reader).rest; left = left_behind (g.I.ItemSource.unread c.items.reader).left c.in-Item.op }) = rw c.in-Item.is at c.next.ensures in
-    let w = with_line _ _ _ _ _ _ _ _ _ _ c.in-Item.op _ _ _ c.items.invariant n.0 (rw (c.marks_len-marks.ensures, c.note_unless_refused-note.ensures, c.as_slice.ensures.value, c.refusal-refusal.ensures.first, c.of_ref-row.ensures) at c.in_ok-put_item-in-Item.ensures) in
+    let w = with_line _ _ _ _ _ _ _ _ _ _ c.in-Item.op _ _ _ c.items.invariant n.0 (rw (c.marks_len.ensures, c.note_unless_refused-note.ensures, c.as_slice.ensures.value, c.refusal-refusal.ensures.first, c.of_ref-row.ensures) at c.in_ok-put_item-in-Item.ensures) in
     let r : refusal_of (row_of c.in-Item.op) c.items.lean ≡ Some c.in-Some.refusal = rw c.of_ref-row.ensures at (sym c.in-Some.ensures.first) in
-    closed _ _ _ _ _ _ (refused_closes _ _ _ _ _ _ _ _ _ c.in-Item.op _ _ _ c.in-Some.refusal w r c.in_ok-flush-in-Item.ensures.writes) (rw (c.raise-highest.ensures, c.protocol.ensures, c.opcode.ensures) at c.in_ok-write_refused_end-in-Item.ensures)
+    closes_ok _ _ _ _ _ _ _ _ (refused_closes _ _ _ _ _ _ _ _ c.in-Item.op _ _ _ c.in-Some.refusal w r) (rw (c.raise-highest.ensures, c.protocol.ensures, c.opcode.ensures) at c.write_refused_end.ensures) c.answer-in-Some.ensures
+
+pub returns-in-Some-clause-err : goal.returns-in-Some-clause-err
+returns-in-Some-clause-err g c =
+    let n : IsNextItem (g.I.ItemSource.unread c.items.reader).left (g.I.ItemSource.unread c.items.reader).rest c.in-Item.op (size_of c.in-Item.op)
+    × (g.I.ItemSource.unread c.next.new.self ≡ record { rest = drop (size_of c.in-Item.op) (g.I.ItemSource.unread c.items.reader).rest; left = left_behind (g.I.ItemSource.unread c.items.reader).left c.in-Item.op }) = rw c.in-Item.is at c.next.ensures in
+    let w = with_line _ _ _ _ _ _ _ _ _ _ c.in-Item.op _ _ _ c.items.invariant n.0 (rw (c.marks_len.ensures, c.note_unless_refused-note.ensures, c.as_slice.ensures.value, c.refusal-refusal.ensures.first, c.of_ref-row.ensures) at c.in_ok-put_item-in-Item.ensures) in
+    let r : refusal_of (row_of c.in-Item.op) c.items.lean ≡ Some c.in-Some.refusal = rw c.of_ref-row.ensures at (sym c.in-Some.ensures.first) in
+    closes_err _ _ _ _ _ _ _ _ (refused_closes _ _ _ _ _ _ _ _ c.in-Item.op _ _ _ c.in-Some.refusal w r) (rw (c.raise-highest.ensures, c.protocol.ensures, c.opcode.ensures) at c.write_refused_end.ensures) c.answer-in-Some.ensures
 
 pub perform-requires-clause-heap : goal.perform-requires-clause-heap
 perform-requires-clause-heap g c =
@@ -77,15 +65,8 @@ pub returns-in_err-perform-in-Item-clause-err : goal.returns-in_err-perform-in-I
 returns-in_err-perform-in-Item-clause-err g c =
     let n : IsNextItem (g.I.ItemSource.unread c.items.reader).left (g.I.ItemSource.unread c.items.reader).rest c.in-Item.op (size_of c.in-Item.op)
     × (g.I.ItemSource.unread c.next.new.self ≡ record { rest = drop (size_of c.in-Item.op) (g.I.ItemSource.unread c.items.reader).rest; left = left_behind (g.I.ItemSource.unread c.items.reader).left c.in-Item.op }) = rw c.in-Item.is at c.next.ensures in
-    let w = with_line _ _ _ _ _ _ _ _ _ _ c.in-Item.op _ _ _ c.items.invariant n.0 (rw (c.marks_len-marks.ensures, c.note_unless_refused-note.ensures, c.as_slice.ensures.value, c.refusal-refusal.ensures.first, c.of_ref-row.ensures) at c.in_ok-put_item-in-Item.ensures) in
+    let w = with_line _ _ _ _ _ _ _ _ _ _ c.in-Item.op _ _ _ c.items.invariant n.0 (rw (c.marks_len.ensures, c.note_unless_refused-note.ensures, c.as_slice.ensures.value, c.refusal-refusal.ensures.first, c.of_ref-row.ensures) at c.in_ok-put_item-in-Item.ensures) in
     cut_memory _ _ _ _ c.from_residual-in_err-perform-in-Item.ensures.1 (line_stops _ _ _ _ _ _ _ _ c.in-Item.op _ _ _ w)
-
-pub returns-in_err-follow_marks-in-Item-clause-err : goal.returns-in_err-follow_marks-in-Item-clause-err
-returns-in_err-follow_marks-in-Item-clause-err g c =
-    let n : IsNextItem (g.I.ItemSource.unread c.items.reader).left (g.I.ItemSource.unread c.items.reader).rest c.in-Item.op (size_of c.in-Item.op)
-    × (g.I.ItemSource.unread c.next.new.self ≡ record { rest = drop (size_of c.in-Item.op) (g.I.ItemSource.unread c.items.reader).rest; left = left_behind (g.I.ItemSource.unread c.items.reader).left c.in-Item.op }) = rw c.in-Item.is at c.next.ensures in
-    let w = with_line _ _ _ _ _ _ _ _ _ _ c.in-Item.op _ _ _ c.items.invariant n.0 (rw (c.marks_len-marks.ensures, c.note_unless_refused-note.ensures, c.as_slice.ensures.value, c.refusal-refusal.ensures.first, c.of_ref-row.ensures) at c.in_ok-put_item-in-Item.ensures) in
-    cut_memory _ _ _ _ c.from_residual-in_err-follow_marks-in-Item.ensures.1 (line_stops _ _ _ _ _ _ _ _ c.in-Item.op _ _ _ w)
 
 pub overflow_add-offset : goal.overflow_add-offset
 overflow_add-offset g c =
@@ -101,56 +82,40 @@ overflow_add-place g c =
     let b = bounds _ _ _ _ _ _ _ _ c.in-Item.op _ _ _ c.items.invariant n.0 in
     omega (arith, b.place, c.requires.small)
 
-pub returns-in_err-flush-in-Item-2-clause-err : goal.returns-in_err-flush-in-Item-2-clause-err
-returns-in_err-flush-in-Item-2-clause-err g c =
-    let n : IsNextItem (g.I.ItemSource.unread c.items.reader).left (g.I.ItemSource.unread c.items.reader).rest c.in-Item.op (size_of c.in-Item.op)
-    × (g.I.ItemSource.unread c.next.new.self ≡ record { rest = drop (size_of c.in-Item.op) (g.I.ItemSource.unread c.items.reader).rest; left = left_behind (g.I.ItemSource.unread c.items.reader).left c.in-Item.op }) = rw c.in-Item.is at c.next.ensures in
-    let w = with_line _ _ _ _ _ _ _ _ _ _ c.in-Item.op _ _ _ c.items.invariant n.0 (rw (c.marks_len-marks.ensures, c.note_unless_refused-note.ensures, c.as_slice.ensures.value, c.refusal-refusal.ensures.first, c.of_ref-row.ensures) at c.in_ok-put_item-in-Item.ensures) in
-    let none : refusal_of (row_of c.in-Item.op) c.items.lean ≡ None = rw c.of_ref-row.ensures at (sym c.in_default.ensures.first) in
-    let kind : sample c.of.result ≡ plain (kind_of c.in-Item.op) = rw c.opcode-in-Item.ensures at (c.of.ensures c.in-Item.op.arg) in
-    let next = rw c.of_ref-row.ensures at c.in_ok-perform-in-Item.ensures.ok in
-    let marks = rw (c.marks_len-marks.ensures, c.marks_len.ensures) at c.in_ok-follow_marks-in-Item.ensures.ok in
-    let m = moved _ _ _ _ _ _ _ _ c.in-Item.op _ _ _ _ _ _ w none kind next marks in
-    let hit : ends_reading c.in-Item.op.opcode ≡ true = sym (rw c.opcode-in-Item-2.ensures at c.ends_reading.ensures) ∙ c.if-ends_reading.true in
-    cut_failed _ _ _ _ c.from_residual-in_err-flush-in-Item-2.ensures.1 (stop_unflushed _ _ _ _ _ _ _ _ _ c.in-Item.op _ _ _ m hit c.in_err-flush-in-Item-2.ensures.writes)
-
-pub returns-in_err-write_stopped_end-in-Item-clause-err : goal.returns-in_err-write_stopped_end-in-Item-clause-err
-returns-in_err-write_stopped_end-in-Item-clause-err g c =
-    let n : IsNextItem (g.I.ItemSource.unread c.items.reader).left (g.I.ItemSource.unread c.items.reader).rest c.in-Item.op (size_of c.in-Item.op)
-    × (g.I.ItemSource.unread c.next.new.self ≡ record { rest = drop (size_of c.in-Item.op) (g.I.ItemSource.unread c.items.reader).rest; left = left_behind (g.I.ItemSource.unread c.items.reader).left c.in-Item.op }) = rw c.in-Item.is at c.next.ensures in
-    let w = with_line _ _ _ _ _ _ _ _ _ _ c.in-Item.op _ _ _ c.items.invariant n.0 (rw (c.marks_len-marks.ensures, c.note_unless_refused-note.ensures, c.as_slice.ensures.value, c.refusal-refusal.ensures.first, c.of_ref-row.ensures) at c.in_ok-put_item-in-Item.ensures) in
-    let none : refusal_of (row_of c.in-Item.op) c.items.lean ≡ None = rw c.of_ref-row.ensures at (sym c.in_default.ensures.first) in
-    let kind : sample c.of.result ≡ plain (kind_of c.in-Item.op) = rw c.opcode-in-Item.ensures at (c.of.ensures c.in-Item.op.arg) in
-    let next = rw c.of_ref-row.ensures at c.in_ok-perform-in-Item.ensures.ok in
-    let marks = rw (c.marks_len-marks.ensures, c.marks_len.ensures) at c.in_ok-follow_marks-in-Item.ensures.ok in
-    let m = moved _ _ _ _ _ _ _ _ c.in-Item.op _ _ _ _ _ _ w none kind next marks in
-    let hit : ends_reading c.in-Item.op.opcode ≡ true = sym (rw c.opcode-in-Item-2.ensures at c.ends_reading.ensures) ∙ c.if-ends_reading.true in
-    let rest : c.unread_len.result ≡ length (drop (size_of c.in-Item.op) (g.I.ItemSource.unread c.items.reader).rest) = c.unread_len.ensures ∙ ap (λ (u : Unread). length u.rest) n.1 in
-    cut_failed _ _ _ _ c.from_residual-in_err-write_stopped_end-in-Item.ensures.1 (close_breaks _ _ _ _ _ _ (stop_closes _ _ _ _ _ _ _ _ _ c.in-Item.op _ _ _ m hit c.in_ok-flush-in-Item-2.ensures.writes) (rw (rest, c.raise-highest.ensures, c.protocol.ensures, c.opcode.ensures) at c.in_err-write_stopped_end-in-Item.ensures))
-
 pub returns-then-ends_reading-clause-ok : goal.returns-then-ends_reading-clause-ok
 returns-then-ends_reading-clause-ok g c =
     let n : IsNextItem (g.I.ItemSource.unread c.items.reader).left (g.I.ItemSource.unread c.items.reader).rest c.in-Item.op (size_of c.in-Item.op)
     × (g.I.ItemSource.unread c.next.new.self ≡ record { rest = drop (size_of c.in-Item.op) (g.I.ItemSource.unread c.items.reader).rest; left = left_behind (g.I.ItemSource.unread c.items.reader).left c.in-Item.op }) = rw c.in-Item.is at c.next.ensures in
-    let w = with_line _ _ _ _ _ _ _ _ _ _ c.in-Item.op _ _ _ c.items.invariant n.0 (rw (c.marks_len-marks.ensures, c.note_unless_refused-note.ensures, c.as_slice.ensures.value, c.refusal-refusal.ensures.first, c.of_ref-row.ensures) at c.in_ok-put_item-in-Item.ensures) in
+    let w = with_line _ _ _ _ _ _ _ _ _ _ c.in-Item.op _ _ _ c.items.invariant n.0 (rw (c.marks_len.ensures, c.note_unless_refused-note.ensures, c.as_slice.ensures.value, c.refusal-refusal.ensures.first, c.of_ref-row.ensures) at c.in_ok-put_item-in-Item.ensures) in
     let none : refusal_of (row_of c.in-Item.op) c.items.lean ≡ None = rw c.of_ref-row.ensures at (sym c.in_default.ensures.first) in
     let kind : sample c.of.result ≡ plain (kind_of c.in-Item.op) = rw c.opcode-in-Item.ensures at (c.of.ensures c.in-Item.op.arg) in
-    let next = rw c.of_ref-row.ensures at c.in_ok-perform-in-Item.ensures.ok in
-    let marks = rw (c.marks_len-marks.ensures, c.marks_len.ensures) at c.in_ok-follow_marks-in-Item.ensures.ok in
-    let m = moved _ _ _ _ _ _ _ _ c.in-Item.op _ _ _ _ _ _ w none kind next marks in
+    let next = rw c.of_ref-row.ensures at c.in_ok-perform-in-Item.ensures.moved in
+    let m = moved _ _ _ _ _ _ _ _ c.in-Item.op _ _ _ _ _ _ w none kind next c.in_ok-perform-in-Item.ensures.marks in
     let hit : ends_reading c.in-Item.op.opcode ≡ true = sym (rw c.opcode-in-Item-2.ensures at c.ends_reading.ensures) ∙ c.if-ends_reading.true in
-    let rest : c.unread_len.result ≡ length (drop (size_of c.in-Item.op) (g.I.ItemSource.unread c.items.reader).rest) = c.unread_len.ensures ∙ ap (λ (u : Unread). length u.rest) n.1 in
-    closed _ _ _ _ _ _ (stop_closes _ _ _ _ _ _ _ _ _ c.in-Item.op _ _ _ m hit c.in_ok-flush-in-Item-2.ensures.writes) (rw (rest, c.raise-highest.ensures, c.protocol.ensures, c.opcode.ensures) at c.in_ok-write_stopped_end-in-Item.ensures)
+    let rest : c.unread_len-kept.result ≡ length (drop (size_of c.in-Item.op) (g.I.ItemSource.unread c.items.reader).rest) = c.unread_len-kept.ensures ∙ ap (λ (u : Unread). length u.rest) n.1 in
+    closes_ok _ _ _ _ _ _ _ _ (stop_closes _ _ _ _ _ _ _ _ c.in-Item.op _ _ _ m hit) (rw (rest, c.raise-highest.ensures, c.protocol.ensures, c.opcode.ensures) at c.write_stopped_end.ensures) c.answer-then-ends_reading.ensures
+
+pub returns-then-ends_reading-clause-err : goal.returns-then-ends_reading-clause-err
+returns-then-ends_reading-clause-err g c =
+    let n : IsNextItem (g.I.ItemSource.unread c.items.reader).left (g.I.ItemSource.unread c.items.reader).rest c.in-Item.op (size_of c.in-Item.op)
+    × (g.I.ItemSource.unread c.next.new.self ≡ record { rest = drop (size_of c.in-Item.op) (g.I.ItemSource.unread c.items.reader).rest; left = left_behind (g.I.ItemSource.unread c.items.reader).left c.in-Item.op }) = rw c.in-Item.is at c.next.ensures in
+    let w = with_line _ _ _ _ _ _ _ _ _ _ c.in-Item.op _ _ _ c.items.invariant n.0 (rw (c.marks_len.ensures, c.note_unless_refused-note.ensures, c.as_slice.ensures.value, c.refusal-refusal.ensures.first, c.of_ref-row.ensures) at c.in_ok-put_item-in-Item.ensures) in
+    let none : refusal_of (row_of c.in-Item.op) c.items.lean ≡ None = rw c.of_ref-row.ensures at (sym c.in_default.ensures.first) in
+    let kind : sample c.of.result ≡ plain (kind_of c.in-Item.op) = rw c.opcode-in-Item.ensures at (c.of.ensures c.in-Item.op.arg) in
+    let next = rw c.of_ref-row.ensures at c.in_ok-perform-in-Item.ensures.moved in
+    let m = moved _ _ _ _ _ _ _ _ c.in-Item.op _ _ _ _ _ _ w none kind next c.in_ok-perform-in-Item.ensures.marks in
+    let hit : ends_reading c.in-Item.op.opcode ≡ true = sym (rw c.opcode-in-Item-2.ensures at c.ends_reading.ensures) ∙ c.if-ends_reading.true in
+    let rest : c.unread_len-kept.result ≡ length (drop (size_of c.in-Item.op) (g.I.ItemSource.unread c.items.reader).rest) = c.unread_len-kept.ensures ∙ ap (λ (u : Unread). length u.rest) n.1 in
+    closes_err _ _ _ _ _ _ _ _ (stop_closes _ _ _ _ _ _ _ _ c.in-Item.op _ _ _ m hit) (rw (rest, c.raise-highest.ensures, c.protocol.ensures, c.opcode.ensures) at c.write_stopped_end.ensures) c.answer-then-ends_reading.ensures
 
 pub items-preserved : goal.items-preserved
 items-preserved g c =
     let n : IsNextItem (g.I.ItemSource.unread c.items.reader).left (g.I.ItemSource.unread c.items.reader).rest c.in-Item.op (size_of c.in-Item.op)
     × (g.I.ItemSource.unread c.next.new.self ≡ record { rest = drop (size_of c.in-Item.op) (g.I.ItemSource.unread c.items.reader).rest; left = left_behind (g.I.ItemSource.unread c.items.reader).left c.in-Item.op }) = rw c.in-Item.is at c.next.ensures in
-    let w = with_line _ _ _ _ _ _ _ _ _ _ c.in-Item.op _ _ _ c.items.invariant n.0 (rw (c.marks_len-marks.ensures, c.note_unless_refused-note.ensures, c.as_slice.ensures.value, c.refusal-refusal.ensures.first, c.of_ref-row.ensures) at c.in_ok-put_item-in-Item.ensures) in
+    let w = with_line _ _ _ _ _ _ _ _ _ _ c.in-Item.op _ _ _ c.items.invariant n.0 (rw (c.marks_len.ensures, c.note_unless_refused-note.ensures, c.as_slice.ensures.value, c.refusal-refusal.ensures.first, c.of_ref-row.ensures) at c.in_ok-put_item-in-Item.ensures) in
     let none : refusal_of (row_of c.in-Item.op) c.items.lean ≡ None = rw c.of_ref-row.ensures at (sym c.in_default.ensures.first) in
     let kind : sample c.of.result ≡ plain (kind_of c.in-Item.op) = rw c.opcode-in-Item.ensures at (c.of.ensures c.in-Item.op.arg) in
-    let next = rw c.of_ref-row.ensures at c.in_ok-perform-in-Item.ensures.ok in
-    let marks = rw (c.marks_len-marks.ensures, c.marks_len.ensures) at c.in_ok-follow_marks-in-Item.ensures.ok in
-    let m = moved _ _ _ _ _ _ _ _ c.in-Item.op _ _ _ _ _ _ w none kind next marks in
+    let next = rw c.of_ref-row.ensures at c.in_ok-perform-in-Item.ensures.moved in
+    let m = moved _ _ _ _ _ _ _ _ c.in-Item.op _ _ _ _ _ _ w none kind next c.in_ok-perform-in-Item.ensures.marks in
     let miss : ends_reading c.in-Item.op.opcode ≡ false = sym (rw c.opcode-in-Item-2.ensures at c.ends_reading.ensures) ∙ c.if-ends_reading.false in
     rw (n.1, c.size.ensures, c.raise-highest.ensures, c.protocol.ensures, c.opcode.ensures) (goes_on _ _ _ _ _ _ _ _ c.in-Item.op _ _ _ m miss)

@@ -2,7 +2,7 @@ use Rattle.std.specs.Prelude.{codes, unwrap_or, []}
 use Rattle.pickle_ops.specs.Table.{name_of}
 use Rattle.pickle_io.specs.Text.{◌⧺◌}
 use Rattle.pickle_ops.specs.Text.{arg_text}
-use Rattle.pickle_page.specs.Column.{left}
+use Rattle.pickle_page.specs.Column.{left_aligned}
 use Rattle.pickle_listing.specs.Line.{note_text}
 use Rattle.pickle_page.proofs.Puts.{puts_stop}
 use Rattle.pickle_listing.proofs.PageLines.{noted_put, noted_broken}
@@ -10,7 +10,7 @@ use Rattle.pickle_listing.proofs.put.put_arg_and_note.Goals as goal
 
 pub returns-in_err-put_arg_text-clause-puts : goal.returns-in_err-put_arg_text-clause-puts
 returns-in_err-put_arg_text-clause-puts g c =
-    puts_stop _ _ c.args.page.now c.put_arg_text.new.self (left 10 (name_of c.args.op.now.opcode) ⧺ codes " " ⧺ unwrap_or (arg_text c.args.op.now) [] ⧺ codes " " ⧺ note_text c.args.note) c.from_residual.result c.from_residual.ensures.0
+    puts_stop _ _ c.args.page.now c.put_arg_text.new.self (left_aligned 10 (name_of c.args.op.now.opcode) ⧺ codes " " ⧺ unwrap_or (arg_text c.args.op.now) [] ⧺ codes " " ⧺ note_text c.args.note) c.from_residual.result c.from_residual.ensures.0
     (noted_broken _ _ _ _ _ _ _ (rw c.opcode.ensures at c.push_filled.ensures.text) c.in_err-put_arg_text.ensures.puts)
 
 pub returns-clause-puts : goal.returns-clause-puts

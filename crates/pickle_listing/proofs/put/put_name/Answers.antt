@@ -4,7 +4,7 @@ use Rattle.std.specs.Prelude.{codes, unwrap_or, is_some, []}
 use Rattle.pickle_ops.specs.Table.{name_of}
 use Rattle.pickle_io.specs.Text.{◌⧺◌}
 use Rattle.pickle_ops.specs.Text.{arg_text}
-use Rattle.pickle_page.specs.Column.{left}
+use Rattle.pickle_page.specs.Column.{left_aligned}
 use Rattle.pickle_page.proofs.Puts.{puts_next, puts_pushed}
 use Rattle.pickle_listing.proofs.Names.{described-some}
 use Rattle.pickle_listing.proofs.put.put_name.Goals as goal
@@ -12,6 +12,6 @@ use Rattle.pickle_listing.proofs.put.put_name.Goals as goal
 pub returns-then-has_arg_text-clause-puts : goal.returns-then-has_arg_text-clause-puts
 returns-then-has_arg_text-clause-puts g c =
     let there : is_some (arg_text c.args.op.now) ≡ true = sym c.has_arg_text.ensures ∙ c.if-has_arg_text.true in
-    let name = puts_pushed _ c.args.page.now _ (left 10 (name_of c.args.op.now.opcode) ⧺ codes " ") (rw c.opcode.ensures at c.push_filled.ensures.text) in
+    let name = puts_pushed _ c.args.page.now _ (left_aligned 10 (name_of c.args.op.now.opcode) ⧺ codes " ") (rw c.opcode.ensures at c.push_filled.ensures.text) in
     rw (described-some (name_of c.args.op.now.opcode) (arg_text c.args.op.now) there)
-    (puts_next _ _ _ c.args.page.now _ _ _ (left 10 (name_of c.args.op.now.opcode) ⧺ codes " ") (unwrap_or (arg_text c.args.op.now) []) c.put_arg_text.ensures.puts name)
+    (puts_next _ _ _ c.args.page.now _ _ _ (left_aligned 10 (name_of c.args.op.now.opcode) ⧺ codes " ") (unwrap_or (arg_text c.args.op.now) []) c.put_arg_text.ensures.puts name)

@@ -1,7 +1,7 @@
 -- One item more, or an end.
 use Rattle.std.proofs.Common.{◌≡◌, length, refl, sym, ap, ◌∙◌, arith, rules}
-use Rattle.pickle_doc.specs.DocUnit.{operations}
 use Rattle.pickle_doc.specs.Document.{items_of}
+use Rattle.pickle_doc.specs.Place.{ops_of}
 use Rattle.pickle_machine.specs.Run.{run}
 use Rattle.pickle_report.proofs.Runs.{run_nothing}
 use Rattle.pickle_report.proofs.report.run_items.Goals as goal
@@ -19,9 +19,9 @@ returns-in-Err-clause-closes c =
 pub close-requires-clause-reached : goal.close-requires-clause-reached
 close-requires-clause-reached c =
     let done : c.loop-place.place ≡ length (items_of c.args.document.now.contents) = omega (arith, c.loop-place-test.false, c.loop-place.auto.place-end, c.len-place-end.ensures.value) in
-    ap (run (operations (items_of c.args.document.now.contents))) (sym done) ∙ c.loop-place.invariant.reached
+    ap (run (ops_of c.args.document.now.contents)) (sym done) ∙ c.loop-place.invariant.reached
 
 pub returns-clause-closes : goal.returns-clause-closes
 returns-clause-closes c =
     let done : c.loop-place.place ≡ length (items_of c.args.document.now.contents) = omega (arith, c.loop-place-test.false, c.loop-place.auto.place-end, c.len-place-end.ensures.value) in
-    (length (items_of c.args.document.now.contents), ap (run (operations (items_of c.args.document.now.contents))) (sym done) ∙ c.loop-place.invariant.reached, c.close.ensures)
+    (length (items_of c.args.document.now.contents), ap (run (ops_of c.args.document.now.contents)) (sym done) ∙ c.loop-place.invariant.reached, c.close.ensures)

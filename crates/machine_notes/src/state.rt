@@ -255,3 +255,9 @@ impl Sink for Beside<'_> {
         Ok(bytes.len())
     }
 }
+
+/// Whether the text is the whole state of a machine. It takes no memory.
+pub fn stands(machine: &Machine, text: &[u8]) -> bool {
+    let mut beside = Beside::new(text);
+    write_state(machine, &mut beside).is_ok() && beside.is_whole()
+}
