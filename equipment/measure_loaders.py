@@ -1,10 +1,12 @@
 #!/usr/bin/python3
 """What CPython's two unpicklers do with pickles that picklestep ends at, before their STOP.
 
-Nothing is imported: every global is the one class below, which takes any call.
+Nothing is imported: every global is the one class below, which takes any call. What loads is told with its value, since the C
+unpickler may make another of a file, which it reads ahead of, than of a BytesIO.
 """
 import io
 import pickle
+import tempfile
 
 
 class Anything:
@@ -18,6 +20,9 @@ class Anything:
 
     def __setstate__(self, state):
         pass
+
+    def __repr__(self):
+        return "made"
 
 
 def loader(base):
@@ -110,12 +115,22 @@ ROWS = [
 ]
 
 
-def tried(kind, pickled, encoding):
+def answered(load):
     try:
-        kind(io.BytesIO(pickled), encoding=encoding, buffers=None).load()
-        return "loads"
+        return f"loads {load()!r}"
     except Exception as error:
         return type(error).__name__
+
+
+def tried(kind, pickled, encoding):
+    return answered(kind(io.BytesIO(pickled), encoding=encoding, buffers=None).load)
+
+
+def read_from_file(pickled):
+    with tempfile.TemporaryFile() as file:
+        file.write(pickled)
+        file.seek(0)
+        return answered(C(file).load)
 
 
 IMPORTING = b"ci\x93\x82\x83\x84"
@@ -125,19 +140,15 @@ def loaded(pickled):
     """The C unpickler over bytes takes no find_class, so it gets only what names no global."""
     if any(byte in pickled for byte in IMPORTING):
         return "not tried"
-    try:
-        pickle.loads(pickled)
-        return "loads"
-    except Exception as error:
-        return type(error).__name__
+    return answered(lambda: pickle.loads(pickled))
 
 
 def main():
-    print(f"{'':44}" + "".join(f"{a:19}" for a in ("C", "Python", "C, bytes", "Python, bytes", "C, pickle.loads")))
+    print(f"{'':44}" + "".join(f"{a:19}" for a in ("C", "Python", "C, bytes", "Python, bytes", "C, pickle.loads", "C, file")))
     for rule, what, digits in ROWS:
         pickled = bytes.fromhex(digits)
         answers = [tried(kind, pickled, e) for e in ("ASCII", "bytes") for kind in (C, PYTHON)]
-        answers.append(loaded(pickled))
+        answers += [loaded(pickled), read_from_file(pickled)]
         print(f"{rule:4}{what:40}" + " ".join(f"{a:18}" for a in answers))
 
 
