@@ -43,7 +43,7 @@ program = with_subcommand (with_subcommand (with_subcommand (wants_subcommand (n
 
 -- ---- the task that matches name
 
--- the subcommand that clap's matches name, and what was matched behind it
+-- the subcommand that clap's matches name, and what was matched after it
 abbrev pub Matches : Type 0
 Matches = Option (Text × List Row)
 

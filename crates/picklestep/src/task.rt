@@ -24,7 +24,7 @@ pub enum Task {
 /// The options of a conversation.
 #[derive(Drop, Debug, PartialEq, Eq)]
 pub struct Options {
-    /// Where the document is saved behind the last line, if anywhere.
+    /// Where the document is saved after the last line, if anywhere.
     pub save: Option<String>,
     /// How many step records are kept, from 1 to 1,000,000; all where there is no number.
     pub window: Option<usize>,
