@@ -69,7 +69,7 @@ fn refused_edits(rt: HostRuntime) {
     }
 }
 
-/// The identities of the first two items behind an edit, which is taken back.
+/// The identities of the first two items after an edit, which is taken back.
 fn ids_behind(
     alloc: Global,
     document: &mut Document,
@@ -141,7 +141,7 @@ fn largest(alloc: Global) -> Result<Vec<u8>, Wrong> {
     Ok(bytes)
 }
 
-/// How many bytes there are behind an edit, which is taken back.
+/// How many bytes there are after an edit, which is taken back.
 fn total_behind(alloc: Global, document: &mut Document, edit: &Edit) -> Result<u64, Wrong> {
     let mut record = make(alloc, document, edit)?;
     let total = document.total();

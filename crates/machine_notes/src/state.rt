@@ -6,13 +6,13 @@ use pickle_ops::{
     Failed, Payload, Sink, write_all, write_decimal, write_hex, write_quoted, write_signed,
 };
 
-/// Writes signs and the number of an object behind them.
+/// Writes signs and the number of an object after them.
 fn write_id<S: Sink>(signs: &str, id: ObjId, sink: &mut S) -> Result<(), Failed> {
     write_all(sink, signs.as_bytes())?;
     write_decimal(u64::from(id), sink)
 }
 
-/// The word of a kind, behind a blank.
+/// The word of a kind, after a blank.
 fn word_of(kind: &Kind) -> &'static str {
     match kind {
         Kind::None => " none",
@@ -50,18 +50,18 @@ fn word_of(kind: &Kind) -> &'static str {
     }
 }
 
-/// Writes a text in quotes, behind a blank.
+/// Writes a text in quotes, after a blank.
 fn write_text<S: Sink>(text: &[u8], sink: &mut S) -> Result<(), Failed> {
     write_all(sink, b" ")?;
     write_quoted(text, sink)
 }
 
-/// Writes a payload in quotes, behind a blank.
+/// Writes a payload in quotes, after a blank.
 fn write_payload<S: Sink>(payload: &Payload, sink: &mut S) -> Result<(), Failed> {
     write_text(payload.as_slice(), sink)
 }
 
-/// Writes the bytes of a number in hexadecimal digits, behind a blank and an `x`.
+/// Writes the bytes of a number in hexadecimal digits, after a blank and an `x`.
 fn write_bytes<S: Sink>(payload: &Payload, sink: &mut S) -> Result<(), Failed> {
     write_all(sink, b" x")?;
     write_hex(payload.as_slice(), sink)

@@ -1,4 +1,4 @@
--- Marks: one item on, one item back, the frame that is unfinished there, and edits behind them.
+-- Marks: one item on, one item back, the frame that is unfinished there, and edits after them.
 use Rattle.std.proofs.Common.{◌≡◌, ◌+◌, ◌-◌, ◌<◌, ◌≤◌, ℕ, suc, zero, Bool, true, false, List, [], ◌∷◌, length, take, slice_get, Option, Some, None, length-append, refl, ap, sym, ◌∙◌, inl, inr, arith}
 use Rattle.std.specs.Prelude.{if◌then◌else◌, nat_lt}
 use Rattle.std.specs.List.{AllByRecursion}
@@ -164,7 +164,7 @@ first-mark bytes items tail e h small =
     let whole = ap length h.whole in
     record { place = omega arith; offset = refl; frame = none-here 0 items; small = omega (arith, total, size, whole, small) }
 
--- ---- an edit leaves a mark that is not behind it
+-- ---- an edit leaves a mark that is not after it
 
 -- each FRAME takes nine bytes
 abbrev pub FramesAreNine : List Item → Type 0

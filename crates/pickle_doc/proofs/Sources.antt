@@ -129,7 +129,7 @@ item_bounded d k ahead behind o p e =
       place = omega (arith, n.within, ops_few (ops_of d), length-append (bytes_of (ops_of d)) d.tail, p.within);
     }
 
--- behind the items
+-- after the items
 pub rest_behind : (d : Contents) (k : ℕ) (behind : Unread) → slice_get (ops_of d) k ≡ None → unread_at d k behind ≡ behind
 rest_behind d k behind e = ap (λ (xs : List Operation). with_rest behind.left (bytes_of xs ++ behind.rest)) (drop_past (ops_of d) k (past (ops_of d) k e))
 

@@ -5,7 +5,7 @@ use crate::item_source::ItemSource;
 use crate::stream::{Items, NextRef};
 use std::marker::Model;
 
-/// A reader of the items of a document, from the first on. Behind them it reads on in the tail.
+/// A reader of the items of a document, from the first on. After them it reads on in the tail.
 #[derive(Drop)]
 pub struct DocumentItems<'a> {
     document: &'a Document,

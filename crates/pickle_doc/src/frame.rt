@@ -67,11 +67,11 @@ impl Document {
         }
     }
 
-    /// Puts a FRAME with the next identity before item k, or last, and makes the count items behind it its members. With count
+    /// Puts a FRAME with the next identity before item k, or last, and makes the count items after it its members. With count
     /// 0 the frame is empty, and item k may be a FRAME. The record leads back.
     ///
     /// The first that applies: `NoSuchItem` (E1) where there are fewer items from item k on, `FrameItem` (E3) where one of them is
-    /// FRAME, `AfterStop` (E4) where the FRAME would stand behind STOP, `AlreadyFramed` (E6) where one of them is a member, or
+    /// FRAME, `AfterStop` (E4) where the FRAME would stand after STOP, `AlreadyFramed` (E6) where one of them is a member, or
     /// with count 0 where the FRAME would stand in a frame or in its bytes in the tail, `TooManyItems` (E7) where all identities
     /// are given, `TooLarge` (E8) where there would be more bytes than `LIMIT`; then `Memory` (M), only where there is no room
     /// and none could be had. Then nothing is changed.

@@ -16,11 +16,11 @@ use pickle_ops::Op;
 pub struct FrameMark {
     /// How many items stand before it.
     pub place: usize,
-    /// The offset behind it, where its first member begins.
+    /// The offset after it, where its first member begins.
     pub behind: u64,
 }
 
-/// A place, and what is known of the items before it. An edit there or behind it leaves it right.
+/// A place, and what is known of the items before it. An edit there or after it leaves it right.
 #[derive(Clone, Copy)]
 pub struct Mark {
     /// How many items stand before it.
@@ -44,7 +44,7 @@ impl Mark {
     }
 }
 
-/// The last FRAME up to an item at this place, behind which this offset is: the item itself, or the one before it.
+/// The last FRAME up to an item at this place, after which this offset is: the item itself, or the one before it.
 fn last_with(op: &Op, place: usize, behind: u64, before: Option<FrameMark>) -> Option<FrameMark>
     ensures { result ≡ (if is_frame op.now.opcode then Some (record { place = place; behind = behind }) else before) }
 {
@@ -151,7 +151,7 @@ pub(crate) fn moved(items: &GapList<Item>, mark: Mark, k: usize) -> Mark
     }
 }
 
-/// A mark that is not behind place k: an edit there leaves it right.
+/// A mark that is not after place k: an edit there leaves it right.
 pub(crate) fn no_later(items: &GapList<Item>, mark: Mark, k: usize) -> Mark
     requires mark { IsMark mark items.now.items }
     requires place { k ≤ length items.now.items }

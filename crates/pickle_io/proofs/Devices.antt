@@ -117,7 +117,7 @@ module _ {X : Type 0} where
   each-take text xs i x h =
       ap (each text) (take_more xs i x h) ∙ each-append text (take i xs) (get_or xs i x ∷ []) ∙ ap (λ (t : List ℕ). each text (take i xs) ++ t) (each-one text (get_or xs i x))
 
-  -- the text of the first thing, and of those behind it
+  -- the text of the first thing, and of those after it
   pub each-cons : (text : X → List ℕ) (x : X) (xs : List X) → each text (x ∷ xs) ≡ text x ++ each text xs
   unfolding each
   each-cons text x xs = refl

@@ -17,7 +17,7 @@ pub fn write_decimal<S: Sink>(number: u64, sink: &mut S) -> Result<(), Failed>
     write_all(sink, Buffer::new().format(number).as_bytes())
 }
 
-/// Writes a number in decimal digits, behind a minus where it is below 0. Where the sink fails, a front of the text was
+/// Writes a number in decimal digits, after a minus where it is below 0. Where the sink fails, a front of the text was
 /// written.
 pub fn write_signed<S: Sink>(number: i128, sink: &mut S) -> Result<(), Failed>
     ensures { Writes (S.told sink.old) (S.told sink.new) result (signed_decimal number) }
@@ -49,7 +49,7 @@ pub fn write_hex<S: Sink>(bytes: &[u8], sink: &mut S) -> Result<(), Failed>
 /// Text that is written at once.
 type Block = ArrayVec<u8, 256>;
 
-/// Puts the number of a byte that would not stand for itself between quotes behind the text.
+/// Puts the number of a byte that would not stand for itself between quotes after the text.
 fn push_escaped(byte: u8, block: &mut Block)
     requires { array_vec_len block.old + 4 ≤ 256 }
     ensures { block.new.items ≡ block.old.items ++ escaped byte }
@@ -59,7 +59,7 @@ fn push_escaped(byte: u8, block: &mut Block)
     block.try_extend_from_slice(&hex_digits(byte)).unwrap();
 }
 
-/// Puts a byte as it stands between quotes behind the text.
+/// Puts a byte as it stands between quotes after the text.
 #[tactic(auto, unfolding(crate::specs::Text::quoted_byte))]
 fn push_quoted_byte(byte: u8, block: &mut Block)
     requires { array_vec_len block.old + 4 ≤ 256 }

@@ -55,7 +55,7 @@ some_same : {A : Type 0} (o : Option A) (a b : A) → o ≡ Some a → o ≡ Som
 some_same None a b e f = absurd cc
 some_same (Some x) a b e f = cc
 
--- behind the last item none is refused
+-- after the last item none is refused
 none_behind : (d : Contents) (place : ℕ) (s : State) (r : Refusal) → place ≡ length (items_of d) → refused_on (item_at d place) s ≡ Some r → ⊥
 none_behind d place s r e h =
     let far : item_at d place ≡ None = slice_get_past (ops_of d) place (omega (arith, e, length-map (items_of d) (λ (i : Item). i.op))) in

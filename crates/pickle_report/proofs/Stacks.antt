@@ -71,7 +71,7 @@ pub nexts-next : (a b c : Told) (xs : List ℕ) (from i : ℕ) → from ≤ i
 nexts-next a b c xs from i h q p =
     rw (nexts-parts xs from i h) (Wrote-trans a b c (each next_text (between from i xs)) (each next_text (option_to_list (slice_get xs i))) p q)
 
--- what stands from one place up to another, and what stands behind that
+-- what stands from one place up to another, and what stands after that
 between-more : (xs : List ℕ) (from i n : ℕ) → from ≤ i → (rest : List ℕ) × (between from (i + n) xs ≡ between from i xs ++ rest)
 between-more xs from i zero h = ([], ap (λ (k : ℕ). between from k xs) (omega arith) ∙ sym (append-nil (between from i xs)))
 between-more xs from i (suc n) h =

@@ -13,7 +13,7 @@ newline = 10 ∷ []
 
 -- ---- refusals
 
--- the words of a refusal, and the number that stands behind them
+-- the words of a refusal, and the number that stands after them
 unfoldable pub refusal_words : Refusal → List ℕ
 refusal_words refusal.NoMark = codes "S1 no mark"
 refusal_words refusal.Underflow = codes "S2 stack underflow"
@@ -51,7 +51,7 @@ item_refused place r = codes "item " ⧺ decimal place ⧺ codes ": " ⧺ refusa
 
 -- ---- faults
 
--- the words of a fault, and behind them the byte that is no code
+-- the words of a fault, and after them the byte that is no code
 unfoldable pub fault_words : TailFault → List ℕ
 fault_words tail.Ended = codes "F1 ended"
 fault_words (tail.UnknownOpcode byte) = codes "F2 unknown opcode 0x"

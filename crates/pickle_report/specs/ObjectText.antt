@@ -18,7 +18,7 @@ id_text id = codes "#" ⧺ decimal id
 
 -- ---- kinds
 
--- the word of a kind, and behind it the number or the texts that the opcode gave it
+-- the word of a kind, and after it the number or the texts that the opcode gave it
 unfoldable pub kind_text : Kind → List ℕ
 kind_text kind.None = codes "none"
 kind_text kind.True = codes "true"
@@ -55,7 +55,7 @@ kind_text kind.ReadOnly = codes "readonly"
 
 -- ---- parts and changes
 
--- one object more, behind a blank
+-- one object more, after a blank
 unfoldable pub next_text : ℕ → List ℕ
 next_text id = codes " " ⧺ id_text id
 

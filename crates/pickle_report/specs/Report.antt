@@ -47,7 +47,7 @@ abbrev pub refused_on : Option Operation → State → Option Refusal
 refused_on (Some o) s = refusal_at o s
 refused_on None s = None
 
--- how a run ends that has come to a place: the machine refuses the item there; or behind the last item STOP has left a
+-- how a run ends that has come to a place: the machine refuses the item there; or after the last item STOP has left a
 -- result, or the tail has a fault
 abbrev pub Closes : Contents → ℕ → State → Closing → Type 0
 Closes d place s (closing.Result id) = (place ≡ length (items_of d)) × (end_of d ≡ end.Stopped) × (last_result s ≡ Some id)

@@ -38,7 +38,7 @@ impl<'a> Content<'a> {
         }
     }
 
-    /// The next object, and what is left behind it.
+    /// The next object, and what is left after it.
     pub(crate) fn next(&self) -> Option<(ObjId, Content<'a>)>
         ensures { MatchOption result (self.now ≡ []) (λ p. self.now ≡ p.0 ∷ p.1) }
     {
@@ -86,7 +86,7 @@ fn next_change<'a>(parts: &'a [ObjId], changes: &'a [Change]) -> Option<(ObjId, 
     }
 }
 
-/// The first object of a change, and what is left behind it, where no part is left.
+/// The first object of a change, and what is left after it, where no part is left.
 fn take_change<'a>(change: Change, parts: &'a [ObjId], rest: &'a [Change]) -> (ObjId, Content<'a>)
     requires { parts.now ≡ [] }
     ensures { change_ids change ++ flat_map change_ids rest.now ≡ result.0 ∷ result.1 }

@@ -29,7 +29,7 @@ fn words_of_refusal(refusal: Refusal) -> &'static str
     }
 }
 
-/// Writes the number behind the words of a refusal, if it has one.
+/// Writes the number after the words of a refusal, if it has one.
 #[tactic(auto, using(pickle_io::proofs::Devices::text_steps), unfolding(crate::specs::Line::refusal_number))]
 fn write_refusal_number<S: Sink>(refusal: Refusal, sink: &mut S) -> Result<(), Failed>
     ensures { Writes (S.told sink.old) (S.told sink.new) result (refusal_number refusal) }

@@ -19,7 +19,7 @@ pub(crate) fn write_id<S: Sink>(id: u64, sink: &mut S) -> Result<(), Failed>
     write_decimal(id, sink)
 }
 
-/// Writes one object more, by its number behind a blank.
+/// Writes one object more, by its number after a blank.
 #[tactic(auto, using(pickle_io::proofs::Devices::text_steps), unfolding(crate::specs::ObjectText::next_text))]
 pub(crate) fn write_next<S: Sink>(id: ObjId, sink: &mut S) -> Result<(), Failed>
     ensures { Writes (S.told sink.old) (S.told sink.new) result (next_text id) }
@@ -28,7 +28,7 @@ pub(crate) fn write_next<S: Sink>(id: ObjId, sink: &mut S) -> Result<(), Failed>
     write_id(u64::from(id), sink)
 }
 
-/// Writes objects by their numbers, each behind a blank.
+/// Writes objects by their numbers, each after a blank.
 #[tactic(auto, using(pickle_io::proofs::Devices::each_steps))]
 fn write_all_next<S: Sink>(ids: &[ObjId], sink: &mut S) -> Result<(), Failed>
     ensures { Writes (S.told sink.old) (S.told sink.new) result (each next_text ids.now) }
@@ -106,7 +106,7 @@ fn write_changes<S: Sink>(changes: &[Change], sink: &mut S) -> Result<(), Failed
 }
 
 /// Writes an object: `#` and its number, the word of its kind with what its opcode gave it, its parts in brackets, and what was
-/// done to it: ` +#v` for an item put behind the others, ` [#k]=#v` for a key mapped to a value, ` &#v` for a member of a set,
+/// done to it: ` +#v` for an item put after the others, ` [#k]=#v` for a key mapped to a value, ` &#v` for a member of a set,
 /// ` !#s` for a state. It takes no memory. `Failed` where the sink fails; a front of the text was written then.
 #[tactic(auto, using(pickle_io::proofs::Devices::text_steps), unfolding(crate::specs::ObjectText::object_text))]
 pub fn write_object<S: Sink>(id: u64, object: &Object, sink: &mut S) -> Result<(), Failed>

@@ -24,7 +24,7 @@ pub enum Closing {
     Result(ObjId),
     /// The machine refuses the item at this place, and why.
     Refused(usize, Refusal),
-    /// Behind the last item the tail has this fault; the number is the offset of the tail in bytes.
+    /// After the last item the tail has this fault; the number is the offset of the tail in bytes.
     Fault(TailFault, u64),
 }
 

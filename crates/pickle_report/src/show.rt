@@ -141,7 +141,7 @@ fn none_seen(alloc: Global, count: usize) -> Result<Vec<bool>, TextStop>
 }
 
 /// Writes an object with all that it contains: a line for each place of a walk, with its depth. At the first place of an
-/// object stands the object, and behind it come its parts and what was put into it, one deeper; a later place is only its number.
+/// object stands the object, and after it come its parts and what was put into it, one deeper; a later place is only its number.
 /// It takes time linear in the lines, and does not recurse. A number that names no object is one short line.
 ///
 /// All memory is asked for before anything is written, some bytes for each object of the machine: `Memory` where it is wanting,

@@ -17,7 +17,7 @@ joined-append : (ls ms : List (List ℕ)) → joined (ls ++ ms) ≡ joined ls ++
 joined-append [] ms = refl
 joined-append (l ∷ ls) ms = ap (λ (t : List ℕ). l ++ 10 ∷ t) (joined-append ls ms) ∙ sym (append_assoc l (10 ∷ joined ls) (joined ms))
 
--- the cut of bytes goes on with the cut of what is behind their last newline
+-- the cut of bytes goes on with the cut of what is after their last newline
 abbrev pub after : Cut → Cut → Cut
 after c d = record { complete = c.complete ++ d.complete; rest = d.rest }
 

@@ -137,7 +137,7 @@ up_to_quit-none (k ∷ ls) h =
     let n = neither (is_quit k) (has_quit ls) h in
     rw n.first (ap (λ (t : List (List ℕ)). k ∷ t) (up_to_quit-none ls n.second))
 
--- behind a line that quits nothing is obeyed
+-- after a line that quits nothing is obeyed
 pub up_to_quit-more : (ls ms : List (List ℕ)) → has_quit ls ≡ true → up_to_quit (ls ++ ms) ≡ up_to_quit ls
 up_to_quit-more [] ms h = absurd cc
 up_to_quit-more (k ∷ ls) ms h = go (is_quit k) h (λ q. up_to_quit-more ls ms q)
@@ -256,7 +256,7 @@ byte_goes_on s q old a given held next b n w is = record {
   holds = is ∙ ap (λ (x : Pending). pend (longer x.line b) x.refused) w.holds ∙ ap (λ (l : List ℕ). pend l (list_any is_refusal w.texts)) (longer-shortened w.cut.rest b);
 }
 
--- ---- more bytes behind
+-- ---- more bytes after these
 
 pub Breaks-more : (s r : Standing) (old b : Told) (ls ms : List (List ℕ)) → Breaks s old ls r b → Breaks s old (ls ++ ms) r b
 Breaks-more s r old b ls ms w = record {
@@ -304,7 +304,7 @@ one_byte given bytes i b h e =
     let next : take (i + 1) bytes ≡ take i bytes ++ b ∷ [] = take_more bytes i 0 h ∙ ap (λ (x : ℕ). take i bytes ++ x ∷ []) e in
     append_assoc given (take i bytes) (b ∷ []) ∙ ap (λ (t : List ℕ). given ++ t) (sym next)
 
--- and the bytes behind it
+-- and the bytes after it
 pub split_byte : (given bytes : List ℕ) (i b : ℕ) → i < length bytes → get_or bytes i 0 ≡ b → ((given ++ take i bytes) ++ b ∷ []) ++ drop (i + 1) bytes ≡ given ++ bytes
 split_byte given bytes i b h e =
     ap (λ (t : List ℕ). t ++ drop (i + 1) bytes) (one_byte given bytes i b h e)

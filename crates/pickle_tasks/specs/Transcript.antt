@@ -19,7 +19,7 @@ use Rattle.pickle_text.specs.Grammar as grammar
 use Rattle.pickle_text.specs.ReplyText.{reply_text, syntax_line}
 use Rattle.pickle_tasks.specs.Query.{IsTold}
 
--- ---- one line: the session as it stands before it, its text, and the session as it stands behind it
+-- ---- one line: the session as it stands before it, its text, and the session as it stands after it
 
 -- a text that tells of the session, which stays as it is
 pub record Tells (p : Standing) (says text : List ℕ) (q : Standing) : Type 0 where
@@ -84,7 +84,7 @@ abbrev pub up_to_quit : List (List ℕ) → List (List ℕ)
 up_to_quit [] = []
 up_to_quit (bytes ∷ lines) = bytes ∷ (if is_quit bytes then [] else up_to_quit lines)
 
--- the texts of a transcript of the lines, and the session after it: behind a line that quits nothing is obeyed
+-- the texts of a transcript of the lines, and the session after it: after a line that quits nothing is obeyed
 abbrev pub IsTranscript : Standing → List (List ℕ) → List (List ℕ) → Standing → Type 0
 IsTranscript p lines texts q = Runs p (up_to_quit lines) texts q
 

@@ -24,11 +24,11 @@ impl Outcome {
     }
 }
 
-/// Whether a script goes on behind the bytes that were taken.
+/// Whether a script goes on after the bytes that were taken.
 #[derive(Clone, Copy, Debug, PartialEq, Eq)]
 pub enum Flow {
     /// The next byte is taken.
     GoesOn,
-    /// A line said `quit`: nothing behind it is obeyed.
+    /// A line said `quit`: nothing after it is obeyed.
     Quits,
 }

@@ -82,7 +82,7 @@ fn obey_line<P: Past, K: Sink>(
     }
 }
 
-/// Whether nothing behind a line is obeyed.
+/// Whether nothing after a line is obeyed.
 fn quits(says: &Result<Line, Syntax>) -> bool
     ensures { result ≡ quits says.now }
 {

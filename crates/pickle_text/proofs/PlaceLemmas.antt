@@ -45,7 +45,7 @@ sizes-past (i ∷ items) (suc k) e = omega (arith, sizes-past items k e)
 one_more : (d : Contents) (k : ℕ) → offset_of d (k + 1) ≡ offset_of d (suc k)
 one_more d k = let e : k + 1 ≡ suc k = omega arith in ap (offset_of d) e
 
--- the offset behind an item
+-- the offset after an item
 pub offset_behind : (d : Contents) (k offset : ℕ) (o : Operation) → item_at d k ≡ Some o → offset ≡ offset_of d k → offset + size_of o ≡ offset_of d (k + 1)
 offset_behind d k offset o e is = omega (arith, one_more d k, sizes-next (items_of d) k o e, is)
 

@@ -1,4 +1,4 @@
--- The words of a line, and what the line says: the word that it begins with decides which words may stand behind it.
+-- The words of a line, and what the line says: the word that it begins with decides which words may stand after it.
 -- Source: own.
 use Rattle.std.specs.Prelude.{◌≡◌, ◌≢◌, ℕ, List, [], ◌∷◌, length, filter, codes, Bool, true, false, nat_lt, ◌==◌, ◌||◌, if◌then◌else◌, Option, Some, None, Result, Ok, Err, ⊤}
 use Rattle.std.specs.Option.{option_map_or}
@@ -51,7 +51,7 @@ bytes_of_word w = found_bytes (decode_of w)
 
 -- ---- first words
 
--- the first words, by what stands behind them
+-- the first words, by what stands after them
 abbrev pub keyword : List ℕ → Option Word
 keyword w =
     if bytes_eq w (codes "step") then Some (word.Plain plain.Step)
@@ -109,17 +109,17 @@ abbrev pub and_then : {A B : Type 0} → Result A Syntax → (A → Result B Syn
 and_then (Ok x) f = f x
 and_then (Err e) f = Err e
 
--- a line whose words are all read; a word that stands behind them is one too many
+-- a line whose words are all read; a word that stands after them is one too many
 abbrev pub alone : Line → List (List ℕ) → Result Line Syntax
 alone says [] = Ok says
 alone says (w ∷ words) = Err syntax.ExtraWord
 
--- a number below 2^64 in decimal digits, any zeros in front, and the words behind it
+-- a number below 2^64 in decimal digits, any zeros in front, and the words after it
 abbrev pub number_first : List (List ℕ) → Result (ℕ × List (List ℕ)) Syntax
 number_first [] = Err syntax.MissingWord
 number_first (w ∷ words) = option_map_or (λ (n : ℕ). Ok (n, words)) (decimal_of w) (Err syntax.BadNumber)
 
--- ---- what a line says by its first word, with the words behind it
+-- ---- what a line says by its first word, with the words after it
 
 -- one number
 abbrev pub number_says : NumberWord → List (List ℕ) → Result Line Syntax
@@ -133,12 +133,12 @@ pair_says words =
 
 -- ---- operations
 
--- an opcode by its name, and the words behind it
+-- an opcode by its name, and the words after it
 abbrev pub name_first : List (List ℕ) → Result (Opcode × List (List ℕ)) Syntax
 name_first [] = Err syntax.MissingWord
 name_first (w ∷ words) = option_map_or (λ (o : Opcode). Ok (o, words)) (opcode_named w) (Err syntax.UnknownOpcodeName)
 
--- bytes behind which no word stands
+-- bytes after which no word stands
 abbrev pub last_bytes : Option (List ℕ) → List (List ℕ) → Result (List ℕ) Syntax
 last_bytes None words = Err syntax.BadHex
 last_bytes (Some bytes) [] = Ok bytes
@@ -156,7 +156,7 @@ op_says w words =
     and_then (name_first p.1) (λ (q : Opcode × List (List ℕ)).
     and_then (arg_last q.1) (λ (arg : List ℕ). Ok (op_line w p.0 (record { opcode = q.0; arg = arg })))))
 
--- by each kind of first word; an unknown one is a fault whatever stands behind it
+-- by each kind of first word; an unknown one is a fault whatever stands after it
 abbrev pub word_says : Option Word → List (List ℕ) → Result Line Syntax
 word_says None words = Err syntax.UnknownWord
 word_says (Some (word.Plain w)) words = alone (plain_line w) words

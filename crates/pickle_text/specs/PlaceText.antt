@@ -50,7 +50,7 @@ sign_if sign holds = if holds then sign else 32
 abbrev pub signs : Bool → Bool → List ℕ
 signs at_cursor breaks = sign_if 62 at_cursor ∷ sign_if 42 breaks ∷ []
 
--- a name, and behind a blank the text of the argument where there is one
+-- a name, and after a blank the text of the argument where there is one
 abbrev pub behind_name : List ℕ → Option (List ℕ) → List ℕ
 behind_name name None = name
 behind_name name (Some arg) = name ⧺ codes " " ⧺ arg

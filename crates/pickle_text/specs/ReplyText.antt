@@ -32,7 +32,7 @@ edit_words edit.TooManyItems = codes "E7 too many items"
 edit_words edit.TooLarge = codes "E8 too large"
 edit_words edit.Memory = codes "M out of memory"
 
--- why a command is refused: the words, and what stands behind them
+-- why a command is refused: the words, and what stands after them
 unfoldable pub fault_words : Fault → List ℕ
 fault_words fault.AtStart = codes "C1 at the start"
 fault_words (fault.AtEnd e) = codes "C2 at the end, "
@@ -95,7 +95,7 @@ reply_text e (reply.Refused f) = refused_command f
 
 -- ---- lines that say nothing, and a number that is no object's
 
--- why a line says nothing: the words, and behind them the fault of an opcode
+-- why a line says nothing: the words, and after them the fault of an opcode
 unfoldable pub syntax_words : Syntax → List ℕ
 syntax_words syntax.UnknownWord = codes "X1 unknown word"
 syntax_words syntax.MissingWord = codes "X2 missing word"

@@ -14,7 +14,7 @@ use pickle_ops::{OpFault, Opcode, decimal_of, op_of};
 use pickle_session::Command;
 use std::alloc::Global;
 
-/// What a line says whose words are all read, unless one stands behind them.
+/// What a line says whose words are all read, unless one stands after them.
 fn alone(says: Line, rest: &[u8]) -> Result<Line, Syntax>
     ensures { result ≡ alone says (words_of rest.now) }
 {
@@ -24,7 +24,7 @@ fn alone(says: Line, rest: &[u8]) -> Result<Line, Syntax>
     }
 }
 
-/// The number in front, and what stands behind it.
+/// The number in front, and what stands after it.
 fn number_first(rest: &[u8]) -> Result<(usize, &[u8]), Syntax>
     ensures { MatchResult result (λ p. number_first (words_of rest.now) ≡ Ok (p.0, words_of p.1.now)) (λ f. number_first (words_of rest.now) ≡ Err f) }
 {
@@ -61,7 +61,7 @@ fn read_pair(rest: &[u8]) -> Result<Line, Syntax>
     alone(Line::Command(Command::Frame(place, count)), rest)
 }
 
-/// The opcode in front, by its name, and what stands behind it.
+/// The opcode in front, by its name, and what stands after it.
 fn name_first(rest: &[u8]) -> Result<(Opcode, &[u8]), Syntax>
     ensures { MatchResult result (λ p. name_first (words_of rest.now) ≡ Ok (p.0, words_of p.1.now)) (λ f. name_first (words_of rest.now) ≡ Err f) }
 {
@@ -96,7 +96,7 @@ fn is_hex(word: &[u8]) -> bool
     true
 }
 
-/// The digits of the whole argument, none where it is empty; nothing may stand behind them. It takes no memory, so that
+/// The digits of the whole argument, none where it is empty; nothing may stand after them. It takes no memory, so that
 /// want of memory hides no fault of a word.
 fn hex_last(rest: &[u8]) -> Result<&[u8], Syntax>
     ensures { MatchResult result (λ text. (bytes : List ℕ) × (arg_last (words_of rest.now) ≡ Ok bytes) × (decode_of text.now ≡ Ok bytes)) (λ f. arg_last (words_of rest.now) ≡ Err f) }

@@ -33,7 +33,7 @@ fn write_columns<S: Sink>(place: usize, offset: u64, sink: &mut S) -> Result<(),
     write_right(offset, sink)
 }
 
-/// Writes the name of an opcode, and behind a blank the text of its argument where there is one.
+/// Writes the name of an opcode, and after a blank the text of its argument where there is one.
 #[tactic(auto, using(pickle_io::proofs::Devices::text_steps, crate::proofs::PlaceLemmas::name_steps), unfolding(crate::specs::PlaceText::op_text))]
 fn write_op<S: Sink>(op: &Op, sink: &mut S) -> Result<(), Failed>
     ensures { Writes (S.told sink.old) (S.told sink.new) result (op_text op.now) }
@@ -67,7 +67,7 @@ fn write_item<P: Past, S: Sink>(
     write_all(sink, b"\n")
 }
 
-/// Writes the line of the item at a place, and answers the offset of the place behind it.
+/// Writes the line of the item at a place, and answers the offset of the place after it.
 #[tactic(auto, using(pickle_io::proofs::Devices::text_steps, crate::proofs::PlaceLemmas::offset_steps), unfolding(crate::specs::PlaceText::line_at))]
 fn write_line_at<P: Past, S: Sink>(
     session: &Session<P>,

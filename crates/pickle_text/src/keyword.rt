@@ -23,7 +23,7 @@ pub(crate) enum PlainWord {
     Quit,
 }
 
-/// A word behind which a number stands.
+/// A word after which a number stands.
 #[derive(Clone, Copy)]
 pub(crate) enum NumberWord {
     Goto,
@@ -34,7 +34,7 @@ pub(crate) enum NumberWord {
     Show,
 }
 
-/// A word behind which a number, a name and bytes stand.
+/// A word after which a number, a name and bytes stand.
 #[derive(Clone, Copy)]
 pub(crate) enum OpWord {
     Replace,
@@ -46,11 +46,11 @@ pub(crate) enum OpWord {
 pub(crate) enum Word {
     /// It stands alone.
     Plain(PlainWord),
-    /// A number stands behind it.
+    /// A number stands after it.
     Number(NumberWord),
-    /// Two numbers stand behind it: `frame`.
+    /// Two numbers stand after it: `frame`.
     Pair,
-    /// A number, a name and bytes stand behind it.
+    /// A number, a name and bytes stand after it.
     Op(OpWord),
 }
 

@@ -29,7 +29,7 @@ pub enum Line {
     Command(Command),
     /// A question about the session.
     Query(Query),
-    /// `quit`: nothing behind this line is obeyed.
+    /// `quit`: nothing after this line is obeyed.
     Quit,
 }
 
@@ -46,7 +46,7 @@ pub enum Syntax {
     UnknownOpcodeName,
     /// X5: a word is no bytes in hexadecimal.
     BadHex,
-    /// X6: a word stands behind those that are asked for.
+    /// X6: a word stands after those that are asked for.
     ExtraWord,
     /// X7: the line has more than 65,536 bytes.
     LineTooLong,

@@ -58,7 +58,7 @@ fn write_refused_item<S: Sink>(place: usize, refusal: Refusal, sink: &mut S) -> 
     write_refusal(refusal, sink)
 }
 
-/// What stands behind the place of an edit that is behind the cursor.
+/// What stands after the place of an edit that is before the cursor.
 #[tactic(auto, unfolding(crate::specs::ReplyText::behind_text))]
 fn behind_words() -> &'static str
     ensures { result.now ≡ behind_text }
@@ -66,7 +66,7 @@ fn behind_words() -> &'static str
     " behind the cursor"
 }
 
-/// Writes what stands behind the words of a fault.
+/// Writes what stands after the words of a fault.
 #[tactic(auto, using(pickle_io::proofs::Devices::text_steps), unfolding(crate::specs::ReplyText::fault_rest))]
 fn write_fault_rest<S: Sink>(fault: Fault, sink: &mut S) -> Result<(), Failed>
     ensures { Writes (S.told sink.old) (S.told sink.new) result (fault_rest fault) }

@@ -27,7 +27,7 @@ fn words_of_syntax(syntax: Syntax) -> &'static str
     }
 }
 
-/// Writes the fault of an opcode behind the words.
+/// Writes the fault of an opcode after the words.
 #[tactic(auto, using(pickle_io::proofs::Devices::text_steps), unfolding(crate::specs::ReplyText::syntax_rest))]
 fn write_syntax_rest<S: Sink>(syntax: Syntax, sink: &mut S) -> Result<(), Failed>
     ensures { Writes (S.told sink.old) (S.told sink.new) result (syntax_rest syntax) }

@@ -21,7 +21,7 @@ used_is f g (Some x) a b p q =
     let second : b ≡ g x = cc in
     rw (first, second) refl
 
--- what was matched behind the subcommand
+-- what was matched after the subcommand
 behind : Matches → List Row
 behind None = []
 behind (Some p) = p.1

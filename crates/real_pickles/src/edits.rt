@@ -246,7 +246,7 @@ fn go_on(
     Ok(())
 }
 
-/// The number in the eight bytes behind a FRAME's code.
+/// The number in the eight bytes after a FRAME's code.
 fn number_of(bytes: &[u8]) -> u64 {
     let mut number: u64 = 0;
     for byte in bytes.iter().skip(1).rev() {

@@ -33,7 +33,7 @@ impl Part<'_> {
     }
 }
 
-/// The items, how many bytes behind them the last frame counts, and these bytes.
+/// The items, how many bytes after them the last frame counts, and these bytes.
 #[derive(Drop)]
 pub struct Plain<'a> {
     pub parts: Vec<Part<'a>>,
@@ -62,7 +62,7 @@ impl<'a> Plain<'a> {
         self.parts.get(k).map(|part| part.kind)
     }
 
-    /// How many items from item k on are members, one behind the other.
+    /// How many items from item k on are members, one after the other.
     fn members(&self, k: usize) -> usize {
         let mut count: usize = 0;
         for j in k..self.parts.len() {
@@ -109,7 +109,7 @@ impl<'a> Plain<'a> {
         Ok(bytes)
     }
 
-    /// Whether the place is behind STOP.
+    /// Whether the place is after STOP.
     fn is_after_stop(&self, k: usize) -> bool {
         k == self.parts.len() && self.parts.last().is_some_and(|part| part.is_stop())
     }

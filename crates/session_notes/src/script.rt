@@ -1,4 +1,4 @@
-//! A script over a file where one request for memory may be refused: what is shown behind each command is what is shown with
+//! A script over a file where one request for memory may be refused: what is shown after each command is what is shown with
 //! ample memory.
 
 ghost use Rattle.std.specs.Prelude.{◌≡◌, []};
@@ -14,7 +14,7 @@ use std::alloc::{AllocError, AllocFailed, Global};
 pub enum ScriptFault {
     /// Memory was refused where it should not be, or more than once.
     Memory,
-    /// Another thing is shown, behind so many commands.
+    /// Another thing is shown, after so many commands.
     Differs(u32),
 }
 
@@ -70,7 +70,7 @@ fn insist_on_command(alloc: Global, k: usize, len: usize) -> Result<Command, Scr
     }
 }
 
-/// What is shown behind a command, and the reply to it.
+/// What is shown after a command, and the reply to it.
 #[derive(Drop)]
 pub struct Note {
     reply: Option<Reply>,
@@ -97,7 +97,7 @@ fn note_of<P: Past>(
     })
 }
 
-/// What a session shows at first and behind each command.
+/// What a session shows at first and after each command.
 fn note_down<P: Past>(alloc: Global, session: &mut Session<P>) -> Result<Vec<Note>, ScriptFault> {
     let len = session.document().len();
     let mut notes = Vec::new(alloc);
@@ -128,7 +128,7 @@ fn may_lack<P: Past>(session: &Session<P>, k: usize) -> bool {
     }
 }
 
-/// What is shown behind command k differs.
+/// What is shown after command k differs.
 fn differs_at(k: usize) -> ScriptFault {
     ScriptFault::Differs(u32::try_from(k).unwrap_or(u32::MAX))
 }

@@ -1,5 +1,5 @@
 //! Random commands to sessions over files: forwards and back to the start, and all edits undone, which gives the opened bytes, and
-//! made again. Behind the word `memory`, a script over each file where a request for memory may be refused. Test equipment.
+//! made again. After the word `memory`, a script over each file where a request for memory may be refused. Test equipment.
 #![tactic(auto)]
 
 ghost use Rattle.std.specs.Prelude.{◌≡◌, []};
@@ -25,7 +25,7 @@ pub enum Stop {
     Device,
     /// The file is too large, or there was no memory.
     Room,
-    /// The session is not what it should be, behind so many commands.
+    /// The session is not what it should be, after so many commands.
     Differs(u32),
 }
 
@@ -122,7 +122,7 @@ fn any_op(alloc: Global, chance: &mut Chance) -> Result<Op, OpFault> {
     op_of(alloc, opcode, arg)
 }
 
-/// A command at places that are there, or one behind them.
+/// A command at places that are there, or one after them.
 fn any_command(
     alloc: Global,
     chance: &mut Chance,
@@ -256,7 +256,7 @@ fn try_file(rt: &HostRuntime, path: &str, chance: &mut Chance) -> Result<(), Sto
 }
 
 /// Writes down what a script shows with ample memory, says so in a line, and follows the script, with all records and with two.
-/// A request for memory that is made behind that line may be refused.
+/// A request for memory that is made after that line may be refused.
 fn try_memory(rt: &HostRuntime, path: &str) -> Result<(), Stop> {
     let bytes = bytes_at(rt, path)?;
     let whole = note_whole(rt.alloc(), &bytes)?;

@@ -1,4 +1,4 @@
-//! What a session shows behind commands.
+//! What a session shows after commands.
 
 ghost use Rattle.std.specs.Prelude.{◌≡◌, []};
 
@@ -169,7 +169,7 @@ fn from_every_place_to_every_place(rt: HostRuntime) -> Result<(), Fail> {
     Ok(())
 }
 
-/// A command; the reply; the cursor, the records kept and the work behind it.
+/// A command; the reply; the cursor, the records kept and the work after it.
 type Counts = (Told, Reply, usize, usize, u64);
 
 /// Windows, and commands in each of them.
@@ -203,7 +203,7 @@ const WINDOWS: [(usize, &[Counts]); 3] = [
     ),
 ];
 
-/// Whether a command has this reply, and these counts stand behind it.
+/// Whether a command has this reply, and these counts stand after it.
 fn is_answered<P: Past>(session: &mut Session<P>, alloc: Global, row: &Counts) -> bool {
     let (told, reply, cursor, kept, work) = *row;
     let Some(command) = command(alloc, told) else {
@@ -366,7 +366,7 @@ fn many_marks(rt: HostRuntime) -> Result<(), Fail> {
     Ok(())
 }
 
-/// The commands of a way; those behind the first few ask for no memory, and are left out where so is said.
+/// The commands of a way; those after the first few ask for no memory, and are left out where so is said.
 fn go(alloc: Global, bytes: &[u8], told: &[Told], most: usize) -> bool {
     let Some(mut session) = open_whole(alloc, bytes) else {
         return false;

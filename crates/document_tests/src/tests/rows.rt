@@ -138,7 +138,7 @@ pub const ACCEPTED: [Row; 24] = [
             end: End::Fault(TailFault::FrameInFrame, 9),
         },
     },
-    // frames that lie: behind the last member of a frame that is crossed
+    // frames that lie: after the last member of a frame that is crossed
     Row {
         before: Shown {
             bytes: b"\x95\x02\x00\x00\x00\x00\x00\x00\x00NK\x01.",
@@ -313,7 +313,7 @@ pub const ACCEPTED: [Row; 24] = [
             end: End::Stopped,
         },
     },
-    // behind the last member of a frame
+    // after the last member of a frame
     Row {
         before: Shown {
             bytes: b"\x95\x01\x00\x00\x00\x00\x00\x00\x00N0N.",
@@ -420,7 +420,7 @@ pub const ACCEPTED: [Row; 24] = [
             end: End::Stopped,
         },
     },
-    // an empty frame behind a frame
+    // an empty frame after a frame
     Row {
         before: Shown {
             bytes: b"\x95\x02\x00\x00\x00\x00\x00\x00\x00NN.",
@@ -447,7 +447,7 @@ pub const ACCEPTED: [Row; 24] = [
             end: End::Stopped,
         },
     },
-    // a frame behind a frame
+    // a frame after a frame
     Row {
         before: Shown {
             bytes: b"\x95\x02\x00\x00\x00\x00\x00\x00\x00NN.",
@@ -474,7 +474,7 @@ pub const ACCEPTED: [Row; 24] = [
             end: End::Stopped,
         },
     },
-    // a member of a frame that reaches behind STOP goes
+    // a member of a frame that reaches past STOP goes
     Row {
         before: Shown {
             bytes: b"\x95\x03\x00\x00\x00\x00\x00\x00\x00N.X",
@@ -551,7 +551,7 @@ pub const ACCEPTED: [Row; 24] = [
             end: End::Fault(TailFault::Ended, 9),
         },
     },
-    // bytes behind STOP stay
+    // bytes after STOP stay
     Row {
         before: Shown {
             bytes: b"N.XY",

@@ -130,7 +130,7 @@ fn is_item(document: &Document, k: usize, want: &Want) -> bool {
         && document.id(k) == Some(*id)
 }
 
-/// Whether there is no item behind the last one.
+/// Whether there is no item after the last one.
 fn has_no_more(document: &Document) -> bool {
     let len = document.len();
     document.item(len).is_none()

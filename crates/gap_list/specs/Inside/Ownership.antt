@@ -16,7 +16,7 @@ module _ (R : RattleType) where
   place b o (Some x) = part_at R full_share x b o
   place b o None = froom (raw (lone R.mir)) b o
 
-  -- places one behind the other
+  -- places one after the other
   abbrev pub places : ℕ → ℕ → List (Option R.Denot) → Fml
   places b o [] = ftrue
   places b o (c ∷ cs) = fsep (place b o c) (places b (o + type_size R) cs)

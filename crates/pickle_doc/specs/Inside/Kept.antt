@@ -6,7 +6,7 @@ use Rattle.pickle_doc.specs.DocUnit.{operations, bytes_of, sizes}
 use Rattle.pickle_doc.specs.Document.{AreCounted, HaveOwnIds, size_limit}
 use Rattle.pickle_doc.specs.Fitting.{Fits}
 
--- items, the tail behind them and a finish that the bytes read as
+-- items, the tail after them and a finish that the bytes read as
 pub record AreParts (bytes : List ℕ) (items : List Item) (tail : List ℕ) (e : Finish) : Type 0 where
   pub fit : Fits 0 (operations items) tail e
   pub whole : bytes_of (operations items) ++ tail ≡ bytes

@@ -15,7 +15,7 @@ abbrev pub place_line : ℕ → ℕ → Option Object → List ℕ
 place_line depth id None = again_line depth id
 place_line depth id (Some o) = first_line depth id o
 
--- what was seen behind that place
+-- what was seen after that place
 abbrev pub seen_after : List Bool → ℕ → Option Object → List Bool
 seen_after seen id None = seen
 seen_after seen id (Some o) = set seen id true

@@ -64,7 +64,7 @@ pub const SCRIPTS: [Script; 9] = [
             ("undo\n", "undone 4\n"),
         ],
     },
-    // an edit behind the cursor
+    // an edit before the cursor
     Script {
         bytes: DUMP,
         lines: &[

@@ -1,4 +1,4 @@
-//! Worked commands: what is replied, and what the session shows behind each.
+//! Worked commands: what is replied, and what the session shows after each.
 
 use crate::tests::further::{APPENDED_BY_MEMO, APPENDED_TO_ITSELF, BOUNDED_WINDOW};
 use crate::tests::script::{Script, Told};

@@ -1,4 +1,4 @@
-//! Commands as rows of tables, and what a session shows behind each of them.
+//! Commands as rows of tables, and what a session shows after each of them.
 
 ghost use Rattle.std.specs.Prelude.{◌≡◌, [], IfOk, IfSome};
 
@@ -25,7 +25,7 @@ pub enum Told {
     Redo,
 }
 
-/// A command, the reply, the work of it where all records are kept, what is shown behind it, and the bytes.
+/// A command, the reply, the work of it where all records are kept, what is shown after it, and the bytes.
 pub type Row = (Told, Reply, u64, &'static str, &'static [u8]);
 
 /// A script over some bytes: what is shown at first, and its rows.
@@ -128,7 +128,7 @@ fn within(window: Option<usize>, count: usize) -> usize {
     }
 }
 
-/// Whether the records and the counters are what they should be behind a row.
+/// Whether the records and the counters are what they should be after a row.
 fn is_counted<P: Past>(
     session: &Session<P>,
     old: Counters,

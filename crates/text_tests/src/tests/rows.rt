@@ -156,7 +156,7 @@ const BREAKPOINT: Script = Script {
     ],
 };
 
-/// An edit behind the cursor, and its way back.
+/// An edit before the cursor, and its way back.
 const BEHIND: Script = Script {
     bytes: DUMP,
     lines: &[

@@ -1,4 +1,4 @@
--- Behind STOP there is a result.
+-- After STOP there is a result.
 use Rattle.std.proofs.Common.{refl, sym, ◌∙◌}
 use Rattle.pickle_report.proofs.Runs.{result_there}
 use Rattle.pickle_report.proofs.report.close.Goals as goal

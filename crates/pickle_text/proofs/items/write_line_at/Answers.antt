@@ -1,4 +1,4 @@
--- The offset behind an item is one of the document's.
+-- The offset after an item is one of the document's.
 use Rattle.std.proofs.Common.{◌≡◌, ◌≤◌, length, ap, Some, arith, rules}
 use Rattle.pickle_doc.specs.Document.{Contents, document_bytes, size_limit}
 use Rattle.pickle_doc.specs.Place.{item_at}

@@ -1,4 +1,4 @@
--- What stands next is the next item, and behind the items what stands next in the tail.
+-- What stands next is the next item, and after the items what stands next in the tail.
 use Rattle.std.proofs.Common.{◌≡◌, arith, Some, None, sym, ap, ◌∙◌}
 use Rattle.pickle_doc.specs.Place.{item_at}
 use Rattle.pickle_doc.proofs.Sources.{item_follows, item_placed, item_bounded, placed_behind, follows_behind}
