@@ -4,7 +4,7 @@
     conversations.py PROGRAM PAGE FOLDER
 
 A conversation on the page is a block of lines, indented or not, that begins with `pickle` and the bytes of a pickle in
-hexadecimal. Then comes a line of the script behind `debug> `, then the lines that answer it, and so on. `$ list` or `$ objects`
+hexadecimal. Then comes a line of the script after `debug> `, then the lines that answer it, and so on. `$ list` or `$ objects`
 stands before what that command writes. A last line `saved` has the bytes that the pickle is saved as. The block ends at an empty
 line, or at the end of the page.
 

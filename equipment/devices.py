@@ -3,7 +3,7 @@
 
     devices.py PROGRAM LIBRARY FOLDER
 
-LIBRARY is equipment/break_devices.c, compiled. Each line says what was tried, a tab, and what was wrong, or nothing behind it.
+LIBRARY is equipment/break_devices.c, compiled. Each line says what was tried, a tab, and what was wrong, or nothing after it.
 The last line says how many reads and writes failed.
 """
 import os

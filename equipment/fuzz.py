@@ -17,10 +17,10 @@ The laws:
   wherever one comes from;
 - a line that is refused changes nothing that is shown; an edit that is undone or made again shows the items that were there;
 - the cursor is where the reply says, and a line that is no command writes what it always does;
-- a script is answered alike with all records kept and with a few, and alike where more lines stand behind `quit`;
-- behind a script, what is shown is what a new conversation over the saved bytes shows at that place, and the saved bytes are
+- a script is answered alike with all records kept and with a few, and alike where more lines stand after `quit`;
+- after a script, what is shown is what a new conversation over the saved bytes shows at that place, and the saved bytes are
   listed as these items;
-- behind a script, going to the start and undoing every edit gives the bytes that were opened, and making them again the bytes
+- after a script, going to the start and undoing every edit gives the bytes that were opened, and making them again the bytes
   that the script saved;
 - the status says whether something was refused.
 """
@@ -265,7 +265,7 @@ class Shown:
 
 
 def split_views(lines):
-    """Each reply of an observed script, with what is shown behind it."""
+    """Each reply of an observed script, with what is shown after it."""
     found = []
     starts = [k for k, text in enumerate(lines) if WHERE.fullmatch(text)]
     if not starts or len(lines) - starts[-1] < 3:
@@ -363,7 +363,7 @@ class Case:
             raise Broken(f"something else is shown after going to {places}")
 
     def follow(self, lines, views):
-        """What each reply says of the views before it and behind it."""
+        """What each reply says of the views before it and after it."""
         documents, known = [views[0][1].document()], 0
         for text, (reply, view), (_, before) in zip(lines, views[1:], views):
             told = reply[0] if len(reply) == 1 else ""
@@ -407,7 +407,7 @@ class Case:
         return len(lines), most
 
     def check_saved(self, saved, view):
-        """What is shown behind a script is what the saved bytes show at that place."""
+        """What is shown after a script is what the saved bytes show at that place."""
         fresh = self.folder / "fresh.pickle"
         fresh.write_bytes(saved)
         other = split_views(self.debug(f"goto {view.place()}\n{VIEW}", file=fresh).splitlines())[0][1]

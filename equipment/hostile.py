@@ -5,7 +5,7 @@
 
 FOLDER is for the files; PICKLES is a folder of real pickles, of which each is cut at each of its first 2,000 bytes and listed. What
 a listing of a cut says follows from the listing of the whole: the opcodes that stand whole in it, and the fault of what is left,
-by the sizes that pickletools gives. Each line of the output says what was tried, a tab, and what was wrong, or nothing behind it.
+by the sizes that pickletools gives. Each line of the output says what was tried, a tab, and what was wrong, or nothing after it.
 The last line says how many inputs there were.
 """
 import concurrent.futures
@@ -62,7 +62,7 @@ class Listing:
         ends = self.starts[1:] + [self.end]
         for k, start in enumerate(self.starts):
             if self.refused and k + 1 == len(self.starts):
-                # (the sizes of what stands behind are not listed)
+                # (the sizes of what stands after it are not listed)
                 whole = self.closed(len(self.lines), self.refused)
                 return [(whole, 1), *((self.closed(k, [f"fault: {why} at {start}"]), 1) for why in self.cut_faults(start, cut))]
             if cut < ends[k]:

@@ -86,7 +86,7 @@ class Read:
 
 
 def genops(data):
-    """What genops reads, the offset behind it, and the error that it ends with, or None."""
+    """What genops reads, the offset after it, and the error that it ends with, or None."""
     reads, behind = [], 0
     try:
         for opcode, arg, start, end in pickletools._genops(data, yield_end_pos=True):
@@ -282,7 +282,7 @@ class Answer:
         return [rule for rule in self.rules if rule in EARLIER]
 
     def closing_of_stopped(self, data, behind, error):
-        """The closing lines where STOP was read: what it leaves on the stack, and behind it in the file."""
+        """The closing lines where STOP was read: what it leaves on the stack, and after it in the file."""
         closing = []
         if error is not None:
             self.rules.append('left')

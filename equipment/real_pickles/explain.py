@@ -22,7 +22,7 @@ Of a file only the pickle up to the first STOP counts. Each opcode occurs in one
 Offsets, names, indentation and notes come from `pickletools.genops` and `pickletools.dis` of Python 3.11, and never from this
 project. The lines `refused:`, `fault:`, `left:` and `kept:` are this project's own words for what Python answers by an error,
 or by the place where it stops. Where Python stops at a check that this project does not make (the rules payloads and memo
-below), the lines behind are those of the same functions of Python with that check left out. `equipment/real_pickles/answers.py` has the
+below), the lines after it are those of the same functions of Python with that check left out. `equipment/real_pickles/answers.py` has the
 rules, the words, and a table of the refusals that no answer of Python tells.
 
 ## Where Python and this project differ
