@@ -12,7 +12,9 @@ use crate::tests::cost::edit_many;
 use crate::tests::hostile::{CUTS, LENGTHS, end_of, first_wrong_cut, single_bytes};
 use crate::tests::memory::edit_with_little;
 use crate::tests::nest::put_and_back;
-use crate::tests::rows::{ACCEPTED, REFUSED};
+use crate::tests::rows::{
+    BESIDE_FRAMES, EMPTY_FRAMES, FRAMES, FRAMES_THAT_LIE, IN_FRAMES, NO_FRAMES, REFUSED,
+};
 use crate::tests::shown::{
     Edit, Row, Wrong, are_alike, have_same_ids, make, place_of, shows, turn, written,
 };
@@ -35,12 +37,44 @@ fn try_row(alloc: Global, row: &Row) -> Result<(), Wrong> {
     turn(alloc, &mut document, &mut record, &row.before)
 }
 
-#[test]
-fn accepted_edits(rt: HostRuntime) {
-    for row in &ACCEPTED {
-        let bytes = row.before.bytes;
-        assert_eq!(rt; try_row(rt.alloc(), row), Ok(()), "{bytes:?}");
+/// The first row that does not hold, by its bytes, and what is wrong there.
+fn first_wrong<'a>(alloc: Global, rows: &'a [Row]) -> Option<(&'a [u8], Wrong)> {
+    for row in rows {
+        if let Err(wrong) = try_row(alloc, row) {
+            return Some((row.before.bytes, wrong));
+        }
     }
+    None
+}
+
+#[test]
+fn edits_in_frames(rt: HostRuntime) {
+    assert_eq!(rt; first_wrong(rt.alloc(), &IN_FRAMES), None);
+}
+
+#[test]
+fn edits_beside_frames(rt: HostRuntime) {
+    assert_eq!(rt; first_wrong(rt.alloc(), &BESIDE_FRAMES), None);
+}
+
+#[test]
+fn edits_beside_frames_that_lie(rt: HostRuntime) {
+    assert_eq!(rt; first_wrong(rt.alloc(), &FRAMES_THAT_LIE), None);
+}
+
+#[test]
+fn frames_come_and_go(rt: HostRuntime) {
+    assert_eq!(rt; first_wrong(rt.alloc(), &FRAMES), None);
+}
+
+#[test]
+fn empty_frames(rt: HostRuntime) {
+    assert_eq!(rt; first_wrong(rt.alloc(), &EMPTY_FRAMES), None);
+}
+
+#[test]
+fn edits_without_frames(rt: HostRuntime) {
+    assert_eq!(rt; first_wrong(rt.alloc(), &NO_FRAMES), None);
 }
 
 /// Why an edit is refused, which leaves the document as it was read.

@@ -199,7 +199,8 @@ pub fn list_items<'a, I: ItemSource<'a>, S: Sink>(
                 if let Some(refusal) = refusal {
                     return answer(write_refused_end(&mut page, refusal, highest, sink), 1);
                 }
-                perform(&mut lean, &mut opened, row, Class::of(op.opcode()), place, offset)?;
+                let class = Class::of(op.opcode());
+                perform(&mut lean, &mut opened, row, class, place, offset)?;
                 offset += op.size() as u64;
                 place += 1;
                 if ends_reading(op.opcode()) {

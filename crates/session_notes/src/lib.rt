@@ -5,6 +5,6 @@
 mod script;
 mod session;
 
+pub use machine_notes::{Beside, write_state};
 pub use script::{Note, ScriptFault, follow_whole, follow_window, note_whole, note_window};
 pub use session::{shows, write_session};
-pub use machine_notes::{Beside, write_state};

@@ -5,8 +5,8 @@ use crate::tests::shown::{Edit, Row, Shown};
 use pickle_doc::{EditFault, End, TailFault};
 use pickle_ops::Opcode;
 
-/// Edits that are accepted.
-pub const ACCEPTED: [Row; 24] = [
+/// Opcodes in a frame are replaced, taken out and put in.
+pub const IN_FRAMES: [Row; 5] = [
     // replace inside a frame
     Row {
         before: Shown {
@@ -106,213 +106,55 @@ pub const ACCEPTED: [Row; 24] = [
             end: End::Stopped,
         },
     },
-    // frames that lie: before a frame past the end
+    // a member of a frame that reaches past STOP goes
     Row {
         before: Shown {
-            bytes: b"\x95\x09\x00\x00\x00\x00\x00\x00\x00N.",
-            items: &[],
-            tail: b"\x95\x09\x00\x00\x00\x00\x00\x00\x00N.",
-            end: End::Fault(TailFault::FramePastEnd, 0),
-        },
-        edit: Edit::Insert(0, Opcode::None, b""),
-        after: Shown {
-            bytes: b"N\x95\x09\x00\x00\x00\x00\x00\x00\x00N.",
-            items: &[(0, "NONE", None, 0)],
-            tail: b"\x95\x09\x00\x00\x00\x00\x00\x00\x00N.",
-            end: End::Fault(TailFault::FramePastEnd, 1),
-        },
-    },
-    // frames that lie: the member before a frame in a frame
-    Row {
-        before: Shown {
-            bytes: b"\x95\x0b\x00\x00\x00\x00\x00\x00\x00N\x95\x00\x00\x00\x00\x00\x00\x00\x00.",
-            items: &[(0, "FRAME", None, 0), (9, "NONE", Some(0), 1)],
-            tail: b"\x95\x00\x00\x00\x00\x00\x00\x00\x00.",
-            end: End::Fault(TailFault::FrameInFrame, 10),
+            bytes: b"\x95\x03\x00\x00\x00\x00\x00\x00\x00N.X",
+            items: &[
+                (0, "FRAME", None, 0),
+                (9, "NONE", Some(0), 1),
+                (10, "STOP", Some(0), 2),
+            ],
+            tail: b"X",
+            end: End::Stopped,
         },
         edit: Edit::Delete(1),
         after: Shown {
-            bytes: b"\x95\x0a\x00\x00\x00\x00\x00\x00\x00\x95\x00\x00\x00\x00\x00\x00\x00\x00.",
-            items: &[(0, "FRAME", None, 0)],
-            tail: b"\x95\x00\x00\x00\x00\x00\x00\x00\x00.",
-            end: End::Fault(TailFault::FrameInFrame, 9),
+            bytes: b"\x95\x02\x00\x00\x00\x00\x00\x00\x00.X",
+            items: &[(0, "FRAME", None, 0), (9, "STOP", Some(0), 2)],
+            tail: b"X",
+            end: End::Stopped,
         },
     },
-    // frames that lie: after the last member of a frame that is crossed
+    // and an opcode before it
     Row {
         before: Shown {
-            bytes: b"\x95\x02\x00\x00\x00\x00\x00\x00\x00NK\x01.",
-            items: &[(0, "FRAME", None, 0), (9, "NONE", Some(0), 1)],
-            tail: b"K\x01.",
-            end: End::Fault(TailFault::FrameCrossed, 10),
-        },
-        edit: Edit::Insert(2, Opcode::None, b""),
-        after: Shown {
-            bytes: b"\x95\x03\x00\x00\x00\x00\x00\x00\x00NNK\x01.",
+            bytes: b"\x95\x03\x00\x00\x00\x00\x00\x00\x00N.X",
             items: &[
                 (0, "FRAME", None, 0),
                 (9, "NONE", Some(0), 1),
-                (10, "NONE", Some(0), 2),
+                (10, "STOP", Some(0), 2),
             ],
-            tail: b"K\x01.",
-            end: End::Fault(TailFault::FrameCrossed, 11),
-        },
-    },
-    // frames that lie: before that member
-    Row {
-        before: Shown {
-            bytes: b"\x95\x02\x00\x00\x00\x00\x00\x00\x00NK\x01.",
-            items: &[(0, "FRAME", None, 0), (9, "NONE", Some(0), 1)],
-            tail: b"K\x01.",
-            end: End::Fault(TailFault::FrameCrossed, 10),
+            tail: b"X",
+            end: End::Stopped,
         },
         edit: Edit::Insert(1, Opcode::BinInt1, b"\x05"),
         after: Shown {
-            bytes: b"\x95\x04\x00\x00\x00\x00\x00\x00\x00K\x05NK\x01.",
+            bytes: b"\x95\x05\x00\x00\x00\x00\x00\x00\x00K\x05N.X",
             items: &[
                 (0, "FRAME", None, 0),
-                (9, "BININT1", Some(0), 2),
+                (9, "BININT1", Some(0), 3),
                 (11, "NONE", Some(0), 1),
+                (12, "STOP", Some(0), 2),
             ],
-            tail: b"K\x01.",
-            end: End::Fault(TailFault::FrameCrossed, 12),
-        },
-    },
-    // frame and unframe: a frame round all, STOP too
-    Row {
-        before: Shown {
-            bytes: b"N0N.",
-            items: &[
-                (0, "NONE", None, 0),
-                (1, "POP", None, 1),
-                (2, "NONE", None, 2),
-                (3, "STOP", None, 3),
-            ],
-            tail: b"",
-            end: End::Stopped,
-        },
-        edit: Edit::Frame(0, 4),
-        after: Shown {
-            bytes: b"\x95\x04\x00\x00\x00\x00\x00\x00\x00N0N.",
-            items: &[
-                (0, "FRAME", None, 4),
-                (9, "NONE", Some(0), 0),
-                (10, "POP", Some(0), 1),
-                (11, "NONE", Some(0), 2),
-                (12, "STOP", Some(0), 3),
-            ],
-            tail: b"",
+            tail: b"X",
             end: End::Stopped,
         },
     },
-    // frame and unframe: the members are loose again
-    Row {
-        before: Shown {
-            bytes: b"\x95\x04\x00\x00\x00\x00\x00\x00\x00N0N.",
-            items: &[
-                (0, "FRAME", None, 0),
-                (9, "NONE", Some(0), 1),
-                (10, "POP", Some(0), 2),
-                (11, "NONE", Some(0), 3),
-                (12, "STOP", Some(0), 4),
-            ],
-            tail: b"",
-            end: End::Stopped,
-        },
-        edit: Edit::Unframe(0),
-        after: Shown {
-            bytes: b"N0N.",
-            items: &[
-                (0, "NONE", None, 1),
-                (1, "POP", None, 2),
-                (2, "NONE", None, 3),
-                (3, "STOP", None, 4),
-            ],
-            tail: b"",
-            end: End::Stopped,
-        },
-    },
-    // an empty frame before a frame
-    Row {
-        before: Shown {
-            bytes: b"\x95\x04\x00\x00\x00\x00\x00\x00\x00N0N.",
-            items: &[
-                (0, "FRAME", None, 0),
-                (9, "NONE", Some(0), 1),
-                (10, "POP", Some(0), 2),
-                (11, "NONE", Some(0), 3),
-                (12, "STOP", Some(0), 4),
-            ],
-            tail: b"",
-            end: End::Stopped,
-        },
-        edit: Edit::Frame(0, 0),
-        after: Shown {
-            bytes: b"\x95\x00\x00\x00\x00\x00\x00\x00\x00\x95\x04\x00\x00\x00\x00\x00\x00\x00N0N.",
-            items: &[
-                (0, "FRAME", None, 5),
-                (9, "FRAME", None, 0),
-                (18, "NONE", Some(1), 1),
-                (19, "POP", Some(1), 2),
-                (20, "NONE", Some(1), 3),
-                (21, "STOP", Some(1), 4),
-            ],
-            tail: b"",
-            end: End::Stopped,
-        },
-    },
-    // empty frame before stop
-    Row {
-        before: Shown {
-            bytes: b".",
-            items: &[(0, "STOP", None, 0)],
-            tail: b"",
-            end: End::Stopped,
-        },
-        edit: Edit::Frame(0, 0),
-        after: Shown {
-            bytes: b"\x95\x00\x00\x00\x00\x00\x00\x00\x00.",
-            items: &[(0, "FRAME", None, 1), (9, "STOP", None, 0)],
-            tail: b"",
-            end: End::Stopped,
-        },
-    },
-    // an empty frame before an empty frame
-    Row {
-        before: Shown {
-            bytes: b"\x95\x00\x00\x00\x00\x00\x00\x00\x00.",
-            items: &[(0, "FRAME", None, 0), (9, "STOP", None, 1)],
-            tail: b"",
-            end: End::Stopped,
-        },
-        edit: Edit::Frame(0, 0),
-        after: Shown {
-            bytes: b"\x95\x00\x00\x00\x00\x00\x00\x00\x00\x95\x00\x00\x00\x00\x00\x00\x00\x00.",
-            items: &[
-                (0, "FRAME", None, 2),
-                (9, "FRAME", None, 0),
-                (18, "STOP", None, 1),
-            ],
-            tail: b"",
-            end: End::Stopped,
-        },
-    },
-    // an empty frame is taken away
-    Row {
-        before: Shown {
-            bytes: b"\x95\x00\x00\x00\x00\x00\x00\x00\x00.",
-            items: &[(0, "FRAME", None, 0), (9, "STOP", None, 1)],
-            tail: b"",
-            end: End::Stopped,
-        },
-        edit: Edit::Unframe(0),
-        after: Shown {
-            bytes: b".",
-            items: &[(0, "STOP", None, 1)],
-            tail: b"",
-            end: End::Stopped,
-        },
-    },
+];
+
+/// Opcodes beside a frame, and the only one in a frame.
+pub const BESIDE_FRAMES: [Row; 4] = [
     // after the last member of a frame
     Row {
         before: Shown {
@@ -420,6 +262,140 @@ pub const ACCEPTED: [Row; 24] = [
             end: End::Stopped,
         },
     },
+];
+
+/// Opcodes beside frames that lie.
+pub const FRAMES_THAT_LIE: [Row; 4] = [
+    // frames that lie: before a frame past the end
+    Row {
+        before: Shown {
+            bytes: b"\x95\x09\x00\x00\x00\x00\x00\x00\x00N.",
+            items: &[],
+            tail: b"\x95\x09\x00\x00\x00\x00\x00\x00\x00N.",
+            end: End::Fault(TailFault::FramePastEnd, 0),
+        },
+        edit: Edit::Insert(0, Opcode::None, b""),
+        after: Shown {
+            bytes: b"N\x95\x09\x00\x00\x00\x00\x00\x00\x00N.",
+            items: &[(0, "NONE", None, 0)],
+            tail: b"\x95\x09\x00\x00\x00\x00\x00\x00\x00N.",
+            end: End::Fault(TailFault::FramePastEnd, 1),
+        },
+    },
+    // frames that lie: the member before a frame in a frame
+    Row {
+        before: Shown {
+            bytes: b"\x95\x0b\x00\x00\x00\x00\x00\x00\x00N\x95\x00\x00\x00\x00\x00\x00\x00\x00.",
+            items: &[(0, "FRAME", None, 0), (9, "NONE", Some(0), 1)],
+            tail: b"\x95\x00\x00\x00\x00\x00\x00\x00\x00.",
+            end: End::Fault(TailFault::FrameInFrame, 10),
+        },
+        edit: Edit::Delete(1),
+        after: Shown {
+            bytes: b"\x95\x0a\x00\x00\x00\x00\x00\x00\x00\x95\x00\x00\x00\x00\x00\x00\x00\x00.",
+            items: &[(0, "FRAME", None, 0)],
+            tail: b"\x95\x00\x00\x00\x00\x00\x00\x00\x00.",
+            end: End::Fault(TailFault::FrameInFrame, 9),
+        },
+    },
+    // frames that lie: after the last member of a frame that is crossed
+    Row {
+        before: Shown {
+            bytes: b"\x95\x02\x00\x00\x00\x00\x00\x00\x00NK\x01.",
+            items: &[(0, "FRAME", None, 0), (9, "NONE", Some(0), 1)],
+            tail: b"K\x01.",
+            end: End::Fault(TailFault::FrameCrossed, 10),
+        },
+        edit: Edit::Insert(2, Opcode::None, b""),
+        after: Shown {
+            bytes: b"\x95\x03\x00\x00\x00\x00\x00\x00\x00NNK\x01.",
+            items: &[
+                (0, "FRAME", None, 0),
+                (9, "NONE", Some(0), 1),
+                (10, "NONE", Some(0), 2),
+            ],
+            tail: b"K\x01.",
+            end: End::Fault(TailFault::FrameCrossed, 11),
+        },
+    },
+    // frames that lie: before that member
+    Row {
+        before: Shown {
+            bytes: b"\x95\x02\x00\x00\x00\x00\x00\x00\x00NK\x01.",
+            items: &[(0, "FRAME", None, 0), (9, "NONE", Some(0), 1)],
+            tail: b"K\x01.",
+            end: End::Fault(TailFault::FrameCrossed, 10),
+        },
+        edit: Edit::Insert(1, Opcode::BinInt1, b"\x05"),
+        after: Shown {
+            bytes: b"\x95\x04\x00\x00\x00\x00\x00\x00\x00K\x05NK\x01.",
+            items: &[
+                (0, "FRAME", None, 0),
+                (9, "BININT1", Some(0), 2),
+                (11, "NONE", Some(0), 1),
+            ],
+            tail: b"K\x01.",
+            end: End::Fault(TailFault::FrameCrossed, 12),
+        },
+    },
+];
+
+/// Frames are put round items and taken away.
+pub const FRAMES: [Row; 4] = [
+    // frame and unframe: a frame round all, STOP too
+    Row {
+        before: Shown {
+            bytes: b"N0N.",
+            items: &[
+                (0, "NONE", None, 0),
+                (1, "POP", None, 1),
+                (2, "NONE", None, 2),
+                (3, "STOP", None, 3),
+            ],
+            tail: b"",
+            end: End::Stopped,
+        },
+        edit: Edit::Frame(0, 4),
+        after: Shown {
+            bytes: b"\x95\x04\x00\x00\x00\x00\x00\x00\x00N0N.",
+            items: &[
+                (0, "FRAME", None, 4),
+                (9, "NONE", Some(0), 0),
+                (10, "POP", Some(0), 1),
+                (11, "NONE", Some(0), 2),
+                (12, "STOP", Some(0), 3),
+            ],
+            tail: b"",
+            end: End::Stopped,
+        },
+    },
+    // frame and unframe: the members are loose again
+    Row {
+        before: Shown {
+            bytes: b"\x95\x04\x00\x00\x00\x00\x00\x00\x00N0N.",
+            items: &[
+                (0, "FRAME", None, 0),
+                (9, "NONE", Some(0), 1),
+                (10, "POP", Some(0), 2),
+                (11, "NONE", Some(0), 3),
+                (12, "STOP", Some(0), 4),
+            ],
+            tail: b"",
+            end: End::Stopped,
+        },
+        edit: Edit::Unframe(0),
+        after: Shown {
+            bytes: b"N0N.",
+            items: &[
+                (0, "NONE", None, 1),
+                (1, "POP", None, 2),
+                (2, "NONE", None, 3),
+                (3, "STOP", None, 4),
+            ],
+            tail: b"",
+            end: End::Stopped,
+        },
+    },
     // an empty frame after a frame
     Row {
         before: Shown {
@@ -474,51 +450,95 @@ pub const ACCEPTED: [Row; 24] = [
             end: End::Stopped,
         },
     },
-    // a member of a frame that reaches past STOP goes
+];
+
+/// Frames with no item.
+pub const EMPTY_FRAMES: [Row; 4] = [
+    // an empty frame before a frame
     Row {
         before: Shown {
-            bytes: b"\x95\x03\x00\x00\x00\x00\x00\x00\x00N.X",
+            bytes: b"\x95\x04\x00\x00\x00\x00\x00\x00\x00N0N.",
             items: &[
                 (0, "FRAME", None, 0),
                 (9, "NONE", Some(0), 1),
-                (10, "STOP", Some(0), 2),
+                (10, "POP", Some(0), 2),
+                (11, "NONE", Some(0), 3),
+                (12, "STOP", Some(0), 4),
             ],
-            tail: b"X",
+            tail: b"",
             end: End::Stopped,
         },
-        edit: Edit::Delete(1),
+        edit: Edit::Frame(0, 0),
         after: Shown {
-            bytes: b"\x95\x02\x00\x00\x00\x00\x00\x00\x00.X",
-            items: &[(0, "FRAME", None, 0), (9, "STOP", Some(0), 2)],
-            tail: b"X",
+            bytes: b"\x95\x00\x00\x00\x00\x00\x00\x00\x00\x95\x04\x00\x00\x00\x00\x00\x00\x00N0N.",
+            items: &[
+                (0, "FRAME", None, 5),
+                (9, "FRAME", None, 0),
+                (18, "NONE", Some(1), 1),
+                (19, "POP", Some(1), 2),
+                (20, "NONE", Some(1), 3),
+                (21, "STOP", Some(1), 4),
+            ],
+            tail: b"",
             end: End::Stopped,
         },
     },
-    // and an opcode before it
+    // empty frame before stop
     Row {
         before: Shown {
-            bytes: b"\x95\x03\x00\x00\x00\x00\x00\x00\x00N.X",
-            items: &[
-                (0, "FRAME", None, 0),
-                (9, "NONE", Some(0), 1),
-                (10, "STOP", Some(0), 2),
-            ],
-            tail: b"X",
+            bytes: b".",
+            items: &[(0, "STOP", None, 0)],
+            tail: b"",
             end: End::Stopped,
         },
-        edit: Edit::Insert(1, Opcode::BinInt1, b"\x05"),
+        edit: Edit::Frame(0, 0),
         after: Shown {
-            bytes: b"\x95\x05\x00\x00\x00\x00\x00\x00\x00K\x05N.X",
-            items: &[
-                (0, "FRAME", None, 0),
-                (9, "BININT1", Some(0), 3),
-                (11, "NONE", Some(0), 1),
-                (12, "STOP", Some(0), 2),
-            ],
-            tail: b"X",
+            bytes: b"\x95\x00\x00\x00\x00\x00\x00\x00\x00.",
+            items: &[(0, "FRAME", None, 1), (9, "STOP", None, 0)],
+            tail: b"",
             end: End::Stopped,
         },
     },
+    // an empty frame before an empty frame
+    Row {
+        before: Shown {
+            bytes: b"\x95\x00\x00\x00\x00\x00\x00\x00\x00.",
+            items: &[(0, "FRAME", None, 0), (9, "STOP", None, 1)],
+            tail: b"",
+            end: End::Stopped,
+        },
+        edit: Edit::Frame(0, 0),
+        after: Shown {
+            bytes: b"\x95\x00\x00\x00\x00\x00\x00\x00\x00\x95\x00\x00\x00\x00\x00\x00\x00\x00.",
+            items: &[
+                (0, "FRAME", None, 2),
+                (9, "FRAME", None, 0),
+                (18, "STOP", None, 1),
+            ],
+            tail: b"",
+            end: End::Stopped,
+        },
+    },
+    // an empty frame is taken away
+    Row {
+        before: Shown {
+            bytes: b"\x95\x00\x00\x00\x00\x00\x00\x00\x00.",
+            items: &[(0, "FRAME", None, 0), (9, "STOP", None, 1)],
+            tail: b"",
+            end: End::Stopped,
+        },
+        edit: Edit::Unframe(0),
+        after: Shown {
+            bytes: b".",
+            items: &[(0, "STOP", None, 1)],
+            tail: b"",
+            end: End::Stopped,
+        },
+    },
+];
+
+/// Documents with no frame, or with no item.
+pub const NO_FRAMES: [Row; 3] = [
     // no item: one is put in before the tail
     Row {
         before: Shown {

@@ -88,7 +88,7 @@ returns-then-ends_reading-clause-ok g c =
     × (g.I.ItemSource.unread c.next.new.self ≡ record { rest = drop (size_of c.in-Item.op) (g.I.ItemSource.unread c.items.reader).rest; left = left_behind (g.I.ItemSource.unread c.items.reader).left c.in-Item.op }) = rw c.in-Item.is at c.next.ensures in
     let w = with_line _ _ _ _ _ _ _ _ _ _ c.in-Item.op _ _ _ c.items.invariant n.0 (rw (c.marks_len.ensures, c.note_unless_refused-note.ensures, c.as_slice.ensures.value, c.refusal-refusal.ensures.first, c.of_ref-row.ensures) at c.in_ok-put_item-in-Item.ensures) in
     let none : refusal_of (row_of c.in-Item.op) c.items.lean ≡ None = rw c.of_ref-row.ensures at (sym c.in_default.ensures.first) in
-    let kind : sample c.of.result ≡ plain (kind_of c.in-Item.op) = rw c.opcode-in-Item.ensures at (c.of.ensures c.in-Item.op.arg) in
+    let kind : sample c.of-class.result ≡ plain (kind_of c.in-Item.op) = rw c.opcode-in-Item.ensures at (c.of-class.ensures c.in-Item.op.arg) in
     let next = rw c.of_ref-row.ensures at c.in_ok-perform-in-Item.ensures.moved in
     let m = moved _ _ _ _ _ _ _ _ c.in-Item.op _ _ _ _ _ _ w none kind next c.in_ok-perform-in-Item.ensures.marks in
     let hit : ends_reading c.in-Item.op.opcode ≡ true = sym (rw c.opcode-in-Item-2.ensures at c.ends_reading.ensures) ∙ c.if-ends_reading.true in
@@ -101,7 +101,7 @@ returns-then-ends_reading-clause-err g c =
     × (g.I.ItemSource.unread c.next.new.self ≡ record { rest = drop (size_of c.in-Item.op) (g.I.ItemSource.unread c.items.reader).rest; left = left_behind (g.I.ItemSource.unread c.items.reader).left c.in-Item.op }) = rw c.in-Item.is at c.next.ensures in
     let w = with_line _ _ _ _ _ _ _ _ _ _ c.in-Item.op _ _ _ c.items.invariant n.0 (rw (c.marks_len.ensures, c.note_unless_refused-note.ensures, c.as_slice.ensures.value, c.refusal-refusal.ensures.first, c.of_ref-row.ensures) at c.in_ok-put_item-in-Item.ensures) in
     let none : refusal_of (row_of c.in-Item.op) c.items.lean ≡ None = rw c.of_ref-row.ensures at (sym c.in_default.ensures.first) in
-    let kind : sample c.of.result ≡ plain (kind_of c.in-Item.op) = rw c.opcode-in-Item.ensures at (c.of.ensures c.in-Item.op.arg) in
+    let kind : sample c.of-class.result ≡ plain (kind_of c.in-Item.op) = rw c.opcode-in-Item.ensures at (c.of-class.ensures c.in-Item.op.arg) in
     let next = rw c.of_ref-row.ensures at c.in_ok-perform-in-Item.ensures.moved in
     let m = moved _ _ _ _ _ _ _ _ c.in-Item.op _ _ _ _ _ _ w none kind next c.in_ok-perform-in-Item.ensures.marks in
     let hit : ends_reading c.in-Item.op.opcode ≡ true = sym (rw c.opcode-in-Item-2.ensures at c.ends_reading.ensures) ∙ c.if-ends_reading.true in
@@ -114,7 +114,7 @@ items-preserved g c =
     × (g.I.ItemSource.unread c.next.new.self ≡ record { rest = drop (size_of c.in-Item.op) (g.I.ItemSource.unread c.items.reader).rest; left = left_behind (g.I.ItemSource.unread c.items.reader).left c.in-Item.op }) = rw c.in-Item.is at c.next.ensures in
     let w = with_line _ _ _ _ _ _ _ _ _ _ c.in-Item.op _ _ _ c.items.invariant n.0 (rw (c.marks_len.ensures, c.note_unless_refused-note.ensures, c.as_slice.ensures.value, c.refusal-refusal.ensures.first, c.of_ref-row.ensures) at c.in_ok-put_item-in-Item.ensures) in
     let none : refusal_of (row_of c.in-Item.op) c.items.lean ≡ None = rw c.of_ref-row.ensures at (sym c.in_default.ensures.first) in
-    let kind : sample c.of.result ≡ plain (kind_of c.in-Item.op) = rw c.opcode-in-Item.ensures at (c.of.ensures c.in-Item.op.arg) in
+    let kind : sample c.of-class.result ≡ plain (kind_of c.in-Item.op) = rw c.opcode-in-Item.ensures at (c.of-class.ensures c.in-Item.op.arg) in
     let next = rw c.of_ref-row.ensures at c.in_ok-perform-in-Item.ensures.moved in
     let m = moved _ _ _ _ _ _ _ _ c.in-Item.op _ _ _ _ _ _ w none kind next c.in_ok-perform-in-Item.ensures.marks in
     let miss : ends_reading c.in-Item.op.opcode ≡ false = sym (rw c.opcode-in-Item-2.ensures at c.ends_reading.ensures) ∙ c.if-ends_reading.false in
