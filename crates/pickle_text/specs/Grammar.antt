@@ -1,7 +1,7 @@
 -- The words of a line, and what the line says: the word that it begins with decides which words may stand after it.
 -- Source: own.
 use Rattle.std.specs.Prelude.{◌≡◌, ◌≢◌, ℕ, List, [], ◌∷◌, length, filter, codes, Bool, true, false, nat_lt, ◌==◌, ◌||◌, if◌then◌else◌, Option, Some, None, Result, Ok, Err, ⊤}
-use Rattle.std.specs.Option.{option_map_or}
+use Rattle.std.specs.Option.{option_map, option_map_or}
 use Rattle.std.specs.List.{slice_split}
 use Rattle.std.specs.Str.{bytes_eq}
 use Rattle.hex.specs.Hex.{decode_of}
@@ -51,30 +51,46 @@ bytes_of_word w = found_bytes (decode_of w)
 
 -- ---- first words
 
--- the first words, by what stands after them
+-- the first words that stand alone
+abbrev pub plain_word : List ℕ → Option PlainWord
+plain_word w =
+    if bytes_eq w (codes "step") then Some plain.Step
+    else if bytes_eq w (codes "back") then Some plain.Back
+    else if bytes_eq w (codes "run") then Some plain.Run
+    else if bytes_eq w (codes "undo") then Some plain.Undo
+    else if bytes_eq w (codes "redo") then Some plain.Redo
+    else if bytes_eq w (codes "items") then Some plain.Items
+    else if bytes_eq w (codes "objects") then Some plain.Objects
+    else if bytes_eq w (codes "stack") then Some plain.Stack
+    else if bytes_eq w (codes "memo") then Some plain.Memo
+    else if bytes_eq w (codes "where") then Some plain.Where
+    else if bytes_eq w (codes "quit") then Some plain.Quit
+    else None
+
+-- those after which a number stands
+abbrev pub number_word : List ℕ → Option NumberWord
+number_word w =
+    if bytes_eq w (codes "goto") then Some number.Goto
+    else if bytes_eq w (codes "break") then Some number.Break
+    else if bytes_eq w (codes "clear") then Some number.Clear
+    else if bytes_eq w (codes "delete") then Some number.Delete
+    else if bytes_eq w (codes "unframe") then Some number.Unframe
+    else if bytes_eq w (codes "show") then Some number.Show
+    else None
+
+-- those after which a number, a name and bytes stand
+abbrev pub op_word : List ℕ → Option OpWord
+op_word w =
+    if bytes_eq w (codes "replace") then Some op.Replace
+    else if bytes_eq w (codes "insert") then Some op.Insert
+    else None
+
+-- the first words: these, and `frame`, after which two numbers stand
 abbrev pub keyword : List ℕ → Option Word
 keyword w =
-    if bytes_eq w (codes "step") then Some (word.Plain plain.Step)
-    else if bytes_eq w (codes "back") then Some (word.Plain plain.Back)
-    else if bytes_eq w (codes "goto") then Some (word.Number number.Goto)
-    else if bytes_eq w (codes "run") then Some (word.Plain plain.Run)
-    else if bytes_eq w (codes "break") then Some (word.Number number.Break)
-    else if bytes_eq w (codes "clear") then Some (word.Number number.Clear)
-    else if bytes_eq w (codes "replace") then Some (word.Op op.Replace)
-    else if bytes_eq w (codes "insert") then Some (word.Op op.Insert)
-    else if bytes_eq w (codes "delete") then Some (word.Number number.Delete)
-    else if bytes_eq w (codes "frame") then Some word.Pair
-    else if bytes_eq w (codes "unframe") then Some (word.Number number.Unframe)
-    else if bytes_eq w (codes "undo") then Some (word.Plain plain.Undo)
-    else if bytes_eq w (codes "redo") then Some (word.Plain plain.Redo)
-    else if bytes_eq w (codes "items") then Some (word.Plain plain.Items)
-    else if bytes_eq w (codes "objects") then Some (word.Plain plain.Objects)
-    else if bytes_eq w (codes "stack") then Some (word.Plain plain.Stack)
-    else if bytes_eq w (codes "memo") then Some (word.Plain plain.Memo)
-    else if bytes_eq w (codes "show") then Some (word.Number number.Show)
-    else if bytes_eq w (codes "where") then Some (word.Plain plain.Where)
-    else if bytes_eq w (codes "quit") then Some (word.Plain plain.Quit)
-    else None
+    if bytes_eq w (codes "frame") then Some word.Pair
+    else option_map_or (λ (p : PlainWord). Some (word.Plain p)) (plain_word w)
+    (option_map_or (λ (n : NumberWord). Some (word.Number n)) (number_word w) (option_map word.Op (op_word w)))
 
 -- what each of them says
 abbrev pub plain_line : PlainWord → Line

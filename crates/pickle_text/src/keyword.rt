@@ -1,7 +1,7 @@
 //! The first word of a line.
 
 ghost use Rattle.std.specs.Prelude.{◌≡◌};
-ghost use Rattle.pickle_text.specs.Grammar.{keyword, plain_line, number_line, op_line};
+ghost use Rattle.pickle_text.specs.Grammar.{plain_word, number_word, op_word, keyword, plain_line, number_line, op_line};
 
 use crate::line::{Line, Query};
 use pickle_ops::Op;
@@ -54,52 +54,87 @@ pub(crate) enum Word {
     Op(OpWord),
 }
 
+/// The first word of a line that stands alone.
+fn plain_word(word: &[u8]) -> Option<PlainWord>
+    ensures { result ≡ plain_word word.now }
+{
+    if word == b"step".as_slice() {
+        Some(PlainWord::Step)
+    } else if word == b"back".as_slice() {
+        Some(PlainWord::Back)
+    } else if word == b"run".as_slice() {
+        Some(PlainWord::Run)
+    } else if word == b"undo".as_slice() {
+        Some(PlainWord::Undo)
+    } else if word == b"redo".as_slice() {
+        Some(PlainWord::Redo)
+    } else if word == b"items".as_slice() {
+        Some(PlainWord::Items)
+    } else if word == b"objects".as_slice() {
+        Some(PlainWord::Objects)
+    } else if word == b"stack".as_slice() {
+        Some(PlainWord::Stack)
+    } else if word == b"memo".as_slice() {
+        Some(PlainWord::Memo)
+    } else if word == b"where".as_slice() {
+        Some(PlainWord::Where)
+    } else if word == b"quit".as_slice() {
+        Some(PlainWord::Quit)
+    } else {
+        None
+    }
+}
+
+/// The first word of a line after which a number stands.
+fn number_word(word: &[u8]) -> Option<NumberWord>
+    ensures { result ≡ number_word word.now }
+{
+    if word == b"goto".as_slice() {
+        Some(NumberWord::Goto)
+    } else if word == b"break".as_slice() {
+        Some(NumberWord::Break)
+    } else if word == b"clear".as_slice() {
+        Some(NumberWord::Clear)
+    } else if word == b"delete".as_slice() {
+        Some(NumberWord::Delete)
+    } else if word == b"unframe".as_slice() {
+        Some(NumberWord::Unframe)
+    } else if word == b"show".as_slice() {
+        Some(NumberWord::Show)
+    } else {
+        None
+    }
+}
+
+/// The first word of a line after which a number, a name and bytes stand.
+fn op_word(word: &[u8]) -> Option<OpWord>
+    ensures { result ≡ op_word word.now }
+{
+    if word == b"replace".as_slice() {
+        Some(OpWord::Replace)
+    } else if word == b"insert".as_slice() {
+        Some(OpWord::Insert)
+    } else {
+        None
+    }
+}
+
 /// The first word of a line, where it is known.
 pub(crate) fn keyword(word: &[u8]) -> Option<Word>
     ensures { result ≡ keyword word.now }
 {
-    if word == b"step".as_slice() {
-        Some(Word::Plain(PlainWord::Step))
-    } else if word == b"back".as_slice() {
-        Some(Word::Plain(PlainWord::Back))
-    } else if word == b"goto".as_slice() {
-        Some(Word::Number(NumberWord::Goto))
-    } else if word == b"run".as_slice() {
-        Some(Word::Plain(PlainWord::Run))
-    } else if word == b"break".as_slice() {
-        Some(Word::Number(NumberWord::Break))
-    } else if word == b"clear".as_slice() {
-        Some(Word::Number(NumberWord::Clear))
-    } else if word == b"replace".as_slice() {
-        Some(Word::Op(OpWord::Replace))
-    } else if word == b"insert".as_slice() {
-        Some(Word::Op(OpWord::Insert))
-    } else if word == b"delete".as_slice() {
-        Some(Word::Number(NumberWord::Delete))
-    } else if word == b"frame".as_slice() {
-        Some(Word::Pair)
-    } else if word == b"unframe".as_slice() {
-        Some(Word::Number(NumberWord::Unframe))
-    } else if word == b"undo".as_slice() {
-        Some(Word::Plain(PlainWord::Undo))
-    } else if word == b"redo".as_slice() {
-        Some(Word::Plain(PlainWord::Redo))
-    } else if word == b"items".as_slice() {
-        Some(Word::Plain(PlainWord::Items))
-    } else if word == b"objects".as_slice() {
-        Some(Word::Plain(PlainWord::Objects))
-    } else if word == b"stack".as_slice() {
-        Some(Word::Plain(PlainWord::Stack))
-    } else if word == b"memo".as_slice() {
-        Some(Word::Plain(PlainWord::Memo))
-    } else if word == b"show".as_slice() {
-        Some(Word::Number(NumberWord::Show))
-    } else if word == b"where".as_slice() {
-        Some(Word::Plain(PlainWord::Where))
-    } else if word == b"quit".as_slice() {
-        Some(Word::Plain(PlainWord::Quit))
-    } else {
-        None
+    if word == b"frame".as_slice() {
+        return Some(Word::Pair);
+    }
+    if let Some(plain) = plain_word(word) {
+        return Some(Word::Plain(plain));
+    }
+    if let Some(number) = number_word(word) {
+        return Some(Word::Number(number));
+    }
+    match op_word(word) {
+        Some(op) => Some(Word::Op(op)),
+        None => None,
     }
 }
 
