@@ -24,11 +24,6 @@ AppendsFront-more None b text more p = tt
 AppendsFront-more (Some x) None text more p = tt
 AppendsFront-more (Some x) (Some y) text more p = (p.0, (p.1.0 ++ more, ap (λ (t : List ℕ). t ++ more) p.1.1 ∙ append_assoc p.0 p.1.0 more), p.2)
 
-AppendsFront-all : (a b : Option (List ℕ)) (text : List ℕ) → Appends a b text → AppendsFront a b text
-AppendsFront-all None b text p = tt
-AppendsFront-all (Some x) None text p = tt
-AppendsFront-all (Some x) (Some y) text p = (text, ([], sym (append-nil text)), p)
-
 -- ---- one write after another, with plain lists
 
 pub Wrote-none : (a : Told) → Wrote a a []
@@ -69,10 +64,6 @@ WroteAllBut-all a b text rest w e = let whole : text ≡ w.front = w.parts ∙ a
 
 pub WroteAllBut-stopped : (a b c : Told) (text rest : List ℕ) → WroteAllBut a b text rest → Broke b c [] → Broke a c text
 WroteAllBut-stopped a b c text rest w k = rw w.parts (Broke-after a b c w.front rest w.wrote (Broke-more b c [] rest k))
-
--- what was taken is a front of the whole
-pub WroteAllBut-front : (a b : Told) (text rest : List ℕ) → WroteAllBut a b text rest → AppendsFront a.taken b.taken text
-WroteAllBut-front a b text rest w = rw w.parts (AppendsFront-more a.taken b.taken w.front rest (AppendsFront-all a.taken b.taken w.front w.wrote.taken))
 
 pub ruleset device_steps = (WroteAllBut-none, WroteAllBut-all, WroteAllBut-stopped)
 

@@ -1,13 +1,11 @@
 -- What `list` answers, from what writing the one document answers.
-use Rattle.std.proofs.Common.{◌≡◌, ℕ, List, Result, Ok, Err}
-use Rattle.std.specs.Prelude.{IfErr}
+use Rattle.std.proofs.Common.{ℕ, List}
 use Rattle.pickle_io.specs.Device.{Told}
 use Rattle.pickle_io.proofs.Devices.{WroteAllBut-none}
 use Rattle.pickle_doc.specs.Document.{AreBytes}
 use Rattle.pickle_doc.proofs.Existence.{some_document}
 use Rattle.pickle_report.specs.declared.stop.TextStop.{TextStop}
 use Rattle.pickle_report.specs.declared.stop.TextStop.TheVariants as text
-use Rattle.pickle_tasks.specs.declared.stop.Stop.{Stop}
 use Rattle.pickle_listing.specs.Listing.{listing}
 use Rattle.pickle_listing.specs.Written.{BeginsListing, CutsListing}
 use Rattle.pickle_tasks.specs.Stop.{stop_of_text}
