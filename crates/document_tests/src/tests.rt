@@ -2,6 +2,7 @@
 
 mod cost;
 mod hostile;
+mod many;
 mod memory;
 mod nest;
 mod rows;
@@ -10,22 +11,23 @@ mod worked;
 
 use crate::tests::cost::edit_many;
 use crate::tests::hostile::{CUTS, LENGTHS, end_of, first_wrong_cut, single_bytes};
+use crate::tests::many::{MANY, MANY_EDITS, MANY_REFUSED};
 use crate::tests::memory::edit_with_little;
 use crate::tests::nest::put_and_back;
 use crate::tests::rows::{
     BESIDE_FRAMES, EMPTY_FRAMES, FRAMES, FRAMES_THAT_LIE, IN_FRAMES, NO_FRAMES, REFUSED,
 };
 use crate::tests::shown::{
-    Edit, Row, Wrong, are_alike, have_same_ids, make, place_of, shows, turn, written,
+    Edit, Row, Wrong, are_alike, have_same_ids, make, open, place_of, shows, turn, written,
 };
-use pickle_doc::{Document, EditFault, LIMIT, there_and_back};
+use pickle_doc::{Document, EditFault, there_and_back};
 use pickle_ops::Opcode;
 use std::alloc::Global;
 use std::test::Fail;
 
 /// Makes the edit of a row, takes it back, makes it again and takes it back again.
-fn try_row(alloc: Global, row: &Row) -> Result<(), Wrong> {
-    let mut document = Document::read(alloc, row.before.bytes)?;
+fn try_row(alloc: Global, many: bool, row: &Row) -> Result<(), Wrong> {
+    let mut document = open(alloc, many, row.before.bytes)?;
     shows(alloc, &document, &row.before)?;
     let mut record = make(alloc, &mut document, &row.edit)?;
     if record.place() != place_of(&row.edit) {
@@ -38,9 +40,9 @@ fn try_row(alloc: Global, row: &Row) -> Result<(), Wrong> {
 }
 
 /// The first row that does not hold, by its bytes, and what is wrong there.
-fn first_wrong<'a>(alloc: Global, rows: &'a [Row]) -> Option<(&'a [u8], Wrong)> {
+fn first_wrong<'a>(alloc: Global, many: bool, rows: &'a [Row]) -> Option<(&'a [u8], Wrong)> {
     for row in rows {
-        if let Err(wrong) = try_row(alloc, row) {
+        if let Err(wrong) = try_row(alloc, many, row) {
             return Some((row.before.bytes, wrong));
         }
     }
@@ -49,38 +51,57 @@ fn first_wrong<'a>(alloc: Global, rows: &'a [Row]) -> Option<(&'a [u8], Wrong)> 
 
 #[test]
 fn edits_in_frames(rt: HostRuntime) {
-    assert_eq!(rt; first_wrong(rt.alloc(), &IN_FRAMES), None);
+    assert_eq!(rt; first_wrong(rt.alloc(), false, &IN_FRAMES), None);
 }
 
 #[test]
 fn edits_beside_frames(rt: HostRuntime) {
-    assert_eq!(rt; first_wrong(rt.alloc(), &BESIDE_FRAMES), None);
+    assert_eq!(rt; first_wrong(rt.alloc(), false, &BESIDE_FRAMES), None);
 }
 
 #[test]
 fn edits_beside_frames_that_lie(rt: HostRuntime) {
-    assert_eq!(rt; first_wrong(rt.alloc(), &FRAMES_THAT_LIE), None);
+    assert_eq!(rt; first_wrong(rt.alloc(), false, &FRAMES_THAT_LIE), None);
 }
 
 #[test]
 fn frames_come_and_go(rt: HostRuntime) {
-    assert_eq!(rt; first_wrong(rt.alloc(), &FRAMES), None);
+    assert_eq!(rt; first_wrong(rt.alloc(), false, &FRAMES), None);
 }
 
 #[test]
 fn empty_frames(rt: HostRuntime) {
-    assert_eq!(rt; first_wrong(rt.alloc(), &EMPTY_FRAMES), None);
+    assert_eq!(rt; first_wrong(rt.alloc(), false, &EMPTY_FRAMES), None);
 }
 
 #[test]
 fn edits_without_frames(rt: HostRuntime) {
-    assert_eq!(rt; first_wrong(rt.alloc(), &NO_FRAMES), None);
+    assert_eq!(rt; first_wrong(rt.alloc(), false, &NO_FRAMES), None);
+}
+
+#[test]
+fn edits_of_many_pickles(rt: HostRuntime) {
+    assert_eq!(rt; first_wrong(rt.alloc(), true, &MANY_EDITS), None);
+}
+
+#[test]
+fn many_pickles(rt: HostRuntime) -> Result<(), Fail> {
+    for (k, want) in MANY.iter().enumerate() {
+        let document = Document::read_many(rt.alloc(), want.bytes)?;
+        assert_eq!(rt; shows(rt.alloc(), &document, want), Ok(()), "row {k}");
+    }
+    Ok(())
 }
 
 /// Why an edit is refused, which leaves the document as it was read.
-fn refusal_of(alloc: Global, bytes: &[u8], edit: &Edit) -> Result<Option<EditFault>, Wrong> {
-    let opened = Document::read(alloc, bytes)?;
-    let mut document = Document::read(alloc, bytes)?;
+fn refusal_of(
+    alloc: Global,
+    many: bool,
+    bytes: &[u8],
+    edit: &Edit,
+) -> Result<Option<EditFault>, Wrong> {
+    let opened = open(alloc, many, bytes)?;
+    let mut document = open(alloc, many, bytes)?;
     let found = make(alloc, &mut document, edit).err();
     are_alike(&document, &opened)?;
     if !have_same_ids(&document, &opened) {
@@ -96,7 +117,18 @@ fn refusal_of(alloc: Global, bytes: &[u8], edit: &Edit) -> Result<Option<EditFau
 fn refused_edits(rt: HostRuntime) {
     for (k, (bytes, edit, fault)) in REFUSED.iter().enumerate() {
         assert_eq!(rt;
-            refusal_of(rt.alloc(), bytes, edit),
+            refusal_of(rt.alloc(), false, bytes, edit),
+            Ok(Some(*fault)),
+            "row {k}"
+        );
+    }
+}
+
+#[test]
+fn refused_edits_of_many_pickles(rt: HostRuntime) {
+    for (k, (bytes, edit, fault)) in MANY_REFUSED.iter().enumerate() {
+        assert_eq!(rt;
+            refusal_of(rt.alloc(), true, bytes, edit),
             Ok(Some(*fault)),
             "row {k}"
         );
@@ -160,9 +192,12 @@ fn insertions_back_and_again(rt: HostRuntime) -> Result<(), Fail> {
     Ok(())
 }
 
-/// The most bytes that a document may have: one BINBYTES and STOP.
-fn largest(alloc: Global) -> Result<Vec<u8>, Wrong> {
-    let Ok(mut bytes) = vec![in alloc; 0u8; LIMIT] else {
+/// How many bytes a large document has.
+const LARGE: usize = 268_435_456;
+
+/// A large document: one BINBYTES and STOP.
+fn large(alloc: Global) -> Result<Vec<u8>, Wrong> {
+    let Ok(mut bytes) = vec![in alloc; 0u8; LARGE] else {
         return Err(Wrong::Memory);
     };
     let front: &[u8] = b"B\xfa\xff\xff\x0f";
@@ -183,23 +218,20 @@ fn total_behind(alloc: Global, document: &mut Document, edit: &Edit) -> Result<u
     Ok(total)
 }
 
-/// No edit makes more bytes than a document may have, and one that makes less is accepted.
+/// Edits of a large document make it a little larger, or small.
 #[test]
-fn largest_input(rt: HostRuntime) -> Result<(), Fail> {
-    let bytes = largest(rt.alloc())?;
+fn large_input(rt: HostRuntime) -> Result<(), Fail> {
+    let bytes = large(rt.alloc())?;
     let mut document = Document::read(rt.alloc(), &bytes)?;
     let edits = [
-        (
-            Edit::Insert(0, Opcode::None, b""),
-            Err(Wrong::Refused(EditFault::TooLarge)),
-        ),
-        (Edit::Frame(0, 2), Err(Wrong::Refused(EditFault::TooLarge))),
+        (Edit::Insert(0, Opcode::None, b""), Ok(LARGE as u64 + 1)),
+        (Edit::Frame(0, 2), Ok(LARGE as u64 + 9)),
         (Edit::Replace(0, Opcode::None, b""), Ok(2)),
     ];
     for (edit, total) in &edits {
         assert_eq!(rt; total_behind(rt.alloc(), &mut document, edit), *total);
         assert_eq!(rt; document.len(), 2);
-        assert_eq!(rt; document.total(), LIMIT as u64);
+        assert_eq!(rt; document.total(), LARGE as u64);
     }
     Ok(())
 }

@@ -36,6 +36,28 @@ const ROWS: [(&[u8], &str, u8); 5] = [
     (b"", "fault: F1 ended at 0\n", 1),
 ];
 
+/// Bytes and their listing as many pickles, with its status.
+const MANY: [(&[u8], &str, u8); 4] = [
+    (b"", "fault: F1 ended at 0\n", 1),
+    (
+        b"N.K\x01.",
+        "    0: N    NONE\n    1: .    STOP\n    2: K    BININT1    1\n    4: .    STOP\nhighest protocol among opcodes = 1\n",
+        0,
+    ),
+    // The last pickle has no STOP.
+    (
+        b"N.N",
+        "    0: N    NONE\n    1: .    STOP\n    2: N    NONE\nfault: F1 ended at 3\nhighest protocol among opcodes = 0\n",
+        1,
+    ),
+    // A byte after STOP is no opcode.
+    (
+        b"(N.\xff",
+        "    0: (    MARK\n    1: N        NONE\n    2: .        STOP\nleft: 0 objects, 1 marks\nfault: F2 unknown opcode 0xff at 3\nhighest protocol among opcodes = 0\n",
+        1,
+    ),
+];
+
 /// The dump with BININT2 in the place of BININT1.
 const REPLACED: &str =
     "    0: \\x80 PROTO      4\n    2: \\x95 FRAME      7\n   11: ]    EMPTY_LIST\n   12: \\x94 MEMOIZE    (as 0)\n   13: M    BININT2    513\n   16: a    APPEND\n   17: .    STOP\nhighest protocol among opcodes = 4\n";
@@ -48,10 +70,22 @@ const DELETED: &str =
 fn rows(rt: HostRuntime) -> Result<(), Fail> {
     for (bytes, text, status) in ROWS {
         let mut sink = ToWrite::new(Vec::new(rt.alloc()));
-        let found = list_bytes(rt.alloc(), bytes, &mut sink)?;
+        let found = list_bytes(rt.alloc(), false, bytes, &mut sink)?;
         assert_eq!(rt; sink.into_inner().as_slice(), text.as_bytes());
         assert_eq!(rt; found, status);
         let document = Document::read(rt.alloc(), bytes)?;
+        let mut sink = ToWrite::new(Vec::new(rt.alloc()));
+        let found = write_listing(rt.alloc(), &document, &mut sink)?;
+        assert_eq!(rt; sink.into_inner().as_slice(), text.as_bytes());
+        assert_eq!(rt; found, status);
+    }
+    Ok(())
+}
+
+#[test]
+fn many_pickles(rt: HostRuntime) -> Result<(), Fail> {
+    for (bytes, text, status) in MANY {
+        let document = Document::read_many(rt.alloc(), bytes)?;
         let mut sink = ToWrite::new(Vec::new(rt.alloc()));
         let found = write_listing(rt.alloc(), &document, &mut sink)?;
         assert_eq!(rt; sink.into_inner().as_slice(), text.as_bytes());

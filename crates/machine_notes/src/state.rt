@@ -1,5 +1,5 @@
 //! The whole state of a machine as a text, by all of its readers: its objects, the stack with its marks, the memo, the
-//! count of buffers and the result. What is empty is left out, but for the stack.
+//! count of buffers and the results. What is empty is left out, but for the stack.
 
 use pickle_machine::{Change, Kind, Machine, ObjId, Object};
 use pickle_ops::{
@@ -191,6 +191,23 @@ fn write_memo<S: Sink>(machine: &Machine, sink: &mut S) -> Result<(), Failed> {
     Ok(())
 }
 
+/// Writes the latest result, and where there are several, all of them.
+fn write_results<S: Sink>(machine: &Machine, sink: &mut S) -> Result<(), Failed> {
+    if let Some(id) = machine.result() {
+        write_id("; result #", id, sink)?;
+    }
+    if machine.results().len() > 1 {
+        write_all(sink, b"; results")?;
+        for id in machine.results() {
+            write_id(" #", *id, sink)?;
+        }
+    }
+    if machine.results().last().copied() != machine.result() {
+        write_all(sink, b"; and another is the latest")?;
+    }
+    Ok(())
+}
+
 /// Whether the readers answer nothing past what they count.
 fn ends(machine: &Machine) -> bool {
     let past = u32::try_from(machine.objects()).unwrap_or(u32::MAX);
@@ -210,9 +227,7 @@ pub fn write_state<S: Sink>(machine: &Machine, sink: &mut S) -> Result<(), Faile
         write_all(sink, b"; buffers ")?;
         write_decimal(machine.buffers(), sink)?;
     }
-    if let Some(id) = machine.result() {
-        write_id("; result #", id, sink)?;
-    }
+    write_results(machine, sink)?;
     if !ends(machine) {
         write_all(sink, b"; and readers past the end")?;
     }

@@ -3,8 +3,8 @@
 mod path;
 mod rows;
 
-use crate::tests::path::{Fault, Noted, Way, note_down, notes_of, ops_of, run, walk};
-use crate::tests::rows::{ALL_SHAPES, FURTHER, OPCODES, Row, WORKED};
+use crate::tests::path::{Fault, Noted, Pickles, Way, note_down, notes_of, ops_of, run, walk};
+use crate::tests::rows::{ALL_SHAPES, FURTHER, OPCODES, Row, SEVERAL, WORKED};
 use machine_notes::stands;
 use pickle_machine::{Machine, Refusal};
 use std::alloc::Global;
@@ -12,9 +12,10 @@ use std::test::Fail;
 
 /// Goes a whole way forwards and back, twice, and compares what is shown at each place with what is written down.
 fn walk_twice(alloc: Global, noted: &Noted) -> Result<(), Fault> {
-    let mut machine = Machine::new(alloc);
+    let mut machine = noted.pickles.machine(alloc);
     for was_there in [false, true] {
         let way = Way {
+            pickles: noted.pickles,
             ops: &noted.ops,
             notes: &noted.notes,
             was_there,
@@ -30,9 +31,9 @@ fn walk_twice(alloc: Global, noted: &Noted) -> Result<(), Fault> {
 }
 
 /// What is shown on the way of these bytes, where a request for memory may be refused once.
-fn insist_on_notes(alloc: Global, bytes: &[u8]) -> Result<Noted, Fault> {
-    match note_down(alloc, bytes) {
-        Err(Fault::Memory) => note_down(alloc, bytes),
+fn insist_on_notes(alloc: Global, pickles: Pickles, bytes: &[u8]) -> Result<Noted, Fault> {
+    match note_down(alloc, pickles, bytes) {
+        Err(Fault::Memory) => note_down(alloc, pickles, bytes),
         other => other,
     }
 }
@@ -64,9 +65,9 @@ enum Trip {
 }
 
 /// Goes the way of a row, where a request for memory may be refused once. The code of the opcode that ends the row.
-fn try_row(alloc: Global, row: &Row, trip: Trip) -> Result<u8, Fault> {
+fn try_row(alloc: Global, pickles: Pickles, row: &Row, trip: Trip) -> Result<u8, Fault> {
     let (bytes, states) = *row;
-    let noted = insist_on_notes(alloc, bytes)?;
+    let noted = insist_on_notes(alloc, pickles, bytes)?;
     match trip {
         Trip::Twice => {
             walk_twice(alloc, &noted)?;
@@ -81,7 +82,7 @@ fn try_row(alloc: Global, row: &Row, trip: Trip) -> Result<u8, Fault> {
 fn try_opcodes(alloc: Global, trip: Trip) -> Result<usize, (usize, Fault)> {
     let mut met = [false; 256];
     for (k, row) in OPCODES.iter().enumerate() {
-        match try_row(alloc, row, trip) {
+        match try_row(alloc, Pickles::One, row, trip) {
             Ok(code) => met[usize::from(code)] = true,
             Err(fault) => return Err((k, fault)),
         }
@@ -93,13 +94,13 @@ fn try_opcodes(alloc: Global, trip: Trip) -> Result<usize, (usize, Fault)> {
 fn states_on_the_way(rt: HostRuntime) {
     for (k, row) in WORKED.iter().enumerate() {
         assert!(rt;
-            try_row(rt.alloc(), row, Trip::Twice).is_ok(),
+            try_row(rt.alloc(), Pickles::One, row, Trip::Twice).is_ok(),
             "worked row {k}"
         );
     }
     for (k, row) in FURTHER.iter().enumerate() {
         assert!(rt;
-            try_row(rt.alloc(), row, Trip::Twice).is_ok(),
+            try_row(rt.alloc(), Pickles::One, row, Trip::Twice).is_ok(),
             "further row {k}"
         );
     }
@@ -116,7 +117,7 @@ fn thousand(alloc: Global) -> Result<Noted, Fault> {
     let mut bytes = vec![in alloc; b'N'; 1001]?;
     bytes[0] = b'(';
     bytes.extend_from_slice(b"1N.")?;
-    note_down(alloc, &bytes)
+    note_down(alloc, Pickles::One, &bytes)
 }
 
 /// Whether what is written down at a place consists of these.
@@ -187,41 +188,125 @@ const REFUSALS: [(&[u8], Refusal); 24] = [
     (b"(N.q\x00", Refusal::Underflow),
 ];
 
+/// The same where several pickles are run: the first opcode of the next one finds no object, no mark and no entry of the memo,
+/// whatever the one before left.
+const REFUSALS_OF_SEVERAL: [(&[u8], Refusal); 17] = [
+    (b"Nq\x00.h\x00", Refusal::NoMemoEntry(0)),
+    (b"(N.0", Refusal::Underflow),
+    (b"NN.0", Refusal::Underflow),
+    (b"(NN.t", Refusal::NoMark),
+    (b"(NN.1", Refusal::NoMark),
+    (b"](NN.e", Refusal::NoMark),
+    (b"](NN.o", Refusal::NoMark),
+    (b"NN.2", Refusal::Underflow),
+    (b"NN..", Refusal::Underflow),
+    (b"NN.\x85", Refusal::Underflow),
+    (b"]NN.a", Refusal::Underflow),
+    (b"NN.q\x00", Refusal::Underflow),
+    (b"NN.\x94", Refusal::Underflow),
+    (b"C\x00N.\x98", Refusal::Underflow),
+    (b"N.\x80\x06", Refusal::BadProtocol(6)),
+    (b"N.\x82\x00", Refusal::BadExtension(0)),
+    // the one after the next too
+    (b"N.Nq\x07.g7\n", Refusal::NoMemoEntry(7)),
+];
+
 /// A refused step leaves every reader as it was, and `check` says the same as `step`, before it and after it.
-#[test]
-fn refusals(rt: HostRuntime) -> Result<(), Fail> {
-    for (k, (bytes, refusal)) in REFUSALS.iter().enumerate() {
-        let ops = ops_of(rt.alloc(), bytes)?;
-        let mut machine = Machine::new(rt.alloc());
-        if let Some((op, before)) = ops.split_last() {
-            let notes = notes_of(&mut machine, rt.alloc(), before)?;
-            assert!(rt; machine.check(op) == Some(*refusal), "row {k}");
-            assert!(rt; machine.objects() < 1000);
-            let found = machine.step(rt.alloc(), op, before.len()).err();
-            assert_eq!(rt; found, Some(*refusal), "row {k}");
-            let note = notes.last().map(|note| note.as_slice());
-            assert!(rt; stands(&machine, note.unwrap_or_default()), "row {k}");
-            assert_eq!(rt; machine.moves(), before.len() as u64, "row {k}");
-            assert!(rt; machine.check(op) == Some(*refusal), "row {k}");
-        }
-        assert!(rt; !ops.is_empty(), "row {k}");
+fn try_refusal(
+    rt: &HostRuntime,
+    pickles: Pickles,
+    bytes: &[u8],
+    refusal: Refusal,
+) -> Result<bool, Fault> {
+    let ops = ops_of(rt.alloc(), bytes)?;
+    let mut machine = pickles.machine(rt.alloc());
+    let Some((op, before)) = ops.split_last() else {
+        return Ok(false);
+    };
+    let notes = notes_of(&mut machine, rt.alloc(), before)?;
+    let mut is_so = machine.check(op) == Some(refusal);
+    if machine.objects() >= 1000 {
+        return Err(Fault::Objects);
     }
-    Ok(())
+    let found = machine.step(rt.alloc(), op, before.len()).err();
+    is_so &= found == Some(refusal);
+    let note = notes.last().map(|note| note.as_slice());
+    is_so &= stands(&machine, note.unwrap_or_default());
+    is_so &= machine.moves() == before.len() as u64;
+    is_so &= machine.check(op) == Some(refusal);
+    Ok(is_so)
+}
+
+#[test]
+fn refusals(rt: HostRuntime) {
+    for (k, (bytes, refusal)) in REFUSALS.iter().enumerate() {
+        assert_eq!(rt;
+            try_refusal(&rt, Pickles::One, bytes, *refusal),
+            Ok(true),
+            "row {k}"
+        );
+    }
+}
+
+#[test]
+fn refusals_of_several_pickles(rt: HostRuntime) {
+    for (k, (bytes, refusal)) in REFUSALS_OF_SEVERAL.iter().enumerate() {
+        assert_eq!(rt;
+            try_refusal(&rt, Pickles::Several, bytes, *refusal),
+            Ok(true),
+            "row {k}"
+        );
+    }
+}
+
+/// A machine for one pickle takes what comes after STOP on the stack and the memo that STOP left.
+#[test]
+fn one_pickle_goes_on(rt: HostRuntime) {
+    let row: Row = (
+        b"NNq\x00.h\x00.",
+        &[
+            (4, "#0 none; #1 none; stack #0; memo 0=#1; result #1"),
+            (5, "#0 none; #1 none; stack #0 #1; memo 0=#1; result #1"),
+            (
+                6,
+                "#0 none; #1 none; stack #0; memo 0=#1; result #1; results #1 #1",
+            ),
+        ],
+    );
+    assert!(rt; try_row(rt.alloc(), Pickles::One, &row, Trip::Twice).is_ok());
+}
+
+/// Several pickles, forwards and back.
+#[test]
+fn several_pickles(rt: HostRuntime) {
+    for (k, row) in SEVERAL.iter().enumerate() {
+        assert!(rt;
+            try_row(rt.alloc(), Pickles::Several, row, Trip::Twice).is_ok(),
+            "row {k}"
+        );
+    }
 }
 
 /// Run with each request for memory refused in turn: a step that is refused for want of memory leaves every reader as it
 /// was, and asked again it succeeds; a free step is never refused so.
 #[test]
 fn refused_memory(rt: HostRuntime) {
-    assert!(rt; try_row(rt.alloc(), &ALL_SHAPES, Trip::Twice).is_ok());
+    assert!(rt; try_row(rt.alloc(), Pickles::One, &ALL_SHAPES, Trip::Twice).is_ok());
     assert_eq!(rt; try_opcodes(rt.alloc(), Trip::Twice), Ok(68));
+    for (k, row) in SEVERAL.iter().enumerate() {
+        assert!(rt;
+            try_row(rt.alloc(), Pickles::Several, row, Trip::Twice).is_ok(),
+            "several pickles, row {k}"
+        );
+    }
 }
 
 /// Goes a way forwards, or also back. The way back takes no memory, so both ask for as much.
 fn go(alloc: Global, noted: &Noted, and_back: bool) -> Result<(), Fault> {
-    let mut machine = Machine::new(alloc);
+    let mut machine = noted.pickles.machine(alloc);
     if and_back {
         let way = Way {
+            pickles: noted.pickles,
             ops: &noted.ops,
             notes: &noted.notes,
             was_there: false,
@@ -236,9 +321,10 @@ fn go(alloc: Global, noted: &Noted, and_back: bool) -> Result<(), Fault> {
 /// memory, so any number asks for as much.
 fn go_freely(alloc: Global, times: usize) -> Result<(), Fault> {
     let (bytes, states) = ALL_SHAPES;
-    let noted = note_down(alloc, bytes)?;
+    let noted = note_down(alloc, Pickles::One, bytes)?;
     let free_from = states.first().map_or(0, |state| state.0);
     let way = Way {
+        pickles: Pickles::One,
         ops: &noted.ops,
         notes: &noted.notes,
         was_there: true,
@@ -255,7 +341,10 @@ fn go_freely(alloc: Global, times: usize) -> Result<(), Fault> {
 fn go_all(alloc: Global, and_back: bool) -> Result<(), Fault> {
     let noted = thousand(alloc)?;
     go(alloc, &noted, and_back)?;
-    try_row(alloc, &ALL_SHAPES, Trip::Once { and_back })?;
+    try_row(alloc, Pickles::One, &ALL_SHAPES, Trip::Once { and_back })?;
+    for row in &SEVERAL {
+        try_row(alloc, Pickles::Several, row, Trip::Once { and_back })?;
+    }
     go_freely(alloc, if and_back { 3 } else { 0 })
 }
 

@@ -6,7 +6,7 @@ use Rattle.std.proofs.lemmas.Bool.{cases_Bool, cases_lt, lt-ltb, le-ltb}
 use Rattle.pickle_doc.specs.declared.item.Item.{Item}
 use Rattle.pickle_doc.specs.declared.mark.FrameMark.{FrameMark}
 use Rattle.pickle_doc.specs.declared.mark.Mark.{Mark}
-use Rattle.pickle_doc.specs.declared.fault.Finish.{Finish}
+use Rattle.pickle_doc.specs.declared.fault.TailFault.{TailFault}
 use Rattle.pickle_doc.specs.DocUnit.{DocUnit, Loose, Frame, is_frame, item_size, sizes, frame_item, flat, operations, bytes_of, frame_number}
 use Rattle.pickle_doc.specs.Document.{IsUnit, size_limit}
 use Rattle.pickle_doc.specs.Alike.{AreAlike, AgreeBefore}
@@ -157,7 +157,7 @@ walk-none items k l h =
 
 -- ---- the first place of items that were read
 
-pub first-mark : (bytes : List ℕ) (items : List Item) (tail : List ℕ) (e : Finish) → AreParts bytes items tail e → length bytes ≤ size_limit → IsMark (record { place = 0; offset = 0; frame = None }) items
+pub first-mark : {many : Bool} (bytes : List ℕ) (items : List Item) (tail : List ℕ) (e : Option TailFault) → AreParts many bytes items tail e → length bytes ≤ size_limit → IsMark (record { place = 0; offset = 0; frame = None }) items
 first-mark bytes items tail e h small =
     let total = length-append (bytes_of (operations items)) tail in
     let size = length_bytes items in

@@ -1,7 +1,7 @@
 -- Where the tail begins on the other side of a record.
-use Rattle.std.proofs.Common.{◌≡◌, ◌+◌, ◌<◌, ◌≤◌, ℕ, zero, suc, List, [], ◌∷◌, length, get_or, slice_get, slice_set, Option, Some, None, refl, ap, sym, ◌∙◌, arith, length-set}
+use Rattle.std.proofs.Common.{◌≡◌, ◌+◌, ◌<◌, ◌≤◌, ℕ, zero, suc, List, [], ◌∷◌, length, get_or, slice_get, slice_set, Bool, Option, Some, None, refl, ap, sym, ◌∙◌, arith, length-set}
 use Rattle.pickle_doc.specs.declared.item.Item.{Item}
-use Rattle.pickle_doc.specs.declared.fault.Finish.{Finish}
+use Rattle.pickle_doc.specs.declared.fault.TailFault.{TailFault}
 use Rattle.pickle_doc.specs.declared.record.Change.{Change}
 use Rattle.pickle_doc.specs.declared.record.Change.TheVariants.{Put, Take, Set}
 use Rattle.pickle_doc.specs.declared.record.Numbered.{Numbered}
@@ -66,8 +66,8 @@ pub record CanStart (r : EditRecord) (items : List Item) : Type 0 where
   pub frame : sizes (renumbered r.frame items) ≡ sizes items
   pub small : sizes (turned r items) ≤ size_limit
 
-pub can_start : (r : EditRecord) (items : List Item) (tail : List ℕ) (f : Finish) (next start : ℕ) (d e : Contents) → contents_of items tail next ≡ d
-    → IsKept items tail f next start → Leads r d e → CanStart r items
+pub can_start : {many : Bool} (r : EditRecord) (items : List Item) (tail : List ℕ) (f : Option TailFault) (next start : ℕ) (d e : Contents) → contents_of many items tail next ≡ d
+    → IsKept many items tail f next start → Leads r d e → CanStart r items
 can_start r items tail f next start d e is h l =
     let own = items_are items tail f next start d is h in
     let doc = document items tail f next start d is h in

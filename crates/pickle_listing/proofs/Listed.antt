@@ -1,8 +1,8 @@
 -- The loop that lists items as they are read.
-use Rattle.std.proofs.Common.{◌≡◌, ℕ, suc, ◌+◌, ◌<◌, ◌≤◌, Bool, true, false, List, [], ◌++◌, length, drop, Option, Some, None, Ok, refl, sym, ap, ◌∙◌, add-one, append_assoc, arith}
-use Rattle.std.specs.Prelude.{⊤, Result, Err, IfOk, IfErr, MatchBool, if◌then◌else◌}
+use Rattle.std.proofs.Common.{◌≡◌, ℕ, zero, suc, ◌∷◌, ◌+◌, ◌<◌, ◌≤◌, ◌==◌, ◌&&◌, Bool, true, false, List, [], ◌++◌, length, drop, Option, Some, None, Ok, refl, sym, ap, ◌∙◌, add-one, append_assoc, subst, arith}
+use Rattle.std.specs.Prelude.{not, slice_get, take, ⊤, Result, Err, IfOk, IfErr, MatchBool, if◌then◌else◌}
 use Rattle.std.specs.Option.{option_map}
-use Rattle.std.proofs.lemmas.List.{take_all, length-map, append-nil}
+use Rattle.std.proofs.lemmas.List.{take_all, length-map}
 use Rattle.pickle_ops.specs.declared.opcode.Opcode.{Opcode}
 use Rattle.pickle_ops.specs.declared.opcode.Opcode.TheVariants as op
 use Rattle.pickle_io.specs.Text.{◌⧺◌}
@@ -15,8 +15,8 @@ use Rattle.pickle_doc.specs.declared.item.Item.{Item}
 use Rattle.pickle_doc.specs.declared.fault.TailFault.{TailFault}
 use Rattle.pickle_doc.specs.declared.fault.Finish.{Finish}
 use Rattle.pickle_doc.specs.declared.fault.Finish.TheVariants as finish
-use Rattle.pickle_doc.specs.DocUnit.{sizes, is_stop, ends_reading}
-use Rattle.pickle_doc.specs.Document.{Contents, items_of, document_bytes, ReadsAs, size_limit}
+use Rattle.pickle_doc.specs.DocUnit.{sizes, is_stop, ends_reading, operations}
+use Rattle.pickle_doc.specs.Document.{Contents, items_of, document_bytes, ReadsAs, size_limit, ends_with_stop, finish_by, finish_of}
 use Rattle.pickle_doc.specs.Tail.{HasTailFault}
 use Rattle.pickle_doc.specs.Fitting.{left_behind}
 use Rattle.pickle_doc.specs.Unread.{IsNextItem}
@@ -24,14 +24,17 @@ use Rattle.pickle_doc.specs.Place.{ops_of, item_at, tail_offset}
 use Rattle.pickle_objects.specs.declared.kind.Kind.{Kind}
 use Rattle.pickle_objects.specs.declared.row.Row.{Row}
 use Rattle.pickle_objects.specs.declared.row.Row.TheVariants as row
+use Rattle.pickle_objects.specs.Object.{Object}
 use Rattle.pickle_objects.specs.Row.{row_of, kind_of}
 use Rattle.pickle_machine.specs.declared.refusal.Refusal.{Refusal}
-use Rattle.pickle_machine.specs.State.{State, empty, stack_size}
+use Rattle.pickle_machine.specs.State.{State, Marked, start, stack_size}
 use Rattle.pickle_machine.specs.Run.{run}
-use Rattle.pickle_machine.specs.Move.{move, outcome, next_of, refusal_of, refusal_at, takes_mark}
+use Rattle.pickle_machine.specs.Move.{move, outcome, next_of, refusal_of, refusal_at, takes_mark, fresh}
+use Rattle.pickle_machine.proofs.HeapGrowth.{fresh_heap}
 use Rattle.pickle_outline.specs.Outline.{outline, plain, bared}
 use Rattle.pickle_doc.specs.Stream.{StandsAt, IsDone, Gives}
-use Rattle.pickle_outline.proofs.Outlines.{refusals_read_outlines, moves_read_outlines}
+use Rattle.pickle_outline.proofs.Outlines.{refusals_read_outlines, moves_read_outlines, fresh_reads_outlines}
+use Rattle.pickle_doc.proofs.Ends.{finish_at, finish_stopped}
 use Rattle.pickle_doc.proofs.Streams.{stands_first, item_is, fault_is}
 use Rattle.pickle_page.proofs.Puts.{then_put, then_broken}
 use Rattle.pickle_listing.specs.declared.note.Note.{Note}
@@ -43,29 +46,53 @@ use Rattle.pickle_listing.specs.Listing.{note_with, note_unless, key_note, line_
 use Rattle.pickle_listing.specs.Inside.Marks.{last_of, followed}
 use Rattle.pickle_listing.specs.Inside.Answer.{IsAnswer}
 use Rattle.pickle_listing.specs.Written.{IsListed, BreaksListing, BeginsListing, CutsListing}
-use Rattle.pickle_listing.proofs.Listings.{Progress, Progress-none, Progress-more, line_is, begun_so_far, broken_so_far, EndsWith, refused, ended, ended_left, end_breaks, end_written, behind_page, within, place_within, offset_within, ops_within}
+use Rattle.pickle_listing.proofs.Listings.{Progress, Progress-none, Progress-more, Progress-fresh, line_is, begun_so_far, broken_so_far, broken_lines, EndsWith, refused, ended, ended_left, end_breaks, end_written, behind_page, within, place_within, offset_within, ops_within}
 use Rattle.pickle_listing.proofs.Places.{lines_with, lines-zero, lines-suc}
 
+-- ---- STOP
+
+-- only after STOP reading ends
+ends_stop : (many : Bool) (o : Opcode) → ends_reading many o ≡ true → is_stop o ≡ true
+ends_stop many o h = go (is_stop o) (not many) h
+  where
+    go : (a b : Bool) → (a && b) ≡ true → a ≡ true
+    go true b h = refl
+    go false b h = cc
+
+-- whether item k is STOP is whether the items up to it end in STOP
+last_taken : (items : List Item) (k : ℕ) (o : Operation) → slice_get (operations items) k ≡ Some o → ends_with_stop (take (k + 1) items) ≡ is_stop o.opcode
+last_taken items k o e = rw (add-one k) (go items k e)
+  where
+    go : (items : List Item) (k : ℕ) → slice_get (operations items) k ≡ Some o → ends_with_stop (take (suc k) items) ≡ is_stop o.opcode
+    go [] k e = cc
+    go (i ∷ items) zero e = let same : i.op ≡ o = cc in ap (λ (p : Operation). is_stop p.opcode) same
+    go (i ∷ []) (suc k) e = cc
+    go (i ∷ j ∷ items) (suc k) e = go (j ∷ items) k e
+
+-- ---- what is listed so far
+
 -- of the document that the bytes are, k items were read, and have moves; this is the outline of the state that they
--- reach, and of their lines the device took all but the page
-pub record Listed (bytes : List ℕ) (old new : Told) (page rest : List ℕ) (left k offset : ℕ) (outlined : State) (opened : List ℕ) (highest : Option ℕ) : Type 0 where
+-- reach, as the next move is taken on it, and of their lines the device took all but the page
+pub record Listed (many : Bool) (bytes : List ℕ) (old new : Told) (page rest : List ℕ) (left k offset : ℕ) (outlined : State) (opened : List ℕ) (highest : Option ℕ) (last : Bool) : Type 0 where
   pub d : Contents
-  pub reads : ReadsAs bytes d
+  pub reads : ReadsAs many bytes d
   pub stands : StandsAt d k rest left
   pub s : State
-  pub outlines : outline s ≡ outlined
-  pub progress : Progress d k offset s opened highest
+  pub outlines : outline (fresh s) ≡ outlined
+  pub progress : Progress d k offset s (fresh s).marked opened highest
   pub written : WroteAllBut old new (lines d k) page
+  pub ends : ends_with_stop (take k (items_of d)) ≡ last
 
-pub listed_none : (bytes : List ℕ) (a : Told) → (some : (d : Contents) × ReadsAs bytes d) → length bytes ≤ size_limit → Listed bytes a a [] bytes 0 0 0 empty [] None
-listed_none bytes a some small = record {
+pub listed_none : (many : Bool) (bytes : List ℕ) (a : Told) → (some : (d : Contents) × ReadsAs many bytes d) → length bytes ≤ size_limit → Listed many bytes a a [] bytes 0 0 0 (start many) [] None false
+listed_none many bytes a some small = record {
   d = some.0;
   reads = some.1;
-  stands = stands_first bytes some.0 (omega (arith, small)) some.1;
-  s = empty;
-  outlines = refl;
+  stands = stands_first many bytes some.0 (omega (arith, small)) some.1;
+  s = start some.0.many;
+  outlines = ap start some.1.mode;
   progress = Progress-none some.0;
   written = rw (lines-zero some.0) (WroteAllBut-none a []);
+  ends = refl;
 }
 
 -- ---- item k
@@ -91,7 +118,7 @@ note_outlined o s x =
     ∙ ap (λ (n : Option Note). if takes_mark (row_of o) s then option_map note.MarkAt x else n) (key_outlined o.opcode s)
 
 line_outlined : (o : Operation) (offset : ℕ) (s : State) (opened : List ℕ)
-    → line_of o offset (outline s) opened ≡ item_line o offset (length s.marked) (note_unless (refusal_at o s) (note_with o s (last_of opened)))
+    → line_of o offset (outline s) opened ≡ item_line o offset (length s.marked) (note_unless (refusal_of (row_of o) s) (note_with o s (last_of opened)))
 line_outlined o offset s opened =
     ap (λ (n : Option Note). item_line o offset (length s.marked) (note_unless (refusal_of (row_of o) (outline s)) n)) (note_outlined o s (last_of opened))
     ∙ ap (λ (r : Option Refusal). item_line o offset (length s.marked) (note_unless r (note_with o s (last_of opened)))) (refusals_read_outlines (row_of o) s)
@@ -101,29 +128,29 @@ record There (d : Contents) (k offset : ℕ) (o : Operation) (t : State) (opened
   pub at : item_at d k ≡ Some o
   pub line : line_at d k ≡ line_of o offset t opened
 
-there : (bytes : List ℕ) (a b : Told) (page rest : List ℕ) (left k offset : ℕ) (t : State) (opened : List ℕ) (highest : Option ℕ) (o : Operation)
-    → (w : Listed bytes a b page rest left k offset t opened highest) → IsNextItem left rest o (size_of o) → There w.d k offset o t opened
+there : {many : Bool} {last : Bool} (bytes : List ℕ) (a b : Told) (page rest : List ℕ) (left k offset : ℕ) (t : State) (opened : List ℕ) (highest : Option ℕ) (o : Operation)
+    → (w : Listed many bytes a b page rest left k offset t opened highest last) → IsNextItem left rest o (size_of o) → There w.d k offset o t opened
 there bytes a b page rest left k offset t opened highest o w n =
     let g = item_is w.d k left rest o (size_of o) w.stands n in
     record {
       at = g.there;
-      line = line_is w.d k offset o w.s opened g.there w.progress.reached w.progress.stands w.progress.marks ∙ sym (line_outlined o offset w.s opened)
+      line = line_is w.d k offset o w.s opened g.there w.progress.reached w.progress.stands w.progress.marks ∙ sym (line_outlined o offset (fresh w.s) opened)
           ∙ ap (λ (u : State). line_of o offset u opened) w.outlines;
     }
 
 -- with the line of item k on the page
-pub record WithLine (bytes : List ℕ) (old new : Told) (page rest : List ℕ) (left k offset : ℕ) (o : Operation) (outlined : State) (opened : List ℕ) (highest : Option ℕ) : Type 0 where
+pub record WithLine (many : Bool) (bytes : List ℕ) (old new : Told) (page rest : List ℕ) (left k offset : ℕ) (o : Operation) (outlined : State) (opened : List ℕ) (highest : Option ℕ) : Type 0 where
   pub d : Contents
-  pub reads : ReadsAs bytes d
+  pub reads : ReadsAs many bytes d
   pub gives : Gives d k o (drop (size_of o) rest) (left_behind left o)
   pub s : State
-  pub outlines : outline s ≡ outlined
-  pub progress : Progress d k offset s opened highest
+  pub outlines : outline (fresh s) ≡ outlined
+  pub progress : Progress d k offset s (fresh s).marked opened highest
   pub written : WroteAllBut old new (lines_with d k) page
 
-pub with_line : (bytes : List ℕ) (a b c : Told) (page next rest : List ℕ) (left k offset : ℕ) (o : Operation) (t : State) (opened : List ℕ) (highest : Option ℕ)
-    → Listed bytes a b page rest left k offset t opened highest → IsNextItem left rest o (size_of o) → WroteAllBut b c (page ++ line_of o offset t opened) next
-    → WithLine bytes a c next rest left k offset o t opened highest
+pub with_line : {many : Bool} {last : Bool} (bytes : List ℕ) (a b c : Told) (page next rest : List ℕ) (left k offset : ℕ) (o : Operation) (t : State) (opened : List ℕ) (highest : Option ℕ)
+    → Listed many bytes a b page rest left k offset t opened highest last → IsNextItem left rest o (size_of o) → WroteAllBut b c (page ++ line_of o offset t opened) next
+    → WithLine many bytes a c next rest left k offset o t opened highest
 with_line bytes a b c page next rest left k offset o t opened highest w n q =
     let here = there bytes a b page rest left k offset t opened highest o w n in
     let whole : lines_with w.d k ≡ lines w.d k ++ line_of o offset t opened = ap (λ (l : List ℕ). lines w.d k ++ l) here.line in
@@ -137,8 +164,8 @@ with_line bytes a b c page next rest left k offset o t opened highest w n q =
       written = rw whole (then_put a b c (lines w.d k) page next (line_of o offset t opened) q w.written);
     }
 
-pub line_breaks : (bytes : List ℕ) (a b c : Told) (page rest : List ℕ) (left k offset : ℕ) (o : Operation) (t : State) (opened : List ℕ) (highest : Option ℕ)
-    → Listed bytes a b page rest left k offset t opened highest → IsNextItem left rest o (size_of o) → Broke b c (page ++ line_of o offset t opened) → BreaksListing bytes a c
+pub line_breaks : {many : Bool} {last : Bool} (bytes : List ℕ) (a b c : Told) (page rest : List ℕ) (left k offset : ℕ) (o : Operation) (t : State) (opened : List ℕ) (highest : Option ℕ)
+    → Listed many bytes a b page rest left k offset t opened highest last → IsNextItem left rest o (size_of o) → Broke b c (page ++ line_of o offset t opened) → BreaksListing many bytes a c
 line_breaks bytes a b c page rest left k offset o t opened highest w n q =
     let here = there bytes a b page rest left k offset t opened highest o w n in
     let whole : lines_with w.d k ≡ lines w.d k ++ line_of o offset t opened = ap (λ (l : List ℕ). lines w.d k ++ l) here.line in
@@ -146,62 +173,72 @@ line_breaks bytes a b c page rest left k offset o t opened highest w n q =
     (w.d, w.reads, broken_so_far a c w.d k w.s w.progress.reached (within (ops_of w.d) k o here.at) front)
 
 -- where the page is dropped
-pub line_stops : (bytes : List ℕ) (a b : Told) (page rest : List ℕ) (left k offset : ℕ) (o : Operation) (t : State) (opened : List ℕ) (highest : Option ℕ)
-    → WithLine bytes a b page rest left k offset o t opened highest → BeginsListing bytes a b
+pub line_stops : {many : Bool} (bytes : List ℕ) (a b : Told) (page rest : List ℕ) (left k offset : ℕ) (o : Operation) (t : State) (opened : List ℕ) (highest : Option ℕ)
+    → WithLine many bytes a b page rest left k offset o t opened highest → BeginsListing many bytes a b
 line_stops bytes a b page rest left k offset o t opened highest w =
     (w.d, w.reads, begun_so_far a b w.d k w.s page w.progress.reached (within (ops_of w.d) k o w.gives.there) w.written)
 
 -- ---- ends
 
 -- what is left of the listing is this text, with what stands on the page
-pub record Closes (bytes : List ℕ) (old new : Told) (text : List ℕ) (status : ℕ) : Type 0 where
+pub record Closes (many : Bool) (bytes : List ℕ) (old new : Told) (text : List ℕ) (status : ℕ) : Type 0 where
   pub d : Contents
-  pub reads : ReadsAs bytes d
+  pub reads : ReadsAs many bytes d
   pub front : List ℕ
   pub written : Wrote old new front
   pub ends : EndsWith d front text status
 
-closed : (bytes : List ℕ) (a b c : Told) (text : List ℕ) (status : ℕ) → Closes bytes a b text status → Wrote b c text → IsListed bytes a c status
+closed : {many : Bool} (bytes : List ℕ) (a b c : Told) (text : List ℕ) (status : ℕ) → Closes many bytes a b text status → Wrote b c text → IsListed many bytes a c status
 closed bytes a b c text status w q = (w.d, w.reads, (end_written a b c w.d w.front text status w.ends w.written q, sym w.ends.answers))
 
-close_breaks : (bytes : List ℕ) (a b c : Told) (text : List ℕ) (status : ℕ) → Closes bytes a b text status → Broke b c text → BreaksListing bytes a c
+close_breaks : {many : Bool} (bytes : List ℕ) (a b c : Told) (text : List ℕ) (status : ℕ) → Closes many bytes a b text status → Broke b c text → BreaksListing many bytes a c
 close_breaks bytes a b c text status w q = (w.d, w.reads, end_breaks a b c w.d w.front text status w.ends w.written q)
 
-pub closes_ok : (bytes : List ℕ) (a b c : Told) (text : List ℕ) (status : ℕ) (w : Result ⊤ Failed) (r : Result ℕ TextStop)
-    → Closes bytes a b text status → Writes b c w text → IsAnswer w status r → IfOk r (IsListed bytes a c)
+pub closes_ok : {many : Bool} (bytes : List ℕ) (a b c : Told) (text : List ℕ) (status : ℕ) (w : Result ⊤ Failed) (r : Result ℕ TextStop)
+    → Closes many bytes a b text status → Writes b c w text → IsAnswer w status r → IfOk r (IsListed many bytes a c)
 closes_ok bytes a b c text status (Ok x) r w q e = rw e (closed bytes a b c text status w q)
 closes_ok bytes a b c text status (Err x) r w q e = rw e tt
 
-pub closes_err : (bytes : List ℕ) (a b c : Told) (text : List ℕ) (status : ℕ) (w : Result ⊤ Failed) (r : Result ℕ TextStop)
-    → Closes bytes a b text status → Writes b c w text → IsAnswer w status r → IfErr r (CutsListing bytes a c)
+pub closes_err : {many : Bool} (bytes : List ℕ) (a b c : Told) (text : List ℕ) (status : ℕ) (w : Result ⊤ Failed) (r : Result ℕ TextStop)
+    → Closes many bytes a b text status → Writes b c w text → IsAnswer w status r → IfErr r (CutsListing many bytes a c)
 closes_err bytes a b c text status (Ok x) r w q e = rw e tt
 closes_err bytes a b c text status (Err x) r w q e = rw e (close_breaks bytes a b c text status w q)
 
-refusal_is : (o : Operation) (s t : State) (r : Option Refusal) → outline s ≡ t → refusal_of (row_of o) t ≡ r → refusal_at o s ≡ r
-refusal_is o s t r e f = sym (refusals_read_outlines (row_of o) s) ∙ ap (λ (u : State). refusal_of (row_of o) u) e ∙ f
+refusal_is : (o : Operation) (s t : State) (r : Option Refusal) → outline (fresh s) ≡ t → refusal_of (row_of o) t ≡ r → refusal_at o s ≡ r
+refusal_is o s t r e f = sym (refusals_read_outlines (row_of o) (fresh s)) ∙ ap (λ (u : State). refusal_of (row_of o) u) e ∙ f
 
-pub refused_closes : (bytes : List ℕ) (a b : Told) (page rest : List ℕ) (left k offset : ℕ) (o : Operation) (t : State) (opened : List ℕ) (highest : Option ℕ) (r : Refusal)
-    → WithLine bytes a b page rest left k offset o t opened highest → refusal_of (row_of o) t ≡ Some r
-    → Closes bytes a b (page ⧺ refused_line r ⧺ protocol_line (raised highest (protocol_of o.opcode))) 1
+pub refused_closes : {many : Bool} (bytes : List ℕ) (a b : Told) (page rest : List ℕ) (left k offset : ℕ) (o : Operation) (t : State) (opened : List ℕ) (highest : Option ℕ) (r : Refusal)
+    → WithLine many bytes a b page rest left k offset o t opened highest → refusal_of (row_of o) t ≡ Some r
+    → Closes many bytes a b (page ⧺ refused_line r ⧺ protocol_line (raised highest (protocol_of o.opcode))) 1
 refused_closes bytes a b page rest left k offset o t opened highest r w f = record {
   d = w.d;
   reads = w.reads;
   front = w.written.front;
   written = w.written.wrote;
   ends = behind_page a b w.d (lines_with w.d k) page (refused_line r) (protocol_line (raised highest (protocol_of o.opcode))) 1 w.written
-      (refused w.d k offset o w.s opened r highest w.progress w.gives.there (refusal_is o w.s t (Some r) w.outlines f));
+      (refused w.d k offset o w.s (fresh w.s).marked opened r highest w.progress w.gives.there (refusal_is o w.s t (Some r) w.outlines f));
 }
 
-sizes_all : (d : Contents) (k offset : ℕ) (s : State) (opened : List ℕ) (highest : Option ℕ) → Progress d k offset s opened highest → length (ops_of d) ≡ k → tail_offset d ≡ offset
-sizes_all d k offset s opened highest p all =
+sizes_all : (d : Contents) (k offset : ℕ) (s : State) (ms : List Marked) (opened : List ℕ) (highest : Option ℕ) → Progress d k offset s ms opened highest → length (ops_of d) ≡ k → tail_offset d ≡ offset
+sizes_all d k offset s ms opened highest p all =
     ap sizes (sym (take_all k (items_of d) (omega (arith, all, length-map (items_of d) (λ (i : Item). i.op))))) ∙ sym p.stands
 
-pub fault_closes : (bytes : List ℕ) (a b : Told) (page rest : List ℕ) (left k offset : ℕ) (t : State) (opened : List ℕ) (highest : Option ℕ) (f : TailFault)
-    → Listed bytes a b page rest left k offset t opened highest → HasTailFault left rest f → Closes bytes a b (page ⧺ fault_line f offset ⧺ protocol_line highest) 1
-fault_closes bytes a b page rest left k offset t opened highest f w h =
+-- how the document ends whose tail has this fault, where its last item is STOP or not
+finish_there : {many : Bool} {last : Bool} (bytes : List ℕ) (a b : Told) (page rest : List ℕ) (left k offset : ℕ) (t : State) (opened : List ℕ) (highest : Option ℕ) (f : TailFault) (x : Bool)
+    → (w : Listed many bytes a b page rest left k offset t opened highest last) → IsDone w.d k rest (Some f) → (length rest == 0 && last) ≡ x → finish_by x (Some f) ≡ finish_of w.d
+finish_there bytes a b page rest left k offset t opened highest f x w done is =
+    let all : take k (items_of w.d) ≡ items_of w.d = take_all k (items_of w.d) (omega (arith, done.all, length-map (items_of w.d) (λ (i : Item). i.op))) in
+    let last_is = ap ends_with_stop (sym all) ∙ w.ends in
+    finish_at w.d f x done.ended (rw (last_is, done.tail) is)
+
+pub fault_closes : {many : Bool} {last : Bool} (bytes : List ℕ) (a b : Told) (page rest : List ℕ) (left k offset : ℕ) (t : State) (opened : List ℕ) (highest : Option ℕ) (f : TailFault)
+    → Listed many bytes a b page rest left k offset t opened highest last → HasTailFault left rest f → (length rest == 0 && last) ≡ false
+    → Closes many bytes a b (page ⧺ fault_line f offset ⧺ protocol_line highest) 1
+fault_closes bytes a b page rest left k offset t opened highest f w h x =
     let done = fault_is w.d k left rest f w.stands h in
-    let e = ended w.d k offset w.s opened highest w.progress done.all in
-    let at = sizes_all w.d k offset w.s opened highest w.progress done.all in
+    let finish : finish_of w.d ≡ finish.Fault f = sym (finish_there bytes a b page rest left k offset t opened highest f false w done x) in
+    let e = ended w.d k offset w.s (fresh w.s).marked opened highest w.progress done.all in
+    let at = sizes_all w.d k offset w.s (fresh w.s).marked opened highest w.progress done.all in
     record {
       d = w.d;
       reads = w.reads;
@@ -209,44 +246,64 @@ fault_closes bytes a b page rest left k offset t opened highest f w h =
       written = w.written.wrote;
       ends = behind_page a b w.d (lines w.d k) page (fault_line f offset) (protocol_line highest) 1 w.written (record {
         whole = e.whole ∙ ap (λ (x : List ℕ). lines w.d k ++ x)
-            (ap (λ (x : Finish). end_lines w.d x ⧺ protocol_line highest) done.finish ∙ ap (λ (n : ℕ). fault_line f n ⧺ protocol_line highest) at);
-        answers = e.answers ∙ ap end_status done.finish;
+            (ap (λ (x : Finish). end_lines w.d x ⧺ protocol_line highest) finish ∙ ap (λ (n : ℕ). fault_line f n ⧺ protocol_line highest) at);
+        answers = e.answers ∙ ap end_status finish;
+      });
+    }
+
+-- after the last STOP of many pickles
+pub none_closes : {many : Bool} {last : Bool} (bytes : List ℕ) (a b : Told) (page rest : List ℕ) (left k offset : ℕ) (t : State) (opened : List ℕ) (highest : Option ℕ) (f : TailFault)
+    → Listed many bytes a b page rest left k offset t opened highest last → HasTailFault left rest f → (length rest == 0 && last) ≡ true
+    → Closes many bytes a b (page ⧺ kept_line (length rest) ⧺ protocol_line highest) 0
+none_closes bytes a b page rest left k offset t opened highest f w h x =
+    let done = fault_is w.d k left rest f w.stands h in
+    let finish : finish_of w.d ≡ finish.Stopped = sym (finish_there bytes a b page rest left k offset t opened highest f true w done x) in
+    let e = ended w.d k offset w.s (fresh w.s).marked opened highest w.progress done.all in
+    record {
+      d = w.d;
+      reads = w.reads;
+      front = w.written.front;
+      written = w.written.wrote;
+      ends = behind_page a b w.d (lines w.d k) page (kept_line (length rest)) (protocol_line highest) 0 w.written (record {
+        whole = e.whole ∙ ap (λ (y : List ℕ). lines w.d k ++ y)
+            (ap (λ (y : Finish). end_lines w.d y ⧺ protocol_line highest) finish ∙ ap (λ (y : List ℕ). kept_line (length y) ⧺ protocol_line highest) done.tail);
+        answers = e.answers ∙ ap end_status finish;
       });
     }
 
 -- ---- a step
 
 -- item k has moved: what is read now stands after it
-pub record Moved (bytes : List ℕ) (old new : Told) (page rest : List ℕ) (left k offset : ℕ) (o : Operation) (outlined : State) (opened : List ℕ) (highest : Option ℕ) : Type 0 where
+pub record Moved (many : Bool) (bytes : List ℕ) (old new : Told) (page rest : List ℕ) (left k offset : ℕ) (o : Operation) (outlined : State) (opened : List ℕ) (highest : Option ℕ) : Type 0 where
   pub d : Contents
-  pub reads : ReadsAs bytes d
+  pub reads : ReadsAs many bytes d
   pub there : item_at d k ≡ Some o
-  pub goes : MatchBool (ends_reading o.opcode) (IsDone d (k + 1) rest finish.Stopped) (StandsAt d (k + 1) rest left)
+  pub goes : MatchBool (ends_reading many o.opcode) (IsDone d (k + 1) rest None) (StandsAt d (k + 1) rest left)
   pub s : State
   pub outlines : outline s ≡ outlined
-  pub progress : Progress d (k + 1) offset s opened highest
+  pub progress : Progress d (k + 1) offset s s.marked opened highest
   pub written : WroteAllBut old new (lines_with d k) page
 
-moved_by : (o : Operation) (k : ℕ) (s : State) → refusal_at o s ≡ None → move o k s ≡ Ok (next_of (row_of o) (kind_of o) k s)
-moved_by o k s e = ap (λ (r : Option Refusal). outcome r (next_of (row_of o) (kind_of o) k s)) e
+moved_by : (o : Operation) (k : ℕ) (s : State) → refusal_at o s ≡ None → move o k s ≡ Ok (next_of (row_of o) (kind_of o) k (fresh s))
+moved_by o k s e = ap (λ (r : Option Refusal). outcome r (next_of (row_of o) (kind_of o) k (fresh s))) e
 
-pub moved : (bytes : List ℕ) (a b : Told) (page rest : List ℕ) (left k offset : ℕ) (o : Operation) (t u : State) (kind : Kind) (opened next : List ℕ) (highest : Option ℕ)
-    → WithLine bytes a b page rest left k offset o t opened highest → refusal_of (row_of o) t ≡ None → kind ≡ plain (kind_of o) → u ≡ outline (next_of (row_of o) kind k t)
+pub moved : {many : Bool} (bytes : List ℕ) (a b : Told) (page rest : List ℕ) (left k offset : ℕ) (o : Operation) (t u : State) (kind : Kind) (opened next : List ℕ) (highest : Option ℕ)
+    → WithLine many bytes a b page rest left k offset o t opened highest → refusal_of (row_of o) t ≡ None → kind ≡ plain (kind_of o) → u ≡ outline (next_of (row_of o) kind k t)
     → next ≡ followed opened (length t.marked) (length u.marked) offset
-    → Moved bytes a b page (drop (size_of o) rest) (left_behind left o) k (offset + size_of o) o u next (raised highest (protocol_of o.opcode))
+    → Moved many bytes a b page (drop (size_of o) rest) (left_behind left o) k (offset + size_of o) o u next (raised highest (protocol_of o.opcode))
 moved bytes a b page rest left k offset o t u kind opened next highest w f is e m =
     let good : refusal_at o w.s ≡ None = refusal_is o w.s t None w.outlines f in
-    let after : State = next_of (row_of o) (kind_of o) k w.s in
+    let after : State = next_of (row_of o) (kind_of o) k (fresh w.s) in
     let same : u ≡ outline after =
-    e ∙ ap (λ (x : Kind). outline (next_of (row_of o) x k t)) is ∙ ap (λ (x : State). outline (next_of (row_of o) (plain (kind_of o)) k x)) (sym w.outlines) ∙ moves_read_outlines (row_of o) (kind_of o) k w.s in
-    let before : length t.marked ≡ length w.s.marked = ap (λ (x : State). length x.marked) (sym w.outlines) in
+    e ∙ ap (λ (x : Kind). outline (next_of (row_of o) x k t)) is ∙ ap (λ (x : State). outline (next_of (row_of o) (plain (kind_of o)) k x)) (sym w.outlines) ∙ moves_read_outlines (row_of o) (kind_of o) k (fresh w.s) in
+    let before : length t.marked ≡ length (fresh w.s).marked = ap (λ (x : State). length x.marked) (sym w.outlines) in
     let behind : length u.marked ≡ length after.marked = ap (λ (x : State). length x.marked) same in
-    let follows : next ≡ followed opened (length w.s.marked) (length after.marked) offset = m ∙ ap (λ (n : ℕ). followed opened n (length u.marked) offset) before ∙ ap (λ (n : ℕ). followed opened (length w.s.marked) n offset) behind in
+    let follows : next ≡ followed opened (length (fresh w.s).marked) (length after.marked) offset = m ∙ ap (λ (n : ℕ). followed opened n (length u.marked) offset) before ∙ ap (λ (n : ℕ). followed opened (length (fresh w.s).marked) n offset) behind in
     record {
       d = w.d;
       reads = w.reads;
       there = w.gives.there;
-      goes = w.gives.goes;
+      goes = subst (λ (m : Bool). MatchBool (ends_reading m o.opcode) (IsDone w.d (k + 1) (drop (size_of o) rest) None) (StandsAt w.d (k + 1) (drop (size_of o) rest) (left_behind left o))) w.reads.mode w.gives.goes;
       s = after;
       outlines = sym same;
       progress = Progress-more w.d k offset o w.s after opened next highest w.progress w.gives.there (moved_by o k w.s good) follows;
@@ -254,43 +311,76 @@ moved bytes a b page rest left k offset o t u kind opened next highest w f is e 
     }
 
 -- what the item left
-left_is : (d : Contents) (k : ℕ) (o : Operation) (s : State) → item_at d k ≡ Some o → run (ops_of d) (k + 1) ≡ Some s
-    → left_by (item_at d k) (run (ops_of d) (suc k)) ≡ (if is_stop o.opcode then left_line (stack_size s) (length s.marked) else [])
+left_is : (d : Contents) (k : ℕ) (o : Operation) (s : State) → item_at d k ≡ Some o → run (start d.many) (ops_of d) (k + 1) ≡ Some s
+    → left_by (item_at d k) (run (start d.many) (ops_of d) (suc k)) ≡ (if is_stop o.opcode then left_line (stack_size s) (length s.marked) else [])
 left_is d k o s e r = rw (e, ← add-one k, r) refl
 
-pub goes_on : (bytes : List ℕ) (a b : Told) (page rest : List ℕ) (left k offset : ℕ) (o : Operation) (t : State) (opened : List ℕ) (highest : Option ℕ)
-    → Moved bytes a b page rest left k offset o t opened highest → ends_reading o.opcode ≡ false → Listed bytes a b page rest left (k + 1) offset t opened highest
-goes_on bytes a b page rest left k offset o t opened highest w miss =
+-- the text that it left
+abbrev pub left_text_of : Operation → State → List ℕ
+left_text_of o t = if is_stop o.opcode then left_line (stack_size t) (length t.marked) else []
+
+left_there : {many : Bool} (bytes : List ℕ) (a b : Told) (page rest : List ℕ) (left k offset : ℕ) (o : Operation) (t : State) (opened : List ℕ) (highest : Option ℕ)
+    → (w : Moved many bytes a b page rest left k offset o t opened highest) → lines w.d (k + 1) ≡ lines_with w.d k ++ left_text_of o t
+left_there bytes a b page rest left k offset o t opened highest w =
+    let some : left_by (item_at w.d k) (run (start w.d.many) (ops_of w.d) (suc k)) ≡ left_text_of o t = left_is w.d k o w.s w.there w.progress.reached ∙ ap (left_text_of o) w.outlines in
+    rw (add-one k) (lines-suc w.d k ∙ ap (λ (l : List ℕ). lines_with w.d k ++ l) some)
+
+-- and is put on the page, before all is made ready for the next move
+pub goes_on : {many : Bool} (bytes : List ℕ) (a b c : Told) (page next rest : List ℕ) (left k offset : ℕ) (o : Operation) (t u : State) (opened after : List ℕ) (highest : Option ℕ)
+    → Moved many bytes a b page rest left k offset o t opened highest → ends_reading many o.opcode ≡ false → WroteAllBut b c (page ++ left_text_of o t) next
+    → u ≡ outline (fresh t) → after ≡ (if t.stopped then [] else opened)
+    → Listed many bytes a c next rest left (k + 1) offset u after highest (is_stop o.opcode)
+goes_on bytes a b c page next rest left k offset o t u opened after highest w miss q e m =
+    let outlines : outline (fresh w.s) ≡ u = sym (fresh_reads_outlines w.s) ∙ ap (λ (x : State). outline (fresh x)) w.outlines ∙ sym e in
+    let follows : (if w.s.stopped then [] else opened) ≡ after = ap (λ (x : State). if x.stopped then [] else opened) w.outlines ∙ sym m in
+    let progress : Progress w.d (k + 1) offset w.s (fresh w.s).marked after highest =
+    subst (λ (l : List ℕ). Progress w.d (k + 1) offset w.s (fresh w.s).marked l highest) follows (Progress-fresh w.d (k + 1) offset w.s opened highest w.progress) in
     let stands : StandsAt w.d (k + 1) rest left = rw miss at w.goes in
-    let none : left_by (item_at w.d k) (run (ops_of w.d) (suc k)) ≡ [] = left_is w.d k o w.s w.there w.progress.reached ∙ rw miss refl in
-    let all : lines w.d (k + 1) ≡ lines_with w.d k = rw (add-one k) (lines-suc w.d k ∙ ap (λ (l : List ℕ). lines_with w.d k ++ l) none ∙ append-nil (lines_with w.d k)) in
-    record { d = w.d; reads = w.reads; stands = stands; s = w.s; outlines = w.outlines; progress = w.progress; written = rw all w.written }
+    let all = left_there bytes a b page rest left k offset o t opened highest w in
+    record {
+      d = w.d;
+      reads = w.reads;
+      stands = stands;
+      s = w.s;
+      outlines = outlines;
+      progress = progress;
+      written = rw all (then_put a b c (lines_with w.d k) page next (left_text_of o t) q w.written);
+      ends = last_taken (items_of w.d) k o w.there;
+    }
+
+pub left_breaks : {many : Bool} (bytes : List ℕ) (a b c : Told) (page rest : List ℕ) (left k offset : ℕ) (o : Operation) (t : State) (opened : List ℕ) (highest : Option ℕ)
+    → Moved many bytes a b page rest left k offset o t opened highest → Broke b c (page ++ left_text_of o t) → BreaksListing many bytes a c
+left_breaks bytes a b c page rest left k offset o t opened highest w q =
+    let all = left_there bytes a b page rest left k offset o t opened highest w in
+    let front : Broke a c (lines w.d (k + 1)) = rw all (then_broken a b c (lines_with w.d k) page (left_text_of o t) q w.written) in
+    (w.d, w.reads, broken_lines a c w.d (k + 1) w.s w.progress.reached (omega (arith, within (ops_of w.d) k o w.there)) front)
 
 -- what STOP left, and then the closing lines
-stop_ends : (bytes : List ℕ) (a b : Told) (page rest : List ℕ) (left k offset : ℕ) (o : Operation) (t : State) (opened : List ℕ) (highest : Option ℕ)
-    → (w : Moved bytes a b page rest left k offset o t opened highest) → ends_reading o.opcode ≡ true
+stop_ends : {many : Bool} (bytes : List ℕ) (a b : Told) (page rest : List ℕ) (left k offset : ℕ) (o : Operation) (t : State) (opened : List ℕ) (highest : Option ℕ)
+    → (w : Moved many bytes a b page rest left k offset o t opened highest) → ends_reading many o.opcode ≡ true
     → EndsWith w.d (lines_with w.d k) (left_line (stack_size t) (length t.marked) ⧺ kept_line (length rest) ⧺ protocol_line highest) 0
 unfolding ◌⧺◌
-stop_ends bytes a b page rest left k offset o t opened highest w hit =
-    let done : IsDone w.d (k + 1) rest finish.Stopped = rw hit at w.goes in
+stop_ends {many} bytes a b page rest left k offset o t opened highest w hit =
+    let done : IsDone w.d (k + 1) rest None = rw hit at w.goes in
+    let finish : finish_of w.d ≡ finish.Stopped = sym (finish_stopped w.d done.ended) in
     let text : List ℕ = kept_line (length rest) ++ protocol_line highest in
-    let e = ended w.d (k + 1) offset w.s opened highest w.progress done.all in
+    let e = ended w.d (k + 1) offset w.s w.s.marked opened highest w.progress done.all in
     let closing : EndsWith w.d (lines w.d (suc k)) text 0 = rw (← add-one k) (record {
       whole = e.whole ∙ ap (λ (x : List ℕ). lines w.d (k + 1) ++ x)
-          (ap (λ (x : Finish). end_lines w.d x ++ protocol_line highest) done.finish ∙ ap (λ (x : List ℕ). kept_line (length x) ++ protocol_line highest) done.tail);
-      answers = e.answers ∙ ap end_status done.finish;
+          (ap (λ (x : Finish). end_lines w.d x ++ protocol_line highest) finish ∙ ap (λ (x : List ℕ). kept_line (length x) ++ protocol_line highest) done.tail);
+      answers = e.answers ∙ ap end_status finish;
     }) in
-    let some : left_by (item_at w.d k) (run (ops_of w.d) (suc k)) ≡ left_line (stack_size t) (length t.marked) = left_is w.d k o w.s w.there w.progress.reached
-    ∙ rw hit (ap (λ (x : State). left_line (stack_size x) (length x.marked)) w.outlines) in
+    let some : left_by (item_at w.d k) (run (start w.d.many) (ops_of w.d) (suc k)) ≡ left_line (stack_size t) (length t.marked) = left_is w.d k o w.s w.there w.progress.reached
+    ∙ rw (ends_stop many o.opcode hit) (ap (λ (x : State). left_line (stack_size x) (length x.marked)) w.outlines) in
     let last = ended_left w.d k (left_line (stack_size t) (length t.marked)) text 0 some closing in
     record {
       whole = last.whole ∙ ap (λ (x : List ℕ). lines_with w.d k ++ x) (sym (append_assoc (left_line (stack_size t) (length t.marked)) (kept_line (length rest)) (protocol_line highest)));
       answers = last.answers;
     }
 
-pub stop_closes : (bytes : List ℕ) (a b : Told) (page rest : List ℕ) (left k offset : ℕ) (o : Operation) (t : State) (opened : List ℕ) (highest : Option ℕ)
-    → Moved bytes a b page rest left k offset o t opened highest → ends_reading o.opcode ≡ true
-    → Closes bytes a b (page ⧺ (left_line (stack_size t) (length t.marked) ⧺ kept_line (length rest)) ⧺ protocol_line highest) 0
+pub stop_closes : {many : Bool} (bytes : List ℕ) (a b : Told) (page rest : List ℕ) (left k offset : ℕ) (o : Operation) (t : State) (opened : List ℕ) (highest : Option ℕ)
+    → Moved many bytes a b page rest left k offset o t opened highest → ends_reading many o.opcode ≡ true
+    → Closes many bytes a b (page ⧺ (left_line (stack_size t) (length t.marked) ⧺ kept_line (length rest)) ⧺ protocol_line highest) 0
 stop_closes bytes a b page rest left k offset o t opened highest w hit = record {
   d = w.d;
   reads = w.reads;
@@ -308,17 +398,17 @@ pub record Bounds (bytes : List ℕ) (k offset : ℕ) (o : Operation) (t : State
   pub marks : length t.marked ≤ k
   pub heap : length t.heap ≤ k
 
-pub bounds : (bytes : List ℕ) (a b : Told) (page rest : List ℕ) (left k offset : ℕ) (o : Operation) (t : State) (opened : List ℕ) (highest : Option ℕ)
-    → Listed bytes a b page rest left k offset t opened highest → IsNextItem left rest o (size_of o) → Bounds bytes k offset o t
+pub bounds : {many : Bool} {last : Bool} (bytes : List ℕ) (a b : Told) (page rest : List ℕ) (left k offset : ℕ) (o : Operation) (t : State) (opened : List ℕ) (highest : Option ℕ)
+    → Listed many bytes a b page rest left k offset t opened highest last → IsNextItem left rest o (size_of o) → Bounds bytes k offset o t
 bounds bytes a b page rest left k offset o t opened highest w n =
     let g = item_is w.d k left rest o (size_of o) w.stands n in
     let size : length (document_bytes w.d) ≡ length bytes = ap length w.reads.whole in
-    let outlined : length (outline w.s).heap ≡ length t.heap = ap (λ (x : State). length x.heap) w.outlines in
-    let same : length (outline w.s).heap ≡ length w.s.heap = length-map w.s.heap bared in
-    let marked : length w.s.marked ≡ length t.marked = ap (λ (x : State). length x.marked) w.outlines in
+    let outlined : length (outline (fresh w.s)).heap ≡ length t.heap = ap (λ (x : State). length x.heap) w.outlines in
+    let same : length (outline (fresh w.s)).heap ≡ length w.s.heap = length-map (fresh w.s).heap bared ∙ ap (λ (h : List Object). length h) (fresh_heap w.s) in
+    let marked : length (fresh w.s).marked ≡ length t.marked = ap (λ (x : State). length x.marked) w.outlines in
     record {
       place = omega (arith, place_within (ops_of w.d) k o g.there, ops_within w.d, size);
-      behind = omega (arith, offset_within w.d k offset o w.s opened highest w.progress g.there, ops_within w.d, size);
+      behind = omega (arith, offset_within w.d k offset o w.s (fresh w.s).marked opened highest w.progress g.there, ops_within w.d, size);
       marks = omega (arith, w.progress.few, marked);
       heap = omega (arith, w.progress.heap, outlined, same);
     }

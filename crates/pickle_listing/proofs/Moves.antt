@@ -16,7 +16,8 @@ use Rattle.pickle_objects.specs.Row.{values_of, row_of, kind_of}
 use Rattle.pickle_machine.specs.declared.refusal.Refusal.{Refusal}
 use Rattle.pickle_machine.specs.declared.refusal.Refusal.TheVariants as refusal
 use Rattle.pickle_machine.specs.State.{Marked, State}
-use Rattle.pickle_machine.specs.Move.{next_of, refusal_of, refusal_at, next, outcome, move, cut, deeper, without, changed, unless, deep, object_meets, last_of as last_objects, change_top, changes_of}
+use Rattle.pickle_machine.specs.Move.{next_of, refusal_of, refusal_at, next, outcome, move, cut, deeper, without, changed, unless, deep, object_meets, last_of as last_objects, change_top, changes_of, fresh}
+use Rattle.pickle_machine.proofs.HeapGrowth.{fresh_heap}
 use Rattle.pickle_doc.specs.Document.{Contents}
 use Rattle.pickle_doc.specs.Place.{offset_of}
 use Rattle.pickle_listing.specs.Inside.Marks.{followed, mark_offsets}
@@ -65,7 +66,8 @@ moved (Some r) t u e = cc
 pub move_heap : (o : Operation) (place : ℕ) (s t : State) → move o place s ≡ Ok t → length t.heap ≤ length s.heap + 1
 move_heap o place s t e =
     let same = moved (refusal_at o s) (next o place s) t e in
-    subst (λ (u : State). length u.heap ≤ length s.heap + 1) same.1 (next_heap (row_of o) (kind_of o) place s)
+    let grows : length (next o place s).heap ≤ length s.heap + 1 = subst (λ (h : List Object). length (next o place s).heap ≤ length h + 1) (fresh_heap s) (next_heap (row_of o) (kind_of o) place (fresh s)) in
+    subst (λ (u : State). length u.heap ≤ length s.heap + 1) same.1 grows
 
 pub refused_move : (o : Operation) (place : ℕ) (s : State) (r : Refusal) → refusal_at o s ≡ Some r → move o place s ≡ Err r
 refused_move o place s r e = rw e refl
@@ -113,10 +115,10 @@ next_marks (row.Put key) k place s e = Stays refl
 next_marks row.Memoize k place s e = Stays refl
 next_marks row.Stop k place s e = Stays refl
 
-pub move_marks : (o : Operation) (place : ℕ) (s t : State) → move o place s ≡ Ok t → MarkStep place s.marked t.marked
+pub move_marks : (o : Operation) (place : ℕ) (s t : State) → move o place s ≡ Ok t → MarkStep place (fresh s).marked t.marked
 move_marks o place s t e =
     let same = moved (refusal_at o s) (next o place s) t e in
-    subst (λ (u : State). MarkStep place s.marked u.marked) same.1 (next_marks (row_of o) (kind_of o) place s same.0)
+    subst (λ (u : State). MarkStep place (fresh s).marked u.marked) same.1 (next_marks (row_of o) (kind_of o) place (fresh s) same.0)
 
 pub marks_grow : (place : ℕ) (old new : List Marked) → MarkStep place old new → length new ≤ length old + 1
 marks_grow place old new (Stays e) = omega (arith, ap length e)

@@ -12,7 +12,7 @@ use Rattle.pickle_doc.specs.DocUnit.{sizes, operations, bytes_of}
 use Rattle.pickle_doc.specs.Document.{Contents, items_of}
 use Rattle.pickle_doc.specs.Place.{ops_of, item_at, offset_of}
 use Rattle.pickle_doc.proofs.Units.{length_bytes}
-use Rattle.pickle_machine.specs.State.{State}
+use Rattle.pickle_machine.specs.State.{State, start}
 use Rattle.pickle_machine.specs.Move.{move}
 use Rattle.pickle_machine.specs.Run.{run, after}
 use Rattle.pickle_listing.specs.Line.{raised, highest_protocol}
@@ -56,72 +56,72 @@ highest_protocol-push (p ∷ ops) o =
 
 -- ---- runs
 
-pub run-suc : (ops : List Operation) (n : ℕ) (o : Operation) (s : State) → slice_get ops n ≡ Some o → run ops n ≡ Some s → run ops (suc n) ≡ result_ok (move o n s)
+pub run-suc : (from : State) (ops : List Operation) (n : ℕ) (o : Operation) (s : State) → slice_get ops n ≡ Some o → run from ops n ≡ Some s → run from ops (suc n) ≡ result_ok (move o n s)
 unfolding run
-run-suc ops n o s e r = rw (e, r) refl
+run-suc from ops n o s e r = rw (e, r) refl
 
-stuck-suc : (ops : List Operation) (n : ℕ) → run ops n ≡ None → run ops (suc n) ≡ None
+stuck-suc : (from : State) (ops : List Operation) (n : ℕ) → run from ops n ≡ None → run from ops (suc n) ≡ None
 unfolding run
-stuck-suc ops n r = rw r (go (slice_get ops n))
+stuck-suc from ops n r = rw r (go (slice_get ops n))
   where
     go : (o : Option Operation) → after o n None ≡ None
     go None = refl
     go (Some o) = refl
 
-stuck : (ops : List Operation) (k d : ℕ) → run ops k ≡ None → run ops (k + d) ≡ None
-stuck ops k zero r = let e : k + 0 ≡ k = omega arith in rw e r
-stuck ops k (suc d) r = let e : k + suc d ≡ suc (k + d) = omega arith in rw e (stuck-suc ops (k + d) (stuck ops k d r))
+stuck : (from : State) (ops : List Operation) (k d : ℕ) → run from ops k ≡ None → run from ops (k + d) ≡ None
+stuck from ops k zero r = let e : k + 0 ≡ k = omega arith in rw e r
+stuck from ops k (suc d) r = let e : k + suc d ≡ suc (k + d) = omega arith in rw e (stuck-suc from ops (k + d) (stuck from ops k d r))
 
-pub stuck_behind : (ops : List Operation) (k n : ℕ) → k ≤ n → run ops k ≡ None → run ops n ≡ None
-stuck_behind ops k n h r =
+pub stuck_behind : (from : State) (ops : List Operation) (k n : ℕ) → k ≤ n → run from ops k ≡ None → run from ops n ≡ None
+stuck_behind from ops k n h r =
     let d : (d : ℕ) × (k + d ≡ n) = le_gap k n h in
-    subst (λ (m : ℕ). run ops m ≡ None) d.1 (stuck ops k d.0 r)
+    subst (λ (m : ℕ). run from ops m ≡ None) d.1 (stuck from ops k d.0 r)
   where
     le_gap : (k n : ℕ) → k ≤ n → (d : ℕ) × (k + d ≡ n)
     le_gap k n h = (n - k, omega arith)
 
 -- ---- how far
 
-pub reached_here : (ops : List Operation) (n : ℕ) (s : State) → run ops n ≡ Some s → reached ops n ≡ n
+pub reached_here : (from : State) (ops : List Operation) (n : ℕ) (s : State) → run from ops n ≡ Some s → reached from ops n ≡ n
 unfolding reached
-reached_here ops zero s r = refl
-reached_here ops (suc n) s r = rw r refl
+reached_here from ops zero s r = refl
+reached_here from ops (suc n) s r = rw r refl
 
-reached-stuck : (ops : List Operation) (n : ℕ) → run ops (suc n) ≡ None → reached ops (suc n) ≡ reached ops n
+reached-stuck : (from : State) (ops : List Operation) (n : ℕ) → run from ops (suc n) ≡ None → reached from ops (suc n) ≡ reached from ops n
 unfolding reached
-reached-stuck ops n r = rw r refl
+reached-stuck from ops n r = rw r refl
 
 -- where the next item has no move, no further place is reached
-pub reached_last : (ops : List Operation) (k n : ℕ) (s : State) → run ops k ≡ Some s → run ops (suc k) ≡ None → k ≤ n → reached ops n ≡ k
-reached_last ops k n s r t h = elim (cases_lt k n) [
-  | inl more ↦ go ops k n s r t more
-  | inr none ↦ let e : n ≡ k = omega arith in rw e (reached_here ops k s r)
+pub reached_last : (from : State) (ops : List Operation) (k n : ℕ) (s : State) → run from ops k ≡ Some s → run from ops (suc k) ≡ None → k ≤ n → reached from ops n ≡ k
+reached_last from ops k n s r t h = elim (cases_lt k n) [
+  | inl more ↦ go from ops k n s r t more
+  | inr none ↦ let e : n ≡ k = omega arith in rw e (reached_here from ops k s r)
 ]
   where
-    go : (ops : List Operation) (k n : ℕ) (s : State) → run ops k ≡ Some s → run ops (suc k) ≡ None → k < n → reached ops n ≡ k
-    go ops k zero s r t h = absurd (omega arith)
-    go ops k (suc n) s r t h =
-        let none : run ops (suc n) ≡ None = stuck_behind ops (suc k) (suc n) (omega arith) t in
-        reached-stuck ops n none ∙ (elim (cases_lt k n) [
-          | inl more ↦ go ops k n s r t more
-          | inr last ↦ let e : n ≡ k = omega arith in rw e (reached_here ops k s r)
+    go : (from : State) (ops : List Operation) (k n : ℕ) (s : State) → run from ops k ≡ Some s → run from ops (suc k) ≡ None → k < n → reached from ops n ≡ k
+    go from ops k zero s r t h = absurd (omega arith)
+    go from ops k (suc n) s r t h =
+        let none : run from ops (suc n) ≡ None = stuck_behind from ops (suc k) (suc n) (omega arith) t in
+        reached-stuck from ops n none ∙ (elim (cases_lt k n) [
+          | inl more ↦ go from ops k n s r t more
+          | inr last ↦ let e : n ≡ k = omega arith in rw e (reached_here from ops k s r)
         ])
 
 -- the greatest place that is reached: its state is, and it is no less than another that is
-pub record Reached (ops : List Operation) (n k : ℕ) : Type 0 where
+pub record Reached (from : State) (ops : List Operation) (n k : ℕ) : Type 0 where
   pub state : State
-  pub is : run ops k ≡ Some state
+  pub is : run from ops k ≡ Some state
   pub within : k ≤ n
-  pub most : (j : ℕ) (s : State) → j ≤ n → run ops j ≡ Some s → j ≤ k
+  pub most : (j : ℕ) (s : State) → j ≤ n → run from ops j ≡ Some s → j ≤ k
 
-run-zero : (ops : List Operation) → (s : State) × (run ops 0 ≡ Some s)
+run-zero : (from : State) (ops : List Operation) → (s : State) × (run from ops 0 ≡ Some s)
 unfolding run
-run-zero ops = (_, refl)
+run-zero from ops = (_, refl)
 
-reached_more : (ops : List Operation) (n : ℕ) (r : Option State) → run ops (suc n) ≡ r → Reached ops n (reached ops n) → Reached ops (suc n) (reached ops (suc n))
-reached_more ops n (Some s) e before = rw (reached_here ops (suc n) s e) (record { state = s; is = e; within = omega arith; most = λ j t h r. h })
-reached_more ops n None e before =
-    rw (reached-stuck ops n e) (record {
+reached_more : (from : State) (ops : List Operation) (n : ℕ) (r : Option State) → run from ops (suc n) ≡ r → Reached from ops n (reached from ops n) → Reached from ops (suc n) (reached from ops (suc n))
+reached_more from ops n (Some s) e before = rw (reached_here from ops (suc n) s e) (record { state = s; is = e; within = omega arith; most = λ j t h r. h })
+reached_more from ops n None e before =
+    rw (reached-stuck from ops n e) (record {
       state = before.state;
       is = before.is;
       within = omega (arith, before.within);
@@ -131,13 +131,13 @@ reached_more ops n None e before =
       ]);
     })
 
-reached-zero : (ops : List Operation) → reached ops 0 ≡ 0
+reached-zero : (from : State) (ops : List Operation) → reached from ops 0 ≡ 0
 unfolding reached
-reached-zero ops = refl
+reached-zero from ops = refl
 
-pub is_reached : (ops : List Operation) (n : ℕ) → Reached ops n (reached ops n)
-is_reached ops zero = let z = run-zero ops in rw (reached-zero ops) (record { state = z.0; is = z.1; within = omega arith; most = λ j s h r. h })
-is_reached ops (suc n) = reached_more ops n (run ops (suc n)) refl (is_reached ops n)
+pub is_reached : (from : State) (ops : List Operation) (n : ℕ) → Reached from ops n (reached from ops n)
+is_reached from ops zero = let z = run-zero from ops in rw (reached-zero from ops) (record { state = z.0; is = z.1; within = omega arith; most = λ j s h r. h })
+is_reached from ops (suc n) = reached_more from ops n (run from ops (suc n)) refl (is_reached from ops n)
 
 -- ---- lines
 
@@ -149,7 +149,7 @@ lines-zero d = refl
 abbrev pub lines_with : Contents → ℕ → List ℕ
 lines_with d k = lines d k ++ line_at d k
 
-pub lines-suc : (d : Contents) (k : ℕ) → lines d (suc k) ≡ lines_with d k ++ left_by (item_at d k) (run (ops_of d) (suc k))
+pub lines-suc : (d : Contents) (k : ℕ) → lines d (suc k) ≡ lines_with d k ++ left_by (item_at d k) (run (start d.many) (ops_of d) (suc k))
 unfolding lines ◌⧺◌
 lines-suc d k = refl
 
@@ -158,7 +158,7 @@ lines_more d k zero = let e : k + 0 ≡ k = omega arith in ([], rw e (sym (appen
 lines_more d k (suc n) =
     let e : k + suc n ≡ suc (k + n) = omega arith in
     let before = lines_more d k n in
-    let last : List ℕ = left_by (item_at d (k + n)) (run (ops_of d) (suc (k + n))) in (
+    let last : List ℕ = left_by (item_at d (k + n)) (run (start d.many) (ops_of d) (suc (k + n))) in (
       (before.0 ++ line_at d (k + n)) ++ last,
       rw e (lines-suc d (k + n)
           ∙ ap (λ (t : List ℕ). (t ++ line_at d (k + n)) ++ last) before.1

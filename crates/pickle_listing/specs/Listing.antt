@@ -14,8 +14,8 @@ use Rattle.pickle_doc.specs.Document.{Contents, finish_of}
 use Rattle.pickle_doc.specs.Place.{ops_of, item_at, offset_of, tail_offset}
 use Rattle.pickle_objects.specs.Row.{row_of}
 use Rattle.pickle_machine.specs.declared.refusal.Refusal.{Refusal}
-use Rattle.pickle_machine.specs.State.{State, Marked, stack_size}
-use Rattle.pickle_machine.specs.Move.{refusal_at, takes_mark}
+use Rattle.pickle_machine.specs.State.{State, Marked, stack_size, start}
+use Rattle.pickle_machine.specs.Move.{refusal_of, refusal_at, takes_mark, fresh}
 use Rattle.pickle_machine.specs.Run.{run}
 use Rattle.pickle_listing.specs.declared.note.Note.{Note}
 use Rattle.pickle_listing.specs.declared.note.Note.TheVariants as note
@@ -43,14 +43,19 @@ abbrev pub note_unless : Option Refusal → Option Note → Option Note
 note_unless None n = n
 note_unless (Some r) n = None
 
+-- the line of an item on the state on which its move is taken
+abbrev pub line_within : Contents → ℕ → Operation → State → List ℕ
+line_within d k o s = item_line o (offset_of d k) (length s.marked) (note_unless (refusal_of (row_of o) s) (note_with o s (topmost_offset d s.marked)))
+
+-- where several pickles are listed, an item after STOP begins the next one: no mark is open before it
 abbrev pub line_on : Contents → ℕ → Option Operation → Option State → List ℕ
-line_on d k (Some o) (Some s) = item_line o (offset_of d k) (length s.marked) (note_unless (refusal_at o s) (note_with o s (topmost_offset d s.marked)))
+line_on d k (Some o) (Some s) = line_within d k o (fresh s)
 line_on d k (Some o) None = []
 line_on d k None s = []
 
 -- the line of item k, on the state that the items before it reach
 unfoldable pub line_at : Contents → ℕ → List ℕ
-line_at d k = line_on d k (item_at d k) (run (ops_of d) k)
+line_at d k = line_on d k (item_at d k) (run (start d.many) (ops_of d) k)
 
 -- what an item left, in the state after it: STOP may leave something on the stack
 abbrev pub left_by : Option Operation → Option State → List ℕ
@@ -61,7 +66,7 @@ left_by None s = []
 -- the lines of the first n items, and after each what it left
 unfoldable pub lines : Contents → ℕ → List ℕ
 lines d zero = []
-lines d (suc k) = lines d k ⧺ line_at d k ⧺ left_by (item_at d k) (run (ops_of d) (suc k))
+lines d (suc k) = lines d k ⧺ line_at d k ⧺ left_by (item_at d k) (run (start d.many) (ops_of d) (suc k))
 
 -- ---- the closing lines
 
@@ -86,9 +91,9 @@ pub record Listing : Type 0 where
   pub status : ℕ
 
 -- the greatest place up to n whose state is reached
-unfoldable pub reached : List Operation → ℕ → ℕ
-reached ops zero = 0
-reached ops (suc n) = if is_some (run ops (suc n)) then suc n else reached ops n
+unfoldable pub reached : State → List Operation → ℕ → ℕ
+reached from ops zero = 0
+reached from ops (suc n) = if is_some (run from ops (suc n)) then suc n else reached from ops n
 
 -- the listing, k being the greatest place that is reached: after all items, or with the refused item k as the last
 abbrev pub listing_to : Contents → ℕ → Option Operation → Option State → Listing
@@ -98,7 +103,7 @@ listing_to d k (Some o) (Some s) =
 listing_to d k o None = record { text = []; status = 0 }
 
 abbrev pub listing_with : Contents → ℕ → Listing
-listing_with d k = listing_to d k (item_at d k) (run (ops_of d) k)
+listing_with d k = listing_to d k (item_at d k) (run (start d.many) (ops_of d) k)
 
 unfoldable pub listing : Contents → Listing
-listing d = listing_with d (reached (ops_of d) (length (ops_of d)))
+listing d = listing_with d (reached (start d.many) (ops_of d) (length (ops_of d)))

@@ -1,5 +1,5 @@
 -- What became of a listing that was to be written.
-use Rattle.std.specs.Prelude.{◌≡◌, ℕ, List}
+use Rattle.std.specs.Prelude.{◌≡◌, ℕ, Bool, List}
 use Rattle.pickle_io.specs.Device.{Told, Wrote, Broke, WroteAllBut}
 use Rattle.pickle_doc.specs.Document.{Contents, ReadsAs}
 use Rattle.pickle_report.specs.declared.stop.TextStop.{TextStop}
@@ -21,21 +21,21 @@ abbrev pub CutListing : Contents → Told → Told → TextStop → Type 0
 CutListing d old new stop.Failed = Broke old new (listing d).text
 CutListing d old new stop.Memory = BeganListing d old new
 
--- ---- of bytes: the listing of the document that they read as
+-- ---- of bytes: the listing of the document that they read as, as many pickles or as one
 
 -- the whole listing was written, and this is its status
-abbrev pub IsListed : List ℕ → Told → Told → ℕ → Type 0
-IsListed bytes old new status = (d : Contents) × ReadsAs bytes d × WroteListing d old new status
+abbrev pub IsListed : Bool → List ℕ → Told → Told → ℕ → Type 0
+IsListed many bytes old new status = (d : Contents) × ReadsAs many bytes d × WroteListing d old new status
 
 -- a beginning of it was written, and then the sink failed
-abbrev pub BreaksListing : List ℕ → Told → Told → Type 0
-BreaksListing bytes old new = (d : Contents) × ReadsAs bytes d × Broke old new (listing d).text
+abbrev pub BreaksListing : Bool → List ℕ → Told → Told → Type 0
+BreaksListing many bytes old new = (d : Contents) × ReadsAs many bytes d × Broke old new (listing d).text
 
 -- a beginning of it was written, and no failure came
-abbrev pub BeginsListing : List ℕ → Told → Told → Type 0
-BeginsListing bytes old new = (d : Contents) × ReadsAs bytes d × BeganListing d old new
+abbrev pub BeginsListing : Bool → List ℕ → Told → Told → Type 0
+BeginsListing many bytes old new = (d : Contents) × ReadsAs many bytes d × BeganListing d old new
 
 -- a beginning of it was written, and then the sink failed, or memory was wanting
-abbrev pub CutsListing : List ℕ → Told → Told → TextStop → Type 0
-CutsListing bytes old new stop.Failed = BreaksListing bytes old new
-CutsListing bytes old new stop.Memory = BeginsListing bytes old new
+abbrev pub CutsListing : Bool → List ℕ → Told → Told → TextStop → Type 0
+CutsListing many bytes old new stop.Failed = BreaksListing many bytes old new
+CutsListing many bytes old new stop.Memory = BeginsListing many bytes old new

@@ -34,7 +34,7 @@ fn write_left_text<S: Sink>(objects: usize, marks: usize, sink: &mut S) -> Resul
 
 /// Writes what STOP left on the stack, if anything.
 #[tactic(auto, using(pickle_io::proofs::Devices::text_steps), unfolding(crate::specs::Line::left_line))]
-fn write_left_line<S: Sink>(objects: usize, marks: usize, sink: &mut S) -> Result<(), Failed>
+pub fn write_left_line<S: Sink>(objects: usize, marks: usize, sink: &mut S) -> Result<(), Failed>
     ensures { Writes (S.told sink.old) (S.told sink.new) result (left_line objects marks) }
 {
     if objects == 0 && marks == 0 {
@@ -65,7 +65,7 @@ fn words_after_stop() -> &'static str
 
 /// Writes how many bytes stand after STOP, if any.
 #[tactic(auto, using(pickle_io::proofs::Devices::text_steps), unfolding(crate::specs::Line::kept_line))]
-fn write_kept_line<S: Sink>(count: u64, sink: &mut S) -> Result<(), Failed>
+pub fn write_kept_line<S: Sink>(count: u64, sink: &mut S) -> Result<(), Failed>
     ensures { Writes (S.told sink.old) (S.told sink.new) result (kept_line count) }
 {
     if count == 0 {

@@ -1,22 +1,24 @@
 //! The listing of items, one after another.
 
-ghost use Rattle.std.specs.Prelude.{◌≡◌, ◌≤◌, ◌<◌, ◌-◌, ◌^◌, length, None, OnOk, IfOk, IfErr};
+ghost use Rattle.std.specs.Prelude.{◌≡◌, ◌≤◌, ◌<◌, ◌-◌, ◌^◌, ◌==◌, ◌&&◌, [], if◌then◌else◌, length, None, OnOk, IfOk, IfErr};
 ghost use Rattle.pickle_io.specs.Device.{Writes};
 ghost use Rattle.pickle_io.specs.Text.{◌⧺◌};
+ghost use Rattle.pickle_doc.specs.DocUnit.{is_stop};
 ghost use Rattle.pickle_doc.specs.Document.{Contents, ReadsAs, size_limit};
 ghost use Rattle.pickle_objects.specs.Row.{row_of};
 ghost use Rattle.pickle_machine.specs.State.{stack_size};
-ghost use Rattle.pickle_machine.specs.Move.{next_of, refusal_of};
+ghost use Rattle.pickle_machine.specs.Move.{next_of, refusal_of, fresh};
 ghost use Rattle.pickle_outline.specs.Class.{sample};
 ghost use Rattle.pickle_outline.specs.Outline.{outline};
 ghost use Rattle.pickle_report.specs.Line.{fault_line};
+ghost use Rattle.pickle_page.specs.Page.{Puts};
 ghost use Rattle.pickle_listing.specs.Line.{raised, refused_line, left_line, kept_line, protocol_line};
 ghost use Rattle.pickle_listing.specs.Listing.{note_with, note_unless};
 ghost use Rattle.pickle_listing.specs.Inside.Marks.{last_of, followed};
 ghost use Rattle.pickle_listing.specs.Inside.Answer.{IsAnswer};
 ghost use Rattle.pickle_listing.specs.Written.{WroteListing, CutListing, IsListed, CutsListing};
 
-use crate::line::{write_protocol, write_refused, write_stopped};
+use crate::line::{write_kept_line, write_left_line, write_protocol, write_refused, write_stopped};
 use crate::note::Note;
 use crate::put::put_item;
 use pickle_doc::{Document, DocumentItems, ItemSource, Items, NextRef, TailFault, ends_reading};
@@ -86,6 +88,62 @@ fn write_fault_end<S: Sink>(
     page.flush(sink)?;
     write_fault(fault, offset, sink)?;
     write_protocol(highest, sink)
+}
+
+/// Writes out the page, and the lines after the last STOP of many pickles.
+#[tactic(auto, using(pickle_io::proofs::Devices::text_steps))]
+fn write_last_end<S: Sink>(
+    page: &mut Page,
+    kept: u64,
+    highest: Option<u8>,
+    sink: &mut S,
+) -> Result<(), Failed>
+    ensures { Writes (S.told sink.old) (S.told sink.new) result (page.old ⧺ kept_line kept ⧺ protocol_line highest) }
+{
+    page.flush(sink)?;
+    write_kept_line(kept, sink)?;
+    write_protocol(highest, sink)
+}
+
+/// Whether an opcode is STOP.
+fn is_stop(opcode: Opcode) -> bool
+    ensures { result ≡ is_stop opcode }
+{
+    matches!(opcode, Opcode::Stop)
+}
+
+/// Whether items that end in STOP, or do not, end the listing where so many bytes are left.
+fn is_last(stop: bool, left: u64) -> bool
+    ensures { result ≡ (left == 0 && stop) }
+{
+    left == 0 && stop
+}
+
+/// Puts what STOP left on the stack on the page, if anything.
+fn put_left_line<S: Sink>(
+    page: &mut Page,
+    objects: usize,
+    marks: usize,
+    sink: &mut S,
+) -> Result<(), Failed>
+    ensures { Puts (S.told sink.old) (S.told sink.new) page.old page.new result (left_line objects marks) }
+{
+    if objects == 0 && marks == 0 {
+        return Ok(());
+    }
+    page.flush(sink)?;
+    write_left_line(objects, marks, sink)
+}
+
+/// The same after STOP, and nothing after any other opcode.
+fn put_left<S: Sink>(page: &mut Page, stop: bool, lean: &Lean, sink: &mut S) -> Result<(), Failed>
+    ensures { Puts (S.told sink.old) (S.told sink.new) page.old page.new result (if stop then left_line (stack_size lean.now) (length lean.now.marked) else []) }
+{
+    if stop {
+        put_left_line(page, lean.stack_len(), lean.marks_len(), sink)
+    } else {
+        Ok(())
+    }
 }
 
 /// Writes out the page, and the lines after an item that is refused.
@@ -163,31 +221,49 @@ fn perform(
     follow_marks(opened, marks, lean.marks_len(), offset)
 }
 
-/// Writes the listing of the items that a source gives from the first on, and answers its status: 1 where an item is refused or the
-/// bytes have a fault, else 0. Lines stand on a page before they are written. The source is to give a document that is not too large.
+/// Makes ready for the next move: after STOP, where several pickles are listed, the next one begins, and no mark is open.
+fn refresh(lean: &mut Lean, opened: &mut Vec<u64>)
+    ensures fresh { lean.new ≡ outline (fresh lean.old) }
+    ensures marks { opened.new.items ≡ (if lean.old.stopped then [] else opened.old.items) }
+{
+    if lean.has_stopped() {
+        opened.clear();
+    }
+    lean.refresh();
+}
+
+/// Writes the listing of the items that a source gives from the first on, as many pickles or as one, and answers its status: 1 where an
+/// item is refused or the bytes have a fault, else 0. Lines stand on a page before they are written. The source is to give a document
+/// that is not too large.
 ///
 /// `Memory` (M) comes for want of memory, `Failed` from the sink; what was written then is a beginning of the listing.
 pub fn list_items<'a, I: ItemSource<'a>, S: Sink>(
     alloc: Global,
+    many: bool,
     source: I,
     sink: &mut S,
 ) -> Result<u8, TextStop>
     requires first { (I.unread source).left ≡ 0 }
     requires small { length (I.unread source).rest ≤ size_limit }
-    requires document { (d : Contents) × ReadsAs (I.unread source).rest d }
-    ensures ok { IfOk result (IsListed (I.unread source).rest (S.told sink.old) (S.told sink.new)) }
-    ensures err { IfErr result (CutsListing (I.unread source).rest (S.told sink.old) (S.told sink.new)) }
+    requires document { (d : Contents) × ReadsAs many (I.unread source).rest d }
+    ensures ok { IfOk result (IsListed many (I.unread source).rest (S.told sink.old) (S.told sink.new)) }
+    ensures err { IfErr result (CutsListing many (I.unread source).rest (S.told sink.old) (S.told sink.new)) }
 {
     let mut reader = source;
-    let mut lean = Lean::new(alloc);
+    let mut lean = Lean::new(alloc, many);
     let mut opened = Vec::new(alloc);
     let mut page = Page::new();
     let mut highest = None;
     let mut offset = 0;
     let mut place = 0;
+    let mut stop = false;
     'items: loop {
         match reader.next() {
             NextRef::Tail(fault) => {
+                let kept = reader.unread_len();
+                if is_last(stop, kept) {
+                    return answer(write_last_end(&mut page, kept, highest, sink), 0);
+                }
                 return answer(write_fault_end(&mut page, fault, offset, highest, sink), 1);
             }
             NextRef::Item(op) => {
@@ -203,27 +279,35 @@ pub fn list_items<'a, I: ItemSource<'a>, S: Sink>(
                 perform(&mut lean, &mut opened, row, class, place, offset)?;
                 offset += op.size() as u64;
                 place += 1;
-                if ends_reading(op.opcode()) {
+                if ends_reading(many, op.opcode()) {
                     let kept = reader.unread_len();
                     return answer(write_stopped_end(&mut page, &lean, kept, highest, sink), 0);
                 }
+                stop = is_stop(op.opcode());
+                put_left(&mut page, stop, &lean, sink)?;
+                refresh(&mut lean, &mut opened);
             }
         }
     }
 }
 
-/// Writes the listing of the pickle that the bytes are, which are not too many, and answers its status, as `list_items` does. No
-/// item is kept.
-pub fn list_bytes<S: Sink>(alloc: Global, bytes: &[u8], sink: &mut S) -> Result<u8, TextStop>
+/// Writes the listing of the pickle that the bytes are, or of the several pickles, which are not too many, and answers its status, as
+/// `list_items` does. No item is kept.
+pub fn list_bytes<S: Sink>(
+    alloc: Global,
+    many: bool,
+    bytes: &[u8],
+    sink: &mut S,
+) -> Result<u8, TextStop>
     requires { length bytes.now ≤ size_limit }
-    ensures ok { IfOk result (IsListed bytes.now (S.told sink.old) (S.told sink.new)) }
-    ensures err { IfErr result (CutsListing bytes.now (S.told sink.old) (S.told sink.new)) }
+    ensures ok { IfOk result (IsListed many bytes.now (S.told sink.old) (S.told sink.new)) }
+    ensures err { IfErr result (CutsListing many bytes.now (S.told sink.old) (S.told sink.new)) }
 {
-    list_items(alloc, Items::new(bytes), sink)
+    list_items(alloc, many, Items::new(bytes), sink)
 }
 
-/// Writes the listing of a document, and answers its status: 1 where an item is refused or the tail has a fault, else 0. The
-/// machine that it asks is its own.
+/// Writes the listing of a document, in its mode, and answers its status: 1 where an item is refused or the tail has a fault, else 0.
+/// The machine that it asks is its own.
 ///
 /// `Memory` (M) comes for want of memory, `Failed` from the sink; what was written then is a beginning of the listing.
 pub fn write_listing<S: Sink>(
@@ -234,5 +318,6 @@ pub fn write_listing<S: Sink>(
     ensures listed { IfOk result (WroteListing document.now.contents (S.told sink.old) (S.told sink.new)) }
     ensures stopped { IfErr result (CutListing document.now.contents (S.told sink.old) (S.told sink.new)) }
 {
-    list_items(alloc, DocumentItems::new(document), sink)
+    let items = DocumentItems::new(document);
+    list_items(alloc, document.is_many(), items, sink)
 }

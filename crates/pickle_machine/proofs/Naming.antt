@@ -18,9 +18,9 @@ use Rattle.pickle_objects.specs.declared.row.Filling.TheVariants as filling
 use Rattle.pickle_objects.specs.Object.{Object}
 use Rattle.pickle_objects.specs.Row.{count_of, values_of, change_of}
 use Rattle.pickle_machine.specs.declared.refusal.Refusal.TheVariants as refusal
-use Rattle.pickle_machine.specs.State.{Marked, State, empty}
-use Rattle.pickle_machine.specs.Move.{deep, put, memo_at, change_top, changes_of, pairs_of, refusal_of, next_of, changed, push, last_of, without, cut, put_on, under, deeper}
-use Rattle.pickle_machine.specs.Names.{AreNames, named_by, IsNaming, NamesAll}
+use Rattle.pickle_machine.specs.State.{Marked, Left, State, start}
+use Rattle.pickle_machine.specs.Move.{deep, put, memo_at, change_top, changes_of, pairs_of, refusal_of, next_of, begun, fresh, changed, push, last_of, without, cut, put_on, under, deeper}
+use Rattle.pickle_machine.specs.Names.{AreNames, AreNaming, named_by, IsNaming, IsNamingBehind, NamesAll}
 use Rattle.pickle_machine.proofs.Leading.{good_of, deep_of}
 use Rattle.pickle_machine.proofs.HeapGrowth.{changed_length, push_length}
 
@@ -35,20 +35,27 @@ more_naming a b le o h = record {
   changes = All-weaker (λ c. AreNames a (named_by c)) (λ c. AreNames b (named_by c)) (λ c l. more_names a b le (named_by c) l) o.changes h.changes;
 }
 
+more_sections : (a b : ℕ) → a ≤ b → (ms : List Marked) → AreNaming a ms → AreNaming b ms
+more_sections a b le ms h = All-weaker (λ m. AreNames a m.section) (λ m. AreNames b m.section) (λ m l. more_names a b le m.section l) ms h
+
+more_behind : (a b : ℕ) → a ≤ b → (l : Left) → IsNamingBehind a l → IsNamingBehind b l
+more_behind a b le l h = record { top = more_names a b le l.top h.top; marked = more_sections a b le l.marked h.marked }
+
 -- ---- each shape
 
-pub empty_names : NamesAll empty
-empty_names = record {
+pub start_names : (many : Bool) → NamesAll (start many)
+start_names many = record {
   heap = All-nil (λ o. IsNaming 0 o);
   top = All-nil (λ id. id < 0);
   marked = All-nil (λ m. AreNames 0 m.section);
   memo = All-nil (λ id. id < 0);
   results = All-nil (λ id. id < 0);
+  left = All-nil (λ l. IsNamingBehind 0 l);
 }
 
 -- the top section has other objects
 top_names : (ids : List ℕ) (s : State) → AreNames (length s.heap) ids → NamesAll s → NamesAll (record s { top = ids })
-top_names ids s t i = record { heap = i.heap; top = t; marked = i.marked; memo = i.memo; results = i.results }
+top_names ids s t i = record { heap = i.heap; top = t; marked = i.marked; memo = i.memo; results = i.results; left = i.left }
 
 without_names : (n : ℕ) (s : State) → NamesAll s → NamesAll (without n s)
 without_names n s i = top_names (without n s).top s (All-take (λ id. id < length s.heap) (length s.top - n) s.top i.top) i
@@ -74,6 +81,7 @@ cut_names s i = record {
   marked = deeper_names (length s.heap) s.marked i.marked;
   memo = i.memo;
   results = i.results;
+  left = i.left;
 }
 
 mark_names : (place : ℕ) (s : State) → NamesAll s → NamesAll (record s { top = []; marked = record { section = s.top; place = place } ∷ s.marked })
@@ -83,6 +91,7 @@ mark_names place s i = record {
   marked = All-cons (λ m. AreNames (length s.heap) m.section) (record { section = s.top; place = place }) s.marked i.top i.marked;
   memo = i.memo;
   results = i.results;
+  left = i.left;
 }
 
 push_names : (k : Kind) (parts : List ℕ) (s : State) → AreNames (length s.heap) parts → NamesAll s → NamesAll (push k parts s)
@@ -99,16 +108,17 @@ push_names k parts s p i =
       marked = All-weaker (λ x. AreNames n x.section) (λ x. AreNames m x.section) (λ x h. more_names n m le x.section h) s.marked i.marked;
       memo = more_names n m le _ i.memo;
       results = more_names n m le s.results i.results;
+      left = All-weaker (λ l. IsNamingBehind n l) (λ l. IsNamingBehind m l) (λ l h. more_behind n m le l h) s.left i.left;
     }
 
 buffer_names : (n : ℕ) (s : State) → NamesAll s → NamesAll (record s { buffers = n })
-buffer_names n s i = record { heap = i.heap; top = i.top; marked = i.marked; memo = i.memo; results = i.results }
+buffer_names n s i = record { heap = i.heap; top = i.top; marked = i.marked; memo = i.memo; results = i.results; left = i.left }
 
-results_names : (id : ℕ) (s : State) → id < length s.heap → NamesAll s → NamesAll (record s { results = s.results ++ id ∷ [] })
-results_names id s h i = record { heap = i.heap; top = i.top; marked = i.marked; memo = i.memo; results = All-push (λ id. id < length s.heap) s.results id i.results h }
+results_names : (id : ℕ) (stopped : Bool) (s : State) → id < length s.heap → NamesAll s → NamesAll (record s { results = s.results ++ id ∷ []; stopped = stopped })
+results_names id stopped s h i = record { heap = i.heap; top = i.top; marked = i.marked; memo = i.memo; results = All-push (λ id. id < length s.heap) s.results id i.results h; left = i.left }
 
 put_names : (key : ℕ) (s : State) → deep 0 s.top < length s.heap → NamesAll s → NamesAll (put key s)
-put_names key s h i = record { heap = i.heap; top = i.top; marked = i.marked; memo = All-values-insert_entry nat_cmp key (deep 0 s.top) (λ id. id < length s.heap) s.memo i.memo h; results = i.results }
+put_names key s h i = record { heap = i.heap; top = i.top; marked = i.marked; memo = All-values-insert_entry nat_cmp key (deep 0 s.top) (λ id. id < length s.heap) s.memo i.memo h; results = i.results; left = i.left }
 
 -- ---- changes
 
@@ -120,6 +130,7 @@ heap_names s h e a i = record {
   marked = subst (λ (n : ℕ). All (λ (m : Marked). AreNames n m.section) s.marked) (sym e) i.marked;
   memo = more_names (length s.heap) (length h) (omega (arith, e)) _ i.memo;
   results = subst (λ (n : ℕ). AreNames n s.results) (sym e) i.results;
+  left = subst (λ (n : ℕ). All (λ l. IsNamingBehind n l) s.left) (sym e) i.left;
 }
 
 found_names : (n : ℕ) (heap : List Object) (id : ℕ) (o : Object) → slice_get heap id ≡ Some o → All (λ o. IsNaming n o) heap → IsNaming n o
@@ -193,4 +204,20 @@ names_next (row.Get key) k place s e i =
     put_on_names (unwrap_or (memo_at key s) 0) s (found_name (length s.heap) (memo_at key s) found (IfSome-lookup_from_All (λ id. id < length s.heap) (is_at (nat_cmp key)) s.memo i.memo)) i
 names_next (row.Put key) k place s e i = put_names key s (deep_name s (deep_of 1 s.top None e) i) i
 names_next row.Memoize k place s e i = put_names (length s.memo) s (deep_name s (deep_of 1 s.top None e) i) i
-names_next row.Stop k place s e i = results_names (deep 0 s.top) (without 1 s) (deep_name s (deep_of 1 s.top None e) i) (without_names 1 s i)
+names_next row.Stop k place s e i = results_names (deep 0 s.top) s.many (without 1 s) (deep_name s (deep_of 1 s.top None e) i) (without_names 1 s i)
+
+-- ---- a further pickle
+
+begun_names : (s : State) → NamesAll s → NamesAll (begun s)
+begun_names s i = record {
+  heap = i.heap;
+  top = All-nil (λ id. id < length s.heap);
+  marked = All-nil (λ m. AreNames (length s.heap) m.section);
+  memo = All-nil (λ id. id < length s.heap);
+  results = i.results;
+  left = All-cons (λ l. IsNamingBehind (length s.heap) l) (record { top = s.top; marked = s.marked }) s.left (record { top = i.top; marked = i.marked }) i.left;
+}
+
+-- a step, also a first one
+pub step_names : (r : Row) (k : Kind) (place : ℕ) (s : State) → refusal_of r (fresh s) ≡ None → NamesAll s → NamesAll (next_of r k place (fresh s))
+step_names r k place s e i = names_next r k place (fresh s) e (pick_names s.stopped (begun s) s (begun_names s i) i)

@@ -5,7 +5,7 @@ use Rattle.std.specs.Map.{values_of}
 use Rattle.pickle_objects.specs.declared.object.Change.{Change}
 use Rattle.pickle_objects.specs.declared.object.Change.TheVariants as change
 use Rattle.pickle_objects.specs.Object.{Object}
-use Rattle.pickle_machine.specs.State.{State}
+use Rattle.pickle_machine.specs.State.{Marked, Left, State}
 
 -- each of these numbers names one of so many objects
 abbrev pub AreNames : ℕ → List ℕ → Type 0
@@ -23,10 +23,19 @@ pub record IsNaming (count : ℕ) (o : Object) : Type 0 where
   pub parts : AreNames count o.parts
   pub changes : All (λ c. AreNames count (named_by c)) o.changes
 
+-- the sections under marks name objects, and so does a stack that was left behind
+abbrev pub AreNaming : ℕ → List Marked → Type 0
+AreNaming count ms = All (λ m. AreNames count m.section) ms
+
+pub record IsNamingBehind (count : ℕ) (l : Left) : Type 0 where
+  pub top : AreNames count l.top
+  pub marked : AreNaming count l.marked
+
 -- every number of a state names one of its objects
 pub record NamesAll (s : State) : Type 0 where
   pub heap : All (λ o. IsNaming (length s.heap) o) s.heap
   pub top : AreNames (length s.heap) s.top
-  pub marked : All (λ m. AreNames (length s.heap) m.section) s.marked
+  pub marked : AreNaming (length s.heap) s.marked
   pub memo : AreNames (length s.heap) (values_of s.memo)
   pub results : AreNames (length s.heap) s.results
+  pub left : All (λ l. IsNamingBehind (length s.heap) l) s.left

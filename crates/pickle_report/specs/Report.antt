@@ -1,6 +1,6 @@
 -- The report of a document: the objects that its items make, and how their run ended.
 -- Source: own.
-use Rattle.std.specs.Prelude.{◌≡◌, ℕ, List, length, codes, Option, Some, None}
+use Rattle.std.specs.Prelude.{◌≡◌, ℕ, List, [], length, codes, Option, Some, None}
 use Rattle.pickle_ops.specs.Spelling.{Operation}
 use Rattle.pickle_io.specs.Text.{◌⧺◌}
 use Rattle.pickle_doc.specs.declared.fault.End.TheVariants as end
@@ -8,16 +8,16 @@ use Rattle.pickle_doc.specs.Document.{Contents, items_of}
 use Rattle.pickle_doc.specs.Place.{ops_of, item_at, end_of}
 use Rattle.pickle_objects.specs.Object.{Object}
 use Rattle.pickle_machine.specs.declared.refusal.Refusal.{Refusal}
-use Rattle.pickle_machine.specs.State.{State, last_result}
+use Rattle.pickle_machine.specs.State.{State, start}
 use Rattle.pickle_machine.specs.Move.{refusal_at}
 use Rattle.pickle_machine.specs.Run.{run}
-use Rattle.pickle_io.specs.Device.{Told, Wrote, Broke}
+use Rattle.pickle_io.specs.Device.{Told, Wrote, Broke, each}
 use Rattle.pickle_report.specs.declared.report.Closing.{Closing}
 use Rattle.pickle_report.specs.declared.report.Closing.TheVariants as closing
 use Rattle.pickle_report.specs.Line.{newline, item_refused, fault_line}
 use Rattle.pickle_report.specs.ObjectText.{next_text, objects_text}
 
--- ---- the closing line
+-- ---- the results, and the closing line
 
 unfoldable pub result_line : ℕ → List ℕ
 result_line id = codes "result" ⧺ next_text id ⧺ newline
@@ -25,20 +25,21 @@ result_line id = codes "result" ⧺ next_text id ⧺ newline
 unfoldable pub refused_line : ℕ → Refusal → List ℕ
 refused_line place r = codes "refused: " ⧺ item_refused place r ⧺ newline
 
+-- after a STOP behind which nothing stands there is no more to say
 unfoldable pub closing_line : Closing → List ℕ
-closing_line (closing.Result id) = result_line id
+closing_line closing.Stopped = []
 closing_line (closing.Refused place r) = refused_line place r
 closing_line (closing.Fault f offset) = fault_line f offset
 
--- the status: 0 for a result
+-- the status: 0 where nothing is refused and nothing is at fault
 abbrev pub closing_status : Closing → ℕ
-closing_status (closing.Result id) = 0
+closing_status closing.Stopped = 0
 closing_status (closing.Refused place r) = 1
 closing_status (closing.Fault f offset) = 1
 
--- the lines of all objects, and the closing line
-unfoldable pub report_text : List Object → Closing → List ℕ
-report_text heap c = objects_text heap ⧺ closing_line c
+-- the lines of all objects, one for each result, and the closing line
+unfoldable pub report_text : List Object → List ℕ → Closing → List ℕ
+report_text heap results c = objects_text heap ⧺ each result_line results ⧺ closing_line c
 
 -- ---- the report of a document
 
@@ -47,22 +48,22 @@ abbrev pub refused_on : Option Operation → State → Option Refusal
 refused_on (Some o) s = refusal_at o s
 refused_on None s = None
 
--- how a run ends that has come to a place: the machine refuses the item there; or after the last item STOP has left a
--- result, or the tail has a fault
+-- how a run ends that has come to a place: the machine refuses the item there; or after the last item the document
+-- stops, or the tail has a fault
 abbrev pub Closes : Contents → ℕ → State → Closing → Type 0
-Closes d place s (closing.Result id) = (place ≡ length (items_of d)) × (end_of d ≡ end.Stopped) × (last_result s ≡ Some id)
+Closes d place s closing.Stopped = (place ≡ length (items_of d)) × (end_of d ≡ end.Stopped)
 Closes d place s (closing.Refused k r) = (k ≡ place) × (refused_on (item_at d place) s ≡ Some r)
 Closes d place s (closing.Fault f offset) = (place ≡ length (items_of d)) × (end_of d ≡ end.Fault f offset)
 
--- the items are run from nothing as far as they have moves; the state that they reach and the closing of their run give
+-- the items are run from nothing, as one pickle or as several, as far as they have moves; the state that they reach and the closing of their run give
 -- the text and the status
 pub record IsReport (d : Contents) (text : List ℕ) (status : ℕ) : Type 0 where
   pub place : ℕ
   pub state : State
   pub closing : Closing
-  pub reached : run (ops_of d) place ≡ Some state
+  pub reached : run (start d.many) (ops_of d) place ≡ Some state
   pub closes : Closes d place state closing
-  pub lines : text ≡ report_text state.heap closing
+  pub lines : text ≡ report_text state.heap state.results closing
   pub answers : status ≡ closing_status closing
 
 -- the report was written, and this is its status

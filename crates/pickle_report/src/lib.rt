@@ -17,7 +17,7 @@ mod stop;
 pub use laws::one_report;
 pub use line::{write_fault, write_fault_text, write_item_refused, write_refusal};
 pub use memo::write_memo;
-pub use object::{write_object, write_objects};
+pub use object::{write_all_next, write_id, write_object, write_objects};
 pub use report::{Closing, write_document_report, write_report};
 pub use show::write_show;
 pub use stack::write_stack;

@@ -12,7 +12,7 @@ use pickle_ops::{Failed, Sink, write_all, write_decimal};
 
 /// Writes an object by its number.
 #[tactic(auto, using(pickle_io::proofs::Devices::text_steps), unfolding(crate::specs::ObjectText::id_text))]
-pub(crate) fn write_id<S: Sink>(id: u64, sink: &mut S) -> Result<(), Failed>
+pub fn write_id<S: Sink>(id: u64, sink: &mut S) -> Result<(), Failed>
     ensures { Writes (S.told sink.old) (S.told sink.new) result (id_text id) }
 {
     write_all(sink, b"#")?;
@@ -30,7 +30,7 @@ pub(crate) fn write_next<S: Sink>(id: ObjId, sink: &mut S) -> Result<(), Failed>
 
 /// Writes objects by their numbers, each after a blank.
 #[tactic(auto, using(pickle_io::proofs::Devices::each_steps))]
-fn write_all_next<S: Sink>(ids: &[ObjId], sink: &mut S) -> Result<(), Failed>
+pub fn write_all_next<S: Sink>(ids: &[ObjId], sink: &mut S) -> Result<(), Failed>
     ensures { Writes (S.told sink.old) (S.told sink.new) result (each next_text ids.now) }
 {
     for id in ids {

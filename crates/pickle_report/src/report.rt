@@ -1,11 +1,11 @@
 //! The report of a document.
 
-ghost use Rattle.std.specs.Prelude.{◌≡◌, ◌≢◌, ℕ, ◌+◌, ◌-◌, ◌^◌, ◌<◌, ◌≤◌, length, OnOk, OnErr, IfOk, IfErr, IsSome, Some, Err};
-ghost use Rattle.pickle_doc.specs.Document.{items_of, IsDocument};
+ghost use Rattle.std.specs.Prelude.{◌≡◌, ◌≢◌, ℕ, ◌+◌, ◌-◌, ◌^◌, ◌<◌, ◌≤◌, length, OnOk, OnErr, IfOk, IfErr, Some, Err};
+ghost use Rattle.pickle_doc.specs.Document.{items_of};
 ghost use Rattle.pickle_doc.specs.Place.{ops_of, item_at};
-ghost use Rattle.pickle_machine.specs.State.{empty, last_result};
+ghost use Rattle.pickle_machine.specs.State.{State, start};
 ghost use Rattle.pickle_machine.specs.Run.{run};
-ghost use Rattle.pickle_io.specs.Device.{Writes};
+ghost use Rattle.pickle_io.specs.Device.{Writes, each};
 ghost use Rattle.pickle_report.specs.Report.{result_line, refused_line, closing_line, closing_status, report_text, refused_on, Closes, WroteReport, BrokeReport};
 
 use crate::line::{write_fault, write_item_refused};
@@ -20,8 +20,8 @@ use std::alloc::Global;
 /// How a run over the items of a document ended.
 #[derive(Clone, Copy, Debug, PartialEq, Eq)]
 pub enum Closing {
-    /// STOP was the last item, and this is its result.
-    Result(ObjId),
+    /// STOP was the last item, and nothing follows that belongs to the document.
+    Stopped,
     /// The machine refuses the item at this place, and why.
     Refused(usize, Refusal),
     /// After the last item the tail has this fault; the number is the offset of the tail in bytes.
@@ -36,6 +36,17 @@ fn write_result<S: Sink>(id: ObjId, sink: &mut S) -> Result<(), Failed>
     write_all(sink, b"result")?;
     write_next(id, sink)?;
     write_all(sink, b"\n")
+}
+
+/// Writes the lines of results.
+#[tactic(auto, using(pickle_io::proofs::Devices::each_steps))]
+fn write_results<S: Sink>(ids: &[ObjId], sink: &mut S) -> Result<(), Failed>
+    ensures { Writes (S.told sink.old) (S.told sink.new) result (each result_line ids.now) }
+{
+    for id in ids {
+        write_result(*id, sink)?;
+    }
+    Ok(())
 }
 
 /// Writes the line of an item that is refused.
@@ -54,7 +65,7 @@ fn write_closing<S: Sink>(closing: Closing, sink: &mut S) -> Result<(), Failed>
     ensures { Writes (S.told sink.old) (S.told sink.new) result (closing_line closing) }
 {
     match closing {
-        Closing::Result(id) => write_result(id, sink),
+        Closing::Stopped => Ok(()),
         Closing::Refused(place, refusal) => write_refused(place, refusal, sink),
         Closing::Fault(fault, offset) => write_fault(fault, offset, sink),
     }
@@ -65,51 +76,42 @@ fn status_of(closing: Closing) -> u8
     ensures { result ≡ closing_status closing }
 {
     match closing {
-        Closing::Result(_) => 0,
+        Closing::Stopped => 0,
         Closing::Refused(_, _) => 1,
         Closing::Fault(_, _) => 1,
     }
 }
 
-/// Writes all objects, and how the run that made them ended.
+/// Writes all objects, the results, and how the run that made them ended.
 #[tactic(auto, using(pickle_io::proofs::Devices::text_steps), unfolding(crate::specs::Report::report_text))]
 fn write_lines<S: Sink>(machine: &Machine, closing: Closing, sink: &mut S) -> Result<(), Failed>
-    ensures { Writes (S.told sink.old) (S.told sink.new) result (report_text machine.now.state.heap closing) }
+    ensures { Writes (S.told sink.old) (S.told sink.new) result (report_text machine.now.state.heap machine.now.state.results closing) }
 {
     write_objects(machine, sink)?;
+    write_results(machine.results(), sink)?;
     write_closing(closing, sink)
 }
 
-/// Writes the lines of all objects of a machine and one closing line, and answers the status: 0 for a result, else 1. It takes
-/// no memory. `Failed` where the sink fails; a front of the lines was written then.
+/// Writes the lines of all objects of a machine, one for each result, and a closing line where something is refused or at fault, and
+/// answers the status: 1 with such a line, else 0. It takes no memory. `Failed` where the sink fails; a front of the lines was written then.
 pub fn write_report<S: Sink>(
     machine: &Machine,
     closing: Closing,
     sink: &mut S,
 ) -> Result<u8, Failed>
-    ensures text { Writes (S.told sink.old) (S.told sink.new) result (report_text machine.now.state.heap closing) }
+    ensures text { Writes (S.told sink.old) (S.told sink.new) result (report_text machine.now.state.heap machine.now.state.results closing) }
     ensures status { IfOk result (λ status. status ≡ closing_status closing) }
 {
     write_lines(machine, closing, sink)?;
     Ok(status_of(closing))
 }
 
-/// The result that a machine has.
-fn result_of(machine: &Machine) -> ObjId
-    requires { IsSome (last_result machine.now.state) }
-    ensures { last_result machine.now.state ≡ Some result }
-{
-    machine.result().unwrap()
-}
-
 /// How a run ends that went over all items.
-fn close(document: &Document, machine: &Machine) -> Closing
-    requires document { IsDocument document.now.contents }
-    requires reached { run (ops_of document.now.contents) (length (items_of document.now.contents)) ≡ Some machine.now.state }
-    ensures { Closes document.now.contents (length (items_of document.now.contents)) machine.now.state result }
+fn close(document: &Document) -> Closing
+    ensures { (s : State) → Closes document.now.contents (length (items_of document.now.contents)) s result }
 {
     match document.end() {
-        End::Stopped => Closing::Result(result_of(machine)),
+        End::Stopped => Closing::Stopped,
         End::Fault(fault, offset) => Closing::Fault(fault, offset),
     }
 }
@@ -123,8 +125,8 @@ fn step_over(
 ) -> Result<(), Refusal>
     requires few { length machine.old.state.heap < 2 ^ 32 - 1 }
     requires there { place < length (items_of document.now.contents) }
-    requires reached { run (ops_of document.now.contents) place ≡ Some machine.old.state }
-    ensures ok { OnOk result (run (ops_of document.now.contents) (place + 1) ≡ Some machine.new.state) }
+    requires reached { run (start document.now.contents.many) (ops_of document.now.contents) place ≡ Some machine.old.state }
+    ensures ok { OnOk result (run (start document.now.contents.many) (ops_of document.now.contents) (place + 1) ≡ Some machine.new.state) }
     ensures objects { length machine.new.state.heap ≤ length machine.old.state.heap + 1 }
     ensures err { OnErr result (machine.new.state ≡ machine.old.state) }
 
@@ -139,9 +141,9 @@ fn step_over(
 /// Steps a machine that has done nothing over the items of a document, as far as they have moves, and says how the run ended.
 /// An error where memory is wanting for a step.
 fn run_items(alloc: Global, document: &Document, machine: &mut Machine) -> Result<Closing, TextStop>
-    requires empty { machine.old.state ≡ empty }
+    requires start { machine.old.state ≡ start document.now.contents.many }
     requires few { length (items_of document.now.contents) < 2 ^ 32 }
-    ensures closes { IfOk result (λ c. (place : ℕ) × (run (ops_of document.now.contents) place ≡ Some machine.new.state) × Closes document.now.contents place machine.new.state c) }
+    ensures closes { IfOk result (λ c. (place : ℕ) × (run (start document.now.contents.many) (ops_of document.now.contents) place ≡ Some machine.new.state) × Closes document.now.contents place machine.new.state c) }
     ensures memory { IfErr result (λ e. e ≡ TextStop.Memory) }
 {
     for place in 0..document.len() {
@@ -152,12 +154,24 @@ fn run_items(alloc: Global, document: &Document, machine: &mut Machine) -> Resul
             return Ok(Closing::Refused(place, refusal));
         }
     }
-    Ok(close(document, machine))
+    Ok(close(document))
+}
+
+/// A machine that has done nothing, for several pickles or for one.
+fn machine_of(alloc: Global, many: bool) -> Machine
+    ensures { result.state ≡ start many }
+{
+    if many {
+        Machine::new_many(alloc)
+    } else {
+        Machine::new(alloc)
+    }
 }
 
 /// Writes the report of a document, and answers its status. A machine of its own runs the items from nothing, to the end or to
-/// the first that is refused; then come the lines of all objects that they made, and one closing line: `result #n`, `refused: item
-/// K: ` and why, or `fault: ` and why with the offset of the tail. The status is 0 for a result, else 1.
+/// the first that is refused; then come the lines of all objects that they made, a line `result #n` for each result, and where an
+/// item is refused or the tail has a fault one line more: `refused: item K: ` and why, or `fault: ` and why with the offset of the
+/// tail. The status is 1 with such a line, else 0.
 ///
 /// Nothing is written before the run has ended, and no step is kept. `Memory` where memory is wanting for a step, and then nothing
 /// was written. `Failed` where the sink fails; a front of the report was written then.
@@ -171,7 +185,7 @@ pub fn write_document_report<S: Sink>(
     ensures memory { result ≡ Err TextStop.Memory → sink.new ≡ sink.old }
 {
     let _total = document.total();
-    let mut machine = Machine::new(alloc);
+    let mut machine = machine_of(alloc, document.is_many());
     let closing = run_items(alloc, document, &mut machine)?;
     let status = write_report(&machine, closing, sink)?;
     Ok(status)

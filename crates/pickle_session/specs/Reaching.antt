@@ -1,7 +1,7 @@
 -- Lists of commands, and the sessions that they lead to by answers that are allowed.
 -- Source: own. A command without memory may be refused at any time where it is allowed to ask for memory, so that one list
 -- leads to more than one session.
-use Rattle.std.specs.Prelude.{◌≡◌, ◌<◌, ℕ, zero, suc, List, [], ◌∷◌, length}
+use Rattle.std.specs.Prelude.{◌≡◌, ◌<◌, ℕ, Bool, zero, suc, List, [], ◌∷◌, length}
 use Rattle.pickle_doc.specs.Document.{document_bytes}
 use Rattle.pickle_session.specs.declared.command.Command.{Command}
 use Rattle.pickle_session.specs.declared.command.Command.TheVariants as command
@@ -17,9 +17,9 @@ abbrev pub Reaches : List Command → Standing → Standing → Type 0
 Reaches [] p q = q ≡ p
 Reaches (c ∷ cs) p q = (r : Reply) × (m : Standing) × Answers c p r m.session × Reaches cs m q
 
--- they lead there from the opening of these bytes
-abbrev pub IsReached : List ℕ → List Command → Standing → Type 0
-IsReached bytes cs q = (p : Standing) × IsOpened bytes p × Reaches cs p q
+-- they lead there from the opening of these bytes, as several pickles or as one
+abbrev pub IsReached : Bool → List ℕ → List Command → Standing → Type 0
+IsReached many bytes cs q = (p : Standing) × IsOpened many bytes p × Reaches cs p q
 
 -- so many undos
 abbrev pub undos : ℕ → List Command
@@ -29,10 +29,10 @@ undos (suc n) = command.Undo ∷ undos n
 -- what stays of the bytes that were opened, whatever the commands and the answers
 pub record OpenedStays : Type 0 where
   -- the oldest document has these bytes
-  pub kept : (bytes : List ℕ) (cs : List Command) (q : Standing) → IsReached bytes cs q → version_bytes (oldest q.session) ≡ bytes
+  pub kept : (many : Bool) (bytes : List ℕ) (cs : List Command) (q : Standing) → IsReached many bytes cs q → version_bytes (oldest q.session) ≡ bytes
   -- at the start an Undo is accepted wherever there is something to undo
   pub accepted : (p : Standing) (r : Reply) (t : Session) → p.session.cursor ≡ 0 → 0 < length p.session.past → Answers command.Undo p r t
       → (r ≡ reply.Undone (place_in p.session.past)) × (t ≡ undone p.session)
   -- an accepted Goto to the start, and then as many undos as there are edits, give these bytes again; nothing is left to undo
-  pub given : (bytes : List ℕ) (cs : List Command) (q m t : Standing) → IsReached bytes cs q → Answers (command.Goto 0) q (reply.At 0) m.session
+  pub given : (many : Bool) (bytes : List ℕ) (cs : List Command) (q m t : Standing) → IsReached many bytes cs q → Answers (command.Goto 0) q (reply.At 0) m.session
       → Reaches (undos (length q.session.past)) m t → (document_bytes t.session.document ≡ bytes) × (t.session.past ≡ [])

@@ -1,5 +1,5 @@
 -- What `list` answers, from what writing the one document answers.
-use Rattle.std.proofs.Common.{ℕ, List}
+use Rattle.std.proofs.Common.{ℕ, Bool, List}
 use Rattle.pickle_io.specs.Device.{Told}
 use Rattle.pickle_io.proofs.Devices.{WroteAllBut-none}
 use Rattle.pickle_doc.specs.Document.{AreBytes}
@@ -12,12 +12,12 @@ use Rattle.pickle_tasks.specs.Stop.{stop_of_text}
 use Rattle.pickle_tasks.specs.List.{StopsListing}
 
 -- nothing is a beginning of any text
-pub nothing_written : (bytes : List ℕ) (a : Told) → AreBytes bytes → BeginsListing bytes a a
-nothing_written bytes a small =
-    let some = some_document bytes small in
+pub nothing_written : (many : Bool) (bytes : List ℕ) (a : Told) → AreBytes bytes → BeginsListing many bytes a a
+nothing_written many bytes a small =
+    let some = some_document many bytes small in
     (some.0, some.1, ((listing some.0).text, WroteAllBut-none a (listing some.0).text))
 
 -- a listing that is cut short
-pub stops_of : (bytes : List ℕ) (a b : Told) (x : TextStop) → CutsListing bytes a b x → StopsListing bytes a b (stop_of_text x)
-stops_of bytes a b text.Failed h = h
-stops_of bytes a b text.Memory h = h
+pub stops_of : (many : Bool) (bytes : List ℕ) (a b : Told) (x : TextStop) → CutsListing many bytes a b x → StopsListing many bytes a b (stop_of_text x)
+stops_of many bytes a b text.Failed h = h
+stops_of many bytes a b text.Memory h = h

@@ -26,7 +26,7 @@ use Rattle.pickle_tasks.proofs.Refusals.{line_refuses, missing_refuses, show_acc
 
 -- each item makes one object at most
 pub few_objects : (s : Session) (t : State) → state_at s.document s.cursor ≡ Some t → s.cursor ≤ len_of s.document → length (document_bytes s.document) ≤ size_limit → length t.heap < 2 ^ 32
-few_objects s t e cursor total = omega (arith, run_heap (ops_of s.document) s.cursor t e, few_items s.document, cursor, total)
+few_objects s t e cursor total = omega (arith, run_heap s.document.many (ops_of s.document) s.cursor t e, few_items s.document, cursor, total)
 
 -- ---- a text is written
 

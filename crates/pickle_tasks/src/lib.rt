@@ -1,4 +1,4 @@
-//! What is done on the bytes of a pickle: its listing, the report of its objects, and a conversation with a session of it, line by line.
+//! What is done on the bytes of a pickle, or of several pickles that follow one another: its listing, the report of its objects, and a conversation with a session of it, line by line.
 //! A run that is not finished is a `Stop`.
 #![tactic(auto)]
 
@@ -12,7 +12,7 @@ mod stop;
 mod talk;
 
 pub use laws::one_cut;
-pub use listing::list;
-pub use report::objects;
+pub use listing::{list, list_many};
+pub use report::{objects, objects_many};
 pub use stop::{Stop, line_of};
 pub use talk::converse;

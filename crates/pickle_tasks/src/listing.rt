@@ -1,6 +1,6 @@
 //! The listing of an input.
 
-ghost use Rattle.std.specs.Prelude.{◌≡◌, ◌<◌, ◌↔◌, length, IfOk, IfErr, Err};
+ghost use Rattle.std.specs.Prelude.{◌≡◌, ◌<◌, ◌↔◌, true, false, length, IfOk, IfErr, Err};
 ghost use Rattle.pickle_doc.specs.Document.{size_limit};
 ghost use Rattle.pickle_listing.specs.Written.{IsListed};
 ghost use Rattle.pickle_tasks.specs.List.{StopsListing};
@@ -15,17 +15,37 @@ use std::alloc::Global;
 /// bytes have a fault, else 0. `Stop::TooLarge` comes where there are more bytes than `LIMIT`, `Stop::Memory` for
 /// want of memory, and `Stop::Write` from the sink; what was written then is a beginning of the listing.
 pub fn list<S: Sink>(alloc: Global, bytes: &[u8], sink: &mut S) -> Result<u8, Stop>
-    ensures listed { IfOk result (IsListed bytes.now (S.told sink.old) (S.told sink.new)) }
+    ensures listed { IfOk result (IsListed false bytes.now (S.told sink.old) (S.told sink.new)) }
 
     // Write comes only where the sink has failed, Memory only where it has not, and Read never.
-    ensures stopped { IfErr result (StopsListing bytes.now (S.told sink.old) (S.told sink.new)) }
+    ensures stopped { IfErr result (StopsListing false bytes.now (S.told sink.old) (S.told sink.new)) }
 
     // Too many bytes, and only those, are refused before anything is written.
+    ensures too_large { (result ≡ Err Stop.TooLarge) ↔ (size_limit < length bytes.now) }
+    ensures untouched { result ≡ Err Stop.TooLarge → sink.new ≡ sink.old }
+{
+    list_as(alloc, false, bytes, sink)
+}
+
+/// Writes the listing of the several pickles that the bytes are, which follow one another. Otherwise this is as `list`.
+pub fn list_many<S: Sink>(alloc: Global, bytes: &[u8], sink: &mut S) -> Result<u8, Stop>
+    ensures listed { IfOk result (IsListed true bytes.now (S.told sink.old) (S.told sink.new)) }
+    ensures stopped { IfErr result (StopsListing true bytes.now (S.told sink.old) (S.told sink.new)) }
+    ensures too_large { (result ≡ Err Stop.TooLarge) ↔ (size_limit < length bytes.now) }
+    ensures untouched { result ≡ Err Stop.TooLarge → sink.new ≡ sink.old }
+{
+    list_as(alloc, true, bytes, sink)
+}
+
+/// Writes the listing of the bytes, as several pickles or as one.
+fn list_as<S: Sink>(alloc: Global, many: bool, bytes: &[u8], sink: &mut S) -> Result<u8, Stop>
+    ensures listed { IfOk result (IsListed many bytes.now (S.told sink.old) (S.told sink.new)) }
+    ensures stopped { IfErr result (StopsListing many bytes.now (S.told sink.old) (S.told sink.new)) }
     ensures too_large { (result ≡ Err Stop.TooLarge) ↔ (size_limit < length bytes.now) }
     ensures untouched { result ≡ Err Stop.TooLarge → sink.new ≡ sink.old }
 {
     if bytes.len() > LIMIT {
         return Err(Stop::TooLarge);
     }
-    Ok(list_bytes(alloc, bytes, sink)?)
+    Ok(list_bytes(alloc, many, bytes, sink)?)
 }

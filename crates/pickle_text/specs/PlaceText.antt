@@ -6,11 +6,12 @@ use Rattle.pickle_ops.specs.Spelling.{Operation}
 use Rattle.pickle_ops.specs.Table.{name_of}
 use Rattle.pickle_io.specs.Text.{◌⧺◌}
 use Rattle.pickle_ops.specs.Text.{arg_text}
-use Rattle.pickle_io.specs.Device.{each_below}
+use Rattle.pickle_io.specs.Device.{each, each_below}
 use Rattle.pickle_doc.specs.declared.fault.End.{End}
 use Rattle.pickle_doc.specs.Place.{item_at, offset_of, end_of}
-use Rattle.pickle_machine.specs.State.{State, last_result}
+use Rattle.pickle_machine.specs.State.{State}
 use Rattle.pickle_session.specs.Session.{Session, len_of, has_break}
+use Rattle.pickle_report.specs.ObjectText.{id_text, next_text}
 use Rattle.pickle_page.specs.Column.{right_aligned, newline}
 use Rattle.pickle_text.specs.FaultText.{end_text}
 
@@ -23,14 +24,18 @@ cursor_text k n = codes "at " ⧺ decimal k ⧺ codes " of " ⧺ decimal n
 unfoldable pub offset_text : ℕ → List ℕ
 offset_text offset = codes ", offset " ⧺ decimal offset
 
--- an object by its number, or that there is none
-unfoldable pub result_text : Option ℕ → List ℕ
-result_text None = codes "none"
-result_text (Some id) = codes "#" ⧺ decimal id
+-- objects by their numbers, with blanks between them
+unfoldable pub some_results : ℕ → List ℕ → List ℕ
+some_results id ids = id_text id ⧺ each next_text ids
 
--- what the machine has counted, and its latest result
+-- the results, the latest last, or that there is none
+abbrev pub results_text : List ℕ → List ℕ
+results_text [] = codes "none"
+results_text (id ∷ ids) = some_results id ids
+
+-- what the machine has counted, and its results
 unfoldable pub reached_text : State → List ℕ
-reached_text t = codes ", buffers " ⧺ decimal t.buffers ⧺ codes ", result " ⧺ result_text (last_result t)
+reached_text t = codes ", buffers " ⧺ decimal t.buffers ⧺ codes ", result " ⧺ results_text t.results
 
 unfoldable pub ending_text : End → List ℕ
 ending_text e = codes ", end " ⧺ end_text e ⧺ newline

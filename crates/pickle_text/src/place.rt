@@ -1,12 +1,13 @@
 //! Where a session stands.
 
 ghost use Rattle.pickle_io.specs.Device.{Writes};
-ghost use Rattle.pickle_text.specs.PlaceText.{cursor_text, offset_text, result_text, reached_text, ending_text, where_text};
+ghost use Rattle.pickle_text.specs.PlaceText.{cursor_text, offset_text, some_results, results_text, reached_text, ending_text, where_text};
 
 use crate::fault_text::write_end;
 use pickle_doc::End;
 use pickle_machine::{Machine, ObjId};
 use pickle_ops::{Failed, Sink, write_all, write_decimal};
+use pickle_report::{write_all_next, write_id};
 use pickle_session::{Past, Session};
 
 /// Writes a place, and how many items there are.
@@ -29,21 +30,27 @@ fn write_offset<S: Sink>(offset: u64, sink: &mut S) -> Result<(), Failed>
     write_decimal(offset, sink)
 }
 
-/// Writes the number of an object, or that there is none.
-#[tactic(auto, using(pickle_io::proofs::Devices::text_steps), unfolding(crate::specs::PlaceText::result_text))]
-fn write_result<S: Sink>(id: Option<ObjId>, sink: &mut S) -> Result<(), Failed>
-    ensures { Writes (S.told sink.old) (S.told sink.new) result (result_text id) }
+/// Writes results, of which there is one at least.
+#[tactic(auto, using(pickle_io::proofs::Devices::text_steps), unfolding(crate::specs::PlaceText::some_results))]
+fn write_some_results<S: Sink>(first: ObjId, rest: &[ObjId], sink: &mut S) -> Result<(), Failed>
+    ensures { Writes (S.told sink.old) (S.told sink.new) result (some_results first rest.now) }
 {
-    match id {
+    write_id(u64::from(first), sink)?;
+    write_all_next(rest, sink)
+}
+
+/// Writes the results, or that there is none.
+#[tactic(auto, using(pickle_io::proofs::Devices::text_steps))]
+fn write_results<S: Sink>(ids: &[ObjId], sink: &mut S) -> Result<(), Failed>
+    ensures { Writes (S.told sink.old) (S.told sink.new) result (results_text ids.now) }
+{
+    match ids.split_first() {
         None => write_all(sink, b"none"),
-        Some(id) => {
-            write_all(sink, b"#")?;
-            write_decimal(u64::from(id), sink)
-        }
+        Some((first, rest)) => write_some_results(*first, rest, sink),
     }
 }
 
-/// Writes the count of buffers and the result of a machine.
+/// Writes the count of buffers and the results of a machine.
 #[tactic(auto, using(pickle_io::proofs::Devices::text_steps), unfolding(crate::specs::PlaceText::reached_text))]
 fn write_reached<S: Sink>(machine: &Machine, sink: &mut S) -> Result<(), Failed>
     ensures { Writes (S.told sink.old) (S.told sink.new) result (reached_text machine.now.state) }
@@ -51,7 +58,7 @@ fn write_reached<S: Sink>(machine: &Machine, sink: &mut S) -> Result<(), Failed>
     write_all(sink, b", buffers ")?;
     write_decimal(machine.buffers(), sink)?;
     write_all(sink, b", result ")?;
-    write_result(machine.result(), sink)
+    write_results(machine.results(), sink)
 }
 
 /// Writes why a document ends, and ends the line.
@@ -65,7 +72,7 @@ fn write_ending<S: Sink>(end: End, sink: &mut S) -> Result<(), Failed>
 }
 
 /// Writes where a session stands: the cursor, how many items there are, the offset of the cursor, the count of buffers, the
-/// result of the machine, and why the document ends. It takes no memory. Where the sink fails, a front of the line was
+/// results of the machine, and why the document ends. It takes no memory. Where the sink fails, a front of the line was
 /// written.
 #[tactic(auto, using(pickle_io::proofs::Devices::text_steps), unfolding(crate::specs::PlaceText::where_text))]
 pub fn write_where<P: Past, S: Sink>(session: &Session<P>, sink: &mut S) -> Result<(), Failed>

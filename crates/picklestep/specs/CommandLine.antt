@@ -1,14 +1,14 @@
 -- The command line, as clap's words say it, and the task that clap's matches of the words name.
-use Rattle.std.specs.Prelude.{◌≡◌, ◌≤◌, ℕ, List, Option, None, Some, IfSome, option_map, true, pos, codes, ⊤, String}
+use Rattle.std.specs.Prelude.{◌≡◌, ◌≤◌, IsTrue, ℕ, List, Option, None, Some, IfSome, option_map, true, pos, codes, ⊤}
 use Rattle.std.specs.String.{string_bytes}
-use Rattle.std.specs.declared.alloc.Global.{Global}
 use Rattle.std.specs.Str.Parse.{IsNumeral, digits_value, without_leading_plus}
 use Rattle.clap.specs.Words.{App, Row, Rule, Text, first_of, one_of, kind_of, new_app, new_rule, with_rule, with_subcommand}
-use Rattle.clap.specs.declared.builder.action.ArgAction.TheVariants.{Set}
+use Rattle.clap.specs.declared.builder.action.ArgAction.TheVariants.{Set, SetTrue}
 use Rattle.clap.specs.declared.builder.value_parser.ValueParser.TheVariants as parser
 use Rattle.clap.specs.declared.error.kind.ErrorKind.TheVariants as kind
 use Rattle.picklestep.specs.declared.task.Task.{Task}
 use Rattle.picklestep.specs.declared.task.Task.TheVariants as task
+use Rattle.picklestep.specs.declared.task.GivenFile.{GivenFile}
 use Rattle.picklestep.specs.declared.task.Options.{Options}
 use Rattle.picklestep.specs.declared.task.Usage.{Usage}
 use Rattle.picklestep.specs.declared.task.Usage.TheVariants as usage
@@ -28,9 +28,12 @@ window_rule = record (new_rule (codes "window")) { long = Some (codes "window");
 abbrev pub save_rule : Rule
 save_rule = record (new_rule (codes "save")) { long = Some (codes "save"); value_names = 1; action = Some Set }
 
--- a subcommand that is done on one file
+abbrev pub many_rule : Rule
+many_rule = record (new_rule (codes "many")) { long = Some (codes "many"); action = Some SetTrue }
+
+-- a subcommand that is done on one file, as one pickle or as several
 abbrev pub on_file : Text → App
-on_file name = with_rule (new_app name) file_rule
+on_file name = with_rule (with_rule (new_app name) file_rule) many_rule
 
 abbrev pub debug_app : App
 debug_app = with_rule (with_rule (on_file (codes "debug")) window_rule) save_rule
@@ -60,26 +63,28 @@ IsWindow (Some text) (Some n) = IsCount text n
 IsWindow None (Some n) = ⊥
 IsWindow (Some text) None = ⊥
 
--- the subcommand of this name was used, with this FILE
-pub record IsUsed (name : Text) (matches : Matches) (file : String Global) : Type 0 where
+-- the subcommand of this name was used, with this FILE, and with `--many` or not
+pub record IsUsed (name : Text) (matches : Matches) (input : GivenFile) : Type 0 where
   pub rows : List Row
   pub used : matches ≡ Some (name, rows)
-  pub file_is : first_of (codes "FILE") rows ≡ Some (string_bytes file)
+  pub file_is : first_of (codes "FILE") rows ≡ Some (string_bytes input.file)
+  pub many_is : IsTrue input.many → first_of (codes "many") rows ≡ Some (codes "true")
+  pub one_is : first_of (codes "many") rows ≡ Some (codes "true") → IsTrue input.many
 
 pub record HasOptions (rows : List Row) (options : Options) : Type 0 where
   pub save_is : first_of (codes "save") rows ≡ option_map string_bytes options.save
   pub window_is : IsWindow (one_of (codes "window") rows) options.window
 
 abbrev pub IsNamed : Matches → Task → Type 0
-IsNamed matches (task.List file) = IsUsed (codes "list") matches file
-IsNamed matches (task.Objects file) = IsUsed (codes "objects") matches file
-IsNamed matches (task.Debug file options) = (u : IsUsed (codes "debug") matches file) × HasOptions u.rows options
+IsNamed matches (task.List input) = IsUsed (codes "list") matches input
+IsNamed matches (task.Objects input) = IsUsed (codes "objects") matches input
+IsNamed matches (task.Debug input options) = (u : IsUsed (codes "debug") matches input) × HasOptions u.rows options
 
 -- a number of step records is within the bounds
 abbrev pub IsBounded : Task → Type 0
-IsBounded (task.List file) = ⊤
-IsBounded (task.Objects file) = ⊤
-IsBounded (task.Debug file options) = IfSome options.window (λ n. (1 ≤ n) × (n ≤ most_records))
+IsBounded (task.List input) = ⊤
+IsBounded (task.Objects input) = ⊤
+IsBounded (task.Debug input options) = IfSome options.window (λ n. (1 ≤ n) × (n ≤ most_records))
 
 -- the words are refused for want of memory
 abbrev pub IsMemory : Usage → Type 0

@@ -2,7 +2,7 @@
 
 ghost use Rattle.std.specs.Prelude.{◌≡◌, IfOk, false};
 ghost use Rattle.clap.specs.Words.{rule_of, app_of};
-ghost use Rattle.picklestep.specs.CommandLine.{file_rule, window_rule, save_rule, on_file, debug_app, program};
+ghost use Rattle.picklestep.specs.CommandLine.{file_rule, many_rule, window_rule, save_rule, on_file, debug_app, program};
 
 use clap::{Arg, ArgAction, Command};
 use std::alloc::{AllocError, Global};
@@ -19,6 +19,17 @@ fn file_argument<'a>(alloc: Global) -> Arg<'a>
         .help("the pickle")
         .required(true)
         .action(ArgAction::Set)
+}
+
+/// Whether a file is read as several pickles.
+fn many_argument<'a>(alloc: Global) -> Arg<'a>
+    ensures rule { rule_of result ≡ many_rule }
+    ensures local { result.global ≡ false }
+{
+    Arg::new(alloc, "many")
+        .long("many")
+        .help("read FILE as pickles that follow one another: go on after each STOP")
+        .action(ArgAction::SetTrue)
 }
 
 /// How many step records a conversation keeps.
@@ -48,13 +59,14 @@ fn save_argument<'a>(alloc: Global) -> Arg<'a>
         .action(ArgAction::Set)
 }
 
-/// A command that is done on one file.
+/// A command that is done on one file, as one pickle or as several.
 fn on_file<'a>(alloc: Global, name: &'a str, about: &'a str) -> Result<Command<'a>, AllocError>
     ensures { IfOk result (λ c. app_of c ≡ on_file name.now) }
 {
     Command::new(alloc, name)
         .about(about)
-        .arg(file_argument(alloc))
+        .arg(file_argument(alloc))?
+        .arg(many_argument(alloc))
 }
 
 /// The command that talks about a file.

@@ -1,8 +1,8 @@
 //! What the words of the command line ask for.
 
-ghost use Rattle.std.specs.Prelude.{◌≡◌, ◌≤◌, ℕ, Option, Some, None, Ok, IfOk, IfErr, IfSome, map, option_map, true, codes};
+ghost use Rattle.std.specs.Prelude.{◌≡◌, ◌≤◌, ◌↔◌, IsTrue, ℕ, Option, Some, None, Ok, IfOk, IfErr, IfSome, map, option_map, true, codes};
 ghost use Rattle.std.specs.String.{string_bytes};
-ghost use Rattle.clap.specs.Words.{found_of, one_of, rows_of, subcommand_of, subcommand_rows_of, takes};
+ghost use Rattle.clap.specs.Words.{found_of, first_of, one_of, rows_of, subcommand_of, subcommand_rows_of, takes};
 ghost use Rattle.picklestep.specs.CommandLine.{program, most_records, HasOptions, IsWindow, IsNamed, IsBounded, IsMemory};
 
 use crate::command_line::{MOST_RECORDS, command_line};
@@ -10,15 +10,24 @@ use clap::error::ErrorKind;
 use clap::{ArgMatches, Error};
 use std::alloc::{AllocError, Global};
 
+/// What a task is done on.
+#[derive(Drop, Debug, PartialEq, Eq)]
+pub struct GivenFile {
+    /// The name of the file.
+    pub file: String,
+    /// Whether it is read as several pickles that follow one another.
+    pub many: bool,
+}
+
 /// What the program is asked to do, each with the file that it is done on.
 #[derive(Drop, Debug, PartialEq, Eq)]
 pub enum Task {
     /// List the opcodes.
-    List(String),
+    List(GivenFile),
     /// Tell the objects that the opcodes make.
-    Objects(String),
+    Objects(GivenFile),
     /// Obey the lines of standard input.
-    Debug(String, Options),
+    Debug(GivenFile, Options),
 }
 
 /// The options of a conversation.
@@ -105,6 +114,17 @@ fn options_of(alloc: Global, found: &ArgMatches<'_>) -> Result<Option<Options>, 
     }
 }
 
+/// Whether the file is read as several pickles.
+fn is_many(found: &ArgMatches<'_>) -> bool
+    ensures yes { IsTrue result → first_of (codes "many") (rows_of (found_of found.now)) ≡ Some (codes "true") }
+    ensures no { first_of (codes "many") (rows_of (found_of found.now)) ≡ Some (codes "true") → IsTrue result }
+{
+    let Some(text) = found.get_str("many") else {
+        return false;
+    };
+    if text == "true" { true } else { false }
+}
+
 /// The task that matches name, if they name one.
 fn named(alloc: Global, matches: &ArgMatches<'_>) -> Result<Option<Task>, AllocError>
     ensures some { IfOk result (λ r. IfSome r (IsNamed (subcommand_rows_of matches.now))) }
@@ -116,15 +136,19 @@ fn named(alloc: Global, matches: &ArgMatches<'_>) -> Result<Option<Task>, AllocE
     let Some(file) = found.get_str("FILE") else {
         return Ok(None);
     };
+    let many = is_many(found);
     if name == "list" {
-        Ok(Some(Task::List(String::from_str(alloc, file)?)))
+        let file = String::from_str(alloc, file)?;
+        Ok(Some(Task::List(GivenFile { file, many })))
     } else if name == "objects" {
-        Ok(Some(Task::Objects(String::from_str(alloc, file)?)))
+        let file = String::from_str(alloc, file)?;
+        Ok(Some(Task::Objects(GivenFile { file, many })))
     } else if name == "debug" {
         let Some(options) = options_of(alloc, found)? else {
             return Ok(None);
         };
-        Ok(Some(Task::Debug(String::from_str(alloc, file)?, options)))
+        let file = String::from_str(alloc, file)?;
+        Ok(Some(Task::Debug(GivenFile { file, many }, options)))
     } else {
         Ok(None)
     }

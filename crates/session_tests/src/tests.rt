@@ -8,9 +8,8 @@ mod script;
 
 use crate::tests::rows::{CYCLE, DUMP, PAIR, SCRIPTS, WALKED};
 use crate::tests::script::{Script, Told, command, follow, go_home, open_whole, open_window};
-use pickle_doc::{EditFault, LIMIT};
 use pickle_ops::{Opcode, ToWrite};
-use pickle_session::{Command, Fault, Past, Reply, Session, Whole, Why};
+use pickle_session::{Command, Past, Reply, Session, Whole, Why};
 use session_notes::{Beside, shows, write_session};
 use std::alloc::{AllocError, Global};
 use std::test::Fail;
@@ -317,9 +316,12 @@ fn a_thousand_insertions(rt: HostRuntime) -> Result<(), Fail> {
     Ok(())
 }
 
-/// The most bytes that a session may have: one BINBYTES and STOP.
-fn largest(alloc: Global) -> Result<Vec<u8>, AllocError> {
-    let mut bytes = vec![in alloc; 0u8; LIMIT]?;
+/// How many bytes a large pickle has.
+const LARGE: usize = 268_435_456;
+
+/// A large pickle: one BINBYTES and STOP.
+fn large(alloc: Global) -> Result<Vec<u8>, AllocError> {
+    let mut bytes = vec![in alloc; 0u8; LARGE]?;
     let front: &[u8] = b"B\xfa\xff\xff\x0f";
     for (byte, want) in bytes.iter_mut().zip(front) {
         *byte = *want;
@@ -330,21 +332,29 @@ fn largest(alloc: Global) -> Result<Vec<u8>, AllocError> {
     Ok(bytes)
 }
 
-/// A session over the most bytes goes to their end, and an opcode more would be too many.
+/// A session over a large pickle goes to its end, and an opcode more is taken in and out again.
 #[test]
-fn largest_input(rt: HostRuntime) -> Result<(), Fail> {
-    let bytes = largest(rt.alloc())?;
+fn large_input(rt: HostRuntime) -> Result<(), Fail> {
+    let bytes = large(rt.alloc())?;
     let mut session = Session::open(rt.alloc(), Whole::new(rt.alloc()), &bytes)?;
-    let too_large = Reply::Refused(Fault::Edit(EditFault::TooLarge));
-    let insert = (Told::Insert(0, Opcode::None, b""), too_large, 0, 0, 0);
+    let insert = (
+        Told::Insert(0, Opcode::None, b""),
+        Reply::Edited(0),
+        0,
+        0,
+        0,
+    );
     assert!(rt; is_answered(&mut session, rt.alloc(), &insert));
+    assert_eq!(rt; session.document().total(), LARGE as u64 + 1);
+    let undo = (Told::Undo, Reply::Undone(0), 0, 0, 0);
+    assert!(rt; is_answered(&mut session, rt.alloc(), &undo));
     assert_eq!(rt;
         (session.undos(), session.redos(), session.offset()),
-        (0, 0, 0)
+        (0, 1, 0)
     );
     let run = (Told::Run, Reply::Ran(2, Why::End), 2, 2, 2);
     assert!(rt; is_answered(&mut session, rt.alloc(), &run));
-    assert_eq!(rt; session.offset(), LIMIT as u64);
+    assert_eq!(rt; session.offset(), LARGE as u64);
     assert!(rt; has_bytes(&session, &bytes));
     Ok(())
 }

@@ -45,6 +45,8 @@ pub enum Wrong {
     Items(usize),
     /// The identities are others.
     Ids,
+    /// An offset has another place.
+    Offsets,
     /// The tail, the end or the total is another.
     Tail,
     /// Other bytes are written.
@@ -72,6 +74,15 @@ impl From<DocFault> for Wrong {
 impl From<EditFault> for Wrong {
     fn from(fault: EditFault) -> Wrong {
         Wrong::Refused(fault)
+    }
+}
+
+/// What bytes read as, as many pickles or as one.
+pub fn open(alloc: Global, many: bool, bytes: &[u8]) -> Result<Document, DocFault> {
+    if many {
+        Document::read_many(alloc, bytes)
+    } else {
+        Document::read(alloc, bytes)
     }
 }
 
@@ -139,6 +150,21 @@ fn has_no_more(document: &Document) -> bool {
         && document.is_empty() == (len == 0)
 }
 
+/// Whether each offset up to that after the start of the tail has the place that begins there, and none where none does.
+fn has_places(document: &Document, start: u64) -> bool {
+    let mut next = 0_usize;
+    for offset in 0..start.saturating_add(2) {
+        let is_place = document.offset(next) == Some(offset);
+        if document.place_at(offset) != is_place.then_some(next) {
+            return false;
+        }
+        if is_place {
+            next = next.saturating_add(1);
+        }
+    }
+    next == document.len().saturating_add(1)
+}
+
 /// Whether a document shows this, and its bytes read as it.
 pub fn shows(alloc: Global, document: &Document, want: &Shown) -> Result<(), Wrong> {
     for (k, item) in want.items.iter().enumerate() {
@@ -151,6 +177,9 @@ pub fn shows(alloc: Global, document: &Document, want: &Shown) -> Result<(), Wro
     if len != want.items.len() || document.offset(len) != Some(start) || !has_no_more(document) {
         return Err(Wrong::Items(len));
     }
+    if !has_places(document, start) {
+        return Err(Wrong::Offsets);
+    }
     let total = want.bytes.len() as u64;
     if document.tail() != want.tail || document.end() != want.end || document.total() != total {
         return Err(Wrong::Tail);
@@ -158,7 +187,7 @@ pub fn shows(alloc: Global, document: &Document, want: &Shown) -> Result<(), Wro
     if written(alloc, document)?.as_slice() != want.bytes {
         return Err(Wrong::Bytes);
     }
-    let again = Document::read(alloc, want.bytes)?;
+    let again = open(alloc, document.is_many(), want.bytes)?;
     are_alike(document, &again)
 }
 

@@ -119,20 +119,42 @@ pub fn notes_of(machine: &mut Machine, alloc: Global, ops: &[Op]) -> Result<Vec<
     Ok(notes)
 }
 
+/// How many pickles a machine is made for.
+#[derive(Clone, Copy, Debug, PartialEq, Eq)]
+pub enum Pickles {
+    One,
+    Several,
+}
+
+impl Pickles {
+    /// The machine for so many that has done nothing.
+    pub fn machine(self, alloc: Global) -> Machine {
+        match self {
+            Pickles::One => Machine::new(alloc),
+            Pickles::Several => Machine::new_many(alloc),
+        }
+    }
+}
+
 /// Operations, and the state of a machine at each place of them.
 #[derive(Drop)]
 pub struct Noted {
+    pub pickles: Pickles,
     pub ops: Vec<Op>,
     pub notes: Vec<Vec<u8>>,
 }
 
 /// The operations that the bytes spell, and the states of a machine that has done nothing before. Want of memory is
 /// `Fault::Memory`, also where the machine met it.
-pub fn note_down(alloc: Global, bytes: &[u8]) -> Result<Noted, Fault> {
+pub fn note_down(alloc: Global, pickles: Pickles, bytes: &[u8]) -> Result<Noted, Fault> {
     let ops = ops_of(alloc, bytes)?;
-    let mut machine = Machine::new(alloc);
+    let mut machine = pickles.machine(alloc);
     match notes_of(&mut machine, alloc, &ops) {
-        Ok(notes) => Ok(Noted { ops, notes }),
+        Ok(notes) => Ok(Noted {
+            pickles,
+            ops,
+            notes,
+        }),
         Err(Fault::Refused(_, Refusal::Memory)) => Err(Fault::Memory),
         Err(fault) => Err(fault),
     }
@@ -159,9 +181,18 @@ fn is_free(opcode: Opcode, was_there: bool) -> bool {
 /// Operations, what is written down at each place of them, and whether the machine went through them before.
 #[derive(Clone, Copy)]
 pub struct Way<'a> {
+    pub pickles: Pickles,
     pub ops: &'a [Op],
     pub notes: &'a [Vec<u8>],
     pub was_there: bool,
+}
+
+impl Way<'_> {
+    /// Whether a further pickle begins at a place.
+    fn begins(&self, place: usize) -> bool {
+        let before = place.checked_sub(1).and_then(|before| self.ops.get(before));
+        self.pickles == Pickles::Several && before.is_some_and(|op| op.opcode() == Opcode::Stop)
+    }
 }
 
 /// One step of the way. Where it is refused for want of memory, the machine shows what it showed before and has counted
@@ -186,7 +217,7 @@ fn insist_on_step(
     if fault != Fault::Refused(place, Refusal::Memory) {
         return Err(fault);
     }
-    if is_free(op.opcode(), way.was_there) {
+    if is_free(op.opcode(), way.was_there) && !way.begins(place) {
         return Err(Fault::NotFree(place));
     }
     compare(machine, way.notes, place)?;

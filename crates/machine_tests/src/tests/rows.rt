@@ -75,7 +75,7 @@ pub const WORKED: [Row; 17] = [
         b"N.K\x01.",
         &[
             (3, "#0 none; #1 int 1; stack #1; result #0"),
-            (4, "#0 none; #1 int 1; stack; result #1"),
+            (4, "#0 none; #1 int 1; stack; result #1; results #0 #1"),
         ],
     ),
     // MEMOIZE counts entries
@@ -538,3 +538,145 @@ pub const ALL_SHAPES: Row = (
         ),
     ],
 );
+
+/// Several pickles, one after another, for a machine that runs several.
+pub const SEVERAL: [Row; 11] = [
+    (
+        b"N.K\x01.",
+        &[
+            (2, "#0 none; stack; result #0"),
+            (3, "#0 none; #1 int 1; stack #1; result #0"),
+            (4, "#0 none; #1 int 1; stack; result #1; results #0 #1"),
+        ],
+    ),
+    // buffers are counted anew
+    (
+        b"\x97.\x97.",
+        &[
+            (2, "#0 buffer 0; stack; buffers 1; result #0"),
+            (
+                3,
+                "#0 buffer 0; #1 buffer 0; stack #1; buffers 1; result #0",
+            ),
+            (
+                4,
+                "#0 buffer 0; #1 buffer 0; stack; buffers 1; result #1; results #0 #1",
+            ),
+        ],
+    ),
+    (
+        b"\x97.N\x97.",
+        &[
+            (2, "#0 buffer 0; stack; buffers 1; result #0"),
+            (3, "#0 buffer 0; #1 none; stack #1; result #0"),
+            (
+                5,
+                "#0 buffer 0; #1 none; #2 buffer 0; stack #1; buffers 1; result #2; results #0 #2",
+            ),
+        ],
+    ),
+    // a mark is left behind
+    (
+        b"(N.N.",
+        &[
+            (3, "#0 none; stack (0; result #0"),
+            (4, "#0 none; #1 none; stack #1; result #0"),
+            (5, "#0 none; #1 none; stack; result #1; results #0 #1"),
+        ],
+    ),
+    // objects and a memo are left behind
+    (
+        b"NNq\x00.NNq\x05h\x05.",
+        &[
+            (4, "#0 none; #1 none; stack #0; memo 0=#1; result #1"),
+            (5, "#0 none; #1 none; #2 none; stack #2; result #1"),
+            (
+                9,
+                "#0 none; #1 none; #2 none; #3 none; stack #2 #3; memo 5=#3; result #3; results #1 #3",
+            ),
+        ],
+    ),
+    // PROTO begins the next one, and so does FRAME
+    (
+        b"(NN.\x80\x02\x95\x00\x00\x00\x00\x00\x00\x00\x00].",
+        &[
+            (4, "#0 none; #1 none; stack (0 #0; result #1"),
+            (5, "#0 none; #1 none; stack; result #1"),
+            (6, "#0 none; #1 none; stack; result #1"),
+            (7, "#0 none; #1 none; #2 list; stack #2; result #1"),
+            (
+                8,
+                "#0 none; #1 none; #2 list; stack; result #2; results #1 #2",
+            ),
+        ],
+    ),
+    (
+        b"NNq\x01.\x95\x00\x00\x00\x00\x00\x00\x00\x00N.",
+        &[
+            (4, "#0 none; #1 none; stack #0; memo 1=#1; result #1"),
+            (5, "#0 none; #1 none; stack; result #1"),
+            (
+                7,
+                "#0 none; #1 none; #2 none; stack; result #2; results #1 #2",
+            ),
+        ],
+    ),
+    // a mark's place is that among all operations
+    (
+        b"N(N.(N(t.",
+        &[
+            (4, "#0 none; #1 none; stack #0 (1; result #1"),
+            (5, "#0 none; #1 none; stack (4; result #1"),
+            (7, "#0 none; #1 none; #2 none; stack (4 #2 (6; result #1"),
+            (
+                9,
+                "#0 none; #1 none; #2 none; #3 tuple; stack (4 #2; result #3; results #1 #3",
+            ),
+        ],
+    ),
+    (
+        b"N.\x82\x05.",
+        &[
+            (3, "#0 none; #1 ext 5; stack #1; result #0"),
+            (4, "#0 none; #1 ext 5; stack; result #1; results #0 #1"),
+        ],
+    ),
+    // three of them, and each leaves something
+    (
+        b"NN.((NN.N(N.",
+        &[
+            (3, "#0 none; #1 none; stack #0; result #1"),
+            (
+                8,
+                "#0 none; #1 none; #2 none; #3 none; stack (3 (4 #2; result #3; results #1 #3",
+            ),
+            (
+                9,
+                "#0 none; #1 none; #2 none; #3 none; #4 none; stack #4; result #3; results #1 #3",
+            ),
+            (
+                12,
+                "#0 none; #1 none; #2 none; #3 none; #4 none; #5 none; stack #4 (9; result #5; results #1 #3 #5",
+            ),
+        ],
+    ),
+    // higher than the one before was, and then as high again
+    (
+        b"NN.NNN((0N.N2((N.",
+        &[
+            (3, "#0 none; #1 none; stack #0; result #1"),
+            (
+                8,
+                "#0 none; #1 none; #2 none; #3 none; #4 none; stack #2 #3 #4 (6 (7; result #1",
+            ),
+            (
+                11,
+                "#0 none; #1 none; #2 none; #3 none; #4 none; #5 none; stack #2 #3 #4 (6; result #5; results #1 #5",
+            ),
+            (
+                17,
+                "#0 none; #1 none; #2 none; #3 none; #4 none; #5 none; #6 none; #7 none; stack #6 #6 (13 (14; result #7; results #1 #5 #7",
+            ),
+        ],
+    ),
+];

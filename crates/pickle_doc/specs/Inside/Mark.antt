@@ -1,10 +1,10 @@
 -- A place among items, and what is known there of the items before it. This is no definition of a document.
-use Rattle.std.specs.Prelude.{◌≡◌, ℕ, ◌+◌, ◌<◌, ◌≤◌, true, false, List, length, take, slice_get, Option, Some, None}
+use Rattle.std.specs.Prelude.{◌≡◌, ℕ, ◌+◌, ◌<◌, ◌≤◌, true, false, List, length, take, slice_get, Bool, Option, Some, None}
 use Rattle.pickle_doc.specs.declared.item.Item.{Item}
 use Rattle.pickle_doc.specs.declared.mark.FrameMark.{FrameMark}
 use Rattle.pickle_doc.specs.declared.mark.Mark.{Mark}
 use Rattle.pickle_doc.specs.Document.{size_limit}
-use Rattle.pickle_doc.specs.declared.fault.Finish.{Finish}
+use Rattle.pickle_doc.specs.declared.fault.TailFault.{TailFault}
 use Rattle.pickle_doc.specs.DocUnit.{is_frame, sizes}
 use Rattle.pickle_doc.specs.Inside.Kept.{IsKept}
 
@@ -34,6 +34,6 @@ pub record IsMark (m : Mark) (items : List Item) : Type 0 where
   pub small : sizes items ≤ size_limit
 
 -- what a document keeps, with a mark in its items
-pub record IsMarked (items : List Item) (tail : List ℕ) (e : Finish) (next start : ℕ) (m : Mark) : Type 0 where
-  pub kept : IsKept items tail e next start
+pub record IsMarked (many : Bool) (items : List Item) (tail : List ℕ) (e : Option TailFault) (next start : ℕ) (m : Mark) : Type 0 where
+  pub kept : IsKept many items tail e next start
   pub mark : IsMark m items

@@ -19,7 +19,7 @@ again r d e f same l =
 once_more : (n : ℕ) (d : Contents) → risen n (given_one d) ≡ risen (n + 1) d
 once_more n d =
     let next : d.next + 1 + n ≡ d.next + (n + 1) = omega arith in
-    ap (λ (k : ℕ). record { units = d.units; tail = d.tail; next = k }) next
+    ap (λ (k : ℕ). record d { next = k }) next
 
 pub there_and_back-requires : goal.there_and_back-requires
 there_and_back-requires t c =

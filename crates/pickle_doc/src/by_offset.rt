@@ -1,0 +1,69 @@
+//! Places by their offsets.
+
+ghost use Rattle.std.specs.Prelude.{◌≡◌, ◌≤◌, length, take};
+ghost use Rattle.pickle_doc.specs.Document.{size_limit};
+ghost use Rattle.pickle_doc.specs.DocUnit.{sizes};
+ghost use Rattle.pickle_doc.specs.Inside.Mark.{IsMark};
+ghost use Rattle.pickle_doc.specs.Inside.ByOffset.{Stands};
+
+use crate::item::Item;
+use crate::mark::Mark;
+use gap_list::GapList;
+
+/// The place with this offset, which no place before the first one here has.
+fn place_from(items: &GapList<Item>, from: usize, start: u64, offset: u64) -> Option<usize>
+    requires place { from ≤ length items.now.items }
+    requires start { start ≡ sizes (take from items.now.items) }
+    requires order { start ≤ offset }
+    requires small { sizes items.now.items ≤ size_limit }
+    ensures { Stands result offset items.now.items }
+{
+    let len = items.len();
+    let mut at = start;
+    for place in from..len {
+        if at == offset {
+            return Some(place);
+        }
+        if at > offset {
+            return None;
+        }
+        at += items.at(place).op.size() as u64;
+    }
+    if at == offset {
+        return Some(len);
+    }
+    None
+}
+
+/// The place with this offset, which no place after the last one here has.
+fn place_back(items: &GapList<Item>, from: usize, start: u64, offset: u64) -> Option<usize>
+    requires place { from ≤ length items.now.items }
+    requires start { start ≡ sizes (take from items.now.items) }
+    requires order { offset ≤ start }
+    ensures { Stands result offset items.now.items }
+{
+    let mut place = from;
+    let mut at = start;
+    while at > offset {
+        place -= 1;
+        at -= items.at(place).op.size() as u64;
+    }
+    if at == offset {
+        return Some(place);
+    }
+    None
+}
+
+/// The place with this offset. This goes over the items between it and a mark, or from the first place where that is nearer.
+pub(crate) fn place_by(items: &GapList<Item>, mark: Mark, offset: u64) -> Option<usize>
+    requires { IsMark mark items.now.items }
+    ensures { Stands result offset items.now.items }
+{
+    if mark.offset <= offset {
+        place_from(items, mark.place, mark.offset, offset)
+    } else if mark.offset - offset <= offset {
+        place_back(items, mark.place, mark.offset, offset)
+    } else {
+        place_from(items, 0, 0, offset)
+    }
+}
