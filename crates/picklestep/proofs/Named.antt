@@ -40,6 +40,7 @@ no_file matches name rows found want file p n q f =
 pub no_task : (matches : Matches) (name : Text) (rows : List Row) (t : Task) → matches ≡ Some (name, rows) → None ≡ first_of (codes "FILE") rows → IsNamed matches t → ⊥
 no_task matches name rows (task.List file) p n u = no_file matches name rows u.rows _ _ p n u.used u.file_is
 no_task matches name rows (task.Objects file) p n u = no_file matches name rows u.rows _ _ p n u.used u.file_is
+no_task matches name rows (task.Calls file) p n u = no_file matches name rows u.rows _ _ p n u.used u.file_is
 no_task matches name rows (task.Debug file options) p n u = no_file matches name rows u.0.rows _ _ p n u.0.used u.0.file_is
 
 -- ---- a window

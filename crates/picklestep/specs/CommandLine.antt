@@ -39,7 +39,8 @@ abbrev pub wants_subcommand : App → App
 wants_subcommand a = record a { top = record a.top { subcommand_required = true } }
 
 abbrev pub program : App
-program = with_subcommand (with_subcommand (with_subcommand (wants_subcommand (new_app (codes "picklestep"))) (on_file (codes "list")).top) (on_file (codes "objects")).top) debug_app.top
+program =
+    with_subcommand (with_subcommand (with_subcommand (with_subcommand (wants_subcommand (new_app (codes "picklestep"))) (on_file (codes "list")).top) (on_file (codes "objects")).top) (on_file (codes "calls")).top) debug_app.top
 
 -- ---- the task that matches name
 
@@ -73,12 +74,14 @@ pub record HasOptions (rows : List Row) (options : Options) : Type 0 where
 abbrev pub IsNamed : Matches → Task → Type 0
 IsNamed matches (task.List file) = IsUsed (codes "list") matches file
 IsNamed matches (task.Objects file) = IsUsed (codes "objects") matches file
+IsNamed matches (task.Calls file) = IsUsed (codes "calls") matches file
 IsNamed matches (task.Debug file options) = (u : IsUsed (codes "debug") matches file) × HasOptions u.rows options
 
 -- a number of step records is within the bounds
 abbrev pub IsBounded : Task → Type 0
 IsBounded (task.List file) = ⊤
 IsBounded (task.Objects file) = ⊤
+IsBounded (task.Calls file) = ⊤
 IsBounded (task.Debug file options) = IfSome options.window (λ n. (1 ≤ n) × (n ≤ most_records))
 
 -- the words are refused for want of memory

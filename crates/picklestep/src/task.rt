@@ -17,6 +17,8 @@ pub enum Task {
     List(String),
     /// Tell the objects that the opcodes make.
     Objects(String),
+    /// Tell what the opcodes would import and call.
+    Calls(String),
     /// Obey the lines of standard input.
     Debug(String, Options),
 }
@@ -120,6 +122,8 @@ fn named(alloc: Global, matches: &ArgMatches<'_>) -> Result<Option<Task>, AllocE
         Ok(Some(Task::List(String::from_str(alloc, file)?)))
     } else if name == "objects" {
         Ok(Some(Task::Objects(String::from_str(alloc, file)?)))
+    } else if name == "calls" {
+        Ok(Some(Task::Calls(String::from_str(alloc, file)?)))
     } else if name == "debug" {
         let Some(options) = options_of(alloc, found)? else {
             return Ok(None);

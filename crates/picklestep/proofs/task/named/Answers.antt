@@ -28,11 +28,20 @@ returns-in_ok-from_str-2-clause-some c =
 
 pub returns-in_ok-from_str-3-clause-some : goal.returns-in_ok-from_str-3-clause-some
 returns-in_ok-from_str-3-clause-some c =
+    let name : c.in-Some.name.now ≡ codes "calls" = search rules in
+    record {
+      rows = rows_of (found_of c.in-Some.found.now);
+      used = used_is _ _ _ _ _ c.in-Some.ensures.name c.in-Some.ensures.rows ∙ ap (λ (n : Text). Some (n, rows_of (found_of c.in-Some.found.now))) name;
+      file_is = sym (first_value-rows (found_of c.in-Some.found.now) (codes "FILE")) ∙ sym c.in-Some-get_str.ensures ∙ ap Some (sym c.in_ok-from_str-3.ensures.ok);
+    }
+
+pub returns-in_ok-from_str-4-clause-some : goal.returns-in_ok-from_str-4-clause-some
+returns-in_ok-from_str-4-clause-some c =
     let name : c.in-Some.name.now ≡ codes "debug" = search rules in (
       record {
         rows = rows_of (found_of c.in-Some.found.now);
         used = used_is _ _ _ _ _ c.in-Some.ensures.name c.in-Some.ensures.rows ∙ ap (λ (n : Text). Some (n, rows_of (found_of c.in-Some.found.now))) name;
-        file_is = sym (first_value-rows (found_of c.in-Some.found.now) (codes "FILE")) ∙ sym c.in-Some-get_str.ensures ∙ ap Some (sym c.in_ok-from_str-3.ensures.ok);
+        file_is = sym (first_value-rows (found_of c.in-Some.found.now) (codes "FILE")) ∙ sym c.in-Some-get_str.ensures ∙ ap Some (sym c.in_ok-from_str-4.ensures.ok);
       },
       search rules,
     )
