@@ -4,3 +4,4 @@ pub mod Cuts
 pub mod Feeding
 pub mod Endings
 pub mod Listings
+pub mod Callings

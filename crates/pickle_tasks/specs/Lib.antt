@@ -1,6 +1,7 @@
 pub mod Stop
 pub mod List
 pub mod Objects
+pub mod Calls
 pub mod Script
 pub mod Query
 pub mod Transcript

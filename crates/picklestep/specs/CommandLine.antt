@@ -42,7 +42,8 @@ abbrev pub wants_subcommand : App → App
 wants_subcommand a = record a { top = record a.top { subcommand_required = true } }
 
 abbrev pub program : App
-program = with_subcommand (with_subcommand (with_subcommand (wants_subcommand (new_app (codes "picklestep"))) (on_file (codes "list")).top) (on_file (codes "objects")).top) debug_app.top
+program =
+    with_subcommand (with_subcommand (with_subcommand (with_subcommand (wants_subcommand (new_app (codes "picklestep"))) (on_file (codes "list")).top) (on_file (codes "objects")).top) (on_file (codes "calls")).top) debug_app.top
 
 -- ---- the task that matches name
 
@@ -78,12 +79,14 @@ pub record HasOptions (rows : List Row) (options : Options) : Type 0 where
 abbrev pub IsNamed : Matches → Task → Type 0
 IsNamed matches (task.List input) = IsUsed (codes "list") matches input
 IsNamed matches (task.Objects input) = IsUsed (codes "objects") matches input
+IsNamed matches (task.Calls input) = IsUsed (codes "calls") matches input
 IsNamed matches (task.Debug input options) = (u : IsUsed (codes "debug") matches input) × HasOptions u.rows options
 
 -- a number of step records is within the bounds
 abbrev pub IsBounded : Task → Type 0
 IsBounded (task.List input) = ⊤
 IsBounded (task.Objects input) = ⊤
+IsBounded (task.Calls input) = ⊤
 IsBounded (task.Debug input options) = IfSome options.window (λ n. (1 ≤ n) × (n ≤ most_records))
 
 -- the words are refused for want of memory

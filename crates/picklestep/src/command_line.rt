@@ -96,11 +96,17 @@ pub fn command_line<'a>(alloc: Global) -> Result<Command<'a>, AllocError>
         "objects",
         "Tells the objects that the opcodes of FILE make, and which of them is the result",
     )?;
+    let calling = on_file(
+        alloc,
+        "calls",
+        "Tells what FILE would import and call, a line for each opcode that does so",
+    )?;
     let debugging = debug_command(alloc)?;
     Command::new(alloc, "picklestep")
         .about("Shows what a Python pickle would import, call and build, and runs nothing of it")
         .subcommand_required(true)
         .subcommand(listing)?
         .subcommand(reporting)?
+        .subcommand(calling)?
         .subcommand(debugging)
 }

@@ -26,6 +26,8 @@ pub enum Task {
     List(GivenFile),
     /// Tell the objects that the opcodes make.
     Objects(GivenFile),
+    /// Tell what the opcodes would import and call.
+    Calls(GivenFile),
     /// Obey the lines of standard input.
     Debug(GivenFile, Options),
 }
@@ -143,6 +145,9 @@ fn named(alloc: Global, matches: &ArgMatches<'_>) -> Result<Option<Task>, AllocE
     } else if name == "objects" {
         let file = String::from_str(alloc, file)?;
         Ok(Some(Task::Objects(GivenFile { file, many })))
+    } else if name == "calls" {
+        let file = String::from_str(alloc, file)?;
+        Ok(Some(Task::Calls(GivenFile { file, many })))
     } else if name == "debug" {
         let Some(options) = options_of(alloc, found)? else {
             return Ok(None);

@@ -213,11 +213,25 @@ fn refused_memory(rt: HostRuntime) -> Result<(), Fail> {
 
 /// Takes one byte a call, fails at one call, and notes what comes after that.
 #[derive(Drop)]
-struct Failing {
-    calls: u64,
+pub struct Failing {
+    /// How many calls it took.
+    pub calls: u64,
     fails_at: u64,
     failures: u64,
-    later_calls: u64,
+    /// How many calls came after it had failed.
+    pub later_calls: u64,
+}
+
+impl Failing {
+    /// One that fails at this call.
+    pub fn new(fails_at: u64) -> Failing {
+        Failing {
+            calls: 0,
+            fails_at,
+            failures: 0,
+            later_calls: 0,
+        }
+    }
 }
 
 impl Sink for Failing {
@@ -243,12 +257,7 @@ fn failing_sink(rt: HostRuntime) {
     for k in 0..COUNT {
         let (bytes, text, status) = row(k);
         for fails_at in 0..text.len() as u64 + 1 {
-            let mut sink = Failing {
-                calls: 0,
-                fails_at,
-                failures: 0,
-                later_calls: 0,
-            };
+            let mut sink = Failing::new(fails_at);
             let answer = list(rt.alloc(), bytes, &mut sink);
             let whole = fails_at == text.len() as u64;
             assert_eq!(rt; answer, if whole { Ok(status) } else { Err(Stop::Write) });

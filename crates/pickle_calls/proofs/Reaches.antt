@@ -1,0 +1,301 @@
+-- What the lines promise whoever reads them.
+use Rattle.std.proofs.Common.{◌≡◌, ◌≢◌, ◌⊎◌, ℕ, zero, suc, ◌+◌, ◌-◌, ◌<◌, ◌≤◌, Bool, true, false, cond, List, [], ◌∷◌, ◌++◌, length, take, Option, Some, None, refl, sym, ap, subst, ◌∙◌, inl, inr, arith, length-append, rules}
+use Rattle.std.specs.Prelude.{slice_get, nat_le, nat_lt, decimal, codes}
+use Rattle.std.specs.Result.{result_ok}
+use Rattle.std.proofs.lemmas.List.{append-nil, length-drop}
+use Rattle.std.proofs.lemmas.Option.{slice_get_past}
+use Rattle.pickle_io.specs.Text.{◌⧺◌}
+use Rattle.pickle_ops.specs.declared.opcode.Opcode.{Opcode}
+use Rattle.pickle_ops.specs.declared.opcode.Opcode.TheVariants as op
+use Rattle.pickle_ops.specs.Spelling.{Operation}
+use Rattle.pickle_doc.specs.Document.{Contents}
+use Rattle.pickle_doc.specs.Place.{ops_of, item_at, offset_of}
+use Rattle.pickle_doc.proofs.Existence.{one_document}
+use Rattle.pickle_objects.specs.declared.kind.Kind.{Kind}
+use Rattle.pickle_objects.specs.declared.kind.Demand.TheVariants as demand
+use Rattle.pickle_objects.specs.declared.row.Row.{Row}
+use Rattle.pickle_objects.specs.declared.row.Row.TheVariants as row
+use Rattle.pickle_objects.specs.declared.row.Filling.{Filling}
+use Rattle.pickle_objects.specs.declared.row.Filling.TheVariants as filling
+use Rattle.pickle_objects.specs.declared.object.Change.{Change}
+use Rattle.pickle_objects.specs.Object.{Object}
+use Rattle.pickle_objects.specs.Kind.{is_opaque}
+use Rattle.pickle_objects.specs.Row.{row_of, row_of_opcode, kind_of, values_of}
+use Rattle.pickle_machine.specs.declared.refusal.Refusal.{Refusal}
+use Rattle.pickle_machine.specs.declared.refusal.Refusal.TheVariants as refusal
+use Rattle.pickle_machine.specs.State.{Marked, State, stack_size, section_sizes}
+use Rattle.pickle_machine.specs.Move.{next_of, refusal_of, refusal_at, next, outcome, cut, under, deeper, without, changes_of, change_top, last_of, deep, object_meets, unless, if_deep}
+use Rattle.pickle_machine.specs.Run.{after}
+use Rattle.pickle_machine.proofs.Shown.{last_of_more}
+use Rattle.pickle_report.proofs.Runs.{run_after}
+use Rattle.pickle_report.proofs.Walks.{one_line}
+use Rattle.pickle_page.specs.Column.{right_aligned, newline}
+use Rattle.pickle_calls.specs.declared.reach.Reach.{Reach}
+use Rattle.pickle_calls.specs.Reach.{before_of, top_of, is_view, made, filled, reach_of}
+use Rattle.pickle_calls.specs.Line.{reach_text, reach_line}
+use Rattle.pickle_calls.specs.Calls.{Entry, entry, entry_at, calls}
+use Rattle.pickle_calls.specs.Laws.{OneText, IsStep, NoLineNoReach, Makes, Changes, LinesReach}
+use Rattle.pickle_calls.proofs.Walking.{entry_is}
+use Rattle.pickle_calls.proofs.Steps.{pushed_untold, pushed_told, none_made, Same, Grown, after_changes, got_changes, top_is, fills_untold, fills_told, is_there, not_there}
+
+-- ---- one text
+
+pub one_text : OneText
+one_text bytes small less =
+    let one = one_document bytes small less in
+    (calls one.0, (one.0, one.1, refl), λ e r. ap calls (one.2 e r))
+
+-- ---- sizes
+
+-- an opcode that fills finds its target under what it takes
+deep_enough : (n : ℕ) (section : List ℕ) (rest : Option Refusal) → if_deep n section rest ≡ None → n ≤ length section
+deep_enough n section rest e = go (nat_le n (length section)) refl e
+  where
+    go : (b : Bool) → nat_le n (length section) ≡ b → unless b refusal.Underflow rest ≡ None → n ≤ length section
+    go true f x = search rules
+    go false f x = absurd cc
+
+-- what is taken from the top section
+taken_without : (n : ℕ) (s : State) → n ≤ length s.top → stack_size s - stack_size (without n s) ≡ length (last_of n s)
+taken_without n s h = omega (arith, length-drop (length s.top - n) s.top, length_take_less (length s.top - n) s.top (omega arith))
+  where
+    length_take_less : (k : ℕ) (xs : List ℕ) → k ≤ length xs → length (take k xs) ≡ k
+    length_take_less zero xs h = refl
+    length_take_less (suc k) [] h = absurd (omega arith)
+    length_take_less (suc k) (x ∷ xs) h = ap suc (length_take_less k xs (omega arith))
+
+left_without : (n : ℕ) (s : State) → n < length s.top → 0 < length (without n s).top
+left_without n s h = omega (arith, length_take_less (length s.top - n) s.top (omega arith))
+  where
+    length_take_less : (k : ℕ) (xs : List ℕ) → k ≤ length xs → length (take k xs) ≡ k
+    length_take_less zero xs h = refl
+    length_take_less (suc k) [] h = absurd (omega arith)
+    length_take_less (suc k) (x ∷ xs) h = ap suc (length_take_less k xs (omega arith))
+
+-- what is cut with a mark
+taken_cut : (s : State) (ms : List Marked) → s.marked ≡ ms → 0 < length (under ms) → stack_size s - stack_size (cut s) ≡ length s.top
+taken_cut s [] e h = absurd (omega (arith, h))
+taken_cut s (m ∷ ms) e h =
+    let before : section_sizes s.marked ≡ length m.section + section_sizes ms = ap section_sizes e in
+    let behind : stack_size (cut s) ≡ length m.section + section_sizes ms = ap (λ (l : List Marked). length (under l) + section_sizes (deeper l)) e in
+    omega (arith, before, behind)
+
+under_mark : (s : State) (rest : Option Refusal) → unless (nat_lt 0 (length s.marked)) refusal.NoMark (if_deep 1 (under s.marked) rest) ≡ None → 0 < length (under s.marked)
+under_mark s rest e = go (nat_lt 0 (length s.marked)) e
+  where
+    go : (b : Bool) → unless b refusal.NoMark (if_deep 1 (under s.marked) rest) ≡ None → 0 < length (under s.marked)
+    go true x = deep_enough 1 (under s.marked) rest x
+    go false x = absurd cc
+
+-- ---- objects went into another: from a state without them, whose top that is
+
+-- nothing is told: each opaque object is as it was
+into_untold : (f : Filling) (items : List ℕ) (s u : State) → u.heap ≡ s.heap → 0 < length u.top → stack_size s - stack_size u ≡ length items
+    → filled f (before_of s) (change_top (changes_of f items) u) ≡ None
+    → (id : ℕ) (o : Object) → slice_get (change_top (changes_of f items) u).heap id ≡ Some o → is_opaque o.kind ≡ true → slice_get s.heap id ≡ Some o
+into_untold f items s u same top n e id o there opaque = elim (after_changes u.heap (deep 0 u.top) (changes_of f items) id o there) [
+  | Same is ↦ ap (λ (h : List Object). slice_get h id) (sym same) ∙ is
+  | Grown old at was is ↦ (elim (fills_untold f items (before_of s) (change_top (changes_of f items) u) n e) [
+    | inl none ↦
+        let kept : o ≡ old = is ∙ ap (λ (more : List Change). record old { changes = old.changes ++ more }) none ∙ ap (λ (cs : List Change). record old { changes = cs }) (append-nil old.changes) in
+        ap (λ (h : List Object). slice_get h id) (sym same) ∙ ap (slice_get u.heap) at ∙ was ∙ ap (λ (x : Object). Some x) (sym kept)
+    | inr plain ↦
+        let target : top_of u ≡ deep 0 u.top = top_is u top in
+        let here : slice_get (change_top (changes_of f items) u).heap (top_of u) ≡ Some o = ap (slice_get (change_top (changes_of f items) u).heap) (target ∙ sym at) ∙ there in
+        let no : true ≡ false = sym opaque ∙ not_there is_opaque (change_top (changes_of f items) u).heap (top_of u) o here plain in
+        absurd cc
+  ])
+]
+
+-- it is told: an opaque object got changes, or a state was set
+into_told : (f : Filling) (items : List ℕ) (s u : State) (r : Reach) → u.heap ≡ s.heap → 0 < length u.top → stack_size s - stack_size u ≡ length items
+    → filled f (before_of s) (change_top (changes_of f items) u) ≡ Some r
+    → Changes s (change_top (changes_of f items) u) ⊎ (f ≡ filling.Build)
+into_told f items s u r same top n e = elim (fills_told f items (before_of s) (change_top (changes_of f items) u) r n e) [
+  | inr build ↦ inr build
+  | inl told ↦
+      let target : top_of u ≡ deep 0 u.top = top_is u top in
+      let new = is_there is_opaque (change_top (changes_of f items) u).heap (top_of u) told.1 in
+      let here : slice_get (change_top (changes_of f items) u).heap (deep 0 u.top) ≡ Some new.0 = ap (slice_get (change_top (changes_of f items) u).heap) (sym target) ∙ new.1 in
+      let old = got_changes u.heap (deep 0 u.top) (changes_of f items) new.0 here in
+      inl (record {
+        id = deep 0 u.top;
+        old = old.0;
+        new = new.0;
+        before = ap (λ (h : List Object). slice_get h (deep 0 u.top)) (sym same) ∙ old.1;
+        after = here;
+        opaque = ap (λ (x : Object). is_opaque x.kind) (sym old.2) ∙ new.2;
+        more = omega (arith, told.0, ap (λ (x : Object). length x.changes) old.2, length-append old.0.changes (changes_of f items));
+      })
+]
+
+-- ---- rows
+
+by_either : (b : Bool) (s t u : State) → t.heap ≡ s.heap → u.heap ≡ s.heap → (cond b t u).heap ≡ s.heap
+by_either true s t u p q = p
+by_either false s t u p q = q
+
+-- a heap that stays
+stays : (s t : State) → t.heap ≡ s.heap → (id : ℕ) (o : Object) → slice_get t.heap id ≡ Some o → slice_get s.heap id ≡ Some o
+stays s t e id o h = ap (λ (l : List Object). slice_get l id) (sym e) ∙ h
+
+untold_view : (b : Bool) (s u : State) (x : Object) → u.heap ≡ s.heap ++ x ∷ [] → made (cond b s u).heap (length s.heap) ≡ None
+    → (id : ℕ) (o : Object) → slice_get (cond b s u).heap id ≡ Some o → is_opaque o.kind ≡ true → slice_get s.heap id ≡ Some o
+untold_view true s u x e m id o h q = h
+untold_view false s u x e m id o h q =
+    pushed_untold s.heap x (ap (λ (l : List Object). made l (length s.heap)) (sym e) ∙ m) id o (ap (λ (l : List Object). slice_get l id) (sym e) ∙ h) q
+
+row_untold : (r : Row) (k : Kind) (place : ℕ) (s : State) → refusal_of r s ≡ None → reach_of r (before_of s) (next_of r k place s) ≡ None
+    → (id : ℕ) (o : Object) → slice_get (next_of r k place s).heap id ≡ Some o → is_opaque o.kind ≡ true → slice_get s.heap id ≡ Some o
+row_untold row.Nothing k place s f m id o h q = h
+row_untold (row.Protocol n) k place s f m id o h q = h
+row_untold (row.Extension n) k place s f m id o h q = pushed_untold s.heap _ m id o h q
+row_untold row.Push k place s f m id o h q = pushed_untold s.heap _ m id o h q
+row_untold row.Buffer k place s f m id o h q = pushed_untold s.heap _ m id o h q
+row_untold row.ReadOnly k place s f m id o h q = untold_view (object_meets demand.ReadOnly s (deep 0 s.top)) s _ _ refl m id o h q
+row_untold (row.Take t) k place s f m id o h q = pushed_untold s.heap _ m id o h q
+row_untold (row.Cut c) k place s f m id o h q = pushed_untold s.heap _ m id o h q
+row_untold (row.Change g) k place s f m id o h q =
+    let deep : values_of g + 1 ≤ length s.top = deep_enough _ _ _ f in
+    into_untold g (last_of (values_of g) s) s (without (values_of g) s) refl (left_without (values_of g) s (omega (arith, deep))) (taken_without (values_of g) s (omega (arith, deep))) m id o h q
+row_untold (row.CutChange g) k place s f m id o h q =
+    let there : 0 < length (under s.marked) = under_mark s _ f in
+    into_untold g s.top s (cut s) refl there (taken_cut s s.marked refl there) m id o h q
+row_untold row.Pop k place s f m id o h q = stays s (cond (nat_lt 0 (length s.top)) (without 1 s) (cut s)) (by_either (nat_lt 0 (length s.top)) s (without 1 s) (cut s) refl refl) id o h
+row_untold row.PopMark k place s f m id o h q = h
+row_untold row.Dup k place s f m id o h q = h
+row_untold row.Mark k place s f m id o h q = h
+row_untold (row.Get key) k place s f m id o h q = h
+row_untold (row.Put key) k place s f m id o h q = h
+row_untold row.Memoize k place s f m id o h q = h
+row_untold row.Stop k place s f m id o h q = h
+
+-- what a row is told for
+abbrev IsTold : Row → State → State → Type 0
+IsTold r s t = Makes s t ⊎ (Changes s t ⊎ ((r ≡ row.Change filling.Build) ⊎ (r ≡ row.CutChange filling.Build)))
+
+pushes : (r : Row) (s t : State) (x : Object) (reached : Reach) → t.heap ≡ s.heap ++ x ∷ [] → made t.heap (length s.heap) ≡ Some reached → IsTold r s t
+pushes r s t x reached e m =
+    let at : made (s.heap ++ x ∷ []) (length s.heap) ≡ Some reached = ap (λ (l : List Object). made l (length s.heap)) (sym e) ∙ m in
+    let told : (is_opaque x.kind ≡ true) ⊎ (is_view t.heap x ≡ true) = subst (λ (l : List Object). (is_opaque x.kind ≡ true) ⊎ (is_view l x ≡ true)) (sym e) (pushed_told s.heap x reached at) in
+    inl (record {
+      id = length s.heap;
+      object = x;
+      there = ap (λ (l : List Object). slice_get l (length s.heap)) e ∙ last_of_more s.heap x;
+      fresh = slice_get_past s.heap (length s.heap) (omega arith);
+      told = told;
+    })
+
+told_stays : (r : Row) (s t : State) (reached : Reach) → t.heap ≡ s.heap → made t.heap (length s.heap) ≡ Some reached → IsTold r s t
+told_stays r s t reached e m =
+    let no : None ≡ Some reached = sym (none_made s.heap) ∙ ap (λ (l : List Object). made l (length s.heap)) (sym e) ∙ m in
+    absurd cc
+
+told_view : (r : Row) (b : Bool) (s u : State) (x : Object) (reached : Reach) → u.heap ≡ s.heap ++ x ∷ [] → made (cond b s u).heap (length s.heap) ≡ Some reached → IsTold r s (cond b s u)
+told_view r true s u x reached e m = told_stays r s s reached refl m
+told_view r false s u x reached e m = pushes r s u x reached e m
+
+row_told : (r : Row) (k : Kind) (place : ℕ) (s : State) (reached : Reach) → refusal_of r s ≡ None → reach_of r (before_of s) (next_of r k place s) ≡ Some reached
+    → IsTold r s (next_of r k place s)
+row_told row.Nothing k place s x f m = told_stays _ s s x refl m
+row_told (row.Protocol n) k place s x f m = told_stays _ s s x refl m
+row_told (row.Extension n) k place s x f m = pushes _ s _ _ x refl m
+row_told row.Push k place s x f m = pushes _ s _ _ x refl m
+row_told row.Buffer k place s x f m = pushes _ s _ _ x refl m
+row_told row.ReadOnly k place s x f m = told_view _ (object_meets demand.ReadOnly s (deep 0 s.top)) s _ _ x refl m
+row_told (row.Take t) k place s x f m = pushes _ s _ _ x refl m
+row_told (row.Cut c) k place s x f m = pushes _ s _ _ x refl m
+row_told (row.Change g) k place s x f m =
+    let deep : values_of g + 1 ≤ length s.top = deep_enough _ _ _ f in
+    elim (into_told g (last_of (values_of g) s) s (without (values_of g) s) x refl (left_without (values_of g) s (omega (arith, deep))) (taken_without (values_of g) s (omega (arith, deep))) m) [
+      | inl changes ↦ inr (inl changes)
+      | inr build ↦ inr (inr (inl (ap row.Change build)))
+    ]
+row_told (row.CutChange g) k place s x f m =
+    let there : 0 < length (under s.marked) = under_mark s _ f in
+    elim (into_told g s.top s (cut s) x refl there (taken_cut s s.marked refl there) m) [
+      | inl changes ↦ inr (inl changes)
+      | inr build ↦ inr (inr (inr (ap row.CutChange build)))
+    ]
+row_told row.Pop k place s x f m = told_stays _ s (cond (nat_lt 0 (length s.top)) (without 1 s) (cut s)) x (by_either (nat_lt 0 (length s.top)) s (without 1 s) (cut s) refl refl) m
+row_told row.PopMark k place s x f m = told_stays _ s _ x refl m
+row_told row.Dup k place s x f m = told_stays _ s _ x refl m
+row_told row.Mark k place s x f m = told_stays _ s _ x refl m
+row_told (row.Get key) k place s x f m = told_stays _ s _ x refl m
+row_told (row.Put key) k place s x f m = told_stays _ s _ x refl m
+row_told row.Memoize k place s x f m = told_stays _ s _ x refl m
+row_told row.Stop k place s x f m = told_stays _ s _ x refl m
+
+-- ---- opcodes
+
+build_only : (o : Opcode) (arg : List ℕ) → row_of_opcode o arg ≡ row.Change filling.Build → o ≡ op.Build
+build_only op.Build arg e = refl
+build_only _ arg e = cc
+
+no_cut_build : (o : Opcode) (arg : List ℕ) → row_of_opcode o arg ≡ row.CutChange filling.Build → o ≡ op.Build
+no_cut_build op.Build arg e = refl
+no_cut_build _ arg e = cc
+
+-- ---- items
+
+-- an item that is there, and has a move
+record Moves (x : Option Operation) (k : ℕ) (s t : State) : Type 0 where
+  item : Operation
+  there : x ≡ Some item
+  accepted : refusal_at item s ≡ None
+  leads : next item k s ≡ t
+
+by_outcome : (r : Option Refusal) (u t : State) → result_ok (outcome r u) ≡ Some t → (r ≡ None) × (u ≡ t)
+by_outcome None u t e = (refl, cc)
+by_outcome (Some r) u t e = absurd cc
+
+moves : (x : Option Operation) (k : ℕ) (s t : State) → after x k (Some s) ≡ Some t → Moves x k s t
+moves None k s t e = absurd cc
+moves (Some o) k s t e = let m = by_outcome (refusal_at o s) (next o k s) t e in record { item = o; there = refl; accepted = m.0; leads = m.1 }
+
+moves_at : (d : Contents) (k : ℕ) (s t : State) → IsStep d k s t → Moves (item_at d k) k s t
+moves_at d k s t step =
+    moves (item_at d k) k s t (ap (λ (y : Option State). after (item_at d k) k y) (sym step.before) ∙ run_after (ops_of d) k t step.after)
+
+-- ---- lines
+
+-- a line ends with a newline
+long : (offset : ℕ) (heap : List Object) (r : Reach) → 0 < length (reach_line offset heap r)
+unfolding reach_line
+long offset heap r = omega (arith, one_line (right_aligned 5 (decimal offset) ⧺ codes ": " ⧺ reach_text heap r) newline)
+
+no_line : (offset : ℕ) (heap : List Object) (r : Option Reach) → (entry offset heap r).line ≡ [] → r ≡ None
+no_line offset heap None e = refl
+no_line offset heap (Some r) e = absurd (omega (arith, long offset heap r, ap length e))
+
+a_line : (offset : ℕ) (heap : List Object) (r : Option Reach) → (entry offset heap r).line ≢ [] → (x : Reach) × (r ≡ Some x)
+a_line offset heap None e = absurd (e refl)
+a_line offset heap (Some r) e = (r, refl)
+
+-- ---- the laws
+
+pub no_line_no_reach : NoLineNoReach
+no_line_no_reach d k s t step none id o there opaque =
+    let m = moves_at d k s t step in
+    let here : (entry_at d k).line ≡ (entry (offset_of d k) t.heap (reach_of (row_of m.item) (before_of s) t)).line = ap (λ (e : Entry). e.line) (entry_is d k m.item s t m.there step.before step.after) in
+    let nothing : reach_of (row_of m.item) (before_of s) t ≡ None = no_line _ _ _ (sym here ∙ none) in
+    let at : reach_of (row_of m.item) (before_of s) (next m.item k s) ≡ None = ap (λ (u : State). reach_of (row_of m.item) (before_of s) u) m.leads ∙ nothing in
+    row_untold (row_of m.item) (kind_of m.item) k s m.accepted at id o (ap (λ (u : State). slice_get u.heap id) m.leads ∙ there) opaque
+
+pub lines_reach : LinesReach
+lines_reach d k s t step some =
+    let m = moves_at d k s t step in
+    let here : (entry_at d k).line ≡ (entry (offset_of d k) t.heap (reach_of (row_of m.item) (before_of s) t)).line = ap (λ (e : Entry). e.line) (entry_is d k m.item s t m.there step.before step.after) in
+    let told = a_line (offset_of d k) t.heap (reach_of (row_of m.item) (before_of s) t) (λ e. some (here ∙ e)) in
+    let at : reach_of (row_of m.item) (before_of s) (next m.item k s) ≡ Some told.0 = ap (λ (u : State). reach_of (row_of m.item) (before_of s) u) m.leads ∙ told.1 in
+    let all : IsTold (row_of m.item) s t = subst (λ (u : State). IsTold (row_of m.item) s u) m.leads (row_told (row_of m.item) (kind_of m.item) k s told.0 m.accepted at) in
+    elim all [
+      | inl makes ↦ inl makes
+      | inr rest ↦ (elim rest [
+        | inl changes ↦ inr (inl changes)
+        | inr build ↦ (elim build [
+          | inl one ↦ inr (inr (m.item, m.there, build_only m.item.opcode m.item.arg one))
+          | inr two ↦ inr (inr (m.item, m.there, no_cut_build m.item.opcode m.item.arg two))
+        ])
+      ])
+    ]

@@ -1,0 +1,139 @@
+-- Objects in brief: what is named by its names, plain values by what they are, and all else by its number. An object is never
+-- looked into but for the two names of what is imported.
+-- Source: own.
+use Rattle.std.specs.Prelude.{ℕ, ◌-◌, ◌==◌, if◌then◌else◌, List, [], ◌∷◌, length, take, slice_get, codes, decimal, Option, Some, None}
+use Rattle.std.specs.Fmt.{signed_decimal}
+use Rattle.pickle_io.specs.Text.{◌⧺◌, quoted}
+use Rattle.pickle_io.specs.Device.{each}
+use Rattle.pickle_ops.specs.Text.{float_text, long_text}
+use Rattle.pickle_objects.specs.declared.kind.Kind.{Kind}
+use Rattle.pickle_objects.specs.declared.kind.Kind.TheVariants as kind
+use Rattle.pickle_objects.specs.Object.{Object}
+use Rattle.pickle_report.specs.ObjectText.{id_text}
+use Rattle.pickle_calls.specs.Reach.{part}
+
+-- ---- names
+
+-- a name that is a text is shown by its bytes, any other object by its number
+unfoldable pub kind_word : ℕ → Kind → List ℕ
+kind_word id (kind.Text q) = quoted q
+kind_word id (kind.TextLine q) = quoted q
+kind_word id (kind.LegacyString q) = quoted q
+kind_word id (kind.LegacyLine q) = quoted q
+kind_word id _ = id_text id
+
+abbrev pub word_of : ℕ → Option Object → List ℕ
+word_of id (Some o) = kind_word id o.kind
+word_of id None = id_text id
+
+unfoldable pub word_text : List Object → ℕ → List ℕ
+word_text heap id = word_of id (slice_get heap id)
+
+-- two names in quotes, and a blank between them
+unfoldable pub names_text : List ℕ → List ℕ → List ℕ
+names_text first second = quoted first ⧺ codes " " ⧺ quoted second
+
+-- the same of two objects
+unfoldable pub words_text : List Object → List ℕ → List ℕ
+words_text heap parts = word_text heap (part 0 parts) ⧺ codes " " ⧺ word_text heap (part 1 parts)
+
+-- what is imported is named by its module and its name, or by its code; any other object by its number
+unfoldable pub kind_name : List Object → ℕ → Kind → List ℕ → List ℕ
+kind_name heap id (kind.Global names) parts = names_text names.first names.second
+kind_name heap id kind.StackGlobal parts = words_text heap parts
+kind_name heap id (kind.Ext n) parts = codes "ext " ⧺ signed_decimal n
+kind_name heap id _ parts = id_text id
+
+abbrev pub name_of : List Object → ℕ → Option Object → List ℕ
+name_of heap id (Some o) = kind_name heap id o.kind o.parts
+name_of heap id None = id_text id
+
+unfoldable pub name_text : List Object → ℕ → List ℕ
+name_text heap id = name_of heap id (slice_get heap id)
+
+-- ---- texts that are cut
+
+-- how many bytes of a payload are shown, and how many objects of a list
+abbrev pub most_bytes : ℕ
+most_bytes = 64
+
+abbrev pub most_objects : ℕ
+most_objects = 16
+
+-- how many bytes more there are, if any
+unfoldable pub over_text : ℕ → List ℕ
+over_text n = if n == 0 then [] else codes "+" ⧺ decimal n
+
+-- the first bytes of a payload in quotes, and how many more there are
+unfoldable pub cut_quoted : List ℕ → List ℕ
+cut_quoted q = quoted (take most_bytes q) ⧺ over_text (length q - most_bytes)
+
+-- the same after a word
+unfoldable pub cut_after : List ℕ → List ℕ → List ℕ
+cut_after word q = word ⧺ cut_quoted q
+
+-- the number of the first bytes, or these bytes, and how many more there are
+unfoldable pub cut_long : List ℕ → List ℕ
+cut_long bytes = codes "int " ⧺ long_text (take most_bytes bytes) ⧺ over_text (length bytes - most_bytes)
+
+-- ---- objects in brief
+
+unfoldable pub kind_brief : List Object → ℕ → Kind → List ℕ → List ℕ
+kind_brief heap id kind.None parts = codes "none"
+kind_brief heap id kind.True parts = codes "true"
+kind_brief heap id kind.False parts = codes "false"
+kind_brief heap id (kind.Int n) parts = codes "int " ⧺ signed_decimal n
+kind_brief heap id (kind.Long bytes) parts = cut_long bytes
+kind_brief heap id (kind.IntLine q) parts = cut_after (codes "int-line ") q
+kind_brief heap id (kind.LongLine q) parts = cut_after (codes "long-line ") q
+kind_brief heap id (kind.FloatLine q) parts = cut_after (codes "float-line ") q
+kind_brief heap id (kind.Float bytes) parts = codes "float " ⧺ float_text bytes
+kind_brief heap id (kind.LegacyString q) parts = cut_after (codes "string ") q
+kind_brief heap id (kind.LegacyLine q) parts = cut_after (codes "string-line ") q
+kind_brief heap id (kind.Text q) parts = cut_quoted q
+kind_brief heap id (kind.TextLine q) parts = cut_quoted q
+kind_brief heap id (kind.Bytes q) parts = cut_after (codes "bytes ") q
+kind_brief heap id (kind.ByteArray q) parts = cut_after (codes "bytearray ") q
+kind_brief heap id (kind.Global names) parts = codes "global " ⧺ names_text names.first names.second
+kind_brief heap id kind.StackGlobal parts = codes "global " ⧺ words_text heap parts
+kind_brief heap id (kind.Ext n) parts = codes "ext " ⧺ signed_decimal n
+kind_brief heap id _ parts = id_text id
+
+abbrev pub brief_of : List Object → ℕ → Option Object → List ℕ
+brief_of heap id (Some o) = kind_brief heap id o.kind o.parts
+brief_of heap id None = id_text id
+
+-- an object in brief
+unfoldable pub brief_text : List Object → ℕ → List ℕ
+brief_text heap id = brief_of heap id (slice_get heap id)
+
+-- ---- objects in a row
+
+-- one object more, after a comma
+unfoldable pub next_brief : List Object → ℕ → List ℕ
+next_brief heap id = codes ", " ⧺ brief_text heap id
+
+-- objects with commas between them
+abbrev pub joined : List Object → List ℕ → List ℕ
+joined heap [] = []
+joined heap (id ∷ ids) = brief_text heap id ⧺ each (next_brief heap) ids
+
+-- how many objects more there are, if any
+unfoldable pub more_text : ℕ → List ℕ
+more_text n = if n == 0 then [] else codes ", +" ⧺ decimal n
+
+-- the first objects in brackets, and how many more there are
+unfoldable pub briefs_text : List Object → List ℕ → List ℕ
+briefs_text heap ids = codes "(" ⧺ joined heap (take most_objects ids) ⧺ more_text (length ids - most_objects) ⧺ codes ")"
+
+-- an object that is given to a call, or becomes a state: of a tuple its parts, of any other object what it is in brief
+unfoldable pub kind_value : List Object → ℕ → Kind → List ℕ → List ℕ
+kind_value heap id kind.Tuple parts = briefs_text heap parts
+kind_value heap id k parts = kind_brief heap id k parts
+
+abbrev pub value_of : List Object → ℕ → Option Object → List ℕ
+value_of heap id (Some o) = kind_value heap id o.kind o.parts
+value_of heap id None = id_text id
+
+unfoldable pub value_text : List Object → ℕ → List ℕ
+value_text heap id = value_of heap id (slice_get heap id)

@@ -1,0 +1,8 @@
+-- The definitions that contracts cite.
+pub mod Reach
+pub mod Brief
+pub mod Line
+pub mod Calls
+pub mod Written
+pub mod Laws
+pub mod Inside

@@ -1,0 +1,32 @@
+//! What a pickle would import and call.
+
+ghost use Rattle.std.specs.Prelude.{◌≡◌, ◌<◌, ◌↔◌, length, IfOk, IfErr, Err};
+ghost use Rattle.pickle_doc.specs.Document.{size_limit};
+ghost use Rattle.pickle_calls.specs.Written.{TellsCalls};
+ghost use Rattle.pickle_tasks.specs.Calls.{StopsCalls};
+
+use crate::stop::Stop;
+use pickle_calls::calls_of_bytes;
+use pickle_doc::LIMIT;
+use pickle_ops::Sink;
+use std::alloc::Global;
+
+/// Writes what the pickle that the bytes are would import and call, a line for each step that does so, and how many imports and
+/// calls these are; answers the status: 0 where there is a result, 1 where an item is refused or the bytes have a fault.
+/// `Stop::TooLarge` comes where there are more bytes than `LIMIT`, `Stop::Memory` for want of memory, and `Stop::Write` from
+/// the sink; what was written then is a beginning of the text.
+pub fn calls<S: Sink>(alloc: Global, bytes: &[u8], sink: &mut S) -> Result<u8, Stop>
+    ensures told { IfOk result (TellsCalls bytes.now (S.told sink.old) (S.told sink.new)) }
+
+    // Write comes only where the sink has failed, Memory only where it has not, and Read never.
+    ensures stopped { IfErr result (StopsCalls bytes.now (S.told sink.old) (S.told sink.new)) }
+
+    // Too many bytes, and only those, are refused before anything is written.
+    ensures too_large { (result ≡ Err Stop.TooLarge) ↔ (size_limit < length bytes.now) }
+    ensures untouched { result ≡ Err Stop.TooLarge → sink.new ≡ sink.old }
+{
+    if bytes.len() > LIMIT {
+        return Err(Stop::TooLarge);
+    }
+    Ok(calls_of_bytes(alloc, bytes, sink)?)
+}
