@@ -1,17 +1,19 @@
 -- A code in its column.
-use Rattle.std.proofs.Common.{◌≡◌, ℕ, List, [], ◌∷◌, ◌&&◌, false, nat_lt, slice_index_or, codes, refl}
+use Rattle.std.proofs.Common.{◌≡◌, ℕ, Bool, true, false, ◌&&◌, nat_lt, List, ◌++◌, take, refl, ap, ◌∙◌}
+use Rattle.pickle_ops.specs.declared.opcode.Opcode.{Opcode}
+use Rattle.pickle_ops.specs.Table.{code_of}
 use Rattle.pickle_io.specs.Text.{◌⧺◌}
 use Rattle.hex.specs.Hex.{encode_with}
 use Rattle.pickle_page.specs.Column.{left_aligned}
-use Rattle.pickle_listing.specs.Column.{hex_byte, code_text}
+use Rattle.pickle_listing.specs.Column.{code_cells}
+use Rattle.pickle_listing.specs.Line.{code_column}
 
-pub visible-column : (byte : ℕ) → codes ": " ⧺ left_aligned 4 (byte ∷ []) ⧺ codes " " ≡ 58 ∷ 32 ∷ byte ∷ 32 ∷ 32 ∷ 32 ∷ 32 ∷ []
-unfolding left_aligned ◌⧺◌
-visible-column byte = refl
+cells_taken : (o : Opcode) (visible : Bool) → (nat_lt 32 (code_of o) && nat_lt (code_of o) 127) ≡ visible → take 7 (code_cells (code_of o)) ≡ code_column o
+unfolding code_column left_aligned ◌⧺◌ encode_with
+cells_taken o true h = rw h refl
+cells_taken o false h = rw h refl
 
-pub hidden-column : (byte : ℕ) (digits : List ℕ) → (nat_lt 32 byte && nat_lt byte 127) ≡ false → digits ≡ hex_byte byte
-    → 58 ∷ 32 ∷ 92 ∷ 120 ∷ slice_index_or digits 0 0 ∷ slice_index_or digits 1 0 ∷ 32 ∷ [] ≡ codes ": " ⧺ left_aligned 4 (code_text byte) ⧺ codes " "
-unfolding left_aligned ◌⧺◌ encode_with
-hidden-column byte digits h e = rw (h, e) refl
+pub column_there : (o : Opcode) (text next : List ℕ) → next ≡ text ++ take 7 (code_cells (code_of o)) → next ≡ text ++ code_column o
+column_there o text next e = e ∙ ap (λ (l : List ℕ). text ++ l) (cells_taken o (nat_lt 32 (code_of o) && nat_lt (code_of o) 127) refl)
 
-pub ruleset column_steps = (visible-column)
+pub ruleset column_steps = (column_there)

@@ -13,9 +13,9 @@ use Rattle.pickle_listing.specs.declared.note.Note.{Note}
 use Rattle.pickle_page.specs.Column.{blanks, left_aligned, right_aligned, newline}
 use Rattle.pickle_listing.specs.Line.{offset_column, code_column, item_line, named, mark_text, as_text}
 
-pub head_behind : (t code : List ℕ) (offset : ℕ) → (t ++ (blanks (5 - length (decimal offset)) ++ decimal offset)) ++ code ≡ t ++ (offset_column offset ⧺ code)
-unfolding offset_column right_aligned ◌⧺◌
-head_behind t code offset = append_assoc t (blanks (5 - length (decimal offset)) ++ decimal offset) code
+pub head_behind : (t code : List ℕ) (offset : ℕ) → (t ++ right_aligned 5 (decimal offset)) ++ code ≡ t ++ (offset_column offset ⧺ code)
+unfolding offset_column ◌⧺◌
+head_behind t code offset = append_assoc t (right_aligned 5 (decimal offset)) code
 
 -- a name that was filled with blanks
 pub name_there : (text name next : List ℕ) → next ≡ text ++ take (length name) (name ++ blanks (16 - length name)) → next ≡ text ++ name

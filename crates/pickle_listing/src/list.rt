@@ -26,7 +26,7 @@ use pickle_machine::Refusal;
 use pickle_objects::Row;
 use pickle_ops::{Failed, OpRef, Opcode, Sink};
 use pickle_outline::{Class, Lean};
-use pickle_page::Page;
+use pickle_page::{Offset, Page};
 use pickle_report::{TextStop, write_fault};
 use std::alloc::{AllocError, Global};
 
@@ -254,7 +254,7 @@ pub fn list_items<'a, I: ItemSource<'a>, S: Sink>(
     let mut opened = Vec::new(alloc);
     let mut page = Page::new();
     let mut highest = None;
-    let mut offset = 0;
+    let mut offset = Offset::at(0);
     let mut place = 0;
     let mut stop = false;
     'items: loop {
@@ -264,20 +264,23 @@ pub fn list_items<'a, I: ItemSource<'a>, S: Sink>(
                 if is_last(stop, kept) {
                     return answer(write_last_end(&mut page, kept, highest, sink), 0);
                 }
-                return answer(write_fault_end(&mut page, fault, offset, highest, sink), 1);
+                return answer(
+                    write_fault_end(&mut page, fault, offset.number(), highest, sink),
+                    1,
+                );
             }
             NextRef::Item(op) => {
                 let row = Row::of_ref(&op);
                 let refusal = lean.refusal(row);
                 let note = note_unless_refused(refusal, &op, row, &lean, opened.as_slice());
-                put_item(&mut page, &op, offset, lean.marks_len(), note, sink)?;
+                put_item(&mut page, &op, &offset, lean.marks_len(), note, sink)?;
                 highest = raise(highest, op.opcode().protocol());
                 if let Some(refusal) = refusal {
                     return answer(write_refused_end(&mut page, refusal, highest, sink), 1);
                 }
                 let class = Class::of(op.opcode());
-                perform(&mut lean, &mut opened, row, class, place, offset)?;
-                offset += op.size() as u64;
+                perform(&mut lean, &mut opened, row, class, place, offset.number())?;
+                offset.advance(op.size() as u64);
                 place += 1;
                 if ends_reading(many, op.opcode()) {
                     let kept = reader.unread_len();

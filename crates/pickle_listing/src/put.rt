@@ -8,32 +8,32 @@ ghost use Rattle.pickle_page.specs.Page.{Puts};
 ghost use Rattle.pickle_page.specs.Column.{blanks, left_aligned};
 ghost use Rattle.pickle_listing.specs.Line.{offset_column, code_column, note_text, described, named, item_line};
 
-use crate::column::code_column;
+use crate::column::code_block;
 use crate::note::Note;
 use pickle_ops::{Failed, OpRef, Opcode, Sink};
-use pickle_page::Page;
+use pickle_page::{Offset, Page};
 
 /// Puts a colon and the code of an opcode after the text.
-#[tactic(auto, unfolding(crate::specs::Line::code_column))]
+#[tactic(auto, using(crate::proofs::Blanks::column_steps))]
 #[inline(always)]
-fn push_code(page: &mut Page, op: &OpRef<'_>)
-    requires { length page.old + 7 ≤ 4096 }
-    ensures text { page.new ≡ page.old ++ code_column op.now.opcode }
+fn push_code(page: &mut Page, opcode: Opcode)
+    requires { length page.old + 8 ≤ 4096 }
+    ensures text { page.new ≡ page.old ++ code_column opcode }
     ensures len { length page.new ≡ length page.old + 7 }
 {
-    page.push_text(&code_column(op.code()));
+    page.push_block(code_block(opcode), 7);
 }
 
 /// Puts where an item stands, a colon and the code of its opcode after the text.
 #[tactic(auto, using(crate::proofs::PageLines::head_behind))]
 #[inline(always)]
-fn push_head(page: &mut Page, op: &OpRef<'_>, offset: u64)
+fn push_head(page: &mut Page, op: &OpRef<'_>, offset: &Offset)
     requires { length page.old + 48 ≤ 4096 }
-    ensures text { page.new ≡ page.old ++ (offset_column offset ⧺ code_column op.now.opcode) }
+    ensures text { page.new ≡ page.old ++ (offset_column offset.now ⧺ code_column op.now.opcode) }
     ensures len { length page.new ≤ length page.old + 32 }
 {
-    page.push_right(offset);
-    push_code(page, op);
+    page.push_offset(offset);
+    push_code(page, op.opcode());
 }
 
 /// Puts the name of an opcode after the text.
@@ -175,13 +175,13 @@ fn put_named<S: Sink>(
 pub fn put_item<S: Sink>(
     page: &mut Page,
     op: &OpRef<'_>,
-    offset: u64,
+    offset: &Offset,
     marks: usize,
     note: Option<Note>,
     sink: &mut S,
 ) -> Result<(), Failed>
     requires { marks < 2 ^ 32 }
-    ensures { Puts (S.told sink.old) (S.told sink.new) page.old page.new result (item_line op.now offset marks note) }
+    ensures { Puts (S.told sink.old) (S.told sink.new) page.old page.new result (item_line op.now offset.now marks note) }
 {
     page.make_room(sink)?;
     push_head(page, op, offset);

@@ -13,7 +13,7 @@ use Rattle.pickle_listing.proofs.Cuts.{cut_failed, cut_memory}
 use Rattle.pickle_listing.proofs.list.list_items.Goals as goal
 
 pub items-init : goal.items-init
-items-init g c = rw (c.requires.first, c.new-lean.ensures, c.new-opened.ensures.items, c.new-page.ensures) (listed_none _ _ _ c.requires.document c.requires.small)
+items-init g c = rw (c.requires.first, c.new-lean.ensures, c.new-opened.ensures.items, c.new-page.ensures, c.at-offset.ensures) (listed_none _ _ _ c.requires.document c.requires.small)
 
 pub returns-then-is_last-clause-ok : goal.returns-then-is_last-clause-ok
 returns-then-is_last-clause-ok g c =
@@ -34,14 +34,14 @@ returns-in-Tail-clause-ok g c =
     let f : HasTailFault (g.I.ItemSource.unread c.items.reader).left (g.I.ItemSource.unread c.items.reader).rest c.in-Tail.fault × (g.I.ItemSource.unread c.next.new.self ≡ g.I.ItemSource.unread c.items.reader) = rw c.in-Tail.is at c.next.ensures in
     let kept : c.unread_len-kept.result ≡ length (g.I.ItemSource.unread c.items.reader).rest = c.unread_len-kept.ensures ∙ ap (λ (u : Unread). length u.rest) f.1 in
     let last : (length (g.I.ItemSource.unread c.items.reader).rest == 0 && c.items.stop) ≡ c.is_last.result = sym (c.is_last.ensures ∙ ap (λ (n : ℕ). n == 0 && c.items.stop) kept) in
-    closes_ok _ _ _ _ _ _ _ _ (fault_closes _ _ _ _ _ _ _ _ _ _ _ c.in-Tail.fault c.items.invariant f.0 (last ∙ c.if-is_last.false)) c.write_fault_end.ensures c.answer-in-Tail.ensures
+    closes_ok _ _ _ _ _ _ _ _ (fault_closes _ _ _ _ _ _ _ _ _ _ _ c.in-Tail.fault c.items.invariant f.0 (last ∙ c.if-is_last.false)) (rw c.number.ensures.value at c.write_fault_end.ensures) c.answer-in-Tail.ensures
 
 pub returns-in-Tail-clause-err : goal.returns-in-Tail-clause-err
 returns-in-Tail-clause-err g c =
     let f : HasTailFault (g.I.ItemSource.unread c.items.reader).left (g.I.ItemSource.unread c.items.reader).rest c.in-Tail.fault × (g.I.ItemSource.unread c.next.new.self ≡ g.I.ItemSource.unread c.items.reader) = rw c.in-Tail.is at c.next.ensures in
     let kept : c.unread_len-kept.result ≡ length (g.I.ItemSource.unread c.items.reader).rest = c.unread_len-kept.ensures ∙ ap (λ (u : Unread). length u.rest) f.1 in
     let last : (length (g.I.ItemSource.unread c.items.reader).rest == 0 && c.items.stop) ≡ c.is_last.result = sym (c.is_last.ensures ∙ ap (λ (n : ℕ). n == 0 && c.items.stop) kept) in
-    closes_err _ _ _ _ _ _ _ _ (fault_closes _ _ _ _ _ _ _ _ _ _ _ c.in-Tail.fault c.items.invariant f.0 (last ∙ c.if-is_last.false)) c.write_fault_end.ensures c.answer-in-Tail.ensures
+    closes_err _ _ _ _ _ _ _ _ (fault_closes _ _ _ _ _ _ _ _ _ _ _ c.in-Tail.fault c.items.invariant f.0 (last ∙ c.if-is_last.false)) (rw c.number.ensures.value at c.write_fault_end.ensures) c.answer-in-Tail.ensures
 
 pub put_item-requires : goal.put_item-requires
 put_item-requires g c =
@@ -86,8 +86,8 @@ returns-in_err-perform-in-Item-clause-err g c =
     let w = with_line _ _ _ _ _ _ _ _ _ _ c.in-Item.op _ _ _ c.items.invariant n.0 (rw (c.marks_len.ensures, c.note_unless_refused-note.ensures, c.as_slice.ensures.value, c.refusal-refusal.ensures.first, c.of_ref-row.ensures) at c.in_ok-put_item-in-Item.ensures) in
     cut_memory _ _ _ _ c.from_residual-in_err-perform-in-Item.ensures.1 (line_stops _ _ _ _ _ _ _ _ c.in-Item.op _ _ _ w)
 
-pub overflow_add-offset : goal.overflow_add-offset
-overflow_add-offset g c =
+pub advance-requires : goal.advance-requires
+advance-requires g c =
     let n : IsNextItem (g.I.ItemSource.unread c.items.reader).left (g.I.ItemSource.unread c.items.reader).rest c.in-Item.op (size_of c.in-Item.op)
     × (g.I.ItemSource.unread c.next.new.self ≡ record { rest = drop (size_of c.in-Item.op) (g.I.ItemSource.unread c.items.reader).rest; left = left_behind (g.I.ItemSource.unread c.items.reader).left c.in-Item.op }) = rw c.in-Item.is at c.next.ensures in
     let b = bounds _ _ _ _ _ _ _ _ c.in-Item.op _ _ _ c.items.invariant n.0 in
@@ -108,7 +108,7 @@ returns-then-ends_reading-clause-ok g c =
     let none : refusal_of (row_of c.in-Item.op) c.items.lean ≡ None = rw c.of_ref-row.ensures at (sym c.in_default.ensures.first) in
     let kind : sample c.of-class.result ≡ plain (kind_of c.in-Item.op) = rw c.opcode-in-Item.ensures at (c.of-class.ensures c.in-Item.op.arg) in
     let next = rw c.of_ref-row.ensures at c.in_ok-perform-in-Item.ensures.moved in
-    let m = moved _ _ _ _ _ _ _ _ c.in-Item.op _ _ _ _ _ _ w none kind next c.in_ok-perform-in-Item.ensures.marks in
+    let m = moved _ _ _ _ _ _ _ _ c.in-Item.op _ _ _ _ _ _ w none kind next (rw c.number-in-Item.ensures.value at c.in_ok-perform-in-Item.ensures.marks) in
     let hit : ends_reading c.args.many c.in-Item.op.opcode ≡ true = sym (rw c.opcode-in-Item-2.ensures at c.ends_reading.ensures) ∙ c.if-ends_reading.true in
     let rest : c.unread_len-kept-then-ends_reading.result ≡ length (drop (size_of c.in-Item.op) (g.I.ItemSource.unread c.items.reader).rest) = c.unread_len-kept-then-ends_reading.ensures ∙ ap (λ (u : Unread). length u.rest) n.1 in
     closes_ok _ _ _ _ _ _ _ _ (stop_closes _ _ _ _ _ _ _ _ c.in-Item.op _ _ _ m hit) (rw (rest, c.raise-highest.ensures, c.protocol.ensures, c.opcode.ensures) at c.write_stopped_end.ensures) c.answer-then-ends_reading.ensures
@@ -121,7 +121,7 @@ returns-then-ends_reading-clause-err g c =
     let none : refusal_of (row_of c.in-Item.op) c.items.lean ≡ None = rw c.of_ref-row.ensures at (sym c.in_default.ensures.first) in
     let kind : sample c.of-class.result ≡ plain (kind_of c.in-Item.op) = rw c.opcode-in-Item.ensures at (c.of-class.ensures c.in-Item.op.arg) in
     let next = rw c.of_ref-row.ensures at c.in_ok-perform-in-Item.ensures.moved in
-    let m = moved _ _ _ _ _ _ _ _ c.in-Item.op _ _ _ _ _ _ w none kind next c.in_ok-perform-in-Item.ensures.marks in
+    let m = moved _ _ _ _ _ _ _ _ c.in-Item.op _ _ _ _ _ _ w none kind next (rw c.number-in-Item.ensures.value at c.in_ok-perform-in-Item.ensures.marks) in
     let hit : ends_reading c.args.many c.in-Item.op.opcode ≡ true = sym (rw c.opcode-in-Item-2.ensures at c.ends_reading.ensures) ∙ c.if-ends_reading.true in
     let rest : c.unread_len-kept-then-ends_reading.result ≡ length (drop (size_of c.in-Item.op) (g.I.ItemSource.unread c.items.reader).rest) = c.unread_len-kept-then-ends_reading.ensures ∙ ap (λ (u : Unread). length u.rest) n.1 in
     closes_err _ _ _ _ _ _ _ _ (stop_closes _ _ _ _ _ _ _ _ c.in-Item.op _ _ _ m hit) (rw (rest, c.raise-highest.ensures, c.protocol.ensures, c.opcode.ensures) at c.write_stopped_end.ensures) c.answer-then-ends_reading.ensures
@@ -134,7 +134,7 @@ returns-in_err-put_left-in-Item-clause-err g c =
     let none : refusal_of (row_of c.in-Item.op) c.items.lean ≡ None = rw c.of_ref-row.ensures at (sym c.in_default.ensures.first) in
     let kind : sample c.of-class.result ≡ plain (kind_of c.in-Item.op) = rw c.opcode-in-Item.ensures at (c.of-class.ensures c.in-Item.op.arg) in
     let next = rw c.of_ref-row.ensures at c.in_ok-perform-in-Item.ensures.moved in
-    let m = moved _ _ _ _ _ _ _ _ c.in-Item.op _ _ _ _ _ _ w none kind next c.in_ok-perform-in-Item.ensures.marks in
+    let m = moved _ _ _ _ _ _ _ _ c.in-Item.op _ _ _ _ _ _ w none kind next (rw c.number-in-Item.ensures.value at c.in_ok-perform-in-Item.ensures.marks) in
     let miss : ends_reading c.args.many c.in-Item.op.opcode ≡ false = sym (rw c.opcode-in-Item-2.ensures at c.ends_reading.ensures) ∙ c.if-ends_reading.false in
     let stop : c.is_stop-stop.result ≡ is_stop c.in-Item.op.opcode = c.is_stop-stop.ensures ∙ ap is_stop c.opcode-in-Item-3.ensures in
     cut_failed _ _ _ _ c.from_residual-in_err-put_left-in-Item.ensures.1 (left_breaks _ _ _ _ _ _ _ _ _ c.in-Item.op _ _ _ m (rw stop at c.in_err-put_left-in-Item.ensures))
@@ -147,8 +147,8 @@ items-preserved g c =
     let none : refusal_of (row_of c.in-Item.op) c.items.lean ≡ None = rw c.of_ref-row.ensures at (sym c.in_default.ensures.first) in
     let kind : sample c.of-class.result ≡ plain (kind_of c.in-Item.op) = rw c.opcode-in-Item.ensures at (c.of-class.ensures c.in-Item.op.arg) in
     let next = rw c.of_ref-row.ensures at c.in_ok-perform-in-Item.ensures.moved in
-    let m = moved _ _ _ _ _ _ _ _ c.in-Item.op _ _ _ _ _ _ w none kind next c.in_ok-perform-in-Item.ensures.marks in
+    let m = moved _ _ _ _ _ _ _ _ c.in-Item.op _ _ _ _ _ _ w none kind next (rw c.number-in-Item.ensures.value at c.in_ok-perform-in-Item.ensures.marks) in
     let miss : ends_reading c.args.many c.in-Item.op.opcode ≡ false = sym (rw c.opcode-in-Item-2.ensures at c.ends_reading.ensures) ∙ c.if-ends_reading.false in
     let stop : c.is_stop-stop.result ≡ is_stop c.in-Item.op.opcode = c.is_stop-stop.ensures ∙ ap is_stop c.opcode-in-Item-3.ensures in
-    rw (n.1, c.size.ensures, c.raise-highest.ensures, c.protocol.ensures, c.opcode.ensures, stop)
+    rw (n.1, c.advance.ensures, c.size.ensures, c.raise-highest.ensures, c.protocol.ensures, c.opcode.ensures, stop)
     (goes_on _ _ _ _ _ _ _ _ _ _ c.in-Item.op _ _ _ _ _ m miss (rw stop at c.in_ok-put_left-in-Item.ensures) c.refresh.ensures.fresh c.refresh.ensures.marks)
