@@ -4,8 +4,8 @@
     conversations.py PROGRAM PAGE FOLDER
 
 A conversation on the page is a block of lines, indented or not, that begins with `pickle` and the bytes of a pickle in
-hexadecimal. Then comes a line of the script after `debug> `, then the lines that answer it, and so on. `$ list` or `$ objects`
-stands before what that command writes. A last line `saved` has the bytes that the pickle is saved as. The block ends at an empty
+hexadecimal. Then comes a line of the script after `debug> `, then the lines that answer it, and so on. `$ list`, or another
+command with its options, stands before what it writes. A last line `saved` has the bytes that the pickle is saved as. The block ends at an empty
 line, or at the end of the page.
 
 Each script is run with all records and in windows of 1 and 2. The status has to be 1 just where an answer refuses.
@@ -76,7 +76,7 @@ def differs(words, done, wanted, status):
 def fault_of_command(program, block, command, file):
     wanted = block.written[command]
     status = int(any(line.startswith(("refused: ", "fault: ")) for line in wanted))
-    done, why = run(program, [command, str(file)], b"")
+    done, why = run(program, [*command.split(), str(file)], b"")
     return why or differs([command], done, wanted, status)
 
 

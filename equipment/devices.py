@@ -29,6 +29,7 @@ LISTING = (
     "    8: e        APPENDS    (MARK at 3)\n    9: .    STOP\nhighest protocol among opcodes = 1\n"
 )
 OBJECTS = "#0 list +#0 +#0\nresult #0\n"
+CALLS = "0 imports, 0 calls\n"
 
 
 class Devices:
@@ -136,7 +137,7 @@ def main():
             print(f"{name}, each read of {most} bytes failing\t{devices.break_reads(words, script, text, most, name == 'breakpoints')}")
             print(f"{name}, each write of {most} bytes failing\t{devices.break_writes(words, script, text, most, True)}")
     devices.file.write_bytes(BY_MEMO[0])
-    for task, text in (("list", LISTING), ("objects", OBJECTS)):
+    for task, text in (("list", LISTING), ("objects", OBJECTS), ("calls", CALLS)):
         for most in (1, 2, 7):
             words = [task, str(devices.file)]
             print(f"{task}, each read of {most} bytes failing\t{devices.break_reads(words, '', text, most, False)}")
