@@ -5,7 +5,8 @@
 
 FOLDER is for the files. PICKLES is a folder of real pickles, LISTINGS one of their stored listings, which come from Python's pickletools,
 and COMPARE is equipment/compare_listing. Every pickle stands twice in a row, and three at random stand in a row. What is listed follows
-from the stored listings: each with its offsets moved, up to the first refusal or fault. Where a pickle ends is what pickletools says.
+from the stored listings: each with its offsets moved, up to the first refusal or fault. One with a frame that goes on after its STOP is
+left out.
 A conversation goes to the end of each pickle, and back over the same places, where the same has to be shown.
 Each line of the output says what was tried, a tab, and what was wrong, or nothing after it. The last line says how many inputs there were.
 """
@@ -13,7 +14,6 @@ from __future__ import annotations
 
 import dataclasses
 import pathlib
-import pickletools
 import random
 import re
 import subprocess
@@ -45,32 +45,30 @@ class Pickle:
         return self.broken.startswith(tuple(f"fault: {code} " for code in LASTING))
 
 
-def first_pickle(data: bytes) -> bytes:
-    """The bytes up to the first STOP, or all of them where pickletools finds none."""
-    try:
-        for opcode, _, place in pickletools.genops(data):
-            if opcode.name == "STOP" and place is not None:
-                return data[: place + 1]
-    except (ValueError, IndexError, OverflowError):
-        pass
-    return data
+def first_pickle(data: bytes, items: Sequence[str]) -> bytes | None:
+    """The bytes up to STOP, which is the last item; nothing where a frame goes on after it."""
+    offsets = {int(found[1]): found[2] for found in map(ITEM.match, items) if found is not None}
+    end = max(offsets) + 1
+    frames = [offset for offset, rest in offsets.items() if " FRAME" in rest]
+    if any(offset + 9 + int.from_bytes(data[offset + 1 : offset + 9], "little") > end for offset in frames):
+        return None
+    return data[:end]
 
 
-def read_pickle(path: pathlib.Path, listings: pathlib.Path) -> Pickle:
+def read_pickle(path: pathlib.Path, listings: pathlib.Path) -> Pickle | None:
     lines = (listings / f"{path.stem}.txt").read_text("utf-8", "surrogateescape").splitlines()
+    items = [line for line in lines if ITEM.match(line)]
     broken = [line for line in lines if line.startswith(("refused: ", "fault: "))]
-    kept = [int(line.split()[1]) for line in lines if line.startswith("kept: ")]
     highest = [int(line.rsplit(" ", 1)[1]) for line in lines if line.startswith("highest ")]
-    data = path.read_bytes()
-    if not broken:
-        alone = data[: len(data) - sum(kept)]
-        data = first_pickle(data)
-        if data != alone:
-            raise ValueError(f"{path.stem} ends at {len(data)} for pickletools")
+    data: bytes | None = path.read_bytes()
+    if data is not None and not broken:
+        data = first_pickle(data, items)
+    if data is None:
+        return None
     return Pickle(
         name=path.stem,
         data=data,
-        items=[line for line in lines if ITEM.match(line)],
+        items=items,
         left=[line for line in lines if line.startswith("left: ")],
         broken=broken[0] if broken else None,
         protocol=max(highest, default=-1),
@@ -117,6 +115,9 @@ def expect(pickles: Sequence[Pickle]) -> Expected:
     broken = None
     protocol = -1
     for pickle in pickles:
+        if ends and not pickle.data:
+            # (an input that ends after a STOP has no fault)
+            continue
         lines += [moved(line, base) for line in pickle.items] + pickle.left
         place += len(pickle.items)
         protocol = max(protocol, pickle.protocol)
@@ -231,7 +232,8 @@ def inputs_of(pickles: Sequence[Pickle]) -> list[tuple[str, list[Pickle]]]:
 def main() -> None:
     program, folder, data, listings, compare = sys.argv[1], *(pathlib.Path(word) for word in sys.argv[2:5]), sys.argv[5]
     folder.mkdir(parents=True, exist_ok=True)
-    pickles = [read_pickle(path, listings) for path in sorted(data.glob("*.pickle"))]
+    found = [read_pickle(path, listings) for path in sorted(data.glob("*.pickle"))]
+    pickles = [pickle for pickle in found if pickle is not None]
     trial = Trial(program, folder, compare)
     inputs = inputs_of(pickles)
     for name, three in inputs:
