@@ -236,6 +236,79 @@ pub const SCRIPTS: [Script; 14] = [
     DROPPED_FUTURE,
 ];
 
+/// Scripts over several pickles in one input.
+pub const MANY: [Script; 4] = [
+    // An entry of the first memo is none of the second.
+    Script {
+        bytes: b"Nq\x00.h\x00.",
+        lines: &[
+            ("run", "at 3: refused, S3 no memo entry 0\n"),
+            (
+                "where",
+                "at 3 of 5, offset 4, buffers 0, result #0, end stopped\n",
+            ),
+            ("step", "refused: C3 item 3: S3 no memo entry 0\n"),
+        ],
+    },
+    // Every result, in order, and the buffers of the second pickle alone.
+    Script {
+        bytes: b"\x97.\x97\x97.N.",
+        lines: &[
+            (
+                "where",
+                "at 0 of 7, offset 0, buffers 0, result none, end stopped\n",
+            ),
+            ("goto 5", "at 5\n"),
+            (
+                "where",
+                "at 5 of 7, offset 5, buffers 2, result #0 #2, end stopped\n",
+            ),
+            ("run", "at 7: end, stopped\n"),
+            (
+                "where",
+                "at 7 of 7, offset 7, buffers 0, result #0 #2 #3, end stopped\n",
+            ),
+            ("back", "at 6\n"),
+            (
+                "where",
+                "at 6 of 7, offset 6, buffers 0, result #0 #2, end stopped\n",
+            ),
+            (
+                "items",
+                "      0     0: NEXT_BUFFER\n      1     1: STOP\n      2     2: NEXT_BUFFER\n      3     3: NEXT_BUFFER\n      4     4: STOP\n      5     5: NONE\n>     6     6: STOP\n",
+            ),
+        ],
+    },
+    // An edit makes the end another, and its undo too.
+    Script {
+        bytes: b"N.N",
+        lines: &[
+            ("delete 2", "edited 2\n"),
+            (
+                "where",
+                "at 0 of 2, offset 0, buffers 0, result none, end stopped\n",
+            ),
+            ("undo", "undone 2\n"),
+            (
+                "where",
+                "at 0 of 3, offset 0, buffers 0, result none, end F1 ended at 3\n",
+            ),
+            ("run", "at 3: end, F1 ended at 3\n"),
+        ],
+    },
+    // A STOP stays, and nothing is put after the last.
+    Script {
+        bytes: b"N.N.",
+        lines: &[
+            ("delete 1", "refused: C9 E2 stop item\n"),
+            ("insert 2 STOP", "refused: C9 E2 stop item\n"),
+            ("insert 4 NONE", "refused: C9 E4 after stop\n"),
+            ("insert 2 BININT1 07", "edited 2\n"),
+            ("goto 4", "at 4\n"),
+        ],
+    },
+];
+
 /// Replies that no script above meets, and their texts.
 pub const REPLIES: [(Reply, &str); 12] = [
     (
