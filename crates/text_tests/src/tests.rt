@@ -1,14 +1,16 @@
 //! What lines are answered with.
 
+mod offsets;
 mod rows;
 
+use crate::tests::offsets::{DUMP, LINES};
 use crate::tests::rows::{REPLIES, SCRIPTS};
 use pickle_doc::{DocFault, End};
 use pickle_ops::{Failed, Sink, Sip, ToWrite};
-use pickle_session::{Past, Reply, Session, Whole};
+use pickle_session::{Command, Past, Reply, Session, Whole};
 use pickle_text::{
-    Line, Query, Syntax, read_command, write_items, write_no_such_object, write_reply,
-    write_syntax, write_where,
+    Line, Place, Query, Syntax, read_command, write_items, write_no_item_at, write_no_such_object,
+    write_reply, write_syntax, write_where,
 };
 use std::alloc::Global;
 use std::test::Fail;
@@ -35,16 +37,25 @@ enum Answer {
     Syntax(Syntax),
     Reply(End, Reply),
     Query(Query),
+    Nowhere(u64),
+}
+
+/// Obeys a command.
+fn replied<P: Past>(alloc: Global, session: &mut Session<P>, command: &Command) -> Answer {
+    let reply = session.obey(alloc, command);
+    Answer::Reply(session.document().end(), reply)
 }
 
 /// Obeys a line.
 fn obeyed<P: Past>(alloc: Global, session: &mut Session<P>, line: &[u8]) -> Answer {
     match read_command(alloc, line) {
         Err(syntax) => Answer::Syntax(syntax),
-        Ok(Line::Command(command)) => {
-            let reply = session.obey(alloc, &command);
-            Answer::Reply(session.document().end(), reply)
-        }
+        Ok(Line::Command(command)) => replied(alloc, session, &command),
+        Ok(Line::At(Place::Number(k), action)) => replied(alloc, session, &action.at(k)),
+        Ok(Line::At(Place::Offset(offset), action)) => match session.place_at(offset) {
+            Some(k) => replied(alloc, session, &action.at(k)),
+            None => Answer::Nowhere(offset),
+        },
         Ok(Line::Query(query)) => Answer::Query(query),
         Ok(_) => Answer::Nothing,
     }
@@ -61,6 +72,7 @@ fn write_answer<P: Past, S: Sink>(
         Answer::Syntax(syntax) => write_syntax(syntax, sink),
         Answer::Reply(end, reply) => write_reply(end, reply, sink),
         Answer::Query(query) => tell(session, query, sink),
+        Answer::Nowhere(offset) => write_no_item_at(offset, sink),
     }
 }
 
@@ -70,6 +82,22 @@ fn worked_scripts(rt: HostRuntime) -> Result<(), Fail> {
     for script in &SCRIPTS {
         let mut session = opened(rt.alloc(), script.bytes)?;
         for (line, reply) in script.lines {
+            let mut sink = ToWrite::new(Vec::new(rt.alloc()));
+            let answer = obeyed(rt.alloc(), &mut session, line.as_bytes());
+            write_answer(&session, answer, &mut sink)?;
+            assert_eq!(rt; sink.into_inner().as_slice(), reply.as_bytes(), "{line}");
+        }
+    }
+    Ok(())
+}
+
+/// Places by their offsets are found alike where one pickle is read and where several are.
+#[test]
+fn places_by_offset(rt: HostRuntime) -> Result<(), Fail> {
+    let one = opened(rt.alloc(), DUMP)?;
+    let several = Session::open_many(rt.alloc(), Whole::new(rt.alloc()), DUMP)?;
+    for mut session in [one, several] {
+        for (line, reply) in &LINES {
             let mut sink = ToWrite::new(Vec::new(rt.alloc()));
             let answer = obeyed(rt.alloc(), &mut session, line.as_bytes());
             write_answer(&session, answer, &mut sink)?;
