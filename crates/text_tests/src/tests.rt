@@ -1,10 +1,8 @@
 //! What lines are answered with.
 
-mod offsets;
 mod rows;
 
-use crate::tests::offsets::{DUMP, LINES};
-use crate::tests::rows::{REPLIES, SCRIPTS};
+use crate::tests::rows::{MANY, REPLIES, SCRIPTS, Script};
 use pickle_doc::{DocFault, End};
 use pickle_ops::{Failed, Sink, Sip, ToWrite};
 use pickle_session::{Command, Past, Reply, Session, Whole};
@@ -15,9 +13,13 @@ use pickle_text::{
 use std::alloc::Global;
 use std::test::Fail;
 
-/// A session of the bytes, with all records kept.
-fn opened(alloc: Global, bytes: &[u8]) -> Result<Session<Whole>, DocFault> {
-    Session::open(alloc, Whole::new(alloc), bytes)
+/// A session of the bytes, as many pickles or as one, with all records kept.
+fn opened(alloc: Global, many: bool, bytes: &[u8]) -> Result<Session<Whole>, DocFault> {
+    if many {
+        Session::open_many(alloc, Whole::new(alloc), bytes)
+    } else {
+        Session::open(alloc, Whole::new(alloc), bytes)
+    }
 }
 
 /// Answers a question, as far as this crate's writers do: of `show` the refusal alone.
@@ -76,33 +78,34 @@ fn write_answer<P: Past, S: Sink>(
     }
 }
 
-/// Each line of each script is answered as the table says.
+/// The first line of a script, told to a session of many pickles or of one, that is answered otherwise, if one is.
+fn first_wrong(alloc: Global, many: bool, script: &Script) -> Result<Option<&'static str>, Fail> {
+    let mut session = opened(alloc, many, script.bytes)?;
+    for (line, reply) in script.lines {
+        let mut sink = ToWrite::new(Vec::new(alloc));
+        let answer = obeyed(alloc, &mut session, line.as_bytes());
+        write_answer(&session, answer, &mut sink)?;
+        if sink.into_inner().as_slice() != reply.as_bytes() {
+            return Ok(Some(*line));
+        }
+    }
+    Ok(None)
+}
+
+/// Each line of each script is answered as the table says, also where many pickles are read.
 #[test]
 fn worked_scripts(rt: HostRuntime) -> Result<(), Fail> {
     for script in &SCRIPTS {
-        let mut session = opened(rt.alloc(), script.bytes)?;
-        for (line, reply) in script.lines {
-            let mut sink = ToWrite::new(Vec::new(rt.alloc()));
-            let answer = obeyed(rt.alloc(), &mut session, line.as_bytes());
-            write_answer(&session, answer, &mut sink)?;
-            assert_eq!(rt; sink.into_inner().as_slice(), reply.as_bytes(), "{line}");
-        }
+        assert_eq!(rt; first_wrong(rt.alloc(), false, script)?, None);
+        assert_eq!(rt; first_wrong(rt.alloc(), true, script)?, None);
     }
     Ok(())
 }
 
-/// Places by their offsets are found alike where one pickle is read and where several are.
 #[test]
-fn places_by_offset(rt: HostRuntime) -> Result<(), Fail> {
-    let one = opened(rt.alloc(), DUMP)?;
-    let several = Session::open_many(rt.alloc(), Whole::new(rt.alloc()), DUMP)?;
-    for mut session in [one, several] {
-        for (line, reply) in &LINES {
-            let mut sink = ToWrite::new(Vec::new(rt.alloc()));
-            let answer = obeyed(rt.alloc(), &mut session, line.as_bytes());
-            write_answer(&session, answer, &mut sink)?;
-            assert_eq!(rt; sink.into_inner().as_slice(), reply.as_bytes(), "{line}");
-        }
+fn worked_scripts_of_many(rt: HostRuntime) -> Result<(), Fail> {
+    for script in &MANY {
+        assert_eq!(rt; first_wrong(rt.alloc(), true, script)?, None);
     }
     Ok(())
 }
@@ -180,19 +183,29 @@ fn breaks_right(
     false
 }
 
-#[test]
-fn failing_sinks(rt: HostRuntime) -> Result<(), Fail> {
-    for script in &SCRIPTS {
-        let mut session = opened(rt.alloc(), script.bytes)?;
-        for (line, reply) in script.lines {
-            let answer = obeyed(rt.alloc(), &mut session, line.as_bytes());
-            for most in [1, 2, 7] {
-                let is_right = breaks_right(rt.alloc(), &session, answer, reply.as_bytes(), most);
-                assert!(rt; is_right, "{line}");
+/// The first line of a script whose answer does not break right, if there is one.
+fn first_broken(alloc: Global, many: bool, script: &Script) -> Result<Option<&'static str>, Fail> {
+    let mut session = opened(alloc, many, script.bytes)?;
+    for (line, reply) in script.lines {
+        let answer = obeyed(alloc, &mut session, line.as_bytes());
+        for most in [1, 2, 7] {
+            if !breaks_right(alloc, &session, answer, reply.as_bytes(), most) {
+                return Ok(Some(*line));
             }
         }
     }
-    let session = opened(rt.alloc(), b"N.")?;
+    Ok(None)
+}
+
+#[test]
+fn failing_sinks(rt: HostRuntime) -> Result<(), Fail> {
+    for (many, scripts) in [(false, SCRIPTS.as_slice()), (true, MANY.as_slice())] {
+        for script in scripts {
+            let found = first_broken(rt.alloc(), many, script)?;
+            assert_eq!(rt; found, None);
+        }
+    }
+    let session = opened(rt.alloc(), false, b"N.")?;
     for (reply, text) in &REPLIES {
         let answer = Answer::Reply(End::Stopped, *reply);
         for most in [1, 2, 7] {

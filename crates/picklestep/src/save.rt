@@ -1,0 +1,183 @@
+//! How a document is saved so that no file is lost: into a new file, which takes the name of the old one when all of it is stored.
+
+use crate::file::stop_for;
+use crate::latch::Latch;
+use pickle_doc::Document;
+use pickle_ops::ToWrite;
+use pickle_tasks::Stop;
+use std::fs;
+use std::fs::{File, Metadata, OpenOptions};
+use std::io::{BufWriter, ErrorKind, Write};
+use std::os::unix::fs::{MetadataExt, OpenOptionsExt, fchown};
+use std::path::{Path, PathBuf};
+
+/// The room for bytes of a file that are not yet written.
+const FILE_ROOM: usize = 65_536;
+
+/// The most symbolic links that are followed one after another, which is as many as Linux follows.
+const MOST_LINKS: u32 = 40;
+
+/// The most names that are tried for a new file: each run that was killed while it saved may have left a file.
+const MOST_NAMES: u32 = 1_000;
+
+/// A new file, in the folder of the file that it is to replace.
+#[derive(Drop)]
+struct NewFile {
+    path: PathBuf,
+    file: File,
+}
+
+impl NewFile {
+    /// Makes a file in the folder of `target`. Its name does not hold that of `target`, since it would be too long where that is as
+    /// long as a name can be.
+    fn beside(rt: &HostRuntime, target: &PathBuf, mode: u32) -> Result<NewFile, Stop> {
+        for number in 1..=MOST_NAMES {
+            let name = format!(in rt.alloc(); "picklestep-save-{number}.unfinished")?;
+            let path = target.with_file_name(rt.alloc(), name.as_str())?;
+            let mut options = OpenOptions::new();
+            options.write(true).create_new(true).mode(mode);
+            match options.open(rt, &path) {
+                Ok(file) => return Ok(NewFile { path, file }),
+                Err(error) if error.kind() == ErrorKind::AlreadyExists => {}
+                Err(error) => return Err(stop_for(&error, Stop::Write)),
+            }
+        }
+        Err(Stop::Write)
+    }
+
+    /// Gives the file the mode of another file, and its owner and group where the system permits it. A change of owner may clear bits of
+    /// the mode, so it comes first.
+    fn take_after(&self, about: &Metadata) -> Result<(), Stop> {
+        let _ = fchown(&self.file, None, Some(about.gid()));
+        let _ = fchown(&self.file, Some(about.uid()), None);
+        match self.file.set_permissions(about.permissions()) {
+            Ok(()) => Ok(()),
+            Err(_) => Err(Stop::Write),
+        }
+    }
+
+    /// Waits until the bytes are stored, and then gives the file this name.
+    fn move_to(&self, rt: &HostRuntime, target: &PathBuf) -> Result<(), Stop> {
+        if self.file.sync_all().is_err() || fs::rename(rt, &self.path, target).is_err() {
+            return Err(Stop::Write);
+        }
+        sync_folder(rt, target);
+        Ok(())
+    }
+}
+
+/// Waits until the names in the folder of a path are stored. Where the system does not permit it, a crash may bring the old file back.
+fn sync_folder(rt: &HostRuntime, path: &PathBuf) {
+    let folder = match path.parent() {
+        Some(folder) if !folder.as_str().is_empty() => folder,
+        _ => Path::new("."),
+    };
+    if let Ok(folder) = File::open(rt, folder) {
+        let _ = folder.sync_all();
+    }
+}
+
+/// The path to which the symbolic links of a path lead, where there need not be a file. A path that is no link leads to itself.
+fn target_of(rt: &HostRuntime, path: &str) -> Result<PathBuf, Stop> {
+    let mut target = PathBuf::from_str(rt.alloc(), path)?;
+    for _ in 0..MOST_LINKS {
+        match fs::read_link(rt, &target) {
+            Ok(next) => {
+                target.pop();
+                target.push(next)?;
+            }
+            Err(error) => {
+                return match error.kind() {
+                    ErrorKind::InvalidInput | ErrorKind::NotFound => Ok(target),
+                    _ => Err(stop_for(&error, Stop::Write)),
+                };
+            }
+        }
+    }
+    Err(Stop::Write)
+}
+
+/// Whether this path names this file.
+fn has_name(rt: &HostRuntime, about: &Metadata, target: &PathBuf) -> bool {
+    match fs::symlink_metadata(rt, target) {
+        Ok(found) => found.dev() == about.dev() && found.ino() == about.ino(),
+        Err(_) => false,
+    }
+}
+
+/// Writes the bytes of a document to a file.
+fn write_to(rt: &HostRuntime, document: &Document, file: &File) -> Result<(), Stop> {
+    let device = Latch::new(file);
+    let Ok(output) = BufWriter::with_capacity(rt.alloc(), FILE_ROOM, device) else {
+        return Err(Stop::Memory);
+    };
+    let mut sink = ToWrite::new(output);
+    document.write_bytes(&mut sink)?;
+    match sink.into_inner().flush() {
+        Ok(()) => Ok(()),
+        Err(_) => Err(Stop::Write),
+    }
+}
+
+/// Fills a new file and gives it its name.
+fn fill(
+    rt: &HostRuntime,
+    document: &Document,
+    new: &NewFile,
+    target: &PathBuf,
+    about: Option<&Metadata>,
+) -> Result<(), Stop> {
+    if let Some(about) = about {
+        new.take_after(about)?;
+    }
+    write_to(rt, document, &new.file)?;
+    new.move_to(rt, target)
+}
+
+/// Saves a document in a new file, which then takes the name `target`; `about` is of the file that has this name, if there is one. After a
+/// failure that file is as it was, and the new one is removed.
+fn replace(
+    rt: &HostRuntime,
+    document: &Document,
+    target: &PathBuf,
+    about: Option<&Metadata>,
+) -> Result<(), Stop> {
+    // Nobody else may read the new file before it has the mode of the old one.
+    let mode = if about.is_some() { 0o600 } else { 0o666 };
+    let new = NewFile::beside(rt, target, mode)?;
+    let filled = fill(rt, document, &new, target, about);
+    if filled.is_err() {
+        let _ = fs::remove_file(rt, &new.path);
+    }
+    filled
+}
+
+/// Saves a document where `path` opened this file. A device or a pipe takes the bytes, and so does a regular file that was removed while it is
+/// open, to which `/dev/stdout` may lead.
+fn save_over(rt: &HostRuntime, document: &Document, path: &str, file: &File) -> Result<(), Stop> {
+    let Ok(about) = file.metadata() else {
+        return Err(Stop::Write);
+    };
+    if about.is_file() {
+        let target = target_of(rt, path)?;
+        if has_name(rt, &about, &target) {
+            return replace(rt, document, &target, Some(&about));
+        }
+        if file.set_len(0).is_err() {
+            return Err(Stop::Write);
+        }
+    }
+    write_to(rt, document, file)
+}
+
+/// Saves a document to a path. `Stop::Write` where the file, or a new one beside it, cannot be written, `Stop::Memory` where there is no room;
+/// a regular file is then as it was. A device or a pipe may have taken a beginning of the bytes.
+pub fn save_document(rt: &HostRuntime, document: &Document, path: &str) -> Result<(), Stop> {
+    match OpenOptions::new().write(true).open(rt, path) {
+        Ok(file) => save_over(rt, document, path, &file),
+        Err(error) if error.kind() == ErrorKind::NotFound => {
+            replace(rt, document, &target_of(rt, path)?, None)
+        }
+        Err(error) => Err(stop_for(&error, Stop::Write)),
+    }
+}
