@@ -18,6 +18,8 @@ TWICE = 2.05
 # how many times as long as the bare loop at most, how many times faster than pickletools at least, bytes of memory for each
 # opcode beside the file, how many times as long as a copy of the text for one long string
 AS_LONG, FASTER, BYTES_AN_OPCODE, AS_COPY = 2, 80, 3, 2.5
+# how many times as long as `objects` `calls` may take
+AS_OBJECTS = 1.5
 # the most memory on 256 MiB of one-byte opcodes
 MOST_MEMORY = 700_000_000
 # instructions are counted on files of a twenty-fifth of the size
@@ -65,6 +67,11 @@ def under_marks(file, count):
     file.write(b'(' * 1000 + b'N0' * count + b'N.')
 
 
+def calls(file, count):
+    """A class that is called again and again, with no arguments; each result is dropped."""
+    file.write(b'cm\nn\nq\x000' + b'h\x00)R0' * count + b'N.')
+
+
 # letter, what it is, who writes it, how many items or bytes
 FILES = [
     ('a', 'small integers and short strings, protocol 4', numbers_and_strings, 4_125_000),
@@ -72,7 +79,7 @@ FILES = [
     ('c', 'one-byte opcodes `N0`', one_byte_opcodes, 8_388_608),
     ('e', 'nested dictionaries with memo', dictionaries, 252_500),
 ]
-LONG_STRING, MARKED, FULL = 50_000_000, 30_000, 134_217_728
+LONG_STRING, MARKED, FULL, CALLED = 50_000_000, 30_000, 134_217_728, 1_000_000
 
 
 # --- Runs ---
@@ -155,6 +162,20 @@ def timed_row(folder, program, plain, letter, what, write, count):
         megabytes(listing.memory), beside, verdict(good))
 
 
+def called_row(folder, program, letter, what, write, count):
+    """A line of the table of `calls` beside `objects`."""
+    small = int(count * SMALL)
+    once, twice, whole = (made(folder, letter, write, many) for many in (small, 2 * small, count))
+    told, objects = instructions([program, 'calls', once]), instructions([program, 'objects', once])
+    growth = instructions([program, 'calls', twice]) / told
+    theirs, ours = shortest([program, 'objects', whole]), shortest([program, 'calls', whole])
+    opcodes, longer = opcodes_of(once), ours.seconds / theirs.seconds
+    os.unlink(whole)
+    good = longer <= AS_OBJECTS and growth <= TWICE
+    return '| (%s) %s | %.0f | %.0f | %.3f | %.2f s | %.2f s | %.2f | %s |' % (
+        letter, what, told / opcodes, objects / opcodes, growth, ours.seconds, theirs.seconds, longer, verdict(good))
+
+
 def long_string(folder, program, count):
     """What is said of one long string, beside a copy of the listing's own text."""
     path, listed = made(folder, 'd', one_string, count), os.path.join(folder, 'listed')
@@ -197,6 +218,10 @@ def main():
         print('|---|---|---|---|---|---|---|---|---|---|')
         for letter, what, write, count in FILES:
             print(timed_row(folder, program, plain, letter, what, write, int(count * scale)), flush=True)
+        print('\n| `calls`: instructions for each opcode | calls | objects | twice the file | time, calls | time, objects | times as long | |')
+        print('|---|---|---|---|---|---|---|---|')
+        for letter, what, write, count in [*FILES, ('r', 'REDUCE again and again', calls, CALLED)]:
+            print(called_row(folder, program, letter, what, write, int(count * scale)), flush=True)
         print('\n' + long_string(folder, program, int(LONG_STRING * scale)))
         print('\n' + full_file(folder, program, int(FULL * scale)))
 

@@ -5,7 +5,7 @@
 
 A conversation on the page is a block of lines, indented or not, that begins with `pickle` and the bytes of a pickle in
 hexadecimal. After `pickles` they are of several pickles, and every command has the option --many. Then comes a line of the
-script after `debug> `, then the lines that answer it, and so on. `$ list` or `$ objects` stands before what that command writes. A last line `saved` has the bytes that the pickle is saved as. The block ends at an empty
+script after `debug> `, then the lines that answer it, and so on. `$ list`, `$ objects` or `$ calls` stands before what that command writes. A last line `saved` has the bytes that the pickle is saved as. The block ends at an empty
 line, or at the end of the page.
 
 Each script is run with all records and in windows of 1 and 2. The status has to be 1 just where an answer refuses.

@@ -29,6 +29,7 @@ LISTING = (
     "    8: e        APPENDS    (MARK at 3)\n    9: .    STOP\nhighest protocol among opcodes = 1\n"
 )
 OBJECTS = "#0 list +#0 +#0\nresult #0\n"
+CALLS = "0 imports, 0 calls\n"
 # Two pickles in one input, of which the first leaves a mark.
 SEVERAL = (
     bytes.fromhex("284e2e4e2e"),
@@ -50,8 +51,10 @@ SCRIPTS = (
 TASKS = (
     (["list"], BY_MEMO[0], LISTING),
     (["objects"], BY_MEMO[0], OBJECTS),
+    (["calls"], BY_MEMO[0], CALLS),
     (["list", "--many"], SEVERAL[0], SEVERAL_LISTING),
     (["objects", "--many"], SEVERAL[0], SEVERAL_OBJECTS),
+    (["calls", "--many"], SEVERAL[0], CALLS),
 )
 
 

@@ -13,6 +13,7 @@ The laws:
 - the listing of a beginning of the bytes begins the listing of the bytes, as far as opcodes are listed, and its fault stands
   where the beginning ends or where the whole has one;
 - the report of the objects is what a conversation shows at the end, or before the opcode that is refused;
+- what `calls` says is made are the objects of the report that come from elsewhere or from a call, and it counts its lines;
 - what is shown at a place (items, stack, memo, objects and where it is) is the same on the way forwards, on the way back, and
   wherever one comes from;
 - a line that is refused changes nothing that is shown; an edit that is undone or made again shows the items that were there;
@@ -37,6 +38,10 @@ import time
 
 OPCODES = {opcode.name: opcode for opcode in pickletools.opcodes}
 WINDOWS = (1, 2, 3, 7, 1000)
+OPAQUE_LINE = re.compile(r"^#(\d+) (?:global|stack-global|ext|inst|call|new|new-ex|obj|persistent|buffer)(?: |$)", re.M)
+MADE_LINE = re.compile(r"^ *\d+: (?!readonly ).* as #(\d+)$", re.M)
+IMPORT_LINE = re.compile(r"^ *\d+: (?:import|inst) ", re.M)
+CALL_LINE = re.compile(r"^ *\d+: (?:inst|call|new|state|append|set|add) ", re.M)
 WHERE = re.compile(r"at (\d+) of (\d+), offset (\d+), buffers (\d+), result (none|#\d+), end (.*)")
 VIEW = "where\nitems\nstack\nmemo\nobjects\n"
 
@@ -347,7 +352,17 @@ class Case:
             raise Broken("another report of the objects")
         if listing and self.items_of(listing)[: int(where[1])] != self.items_of(listing)[: len(self.items_of(listing)) - bool(refused)]:
             raise Broken("the listing and the conversation end at other places")
+        self.check_calls(report, status)
         return int(where[1])
+
+    def check_calls(self, report, wanted):
+        text, status = self.answers(["calls", str(self.file)])
+        if MADE_LINE.findall(text) != OPAQUE_LINE.findall(report) or status != wanted:
+            raise Broken("calls and objects are not of the same objects")
+        counts = f"{len(IMPORT_LINE.findall(text))} imports, {len(CALL_LINE.findall(text))} calls\n"
+        closing = report.splitlines(keepends=True)[-1] if status else ""
+        if not re.search(re.escape(counts + closing) + r"(?:kept: \d+ bytes after STOP\n)?$", text):
+            raise Broken(f"calls does not end in {counts + closing!r}")
 
     def check_ways(self, far):
         """What is shown at the places that can be reached, going there, coming back, and from elsewhere."""

@@ -156,6 +156,14 @@ def many_parts(program, file):
     return text.splitlines() == wanted and status == 0
 
 
+def deep_arguments(program, file):
+    file.write_bytes(b"cm\nn\n)" + b"\x85" * 100_000 + b"R(cm\nn\n" + b"N" * 100_000 + b"o.")
+    wanted = ["    0: import 'm' 'n' as #0", "100006: call 'm' 'n' (#100000) as #100002", "100008: import 'm' 'n' as #100003"]
+    wanted += [f"200013: call 'm' 'n' ({'none, ' * 16}+99984) as #200004", "2 imports, 2 calls"]
+    text, status = answer(program, ["calls", str(file)])
+    return text.splitlines() == wanted and status == 0
+
+
 def many_entries(program, file):
     file.write_bytes(b"N" + b"\x94" * 100_000 + b".")
     text, status, is_same = debug(program, file, "run\nmemo\ngoto 0\nmemo\n")
@@ -200,6 +208,7 @@ ROWS = [
     ("100,000 lists in one another", deep_lists, 1),
     ("a tuple of 100,000 parts", many_parts, 1),
     ("100,000 memo entries", many_entries, 1),
+    ("a deep argument, and 100,000 arguments", deep_arguments, 1),
     ("lengths at their largest", largest_lengths, len(LARGEST)),
     ("each byte alone", single_bytes, 256),
 ]
