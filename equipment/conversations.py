@@ -4,8 +4,8 @@
     conversations.py PROGRAM PAGE FOLDER
 
 A conversation on the page is a block of lines, indented or not, that begins with `pickle` and the bytes of a pickle in
-hexadecimal. Then comes a line of the script after `debug> `, then the lines that answer it, and so on. `$ list` or `$ objects`
-stands before what that command writes. A last line `saved` has the bytes that the pickle is saved as. The block ends at an empty
+hexadecimal. After `pickles` they are of several pickles, and every command has the option --many. Then comes a line of the
+script after `debug> `, then the lines that answer it, and so on. `$ list` or `$ objects` stands before what that command writes. A last line `saved` has the bytes that the pickle is saved as. The block ends at an empty
 line, or at the end of the page.
 
 Each script is run with all records and in windows of 1 and 2. The status has to be 1 just where an answer refuses.
@@ -18,9 +18,14 @@ import subprocess
 import sys
 
 
+# the first word of a block, and the options that it gives to every command
+OPTIONS = {"pickle": [], "pickles": ["--many"]}
+
+
 class Block:
-    def __init__(self, number, pickle):
+    def __init__(self, number, options, pickle):
         self.number = number
+        self.options = options
         self.pickle = pickle
         self.script = []
         self.answers = []
@@ -48,9 +53,10 @@ def blocks_of(page):
             if block is not None:
                 yield block
             block = None
-        elif line.split()[0] == "pickle":
-            margin = line.index("pickle")
-            block = Block(number, bytes.fromhex(line[margin + len("pickle"):]))
+        elif line.split()[0] in OPTIONS:
+            word = line.split()[0]
+            margin = line.index(word)
+            block = Block(number, OPTIONS[word], bytes.fromhex(line[margin + len(word):]))
         elif block is not None:
             block.take(line[margin:])
     if block is not None:
@@ -76,7 +82,7 @@ def differs(words, done, wanted, status):
 def fault_of_command(program, block, command, file):
     wanted = block.written[command]
     status = int(any(line.startswith(("refused: ", "fault: ")) for line in wanted))
-    done, why = run(program, [command, str(file)], b"")
+    done, why = run(program, [command, *block.options, str(file)], b"")
     return why or differs([command], done, wanted, status)
 
 
@@ -85,7 +91,7 @@ def fault_of_script(program, block, file, saved):
     status = int(any(line.startswith("refused: ") for line in block.answers))
     for options in ([], ["--window", "1"], ["--window", "2"]):
         saved.unlink(missing_ok=True)
-        done, why = run(program, ["debug", str(file), "--save", str(saved), *options], script)
+        done, why = run(program, ["debug", *block.options, str(file), "--save", str(saved), *options], script)
         why = why or differs(["debug", *options], done, block.answers, status)
         if why:
             return why

@@ -29,6 +29,30 @@ LISTING = (
     "    8: e        APPENDS    (MARK at 3)\n    9: .    STOP\nhighest protocol among opcodes = 1\n"
 )
 OBJECTS = "#0 list +#0 +#0\nresult #0\n"
+# Two pickles in one input, of which the first leaves a mark.
+SEVERAL = (
+    bytes.fromhex("284e2e4e2e"),
+    "goto 3\nstack\nstep\nstack\nback\nstack\n",
+    "at 3\nstack (0\nat 4\nstack #1\nat 3\nstack (0\n",
+    0,
+)
+SEVERAL_LISTING = (
+    "    0: (    MARK\n    1: N        NONE\n    2: .        STOP\nleft: 0 objects, 1 marks\n    3: N    NONE\n    4: .    STOP\n"
+    "highest protocol among opcodes = 0\n"
+)
+SEVERAL_OBJECTS = "#0 none\n#1 none\nresult #0\nresult #1\n"
+# Scripts, with their names and the options of the program; and tasks with their options, the bytes, and what is written of them.
+SCRIPTS = (
+    ("breakpoints", [], BREAKPOINTS),
+    ("a list appended to itself by memo", [], BY_MEMO),
+    ("several pickles", ["--many"], SEVERAL),
+)
+TASKS = (
+    (["list"], BY_MEMO[0], LISTING),
+    (["objects"], BY_MEMO[0], OBJECTS),
+    (["list", "--many"], SEVERAL[0], SEVERAL_LISTING),
+    (["objects", "--many"], SEVERAL[0], SEVERAL_OBJECTS),
+)
 
 
 class Devices:
@@ -129,18 +153,19 @@ def main():
     program, library, folder = sys.argv[1], pathlib.Path(sys.argv[2]).resolve(), pathlib.Path(sys.argv[3])
     folder.mkdir(parents=True, exist_ok=True)
     devices = Devices(program, library, folder)
-    for name, (pickled, script, text, _) in (("breakpoints", BREAKPOINTS), ("a list appended to itself by memo", BY_MEMO)):
+    for name, options, (pickled, script, text, _) in SCRIPTS:
         devices.file.write_bytes(pickled)
-        words = ["debug", str(devices.file), "--save", str(devices.out)]
+        words = ["debug", *options, str(devices.file), "--save", str(devices.out)]
+        is_answered_by_lines = len(text.splitlines()) == len(script.splitlines())
         for most in (1, 2, 7):
-            print(f"{name}, each read of {most} bytes failing\t{devices.break_reads(words, script, text, most, name == 'breakpoints')}")
+            print(f"{name}, each read of {most} bytes failing\t{devices.break_reads(words, script, text, most, is_answered_by_lines)}")
             print(f"{name}, each write of {most} bytes failing\t{devices.break_writes(words, script, text, most, True)}")
-    devices.file.write_bytes(BY_MEMO[0])
-    for task, text in (("list", LISTING), ("objects", OBJECTS)):
+    for task, pickled, text in TASKS:
+        devices.file.write_bytes(pickled)
+        name, words = " ".join(task), [*task, str(devices.file)]
         for most in (1, 2, 7):
-            words = [task, str(devices.file)]
-            print(f"{task}, each read of {most} bytes failing\t{devices.break_reads(words, '', text, most, False)}")
-            print(f"{task}, each write of {most} bytes failing\t{devices.break_writes(words, '', text, most, False)}")
+            print(f"{name}, each read of {most} bytes failing\t{devices.break_reads(words, '', text, most, False)}")
+            print(f"{name}, each write of {most} bytes failing\t{devices.break_writes(words, '', text, most, False)}")
     print(f"a file that is emptied while it is read\t{devices.shrink()}")
     print(f"{devices.broken} reads and writes failed")
 

@@ -20,7 +20,7 @@ use crate::tests::rows::{
 use crate::tests::shown::{
     Edit, Row, Wrong, are_alike, have_same_ids, make, open, place_of, shows, turn, written,
 };
-use pickle_doc::{Document, EditFault, there_and_back};
+use pickle_doc::{Document, EditFault, End, there_and_back};
 use pickle_ops::Opcode;
 use std::alloc::Global;
 use std::test::Fail;
@@ -39,10 +39,29 @@ fn try_row(alloc: Global, many: bool, row: &Row) -> Result<(), Wrong> {
     turn(alloc, &mut document, &mut record, &row.before)
 }
 
+/// Tries a row of one pickle, and of many where that is the same: where no byte follows STOP.
+fn try_in_both(alloc: Global, row: &Row) -> Result<(), Wrong> {
+    try_row(alloc, false, row)?;
+    if row.before.end == End::Stopped && !row.before.tail.is_empty() {
+        return Ok(());
+    }
+    try_row(alloc, true, row)
+}
+
 /// The first row that does not hold, by its bytes, and what is wrong there.
-fn first_wrong<'a>(alloc: Global, many: bool, rows: &'a [Row]) -> Option<(&'a [u8], Wrong)> {
+fn first_wrong<'a>(alloc: Global, rows: &'a [Row]) -> Option<(&'a [u8], Wrong)> {
     for row in rows {
-        if let Err(wrong) = try_row(alloc, many, row) {
+        if let Err(wrong) = try_in_both(alloc, row) {
+            return Some((row.before.bytes, wrong));
+        }
+    }
+    None
+}
+
+/// The first row of many pickles that does not hold, by its bytes, and what is wrong there.
+fn first_wrong_of_many<'a>(alloc: Global, rows: &'a [Row]) -> Option<(&'a [u8], Wrong)> {
+    for row in rows {
+        if let Err(wrong) = try_row(alloc, true, row) {
             return Some((row.before.bytes, wrong));
         }
     }
@@ -51,37 +70,37 @@ fn first_wrong<'a>(alloc: Global, many: bool, rows: &'a [Row]) -> Option<(&'a [u
 
 #[test]
 fn edits_in_frames(rt: HostRuntime) {
-    assert_eq!(rt; first_wrong(rt.alloc(), false, &IN_FRAMES), None);
+    assert_eq!(rt; first_wrong(rt.alloc(), &IN_FRAMES), None);
 }
 
 #[test]
 fn edits_beside_frames(rt: HostRuntime) {
-    assert_eq!(rt; first_wrong(rt.alloc(), false, &BESIDE_FRAMES), None);
+    assert_eq!(rt; first_wrong(rt.alloc(), &BESIDE_FRAMES), None);
 }
 
 #[test]
 fn edits_beside_frames_that_lie(rt: HostRuntime) {
-    assert_eq!(rt; first_wrong(rt.alloc(), false, &FRAMES_THAT_LIE), None);
+    assert_eq!(rt; first_wrong(rt.alloc(), &FRAMES_THAT_LIE), None);
 }
 
 #[test]
 fn frames_come_and_go(rt: HostRuntime) {
-    assert_eq!(rt; first_wrong(rt.alloc(), false, &FRAMES), None);
+    assert_eq!(rt; first_wrong(rt.alloc(), &FRAMES), None);
 }
 
 #[test]
 fn empty_frames(rt: HostRuntime) {
-    assert_eq!(rt; first_wrong(rt.alloc(), false, &EMPTY_FRAMES), None);
+    assert_eq!(rt; first_wrong(rt.alloc(), &EMPTY_FRAMES), None);
 }
 
 #[test]
 fn edits_without_frames(rt: HostRuntime) {
-    assert_eq!(rt; first_wrong(rt.alloc(), false, &NO_FRAMES), None);
+    assert_eq!(rt; first_wrong(rt.alloc(), &NO_FRAMES), None);
 }
 
 #[test]
 fn edits_of_many_pickles(rt: HostRuntime) {
-    assert_eq!(rt; first_wrong(rt.alloc(), true, &MANY_EDITS), None);
+    assert_eq!(rt; first_wrong_of_many(rt.alloc(), &MANY_EDITS), None);
 }
 
 #[test]
@@ -120,6 +139,11 @@ fn refused_edits(rt: HostRuntime) {
             refusal_of(rt.alloc(), false, bytes, edit),
             Ok(Some(*fault)),
             "row {k}"
+        );
+        assert_eq!(rt;
+            refusal_of(rt.alloc(), true, bytes, edit),
+            Ok(Some(*fault)),
+            "row {k}, of many pickles"
         );
     }
 }
@@ -261,7 +285,14 @@ fn largest_lengths(rt: HostRuntime) {
 #[test]
 fn refused_memory(rt: HostRuntime) {
     let bytes: &[u8] = b"\x95\x04\0\0\0\0\0\0\0N0N0N.";
-    assert_eq!(rt; edit_with_little(rt.alloc(), bytes), Ok(()));
+    assert_eq!(rt; edit_with_little(rt.alloc(), false, bytes, 1), Ok(()));
+}
+
+/// The same of two pickles, with the edits behind the first STOP.
+#[test]
+fn refused_memory_of_many(rt: HostRuntime) {
+    let bytes: &[u8] = b"N.\x95\x04\0\0\0\0\0\0\0N0N0N.";
+    assert_eq!(rt; edit_with_little(rt.alloc(), true, bytes, 3), Ok(()));
 }
 
 /// A million items are opened and written, and no more: what the four tests below have in common.

@@ -1,6 +1,6 @@
 -- What the lines promise whoever reads them.
 use Rattle.std.proofs.Common.{◌≡◌, ◌≢◌, ◌⊎◌, ℕ, zero, suc, ◌+◌, ◌-◌, ◌<◌, ◌≤◌, Bool, true, false, cond, List, [], ◌∷◌, ◌++◌, length, take, Option, Some, None, refl, sym, ap, subst, ◌∙◌, inl, inr, arith, length-append, rules}
-use Rattle.std.specs.Prelude.{slice_get, nat_le, nat_lt, decimal, codes}
+use Rattle.std.specs.Prelude.{slice_get, nat_le, nat_lt, decimal, codes, if◌then◌else◌}
 use Rattle.std.specs.Result.{result_ok}
 use Rattle.std.proofs.lemmas.List.{append-nil, length-drop}
 use Rattle.std.proofs.lemmas.Option.{slice_get_past}
@@ -23,8 +23,9 @@ use Rattle.pickle_objects.specs.Kind.{is_opaque}
 use Rattle.pickle_objects.specs.Row.{row_of, row_of_opcode, kind_of, values_of}
 use Rattle.pickle_machine.specs.declared.refusal.Refusal.{Refusal}
 use Rattle.pickle_machine.specs.declared.refusal.Refusal.TheVariants as refusal
-use Rattle.pickle_machine.specs.State.{Marked, State, stack_size, section_sizes}
-use Rattle.pickle_machine.specs.Move.{next_of, refusal_of, refusal_at, next, outcome, cut, under, deeper, without, changes_of, change_top, last_of, deep, object_meets, unless, if_deep}
+use Rattle.pickle_machine.specs.State.{Marked, State, stack_size, section_sizes, start}
+use Rattle.pickle_machine.specs.Move.{next_of, refusal_of, refusal_at, next, outcome, cut, under, deeper, without, changes_of, change_top, last_of, deep, object_meets, unless, if_deep, begun, fresh}
+use Rattle.pickle_machine.proofs.HeapGrowth.{fresh_heap}
 use Rattle.pickle_machine.specs.Run.{after}
 use Rattle.pickle_machine.proofs.Shown.{last_of_more}
 use Rattle.pickle_report.proofs.Runs.{run_after}
@@ -41,8 +42,8 @@ use Rattle.pickle_calls.proofs.Steps.{pushed_untold, pushed_told, none_made, Sam
 -- ---- one text
 
 pub one_text : OneText
-one_text bytes small less =
-    let one = one_document bytes small less in
+one_text many bytes small less =
+    let one = one_document many bytes small less in
     (calls one.0, (one.0, one.1, refl), λ e r. ap calls (one.2 e r))
 
 -- ---- sizes
@@ -255,7 +256,17 @@ moves (Some o) k s t e = let m = by_outcome (refusal_at o s) (next o k s) t e in
 
 moves_at : (d : Contents) (k : ℕ) (s t : State) → IsStep d k s t → Moves (item_at d k) k s t
 moves_at d k s t step =
-    moves (item_at d k) k s t (ap (λ (y : Option State). after (item_at d k) k y) (sym step.before) ∙ run_after (ops_of d) k t step.after)
+    moves (item_at d k) k s t (ap (λ (y : Option State). after (item_at d k) k y) (sym step.before) ∙ run_after (start d.many) (ops_of d) k t step.after)
+
+-- ---- a further pickle begins with the heap as it is
+
+makes_by : (b : Bool) (s t : State) → Makes (if b then begun s else s) t → Makes s t
+makes_by true s t m = record { id = m.id; object = m.object; there = m.there; fresh = m.fresh; told = m.told }
+makes_by false s t m = m
+
+changes_by : (b : Bool) (s t : State) → Changes (if b then begun s else s) t → Changes s t
+changes_by true s t c = record { id = c.id; old = c.old; new = c.new; before = c.before; after = c.after; opaque = c.opaque; more = c.more }
+changes_by false s t c = c
 
 -- ---- lines
 
@@ -277,22 +288,25 @@ a_line offset heap (Some r) e = (r, refl)
 pub no_line_no_reach : NoLineNoReach
 no_line_no_reach d k s t step none id o there opaque =
     let m = moves_at d k s t step in
-    let here : (entry_at d k).line ≡ (entry (offset_of d k) t.heap (reach_of (row_of m.item) (before_of s) t)).line = ap (λ (e : Entry). e.line) (entry_is d k m.item s t m.there step.before step.after) in
-    let nothing : reach_of (row_of m.item) (before_of s) t ≡ None = no_line _ _ _ (sym here ∙ none) in
-    let at : reach_of (row_of m.item) (before_of s) (next m.item k s) ≡ None = ap (λ (u : State). reach_of (row_of m.item) (before_of s) u) m.leads ∙ nothing in
-    row_untold (row_of m.item) (kind_of m.item) k s m.accepted at id o (ap (λ (u : State). slice_get u.heap id) m.leads ∙ there) opaque
+    let from : State = fresh s in
+    let here : (entry_at d k).line ≡ (entry (offset_of d k) t.heap (reach_of (row_of m.item) (before_of from) t)).line = ap (λ (e : Entry). e.line) (entry_is d k m.item s t m.there step.before step.after) in
+    let nothing : reach_of (row_of m.item) (before_of from) t ≡ None = no_line _ _ _ (sym here ∙ none) in
+    let at : reach_of (row_of m.item) (before_of from) (next m.item k s) ≡ None = ap (λ (u : State). reach_of (row_of m.item) (before_of from) u) m.leads ∙ nothing in
+    ap (λ (h : List Object). slice_get h id) (sym (fresh_heap s))
+    ∙ row_untold (row_of m.item) (kind_of m.item) k from m.accepted at id o (ap (λ (u : State). slice_get u.heap id) m.leads ∙ there) opaque
 
 pub lines_reach : LinesReach
 lines_reach d k s t step some =
     let m = moves_at d k s t step in
-    let here : (entry_at d k).line ≡ (entry (offset_of d k) t.heap (reach_of (row_of m.item) (before_of s) t)).line = ap (λ (e : Entry). e.line) (entry_is d k m.item s t m.there step.before step.after) in
-    let told = a_line (offset_of d k) t.heap (reach_of (row_of m.item) (before_of s) t) (λ e. some (here ∙ e)) in
-    let at : reach_of (row_of m.item) (before_of s) (next m.item k s) ≡ Some told.0 = ap (λ (u : State). reach_of (row_of m.item) (before_of s) u) m.leads ∙ told.1 in
-    let all : IsTold (row_of m.item) s t = subst (λ (u : State). IsTold (row_of m.item) s u) m.leads (row_told (row_of m.item) (kind_of m.item) k s told.0 m.accepted at) in
+    let from : State = fresh s in
+    let here : (entry_at d k).line ≡ (entry (offset_of d k) t.heap (reach_of (row_of m.item) (before_of from) t)).line = ap (λ (e : Entry). e.line) (entry_is d k m.item s t m.there step.before step.after) in
+    let told = a_line (offset_of d k) t.heap (reach_of (row_of m.item) (before_of from) t) (λ e. some (here ∙ e)) in
+    let at : reach_of (row_of m.item) (before_of from) (next m.item k s) ≡ Some told.0 = ap (λ (u : State). reach_of (row_of m.item) (before_of from) u) m.leads ∙ told.1 in
+    let all : IsTold (row_of m.item) from t = subst (λ (u : State). IsTold (row_of m.item) from u) m.leads (row_told (row_of m.item) (kind_of m.item) k from told.0 m.accepted at) in
     elim all [
-      | inl makes ↦ inl makes
+      | inl makes ↦ inl (makes_by s.stopped s t makes)
       | inr rest ↦ (elim rest [
-        | inl changes ↦ inr (inl changes)
+        | inl changes ↦ inr (inl (changes_by s.stopped s t changes))
         | inr build ↦ (elim build [
           | inl one ↦ inr (inr (m.item, m.there, build_only m.item.opcode m.item.arg one))
           | inr two ↦ inr (inr (m.item, m.there, no_cut_build m.item.opcode m.item.arg two))

@@ -2,14 +2,13 @@
 -- looked into but for the two names of what is imported.
 -- Source: own.
 use Rattle.std.specs.Prelude.{ℕ, ◌-◌, ◌==◌, if◌then◌else◌, List, [], ◌∷◌, length, take, slice_get, codes, decimal, Option, Some, None}
-use Rattle.std.specs.Fmt.{signed_decimal}
 use Rattle.pickle_io.specs.Text.{◌⧺◌, quoted}
 use Rattle.pickle_io.specs.Device.{each}
-use Rattle.pickle_ops.specs.Text.{float_text, long_text}
+use Rattle.pickle_ops.specs.Text.{long_text}
 use Rattle.pickle_objects.specs.declared.kind.Kind.{Kind}
 use Rattle.pickle_objects.specs.declared.kind.Kind.TheVariants as kind
 use Rattle.pickle_objects.specs.Object.{Object}
-use Rattle.pickle_report.specs.ObjectText.{id_text}
+use Rattle.pickle_report.specs.ObjectText.{id_text, kind_text}
 use Rattle.pickle_calls.specs.Reach.{part}
 
 -- ---- names
@@ -41,7 +40,7 @@ words_text heap parts = word_text heap (part 0 parts) ⧺ codes " " ⧺ word_tex
 unfoldable pub kind_name : List Object → ℕ → Kind → List ℕ → List ℕ
 kind_name heap id (kind.Global names) parts = names_text names.first names.second
 kind_name heap id kind.StackGlobal parts = words_text heap parts
-kind_name heap id (kind.Ext n) parts = codes "ext " ⧺ signed_decimal n
+kind_name heap id (kind.Ext n) parts = kind_text (kind.Ext n)
 kind_name heap id _ parts = id_text id
 
 abbrev pub name_of : List Object → ℕ → Option Object → List ℕ
@@ -78,25 +77,26 @@ cut_long bytes = codes "int " ⧺ long_text (take most_bytes bytes) ⧺ over_tex
 
 -- ---- objects in brief
 
+-- most are told as in the line of an object; a text stands alone
 unfoldable pub kind_brief : List Object → ℕ → Kind → List ℕ → List ℕ
-kind_brief heap id kind.None parts = codes "none"
-kind_brief heap id kind.True parts = codes "true"
-kind_brief heap id kind.False parts = codes "false"
-kind_brief heap id (kind.Int n) parts = codes "int " ⧺ signed_decimal n
+kind_brief heap id kind.None parts = kind_text kind.None
+kind_brief heap id kind.True parts = kind_text kind.True
+kind_brief heap id kind.False parts = kind_text kind.False
+kind_brief heap id (kind.Int n) parts = kind_text (kind.Int n)
 kind_brief heap id (kind.Long bytes) parts = cut_long bytes
 kind_brief heap id (kind.IntLine q) parts = cut_after (codes "int-line ") q
 kind_brief heap id (kind.LongLine q) parts = cut_after (codes "long-line ") q
 kind_brief heap id (kind.FloatLine q) parts = cut_after (codes "float-line ") q
-kind_brief heap id (kind.Float bytes) parts = codes "float " ⧺ float_text bytes
+kind_brief heap id (kind.Float bytes) parts = kind_text (kind.Float bytes)
 kind_brief heap id (kind.LegacyString q) parts = cut_after (codes "string ") q
 kind_brief heap id (kind.LegacyLine q) parts = cut_after (codes "string-line ") q
 kind_brief heap id (kind.Text q) parts = cut_quoted q
 kind_brief heap id (kind.TextLine q) parts = cut_quoted q
 kind_brief heap id (kind.Bytes q) parts = cut_after (codes "bytes ") q
 kind_brief heap id (kind.ByteArray q) parts = cut_after (codes "bytearray ") q
-kind_brief heap id (kind.Global names) parts = codes "global " ⧺ names_text names.first names.second
+kind_brief heap id (kind.Global names) parts = kind_text (kind.Global names)
 kind_brief heap id kind.StackGlobal parts = codes "global " ⧺ words_text heap parts
-kind_brief heap id (kind.Ext n) parts = codes "ext " ⧺ signed_decimal n
+kind_brief heap id (kind.Ext n) parts = kind_text (kind.Ext n)
 kind_brief heap id _ parts = id_text id
 
 abbrev pub brief_of : List Object → ℕ → Option Object → List ℕ

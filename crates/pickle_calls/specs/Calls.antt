@@ -1,5 +1,5 @@
 -- What a document would import and call, place by place: what item k comes to is a function of the item and of the states that the
--- items before it, and those up to it, reach from nothing.
+-- items before it, and those up to it, reach from nothing. It is the same for one pickle and for several.
 -- Source: own.
 use Rattle.std.specs.Prelude.{ℕ, zero, suc, ◌+◌, List, [], length, Option, Some, None}
 use Rattle.pickle_io.specs.Text.{◌⧺◌}
@@ -9,8 +9,8 @@ use Rattle.pickle_doc.specs.Place.{ops_of, item_at, offset_of}
 use Rattle.pickle_objects.specs.Row.{row_of}
 use Rattle.pickle_objects.specs.Object.{Object}
 use Rattle.pickle_machine.specs.declared.refusal.Refusal.{Refusal}
-use Rattle.pickle_machine.specs.State.{State}
-use Rattle.pickle_machine.specs.Move.{refusal_at}
+use Rattle.pickle_machine.specs.State.{State, start}
+use Rattle.pickle_machine.specs.Move.{refusal_at, fresh}
 use Rattle.pickle_machine.specs.Run.{run}
 use Rattle.pickle_report.specs.Report.{refused_line}
 use Rattle.pickle_listing.specs.Listing.{end_lines, end_status, reached}
@@ -33,16 +33,16 @@ abbrev pub entry : ℕ → List Object → Option Reach → Entry
 entry offset heap None = no_entry
 entry offset heap (Some r) = record { line = reach_line offset heap r; imports = imports_of heap r; calls = calls_of heap r }
 
--- from the state before the item to the one after it
+-- from the state before the item, as its move is taken on it, to the one after it
 abbrev pub entry_on : ℕ → Option Operation → Option State → Option State → Entry
-entry_on offset (Some o) (Some s) (Some t) = entry offset t.heap (reach_of (row_of o) (before_of s) t)
+entry_on offset (Some o) (Some s) (Some t) = entry offset t.heap (reach_of (row_of o) (before_of (fresh s)) t)
 entry_on offset (Some o) (Some s) None = no_entry
 entry_on offset (Some o) None t = no_entry
 entry_on offset None s t = no_entry
 
 -- what item k comes to
 unfoldable pub entry_at : Contents → ℕ → Entry
-entry_at d k = entry_on (offset_of d k) (item_at d k) (run (ops_of d) k) (run (ops_of d) (suc k))
+entry_at d k = entry_on (offset_of d k) (item_at d k) (run (start d.many) (ops_of d) k) (run (start d.many) (ops_of d) (suc k))
 
 -- what the first n items come to
 unfoldable pub entries : Contents → ℕ → Entry
@@ -71,7 +71,7 @@ calls_to d k (Some o) (Some s) = record { text = with_totals (entries d k) (refu
 calls_to d k o None = record { text = []; status = 0 }
 
 abbrev pub calls_with : Contents → ℕ → Calls
-calls_with d k = calls_to d k (item_at d k) (run (ops_of d) k)
+calls_with d k = calls_to d k (item_at d k) (run (start d.many) (ops_of d) k)
 
 unfoldable pub calls : Contents → Calls
-calls d = calls_with d (reached (ops_of d) (length (ops_of d)))
+calls d = calls_with d (reached (start d.many) (ops_of d) (length (ops_of d)))

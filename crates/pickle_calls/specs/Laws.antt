@@ -1,31 +1,33 @@
 -- What the lines promise whoever reads them.
-use Rattle.std.specs.Prelude.{◌≡◌, ◌≢◌, ◌⊎◌, ℕ, suc, ◌<◌, ◌^◌, true, List, [], length, slice_get, Some, None}
+use Rattle.std.specs.Prelude.{◌≡◌, ◌≢◌, ◌⊎◌, ℕ, suc, ◌<◌, ◌^◌, Bool, true, List, [], length, slice_get, Some, None}
 use Rattle.pickle_ops.specs.Spelling.{Operation}
 use Rattle.pickle_ops.specs.declared.opcode.Opcode.TheVariants as op
 use Rattle.pickle_doc.specs.Document.{Contents, ReadsAs, AreBytes}
 use Rattle.pickle_doc.specs.Place.{ops_of, item_at}
 use Rattle.pickle_objects.specs.Kind.{is_opaque}
 use Rattle.pickle_objects.specs.Object.{Object}
-use Rattle.pickle_machine.specs.State.{State}
+use Rattle.pickle_machine.specs.State.{State, start}
 use Rattle.pickle_machine.specs.Run.{run}
 use Rattle.pickle_calls.specs.Reach.{is_view}
 use Rattle.pickle_calls.specs.Calls.{Calls, calls, entry_at}
 
 -- ---- one text
 
-abbrev pub IsCallsOf : List ℕ → Calls → Type 0
-IsCallsOf bytes c = (d : Contents) × ReadsAs bytes d × (c ≡ calls d)
+-- the text of the document that the bytes read as, as several pickles or as one
+abbrev pub IsCallsOf : Bool → List ℕ → Calls → Type 0
+IsCallsOf many bytes c = (d : Contents) × ReadsAs many bytes d × (c ≡ calls d)
 
--- each byte string has one text with one status, and no other
+-- in each mode a byte string has one text with one status, and no other
 abbrev pub OneText : Type 0
-OneText = (bytes : List ℕ) → AreBytes bytes → length bytes < 2 ^ 64 → (c : Calls) × IsCallsOf bytes c × ((e : Contents) → ReadsAs bytes e → c ≡ calls e)
+OneText = (many : Bool) (bytes : List ℕ) → AreBytes bytes → length bytes < 2 ^ 64
+    → (c : Calls) × IsCallsOf many bytes c × ((e : Contents) → ReadsAs many bytes e → c ≡ calls e)
 
 -- ---- no line, no reach
 
 -- item k is accepted: the items before it reach the one state, and it leads to the other
 pub record IsStep (d : Contents) (k : ℕ) (s t : State) : Type 0 where
-  pub before : run (ops_of d) k ≡ Some s
-  pub after : run (ops_of d) (suc k) ≡ Some t
+  pub before : run (start d.many) (ops_of d) k ≡ Some s
+  pub after : run (start d.many) (ops_of d) (suc k) ≡ Some t
 
 -- an accepted item without a line makes no opaque object and leaves every one as it was
 abbrev pub NoLineNoReach : Type 0

@@ -11,12 +11,12 @@ use Rattle.pickle_report.specs.ObjectText.{id_text}
 use Rattle.pickle_calls.specs.declared.reach.Reach.{Reach}
 use Rattle.pickle_calls.specs.declared.reach.Reach.TheVariants as reach
 use Rattle.pickle_calls.specs.Reach.{part, object_is}
-use Rattle.pickle_calls.specs.Brief.{names_text, words_text, name_text, briefs_text, value_text}
+use Rattle.pickle_calls.specs.Brief.{words_text, name_text, briefs_text, value_text}
 
 -- ---- what was made
 
 unfoldable pub inst_text : List Object → List ℕ → List ℕ → List ℕ → List ℕ
-inst_text heap first second parts = codes "inst " ⧺ names_text first second ⧺ codes " " ⧺ briefs_text heap parts
+inst_text heap first second parts = codes "inst " ⧺ quoted first ⧺ codes " " ⧺ quoted second ⧺ codes " " ⧺ briefs_text heap parts
 
 -- a call or a new instance: what is called, and the arguments
 unfoldable pub call_text : List ℕ → List Object → List ℕ → List ℕ
@@ -32,7 +32,7 @@ obj_text heap parts = codes "call " ⧺ name_text heap (part 0 parts) ⧺ codes 
 
 -- by its kind and its parts; other kinds are not told
 unfoldable pub made_words : List Object → Kind → List ℕ → List ℕ
-made_words heap (kind.Global names) parts = codes "import " ⧺ names_text names.first names.second
+made_words heap (kind.Global names) parts = codes "import " ⧺ quoted names.first ⧺ codes " " ⧺ quoted names.second
 made_words heap kind.StackGlobal parts = codes "import " ⧺ words_text heap parts
 made_words heap (kind.Ext n) parts = codes "import ext " ⧺ signed_decimal n
 made_words heap (kind.Inst names) parts = inst_text heap names.first names.second parts

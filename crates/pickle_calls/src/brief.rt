@@ -1,30 +1,20 @@
 //! Objects in brief.
 
 ghost use Rattle.pickle_io.specs.Text.{◌⧺◌};
-ghost use Rattle.std.specs.Prelude.{codes, decimal};
 ghost use Rattle.pickle_io.specs.Device.{Writes, each};
-ghost use Rattle.pickle_ops.specs.Text.{float_text};
 ghost use Rattle.pickle_calls.specs.Brief.{over_text, cut_quoted, cut_after, cut_long, kind_brief, brief_text, next_brief, joined, more_text, briefs_text, kind_value, value_text};
 
 use crate::front::{first_bytes, first_ids};
-use crate::name::{write_id, write_names_after, write_signed_after, write_words_after};
+use crate::name::write_words_after;
 use pickle_objects::{Kind, ObjId, Object};
-use pickle_ops::{Failed, Sink, write_all, write_decimal, write_float, write_long, write_quoted};
+use pickle_ops::{Failed, Sink, write_all, write_long, write_quoted};
+use pickle_report::{write_id, write_kind, write_with_number};
 
 /// How many bytes of a payload are shown.
 const MOST_BYTES: usize = 64;
 
 /// How many objects of a list are shown.
 const MOST_OBJECTS: usize = 16;
-
-/// Writes a sign and a number.
-#[tactic(auto, using(pickle_io::proofs::Devices::text_steps))]
-fn write_after<S: Sink>(sign: &[u8], count: usize, sink: &mut S) -> Result<(), Failed>
-    ensures { Writes (S.told sink.old) (S.told sink.new) result (sign.now ⧺ decimal count) }
-{
-    write_all(sink, sign)?;
-    write_decimal(count as u64, sink)
-}
 
 /// Writes how many bytes more there are, if any.
 #[tactic(auto, using(pickle_io::proofs::Devices::text_steps), unfolding(crate::specs::Brief::over_text))]
@@ -34,7 +24,7 @@ fn write_over<S: Sink>(count: usize, sink: &mut S) -> Result<(), Failed>
     if count == 0 {
         Ok(())
     } else {
-        write_after(b"+", count, sink)
+        write_with_number(b"+", count as u64, sink)
     }
 }
 
@@ -66,15 +56,6 @@ fn write_cut_long<S: Sink>(bytes: &[u8], sink: &mut S) -> Result<(), Failed>
     write_over(bytes.len().saturating_sub(MOST_BYTES), sink)
 }
 
-/// Writes a floating point number.
-#[tactic(auto, using(pickle_io::proofs::Devices::text_steps))]
-fn write_floating<S: Sink>(bytes: &[u8], sink: &mut S) -> Result<(), Failed>
-    ensures { Writes (S.told sink.old) (S.told sink.new) result (codes "float " ⧺ float_text bytes.now) }
-{
-    write_all(sink, b"float ")?;
-    write_float(bytes, sink)
-}
-
 /// Writes an object of this kind with these parts in brief.
 #[tactic(auto, unfolding(crate::specs::Brief::kind_brief))]
 fn write_kind_brief<S: Sink>(
@@ -87,25 +68,25 @@ fn write_kind_brief<S: Sink>(
     ensures { Writes (S.told sink.old) (S.told sink.new) result (kind_brief heap.now id kind.now parts.now) }
 {
     match kind {
-        Kind::None => write_all(sink, b"none"),
-        Kind::True => write_all(sink, b"true"),
-        Kind::False => write_all(sink, b"false"),
-        Kind::Int(number) => write_signed_after(b"int ", *number, sink),
+        Kind::None => write_kind(kind, sink),
+        Kind::True => write_kind(kind, sink),
+        Kind::False => write_kind(kind, sink),
+        Kind::Int(_) => write_kind(kind, sink),
         Kind::Long(bytes) => write_cut_long(bytes.as_slice(), sink),
         Kind::IntLine(text) => write_cut_after(b"int-line ", text.as_slice(), sink),
         Kind::LongLine(text) => write_cut_after(b"long-line ", text.as_slice(), sink),
         Kind::FloatLine(text) => write_cut_after(b"float-line ", text.as_slice(), sink),
-        Kind::Float(bytes) => write_floating(bytes.as_slice(), sink),
+        Kind::Float(_) => write_kind(kind, sink),
         Kind::LegacyString(text) => write_cut_after(b"string ", text.as_slice(), sink),
         Kind::LegacyLine(text) => write_cut_after(b"string-line ", text.as_slice(), sink),
         Kind::Text(text) => write_cut(text.as_slice(), sink),
         Kind::TextLine(text) => write_cut(text.as_slice(), sink),
         Kind::Bytes(bytes) => write_cut_after(b"bytes ", bytes.as_slice(), sink),
         Kind::ByteArray(bytes) => write_cut_after(b"bytearray ", bytes.as_slice(), sink),
-        Kind::Global(names) => write_names_after(b"global ", names.first(), names.second(), sink),
+        Kind::Global(_) => write_kind(kind, sink),
         Kind::StackGlobal => write_words_after(b"global ", heap, parts, sink),
-        Kind::Ext(code) => write_signed_after(b"ext ", *code, sink),
-        _ => write_id(id, sink),
+        Kind::Ext(_) => write_kind(kind, sink),
+        _ => write_id(id as u64, sink),
     }
 }
 
@@ -116,7 +97,7 @@ fn write_brief<S: Sink>(heap: &[Object], id: usize, sink: &mut S) -> Result<(), 
 {
     match heap.get(id) {
         Some(object) => write_kind_brief(heap, id, object.kind(), object.parts(), sink),
-        None => write_id(id, sink),
+        None => write_id(id as u64, sink),
     }
 }
 
@@ -173,7 +154,7 @@ fn write_more<S: Sink>(count: usize, sink: &mut S) -> Result<(), Failed>
     if count == 0 {
         Ok(())
     } else {
-        write_after(b", +", count, sink)
+        write_with_number(b", +", count as u64, sink)
     }
 }
 
@@ -212,6 +193,6 @@ pub fn write_value<S: Sink>(heap: &[Object], id: usize, sink: &mut S) -> Result<
 {
     match heap.get(id) {
         Some(object) => write_kind_value(heap, id, object.kind(), object.parts(), sink),
-        None => write_id(id, sink),
+        None => write_id(id as u64, sink),
     }
 }

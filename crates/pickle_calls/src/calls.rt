@@ -1,6 +1,7 @@
 //! What items would import and call, one after another.
 
-ghost use Rattle.std.specs.Prelude.{◌≡◌, ◌≢◌, ◌+◌, ◌≤◌, ◌<◌, ◌-◌, ◌^◌, length, Ok, Some, OnOk, IfOk, IfErr};
+ghost use Rattle.std.specs.Prelude.{◌≡◌, ◌≢◌, ◌≤◌, ◌<◌, ◌-◌, ◌^◌, ◌==◌, ◌&&◌, length, Ok, Some, OnOk, IfOk, IfErr};
+ghost use Rattle.pickle_doc.specs.DocUnit.{is_stop};
 ghost use Rattle.pickle_doc.specs.Document.{Contents, ReadsAs, size_limit};
 ghost use Rattle.pickle_machine.specs.Move.{move, refusal_at};
 ghost use Rattle.pickle_calls.specs.Inside.Answer.{IsAnswer};
@@ -13,8 +14,8 @@ use crate::totals::Totals;
 use pickle_doc::{ItemSource, Items, NextRef, ends_reading};
 use pickle_machine::{Machine, Refusal};
 use pickle_objects::Row;
-use pickle_ops::{Failed, OpRef, Sink};
-use pickle_report::TextStop;
+use pickle_ops::{Failed, OpRef, Opcode, Sink};
+use pickle_report::{TextStop, machine_of};
 use std::alloc::Global;
 
 /// Steps a machine over an item, and keeps no record. `Refusal::Memory` comes for want of memory too where the item's argument is
@@ -36,6 +37,20 @@ fn step_over(
     Ok(())
 }
 
+/// Whether an opcode is STOP.
+fn is_stop(opcode: Opcode) -> bool
+    ensures { result ≡ is_stop opcode }
+{
+    matches!(opcode, Opcode::Stop)
+}
+
+/// Whether items that end in STOP, or do not, are all that there is, where so many bytes are left.
+fn is_last(stop: bool, left: u64) -> bool
+    ensures { result ≡ (left == 0 && stop) }
+{
+    left == 0 && stop
+}
+
 /// The answer with this status where the last lines were written, or where the sink failed.
 fn answer(closed: Result<(), Failed>, status: u8) -> Result<u8, TextStop>
     ensures { IsAnswer closed status result }
@@ -44,30 +59,36 @@ fn answer(closed: Result<(), Failed>, status: u8) -> Result<u8, TextStop>
     Ok(status)
 }
 
-/// Writes what the items that a source gives from the first on would import and call, and answers the status: 0 where there is a
-/// result, 1 where an item is refused or the bytes have a fault. A machine of its own runs the items; each line is written when
-/// its item was stepped, and no item, no step and no line is kept. The source is to give a document that is not too large.
+/// Writes what the items that a source gives from the first on would import and call, as several pickles or as one, and answers the
+/// status: 1 where an item is refused or the bytes have a fault, else 0. A machine of its own runs the items; each line is written
+/// when its item was stepped, and no item, no step and no line is kept. The source is to give a document that is not too large.
 ///
 /// `Memory` (M) comes for want of memory, `Failed` from the sink; what was written then is a beginning of the text.
 pub fn calls_of_items<'a, I: ItemSource<'a>, S: Sink>(
     alloc: Global,
+    many: bool,
     source: I,
     sink: &mut S,
 ) -> Result<u8, TextStop>
     requires first { (I.unread source).left ≡ 0 }
     requires small { length (I.unread source).rest ≤ size_limit }
-    requires document { (d : Contents) × ReadsAs (I.unread source).rest d }
-    ensures ok { IfOk result (TellsCalls (I.unread source).rest (S.told sink.old) (S.told sink.new)) }
-    ensures err { IfErr result (CutsCalls (I.unread source).rest (S.told sink.old) (S.told sink.new)) }
+    requires document { (d : Contents) × ReadsAs many (I.unread source).rest d }
+    ensures ok { IfOk result (TellsCalls many (I.unread source).rest (S.told sink.old) (S.told sink.new)) }
+    ensures err { IfErr result (CutsCalls many (I.unread source).rest (S.told sink.old) (S.told sink.new)) }
 {
     let mut reader = source;
-    let mut machine = Machine::new(alloc);
+    let mut machine = machine_of(alloc, many);
     let mut totals = Totals::none();
     let mut offset = 0;
     let mut place = 0;
+    let mut stop = false;
     'items: loop {
         match reader.next() {
             NextRef::Tail(fault) => {
+                let kept = reader.unread_len();
+                if is_last(stop, kept) {
+                    return answer(write_stopped_end(totals, kept, sink), 0);
+                }
                 return answer(write_fault_end(totals, fault, offset, sink), 1);
             }
             NextRef::Item(op) => {
@@ -84,21 +105,27 @@ pub fn calls_of_items<'a, I: ItemSource<'a>, S: Sink>(
                 totals = totals.with(machine.heap(), reach);
                 offset += op.size() as u64;
                 place += 1;
-                if ends_reading(op.opcode()) {
+                if ends_reading(many, op.opcode()) {
                     let kept = reader.unread_len();
                     return answer(write_stopped_end(totals, kept, sink), 0);
                 }
+                stop = is_stop(op.opcode());
             }
         }
     }
 }
 
-/// Writes what the pickle that the bytes are, which are not too many, would import and call, and answers the status, as
-/// `calls_of_items` does.
-pub fn calls_of_bytes<S: Sink>(alloc: Global, bytes: &[u8], sink: &mut S) -> Result<u8, TextStop>
+/// Writes what the pickle that the bytes are, or the several pickles, would import and call, and answers the status, as
+/// `calls_of_items` does. There are to be no more bytes than the limit.
+pub fn calls_of_bytes<S: Sink>(
+    alloc: Global,
+    many: bool,
+    bytes: &[u8],
+    sink: &mut S,
+) -> Result<u8, TextStop>
     requires { length bytes.now ≤ size_limit }
-    ensures ok { IfOk result (TellsCalls bytes.now (S.told sink.old) (S.told sink.new)) }
-    ensures err { IfErr result (CutsCalls bytes.now (S.told sink.old) (S.told sink.new)) }
+    ensures ok { IfOk result (TellsCalls many bytes.now (S.told sink.old) (S.told sink.new)) }
+    ensures err { IfErr result (CutsCalls many bytes.now (S.told sink.old) (S.told sink.new)) }
 {
-    calls_of_items(alloc, Items::new(bytes), sink)
+    calls_of_items(alloc, many, Items::new(bytes), sink)
 }

@@ -2,17 +2,17 @@
 
 ghost use Rattle.pickle_io.specs.Text.{◌⧺◌};
 ghost use Rattle.pickle_io.specs.Device.{Writes};
-ghost use Rattle.std.specs.Prelude.{◌≡◌};
 ghost use Rattle.pickle_report.specs.Line.{fault_line};
 ghost use Rattle.pickle_report.specs.Report.{refused_line};
-ghost use Rattle.pickle_listing.specs.Line.{kept_line, kept_text, kept_words};
+ghost use Rattle.pickle_listing.specs.Line.{kept_line};
 ghost use Rattle.pickle_calls.specs.Line.{totals_line};
 
 use crate::totals::Totals;
 use pickle_doc::TailFault;
+use pickle_listing::write_kept_line;
 use pickle_machine::Refusal;
 use pickle_ops::{Failed, Sink, write_all, write_decimal};
-use pickle_report::{write_fault, write_item_refused};
+use pickle_report::{write_fault, write_refused};
 
 /// Writes how many imports and calls the lines are.
 #[tactic(auto, using(pickle_io::proofs::Devices::text_steps), unfolding(crate::specs::Line::totals_line))]
@@ -26,44 +26,13 @@ fn write_totals<S: Sink>(totals: Totals, sink: &mut S) -> Result<(), Failed>
     write_all(sink, b"\n")
 }
 
-/// Words of a line.
-#[tactic(auto, unfolding(pickle_listing::specs::Line::kept_words))]
-fn words_after_stop() -> &'static str
-    ensures { result.now ≡ kept_words }
-{
-    " bytes after STOP"
-}
-
-/// Writes how many bytes stand after STOP.
-#[tactic(auto, using(pickle_io::proofs::Devices::text_steps), unfolding(pickle_listing::specs::Line::kept_text))]
-fn write_kept_text<S: Sink>(count: u64, sink: &mut S) -> Result<(), Failed>
-    ensures { Writes (S.told sink.old) (S.told sink.new) result (kept_text count) }
-{
-    write_all(sink, b"kept: ")?;
-    write_decimal(count, sink)?;
-    write_all(sink, words_after_stop().as_bytes())?;
-    write_all(sink, b"\n")
-}
-
-/// Writes how many bytes stand after STOP, if any.
-#[tactic(auto, using(pickle_io::proofs::Devices::text_steps), unfolding(pickle_listing::specs::Line::kept_line))]
-fn write_kept<S: Sink>(count: u64, sink: &mut S) -> Result<(), Failed>
-    ensures { Writes (S.told sink.old) (S.told sink.new) result (kept_line count) }
-{
-    if count == 0 {
-        Ok(())
-    } else {
-        write_kept_text(count, sink)
-    }
-}
-
 /// Writes the lines after STOP.
 #[tactic(auto, using(pickle_io::proofs::Devices::text_steps))]
 pub fn write_stopped_end<S: Sink>(totals: Totals, kept: u64, sink: &mut S) -> Result<(), Failed>
     ensures { Writes (S.told sink.old) (S.told sink.new) result (totals_line totals.imports totals.calls ⧺ kept_line kept) }
 {
     write_totals(totals, sink)?;
-    write_kept(kept, sink)
+    write_kept_line(kept, sink)
 }
 
 /// Writes the lines after all items where bytes are left that are no further item.
@@ -78,16 +47,6 @@ pub fn write_fault_end<S: Sink>(
 {
     write_totals(totals, sink)?;
     write_fault(fault, offset, sink)
-}
-
-/// Writes the line of an item that is refused.
-#[tactic(auto, using(pickle_io::proofs::Devices::text_steps), unfolding(pickle_report::specs::Report::refused_line))]
-fn write_refused<S: Sink>(place: usize, refusal: Refusal, sink: &mut S) -> Result<(), Failed>
-    ensures { Writes (S.told sink.old) (S.told sink.new) result (refused_line place refusal) }
-{
-    write_all(sink, b"refused: ")?;
-    write_item_refused(place, refusal, sink)?;
-    write_all(sink, b"\n")
 }
 
 /// Writes the lines before an item that is refused.

@@ -1,9 +1,8 @@
 //! The lines.
 
 ghost use Rattle.pickle_io.specs.Text.{◌⧺◌};
-ghost use Rattle.std.specs.Prelude.{◌≡◌, decimal, drop, slice_get};
+ghost use Rattle.std.specs.Prelude.{◌≡◌, drop, slice_get};
 ghost use Rattle.pickle_io.specs.Device.{Writes};
-ghost use Rattle.pickle_io.specs.Text.{quoted};
 ghost use Rattle.pickle_report.specs.ObjectText.{id_text};
 ghost use Rattle.pickle_calls.specs.Brief.{value_text};
 ghost use Rattle.pickle_calls.specs.Reach.{part};
@@ -12,12 +11,13 @@ ghost use Rattle.pickle_calls.specs.Calls.{entry};
 
 use crate::brief::{write_briefs, write_value};
 use crate::column::write_right;
-use crate::name::{
-    write_id, write_name, write_names, write_names_after, write_signed_after, write_words_after,
-};
+use crate::name::{write_name, write_words_after};
 use crate::reach::{Reach, part};
 use pickle_objects::{Kind, ObjId, Object};
-use pickle_ops::{Failed, Sink, write_all, write_decimal, write_quoted};
+use pickle_ops::{Failed, Sink, write_all, write_decimal};
+use pickle_report::{
+    write_id, write_with_number, write_with_signed, write_with_text, write_with_texts,
+};
 
 /// Writes that a member of a module is imported and called.
 #[tactic(auto, using(pickle_io::proofs::Devices::text_steps), unfolding(crate::specs::Line::inst_text))]
@@ -30,8 +30,7 @@ fn write_inst<S: Sink>(
 ) -> Result<(), Failed>
     ensures { Writes (S.told sink.old) (S.told sink.new) result (inst_text heap.now first.now second.now parts.now) }
 {
-    write_all(sink, b"inst ")?;
-    write_names(first, second, sink)?;
+    write_with_texts(b"inst ", first, second, sink)?;
     write_all(sink, b" ")?;
     write_briefs(heap, parts, sink)
 }
@@ -84,15 +83,6 @@ fn write_obj<S: Sink>(heap: &[Object], parts: &[ObjId], sink: &mut S) -> Result<
     write_briefs(heap, after_first(parts), sink)
 }
 
-/// Writes a word and a text in quotes.
-#[tactic(auto, using(pickle_io::proofs::Devices::text_steps))]
-fn write_quoted_after<S: Sink>(word: &[u8], text: &[u8], sink: &mut S) -> Result<(), Failed>
-    ensures { Writes (S.told sink.old) (S.told sink.new) result (word.now ⧺ quoted text.now) }
-{
-    write_all(sink, word)?;
-    write_quoted(text, sink)
-}
-
 /// Writes a word and an object as a value.
 #[tactic(auto, using(pickle_io::proofs::Devices::text_steps))]
 fn write_value_after<S: Sink>(
@@ -107,22 +97,13 @@ fn write_value_after<S: Sink>(
     write_value(heap, id, sink)
 }
 
-/// Writes a word and a number.
-#[tactic(auto, using(pickle_io::proofs::Devices::text_steps))]
-fn write_number_after<S: Sink>(word: &[u8], number: u64, sink: &mut S) -> Result<(), Failed>
-    ensures { Writes (S.told sink.old) (S.told sink.new) result (word.now ⧺ decimal number) }
-{
-    write_all(sink, word)?;
-    write_decimal(number, sink)
-}
-
 /// Writes a word and an object by its number.
 #[tactic(auto, using(pickle_io::proofs::Devices::text_steps))]
 fn write_id_after<S: Sink>(word: &[u8], id: usize, sink: &mut S) -> Result<(), Failed>
     ensures { Writes (S.told sink.old) (S.told sink.new) result (word.now ⧺ id_text id) }
 {
     write_all(sink, word)?;
-    write_id(id, sink)
+    write_id(id as u64, sink)
 }
 
 /// Writes what made an object of this kind with these parts.
@@ -136,17 +117,17 @@ fn write_made_words<S: Sink>(
     ensures { Writes (S.told sink.old) (S.told sink.new) result (made_words heap.now kind.now parts.now) }
 {
     match kind {
-        Kind::Global(names) => write_names_after(b"import ", names.first(), names.second(), sink),
+        Kind::Global(names) => write_with_texts(b"import ", names.first(), names.second(), sink),
         Kind::StackGlobal => write_words_after(b"import ", heap, parts, sink),
-        Kind::Ext(code) => write_signed_after(b"import ext ", *code, sink),
+        Kind::Ext(code) => write_with_signed(b"import ext ", *code, sink),
         Kind::Inst(names) => write_inst(heap, names.first(), names.second(), parts, sink),
         Kind::Call => write_call(b"call ", heap, parts, sink),
         Kind::New => write_call(b"new ", heap, parts, sink),
         Kind::NewEx => write_call_with(heap, parts, sink),
         Kind::Obj => write_obj(heap, parts, sink),
-        Kind::PersistentLine(text) => write_quoted_after(b"persistent ", text.as_slice(), sink),
+        Kind::PersistentLine(text) => write_with_text(b"persistent ", text.as_slice(), sink),
         Kind::Persistent => write_value_after(b"persistent ", heap, part(0, parts), sink),
-        Kind::Buffer(number) => write_number_after(b"buffer ", *number, sink),
+        Kind::Buffer(number) => write_with_number(b"buffer ", *number, sink),
         Kind::ReadOnly => write_id_after(b"readonly ", part(0, parts), sink),
         _ => Ok(()),
     }
@@ -164,7 +145,7 @@ fn write_made_object<S: Sink>(
 {
     write_made_words(heap, object.kind(), object.parts(), sink)?;
     write_all(sink, b" as ")?;
-    write_id(id, sink)
+    write_id(id as u64, sink)
 }
 
 /// Writes what made the object of this number.
@@ -191,7 +172,7 @@ fn write_state<S: Sink>(
     write_all(sink, b"state ")?;
     write_value(heap, value, sink)?;
     write_all(sink, b" to ")?;
-    write_id(target, sink)
+    write_id(target as u64, sink)
 }
 
 /// Writes how many go into which object.
@@ -208,7 +189,7 @@ fn write_filled<S: Sink>(
     write_all(sink, word)?;
     write_decimal(count as u64, sink)?;
     write_all(sink, link)?;
-    write_id(target, sink)
+    write_id(target as u64, sink)
 }
 
 /// Writes what a step reaches, by the objects after it.

@@ -1,23 +1,13 @@
 //! The names of objects.
 
-ghost use Rattle.std.specs.Fmt.{signed_decimal};
 ghost use Rattle.pickle_io.specs.Device.{Writes};
 ghost use Rattle.pickle_io.specs.Text.{◌⧺◌};
-ghost use Rattle.pickle_report.specs.ObjectText.{id_text};
 ghost use Rattle.pickle_calls.specs.Brief.{kind_word, word_text, names_text, words_text, kind_name, name_text};
 
 use crate::reach::part;
 use pickle_objects::{Kind, ObjId, Object};
-use pickle_ops::{Failed, Sink, write_all, write_decimal, write_quoted, write_signed};
-
-/// Writes an object by its number.
-#[tactic(auto, using(pickle_io::proofs::Devices::text_steps), unfolding(pickle_report::specs::ObjectText::id_text))]
-pub fn write_id<S: Sink>(id: usize, sink: &mut S) -> Result<(), Failed>
-    ensures { Writes (S.told sink.old) (S.told sink.new) result (id_text id) }
-{
-    write_all(sink, b"#")?;
-    write_decimal(id as u64, sink)
-}
+use pickle_ops::{Failed, Sink, write_all, write_quoted};
+use pickle_report::{write_id, write_kind};
 
 /// Writes an object of this kind as a name: a text in quotes, or its number.
 #[tactic(auto, unfolding(crate::specs::Brief::kind_word))]
@@ -29,7 +19,7 @@ fn write_kind_word<S: Sink>(id: usize, kind: &Kind, sink: &mut S) -> Result<(), 
         Kind::TextLine(text) => write_quoted(text.as_slice(), sink),
         Kind::LegacyString(text) => write_quoted(text.as_slice(), sink),
         Kind::LegacyLine(text) => write_quoted(text.as_slice(), sink),
-        _ => write_id(id, sink),
+        _ => write_id(id as u64, sink),
     }
 }
 
@@ -40,13 +30,13 @@ fn write_word<S: Sink>(heap: &[Object], id: usize, sink: &mut S) -> Result<(), F
 {
     match heap.get(id) {
         Some(object) => write_kind_word(id, object.kind(), sink),
-        None => write_id(id, sink),
+        None => write_id(id as u64, sink),
     }
 }
 
 /// Writes two names in quotes.
 #[tactic(auto, using(pickle_io::proofs::Devices::text_steps), unfolding(crate::specs::Brief::names_text))]
-pub fn write_names<S: Sink>(first: &[u8], second: &[u8], sink: &mut S) -> Result<(), Failed>
+fn write_names<S: Sink>(first: &[u8], second: &[u8], sink: &mut S) -> Result<(), Failed>
     ensures { Writes (S.told sink.old) (S.told sink.new) result (names_text first.now second.now) }
 {
     write_quoted(first, sink)?;
@@ -62,29 +52,6 @@ pub fn write_words<S: Sink>(heap: &[Object], parts: &[ObjId], sink: &mut S) -> R
     write_word(heap, part(0, parts), sink)?;
     write_all(sink, b" ")?;
     write_word(heap, part(1, parts), sink)
-}
-
-/// Writes a word and a number with its sign.
-#[tactic(auto, using(pickle_io::proofs::Devices::text_steps))]
-pub fn write_signed_after<S: Sink>(word: &[u8], number: i64, sink: &mut S) -> Result<(), Failed>
-    ensures { Writes (S.told sink.old) (S.told sink.new) result (word.now ⧺ signed_decimal number) }
-{
-    write_all(sink, word)?;
-    write_signed(i128::from(number), sink)
-}
-
-/// Writes a word and two names in quotes.
-#[tactic(auto, using(pickle_io::proofs::Devices::text_steps))]
-pub fn write_names_after<S: Sink>(
-    word: &[u8],
-    first: &[u8],
-    second: &[u8],
-    sink: &mut S,
-) -> Result<(), Failed>
-    ensures { Writes (S.told sink.old) (S.told sink.new) result (word.now ⧺ names_text first.now second.now) }
-{
-    write_all(sink, word)?;
-    write_names(first, second, sink)
 }
 
 /// Writes a word and the first two parts as names.
@@ -115,8 +82,8 @@ fn write_kind_name<S: Sink>(
     match kind {
         Kind::Global(names) => write_names(names.first(), names.second(), sink),
         Kind::StackGlobal => write_words(heap, parts, sink),
-        Kind::Ext(code) => write_signed_after(b"ext ", *code, sink),
-        _ => write_id(id, sink),
+        Kind::Ext(_) => write_kind(kind, sink),
+        _ => write_id(id as u64, sink),
     }
 }
 
@@ -127,6 +94,6 @@ pub fn write_name<S: Sink>(heap: &[Object], id: usize, sink: &mut S) -> Result<(
 {
     match heap.get(id) {
         Some(object) => write_kind_name(heap, id, object.kind(), object.parts(), sink),
-        None => write_id(id, sink),
+        None => write_id(id as u64, sink),
     }
 }

@@ -60,7 +60,7 @@ ends_stop many o h = go (is_stop o) (not many) h
     go false b h = cc
 
 -- whether item k is STOP is whether the items up to it end in STOP
-last_taken : (items : List Item) (k : ℕ) (o : Operation) → slice_get (operations items) k ≡ Some o → ends_with_stop (take (k + 1) items) ≡ is_stop o.opcode
+pub last_taken : (items : List Item) (k : ℕ) (o : Operation) → slice_get (operations items) k ≡ Some o → ends_with_stop (take (k + 1) items) ≡ is_stop o.opcode
 last_taken items k o e = rw (add-one k) (go items k e)
   where
     go : (items : List Item) (k : ℕ) → slice_get (operations items) k ≡ Some o → ends_with_stop (take (suc k) items) ≡ is_stop o.opcode

@@ -7,4 +7,5 @@ mod list;
 mod note;
 mod put;
 
+pub use line::write_kept_line;
 pub use list::{list_bytes, list_items, write_listing};

@@ -12,9 +12,9 @@ use pickle_ops::{
     Failed, Sink, write_all, write_decimal, write_float, write_long, write_quoted, write_signed,
 };
 
-/// Writes a word and a text in quotes.
+/// Writes a word and a text in quotes. Where the sink fails, a front of them was written, as with all that follows.
 #[tactic(auto, using(pickle_io::proofs::Devices::text_steps))]
-fn write_with_text<S: Sink>(word: &[u8], text: &[u8], sink: &mut S) -> Result<(), Failed>
+pub fn write_with_text<S: Sink>(word: &[u8], text: &[u8], sink: &mut S) -> Result<(), Failed>
     ensures { Writes (S.told sink.old) (S.told sink.new) result (word.now ⧺ quoted text.now) }
 {
     write_all(sink, word)?;
@@ -23,7 +23,7 @@ fn write_with_text<S: Sink>(word: &[u8], text: &[u8], sink: &mut S) -> Result<()
 
 /// Writes a word and two texts in quotes.
 #[tactic(auto, using(pickle_io::proofs::Devices::text_steps))]
-fn write_with_texts<S: Sink>(
+pub fn write_with_texts<S: Sink>(
     word: &[u8],
     first: &[u8],
     second: &[u8],
@@ -39,7 +39,7 @@ fn write_with_texts<S: Sink>(
 
 /// Writes a word and a number with its sign.
 #[tactic(auto, using(pickle_io::proofs::Devices::text_steps))]
-fn write_with_signed<S: Sink>(word: &[u8], number: i64, sink: &mut S) -> Result<(), Failed>
+pub fn write_with_signed<S: Sink>(word: &[u8], number: i64, sink: &mut S) -> Result<(), Failed>
     ensures { Writes (S.told sink.old) (S.told sink.new) result (word.now ⧺ signed_decimal number) }
 {
     write_all(sink, word)?;
@@ -48,7 +48,7 @@ fn write_with_signed<S: Sink>(word: &[u8], number: i64, sink: &mut S) -> Result<
 
 /// Writes a word and a number.
 #[tactic(auto, using(pickle_io::proofs::Devices::text_steps))]
-fn write_with_number<S: Sink>(word: &[u8], number: u64, sink: &mut S) -> Result<(), Failed>
+pub fn write_with_number<S: Sink>(word: &[u8], number: u64, sink: &mut S) -> Result<(), Failed>
     ensures { Writes (S.told sink.old) (S.told sink.new) result (word.now ⧺ decimal number) }
 {
     write_all(sink, word)?;
@@ -75,7 +75,7 @@ fn write_with_float<S: Sink>(word: &[u8], bytes: &[u8], sink: &mut S) -> Result<
 
 /// Writes the word of a kind, and what its opcode gave it.
 #[tactic(auto, unfolding(crate::specs::ObjectText::kind_text))]
-pub(crate) fn write_kind<S: Sink>(kind: &Kind, sink: &mut S) -> Result<(), Failed>
+pub fn write_kind<S: Sink>(kind: &Kind, sink: &mut S) -> Result<(), Failed>
     ensures { Writes (S.told sink.old) (S.told sink.new) result (kind_text kind.now) }
 {
     match kind {

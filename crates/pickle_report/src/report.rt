@@ -49,9 +49,9 @@ fn write_results<S: Sink>(ids: &[ObjId], sink: &mut S) -> Result<(), Failed>
     Ok(())
 }
 
-/// Writes the line of an item that is refused.
+/// Writes the line of an item that is refused. Where the sink fails, a front of the line was written.
 #[tactic(auto, using(pickle_io::proofs::Devices::text_steps), unfolding(crate::specs::Report::refused_line))]
-fn write_refused<S: Sink>(place: usize, refusal: Refusal, sink: &mut S) -> Result<(), Failed>
+pub fn write_refused<S: Sink>(place: usize, refusal: Refusal, sink: &mut S) -> Result<(), Failed>
     ensures { Writes (S.told sink.old) (S.told sink.new) result (refused_line place refusal) }
 {
     write_all(sink, b"refused: ")?;
@@ -158,7 +158,7 @@ fn run_items(alloc: Global, document: &Document, machine: &mut Machine) -> Resul
 }
 
 /// A machine that has done nothing, for several pickles or for one.
-fn machine_of(alloc: Global, many: bool) -> Machine
+pub fn machine_of(alloc: Global, many: bool) -> Machine
     ensures { result.state ≡ start many }
 {
     if many {

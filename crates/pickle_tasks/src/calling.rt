@@ -1,6 +1,6 @@
-//! What a pickle would import and call.
+//! What an input would import and call.
 
-ghost use Rattle.std.specs.Prelude.{◌≡◌, ◌<◌, ◌↔◌, length, IfOk, IfErr, Err};
+ghost use Rattle.std.specs.Prelude.{◌≡◌, ◌<◌, ◌↔◌, true, false, length, IfOk, IfErr, Err};
 ghost use Rattle.pickle_doc.specs.Document.{size_limit};
 ghost use Rattle.pickle_calls.specs.Written.{TellsCalls};
 ghost use Rattle.pickle_tasks.specs.Calls.{StopsCalls};
@@ -12,21 +12,42 @@ use pickle_ops::Sink;
 use std::alloc::Global;
 
 /// Writes what the pickle that the bytes are would import and call, a line for each step that does so, and how many imports and
-/// calls these are; answers the status: 0 where there is a result, 1 where an item is refused or the bytes have a fault.
+/// calls these are; answers the status: 1 where an item is refused or the bytes have a fault, else 0.
 /// `Stop::TooLarge` comes where there are more bytes than `LIMIT`, `Stop::Memory` for want of memory, and `Stop::Write` from
 /// the sink; what was written then is a beginning of the text.
 pub fn calls<S: Sink>(alloc: Global, bytes: &[u8], sink: &mut S) -> Result<u8, Stop>
-    ensures told { IfOk result (TellsCalls bytes.now (S.told sink.old) (S.told sink.new)) }
+    ensures told { IfOk result (TellsCalls false bytes.now (S.told sink.old) (S.told sink.new)) }
 
     // Write comes only where the sink has failed, Memory only where it has not, and Read never.
-    ensures stopped { IfErr result (StopsCalls bytes.now (S.told sink.old) (S.told sink.new)) }
+    ensures stopped { IfErr result (StopsCalls false bytes.now (S.told sink.old) (S.told sink.new)) }
 
     // Too many bytes, and only those, are refused before anything is written.
+    ensures too_large { (result ≡ Err Stop.TooLarge) ↔ (size_limit < length bytes.now) }
+    ensures untouched { result ≡ Err Stop.TooLarge → sink.new ≡ sink.old }
+{
+    calls_as(alloc, false, bytes, sink)
+}
+
+/// Writes what the several pickles that the bytes are, which follow one another, would import and call: the lines of all of them,
+/// and the counts once. Otherwise this is as `calls`.
+pub fn calls_many<S: Sink>(alloc: Global, bytes: &[u8], sink: &mut S) -> Result<u8, Stop>
+    ensures told { IfOk result (TellsCalls true bytes.now (S.told sink.old) (S.told sink.new)) }
+    ensures stopped { IfErr result (StopsCalls true bytes.now (S.told sink.old) (S.told sink.new)) }
+    ensures too_large { (result ≡ Err Stop.TooLarge) ↔ (size_limit < length bytes.now) }
+    ensures untouched { result ≡ Err Stop.TooLarge → sink.new ≡ sink.old }
+{
+    calls_as(alloc, true, bytes, sink)
+}
+
+/// Writes what the bytes would import and call, as several pickles or as one.
+fn calls_as<S: Sink>(alloc: Global, many: bool, bytes: &[u8], sink: &mut S) -> Result<u8, Stop>
+    ensures told { IfOk result (TellsCalls many bytes.now (S.told sink.old) (S.told sink.new)) }
+    ensures stopped { IfErr result (StopsCalls many bytes.now (S.told sink.old) (S.told sink.new)) }
     ensures too_large { (result ≡ Err Stop.TooLarge) ↔ (size_limit < length bytes.now) }
     ensures untouched { result ≡ Err Stop.TooLarge → sink.new ≡ sink.old }
 {
     if bytes.len() > LIMIT {
         return Err(Stop::TooLarge);
     }
-    Ok(calls_of_bytes(alloc, bytes, sink)?)
+    Ok(calls_of_bytes(alloc, many, bytes, sink)?)
 }

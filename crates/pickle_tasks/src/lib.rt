@@ -13,7 +13,7 @@ mod report;
 mod stop;
 mod talk;
 
-pub use calling::calls;
+pub use calling::{calls, calls_many};
 pub use laws::one_cut;
 pub use listing::{list, list_many};
 pub use report::{objects, objects_many};

@@ -58,6 +58,44 @@ const REPORTS: [(&[u8], &str, u8); 11] = [
     ),
 ];
 
+/// Reports of many pickles, with their status.
+const MANY: [(&[u8], &str, u8); 8] = [
+    (b"N.K\x01.", "#0 none\n#1 int 1\nresult #0\nresult #1\n", 0),
+    // Buffers count from 0 again.
+    (
+        b"\x97.\x97.",
+        "#0 buffer 0\n#1 buffer 0\nresult #0\nresult #1\n",
+        0,
+    ),
+    (
+        b"N.\xff",
+        "#0 none\nresult #0\nfault: F2 unknown opcode 0xff at 2\n",
+        1,
+    ),
+    (
+        b"N.N",
+        "#0 none\n#1 none\nresult #0\nfault: F1 ended at 3\n",
+        1,
+    ),
+    (
+        b"Nq\x00.h\x00.",
+        "#0 none\nresult #0\nrefused: item 3: S3 no memo entry 0\n",
+        1,
+    ),
+    (
+        b"K\x01.]N.0",
+        "#0 int 1\n#1 list\n#2 none\nresult #0\nresult #2\nrefused: item 5: S2 stack underflow\n",
+        1,
+    ),
+    // An object of the second pickle is changed, and has its own number.
+    (
+        b"]q\x00(h\x00h\x00e.]q\x00(h\x00h\x00e.",
+        "#0 list +#0 +#0\n#1 list +#1 +#1\nresult #0\nresult #1\n",
+        0,
+    ),
+    (b".N.", "refused: item 0: S2 stack underflow\n", 1),
+];
+
 /// What is shown of an object after so many opcodes.
 const SHOWN: [(&[u8], usize, u32, &str); 5] = [
     // A list appended to itself by way of the memo.
@@ -129,9 +167,18 @@ fn machine_of(alloc: Global, bytes: &[u8], count: usize) -> Result<Machine, DocF
     try_machine(alloc, bytes, count).ok_or(DocFault::Memory)
 }
 
+/// What bytes read as, as many pickles or as one.
+pub fn opened(alloc: Global, many: bool, bytes: &[u8]) -> Result<Document, DocFault> {
+    if many {
+        Document::read_many(alloc, bytes)
+    } else {
+        Document::read(alloc, bytes)
+    }
+}
+
 /// The text and the status of a report.
-fn reported(alloc: Global, bytes: &[u8]) -> Result<(Vec<u8>, u8), Fail> {
-    let document = Document::read(alloc, bytes)?;
+fn reported(alloc: Global, many: bool, bytes: &[u8]) -> Result<(Vec<u8>, u8), Fail> {
+    let document = opened(alloc, many, bytes)?;
     let mut sink = ToWrite::new(Vec::new(alloc));
     let status = write_document_report(alloc, &document, &mut sink)?;
     Ok((sink.into_inner(), status))
@@ -140,7 +187,19 @@ fn reported(alloc: Global, bytes: &[u8]) -> Result<(Vec<u8>, u8), Fail> {
 #[test]
 fn reports(rt: HostRuntime) -> Result<(), Fail> {
     for (bytes, text, status) in &REPORTS {
-        let found = reported(rt.alloc(), bytes)?;
+        for many in [false, true] {
+            let found = reported(rt.alloc(), many, bytes)?;
+            assert_eq!(rt; found.0.as_slice(), text.as_bytes());
+            assert_eq!(rt; found.1, *status);
+        }
+    }
+    Ok(())
+}
+
+#[test]
+fn reports_of_many(rt: HostRuntime) -> Result<(), Fail> {
+    for (bytes, text, status) in &MANY {
+        let found = reported(rt.alloc(), true, bytes)?;
         assert_eq!(rt; found.0.as_slice(), text.as_bytes());
         assert_eq!(rt; found.1, *status);
     }
@@ -225,10 +284,21 @@ fn failing_sinks(rt: HostRuntime) -> Result<(), Fail> {
     }
     for (k, (bytes, text, _)) in REPORTS.iter().enumerate() {
         let machine = Machine::new(rt.alloc());
-        let found = every_break(rt.alloc(), &machine, Text::Report(bytes), text.as_bytes());
+        let report = Text::Report { bytes, many: false };
+        let found = every_break(rt.alloc(), &machine, report, text.as_bytes());
         assert!(rt; found > 0, "report {k}");
     }
     Ok(())
+}
+
+#[test]
+fn failing_sinks_of_many(rt: HostRuntime) {
+    for (k, (bytes, text, _)) in MANY.iter().enumerate() {
+        let machine = Machine::new_many(rt.alloc());
+        let report = Text::Report { bytes, many: true };
+        let found = every_break(rt.alloc(), &machine, report, text.as_bytes());
+        assert!(rt; found > 0, "report {k}");
+    }
 }
 
 /// The objects of the last report, as a machine shows them: the report without its closing line.
@@ -248,9 +318,9 @@ fn failing_sinks_of_objects(rt: HostRuntime) -> Result<(), Fail> {
 }
 
 /// A document, where one request for memory may be refused.
-fn insist_on_reading(alloc: Global, bytes: &[u8]) -> Result<Document, DocFault> {
-    match Document::read(alloc, bytes) {
-        Err(DocFault::Memory) => Document::read(alloc, bytes),
+fn insist_on_reading(alloc: Global, many: bool, bytes: &[u8]) -> Result<Document, DocFault> {
+    match opened(alloc, many, bytes) {
+        Err(DocFault::Memory) => opened(alloc, many, bytes),
         other => other,
     }
 }
@@ -274,15 +344,21 @@ fn is_answer(taken: &[u8], text: &[u8], answer: Result<(), TextStop>) -> bool {
 }
 
 /// A report where one request for memory may be refused, and asked for again then.
-fn report_with_little(alloc: Global, bytes: &[u8], text: &str, status: u8) -> Result<bool, Fail> {
-    let document = insist_on_reading(alloc, bytes)?;
+fn report_with_little(
+    alloc: Global,
+    many: bool,
+    bytes: &[u8],
+    text: &str,
+    status: u8,
+) -> Result<bool, Fail> {
+    let document = insist_on_reading(alloc, many, bytes)?;
     let mut sink = ToWrite::new(Vec::new(alloc));
     let answer = write_document_report(alloc, &document, &mut sink);
     let taken = sink.into_inner();
     match answer {
         Ok(found) => Ok(found == status && taken.as_slice() == text.as_bytes()),
         Err(stop) => {
-            let (again, found) = reported(alloc, bytes)?;
+            let (again, found) = reported(alloc, many, bytes)?;
             let is_whole = again.as_slice() == text.as_bytes() && found == status;
             Ok(is_whole && is_answer(&taken, text.as_bytes(), Err(stop)))
         }
@@ -309,13 +385,23 @@ fn show_with_little(alloc: Global, machine: &Machine, id: u32, text: &str) -> Re
 #[test]
 fn refused_memory(rt: HostRuntime) -> Result<(), Fail> {
     for (k, (bytes, text, status)) in REPORTS.iter().enumerate() {
-        let is_right = report_with_little(rt.alloc(), bytes, text, *status)?;
+        let is_right = report_with_little(rt.alloc(), false, bytes, text, *status)?;
         assert!(rt; is_right, "report {k}");
     }
     for (k, (bytes, count, id, text)) in SHOWN.iter().enumerate() {
         let machine = insist_on_running(rt.alloc(), bytes, *count)?;
         let is_right = show_with_little(rt.alloc(), &machine, *id, text)?;
         assert!(rt; is_right, "shown {k}");
+    }
+    Ok(())
+}
+
+/// The same of many pickles.
+#[test]
+fn refused_memory_of_many(rt: HostRuntime) -> Result<(), Fail> {
+    for (k, (bytes, text, status)) in MANY.iter().enumerate() {
+        let is_right = report_with_little(rt.alloc(), true, bytes, text, *status)?;
+        assert!(rt; is_right, "report {k}");
     }
     Ok(())
 }

@@ -2,7 +2,10 @@
 
 mod rows;
 
-use crate::tests::rows::{APPENDED_BY_MEMO, BREAKPOINTS, REPORTS, SCRIPTS, Script};
+use crate::tests::rows::{
+    APPENDED_BY_MEMO, BREAKPOINTS, ENTRY_OF_THE_FIRST, MANY, MARK_LEFT_BEHIND, REPORTS, SCRIPTS,
+    Script,
+};
 use pickle_doc::DocFault;
 use pickle_ops::{Drip, FromRead, Sip, ToWrite};
 use pickle_session::{Past, Session, Whole, Window};
@@ -11,13 +14,22 @@ use std::alloc::{AllocError, Global};
 use std::test::Fail;
 
 /// A session with all records.
-fn opened(alloc: Global, bytes: &[u8]) -> Result<Session<Whole>, DocFault> {
-    Session::open(alloc, Whole::new(alloc), bytes)
+fn opened(alloc: Global, script: &Script) -> Result<Session<Whole>, DocFault> {
+    if script.many {
+        Session::open_many(alloc, Whole::new(alloc), script.bytes)
+    } else {
+        Session::open(alloc, Whole::new(alloc), script.bytes)
+    }
 }
 
 /// A session with the latest two records.
-fn opened_in_a_window(alloc: Global, bytes: &[u8]) -> Result<Session<Window>, DocFault> {
-    Session::open(alloc, Window::new(alloc, 2)?, bytes)
+fn opened_in_a_window(alloc: Global, script: &Script) -> Result<Session<Window>, DocFault> {
+    let window = Window::new(alloc, 2)?;
+    if script.many {
+        Session::open_many(alloc, window, script.bytes)
+    } else {
+        Session::open(alloc, window, script.bytes)
+    }
 }
 
 /// The first lines of a script.
@@ -61,7 +73,7 @@ fn is_read_to_its_end(
     calls: u64,
 ) -> Result<Option<bool>, Fail> {
     let lines = first_lines(alloc, script, script.lines.len())?;
-    let mut session = opened(alloc, script.bytes)?;
+    let mut session = opened(alloc, script)?;
     let mut source = Drip::new(&lines, most.max(1), calls);
     let mut sink = Sip::new(alloc, most.max(1), u64::MAX);
     let answer = converse(alloc, &mut session, &mut source, &mut sink);
@@ -85,9 +97,17 @@ fn calls_for(len: usize, most: usize) -> u64 {
     whole.saturating_add(rest).saturating_add(1)
 }
 
+/// The scripts whose devices fail at each of their calls.
+const DEVICES: [Script; 4] = [
+    BREAKPOINTS,
+    APPENDED_BY_MEMO,
+    ENTRY_OF_THE_FIRST,
+    MARK_LEFT_BEHIND,
+];
+
 #[test]
 fn failing_sources(rt: HostRuntime) -> Result<(), Fail> {
-    for script in &[BREAKPOINTS, APPENDED_BY_MEMO] {
+    for script in &DEVICES {
         for most in [1, 2, 7] {
             let lines = first_lines(rt.alloc(), script, script.lines.len())?;
             let needed = calls_for(lines.len(), most);
@@ -111,7 +131,7 @@ fn standing<P: Past>(alloc: Global, session: &mut Session<P>) -> Result<Vec<u8>,
 /// What a session tells that has obeyed the first lines.
 fn standing_after(alloc: Global, script: &Script, count: usize) -> Result<Vec<u8>, Fail> {
     let lines = first_lines(alloc, script, count)?;
-    let mut session = opened(alloc, script.bytes)?;
+    let mut session = opened(alloc, script)?;
     let mut source = FromRead::new(lines.as_slice());
     let mut sink = ToWrite::new(Vec::new(alloc));
     converse(alloc, &mut session, &mut source, &mut sink)?;
@@ -142,7 +162,7 @@ fn is_written_to_its_end(
 ) -> Result<Option<bool>, Fail> {
     let lines = first_lines(alloc, script, script.lines.len())?;
     let text = first_replies(alloc, script, script.lines.len())?;
-    let mut session = opened(alloc, script.bytes)?;
+    let mut session = opened(alloc, script)?;
     let mut source = Drip::new(&lines, most.max(1), u64::MAX);
     let mut sink = Sip::new(alloc, most.max(1), calls);
     let answer = converse(alloc, &mut session, &mut source, &mut sink);
@@ -163,7 +183,7 @@ fn is_written_to_its_end(
 
 #[test]
 fn failing_sinks(rt: HostRuntime) -> Result<(), Fail> {
-    for script in &[BREAKPOINTS, APPENDED_BY_MEMO] {
+    for script in &DEVICES {
         for most in [1, 2, 7] {
             let mut is_done = false;
             for calls in 0..200 {
@@ -221,18 +241,18 @@ fn follow<P: Past>(alloc: Global, session: &mut Session<P>, script: &Script) -> 
 
 /// Follows a script in a session with all records.
 fn follow_whole(alloc: Global, script: &Script) -> Result<Option<usize>, DocFault> {
-    let mut session = match opened(alloc, script.bytes) {
+    let mut session = match opened(alloc, script) {
         Ok(session) => session,
-        Err(_) => opened(alloc, script.bytes)?,
+        Err(_) => opened(alloc, script)?,
     };
     Ok(follow(alloc, &mut session, script))
 }
 
 /// Follows a script in a session with the latest two records.
 fn follow_window(alloc: Global, script: &Script) -> Result<Option<usize>, DocFault> {
-    let mut session = match opened_in_a_window(alloc, script.bytes) {
+    let mut session = match opened_in_a_window(alloc, script) {
         Ok(session) => session,
-        Err(_) => opened_in_a_window(alloc, script.bytes)?,
+        Err(_) => opened_in_a_window(alloc, script)?,
     };
     Ok(follow(alloc, &mut session, script))
 }
@@ -241,6 +261,18 @@ fn follow_window(alloc: Global, script: &Script) -> Result<Option<usize>, DocFau
 #[test]
 fn refused_memory(rt: HostRuntime) -> Result<(), Fail> {
     for (k, script) in SCRIPTS.iter().enumerate() {
+        let found = follow_whole(rt.alloc(), script)?;
+        assert_eq!(rt; found, None, "script {k}");
+        let found = follow_window(rt.alloc(), script)?;
+        assert_eq!(rt; found, None, "script {k} in a window");
+    }
+    Ok(())
+}
+
+/// The same over several pickles.
+#[test]
+fn refused_memory_of_many(rt: HostRuntime) -> Result<(), Fail> {
+    for (k, script) in MANY.iter().enumerate() {
         let found = follow_whole(rt.alloc(), script)?;
         assert_eq!(rt; found, None, "script {k}");
         let found = follow_window(rt.alloc(), script)?;

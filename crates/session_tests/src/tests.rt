@@ -3,11 +3,15 @@
 ghost use Rattle.std.specs.Prelude.{◌≡◌, []};
 
 mod further;
+mod many;
 mod rows;
 mod script;
 
+use crate::tests::many::{IN_A_WINDOW, MANY, MANY_WALKED, MANY_WAYS, WINDOWED};
 use crate::tests::rows::{CYCLE, DUMP, PAIR, SCRIPTS, WALKED};
-use crate::tests::script::{Script, Told, command, follow, go_home, open_whole, open_window};
+use crate::tests::script::{
+    Counts, Script, Told, command, follow, go_home, open_whole, open_window,
+};
 use pickle_ops::{Opcode, ToWrite};
 use pickle_session::{Command, Past, Reply, Session, Whole, Why};
 use session_notes::{Beside, shows, write_session};
@@ -16,26 +20,31 @@ use std::test::Fail;
 
 /// Follows a script and goes all the way back, where one request for memory may be refused; the number of rows that are as
 /// they should be, and whether the opened bytes are there again.
-fn try_whole(alloc: Global, script: &Script) -> Option<(usize, bool)> {
-    let mut session = open_whole(alloc, script.bytes)?;
+fn try_whole(alloc: Global, many: bool, script: &Script) -> Option<(usize, bool)> {
+    let mut session = open_whole(alloc, many, script.bytes)?;
     let rows = follow(&mut session, alloc, script, None);
     Some((rows, go_home(&mut session, alloc, script.bytes)))
 }
 
 /// The same with so many of the latest records alone.
-fn try_window(alloc: Global, count: usize, script: &Script) -> Option<(usize, bool)> {
-    let mut session = open_window(alloc, count, script.bytes)?;
+fn try_window(alloc: Global, many: bool, count: usize, script: &Script) -> Option<(usize, bool)> {
+    let mut session = open_window(alloc, many, count, script.bytes)?;
     let rows = follow(&mut session, alloc, script, Some(count));
     Some((rows, go_home(&mut session, alloc, script.bytes)))
 }
 
-/// Follows all scripts and goes back, with all records or with so many of the latest; the first script that is answered in
-/// another way, if one is.
-fn first_wrong(alloc: Global, window: Option<usize>) -> Option<usize> {
-    for (k, script) in SCRIPTS.iter().enumerate() {
+/// Follows scripts over one pickle or many and goes back, with all records or with so many of the latest; the first script that
+/// is answered in another way, if one is.
+fn first_wrong(
+    alloc: Global,
+    many: bool,
+    scripts: &[Script],
+    window: Option<usize>,
+) -> Option<usize> {
+    for (k, script) in scripts.iter().enumerate() {
         let found = match window {
-            Some(count) => try_window(alloc, count, script),
-            None => try_whole(alloc, script),
+            Some(count) => try_window(alloc, many, count, script),
+            None => try_whole(alloc, many, script),
         };
         if found != Some((script.rows.len(), true)) {
             return Some(k);
@@ -48,19 +57,32 @@ fn first_wrong(alloc: Global, window: Option<usize>) -> Option<usize> {
 /// told again it is answered as with ample memory. Then comes the way back to the bytes that were opened.
 #[test]
 fn refused_memory(rt: HostRuntime) {
-    assert_eq!(rt; first_wrong(rt.alloc(), None), None);
-    assert_eq!(rt; first_wrong(rt.alloc(), Some(2)), None);
+    assert_eq!(rt; first_wrong(rt.alloc(), false, &SCRIPTS, None), None);
+    assert_eq!(rt; first_wrong(rt.alloc(), false, &SCRIPTS, Some(2)), None);
 }
 
-/// Every script is answered alike whatever the window.
+/// The same over several pickles.
+#[test]
+fn refused_memory_of_many(rt: HostRuntime) {
+    assert_eq!(rt; first_wrong(rt.alloc(), true, &MANY, None), None);
+    assert_eq!(rt; first_wrong(rt.alloc(), true, &MANY, Some(2)), None);
+}
+
+/// Every script is answered alike whatever the window, and one over one pickle also where many are read.
 #[test]
 fn in_every_window(rt: HostRuntime) {
     for count in [1, 2, 3, 1000] {
-        assert_eq!(rt;
-            first_wrong(rt.alloc(), Some(count)),
-            None,
-            "a window of {count}"
-        );
+        for (many, scripts) in [
+            (false, SCRIPTS.as_slice()),
+            (true, SCRIPTS.as_slice()),
+            (true, MANY.as_slice()),
+        ] {
+            assert_eq!(rt;
+                first_wrong(rt.alloc(), many, scripts, Some(count)),
+                None,
+                "a window of {count}"
+            );
+        }
     }
 }
 
@@ -71,10 +93,12 @@ fn note_of<P: Past>(alloc: Global, session: &Session<P>) -> Result<Vec<u8>, Fail
     Ok(sink.into_inner())
 }
 
-/// What is shown at each place of some bytes that are stepped over to their end.
-fn notes_of(alloc: Global, bytes: &[u8]) -> Result<Vec<Vec<u8>>, Fail> {
-    let mut session = Session::open(alloc, Whole::new(alloc), bytes)?;
+/// What is shown at each place of some bytes that are stepped over to their end; nothing where there is no memory.
+fn notes_of(alloc: Global, many: bool, bytes: &[u8]) -> Result<Vec<Vec<u8>>, Fail> {
     let mut notes = Vec::new(alloc);
+    let Some(mut session) = open_whole(alloc, many, bytes) else {
+        return Ok(notes);
+    };
     notes.push(note_of(alloc, &session)?)?;
     for _ in 0..session.document().len() {
         let _reply = session.obey(alloc, &Command::Step);
@@ -144,32 +168,32 @@ fn go_everywhere<P: Past>(
     None
 }
 
+/// Whether every place of some bytes is reached from every other, with all records and with the latest two.
+fn is_walked(alloc: Global, many: bool, bytes: &[u8]) -> Result<bool, Fail> {
+    let notes = notes_of(alloc, many, bytes)?;
+    let Some(mut session) = open_whole(alloc, many, bytes) else {
+        return Ok(false);
+    };
+    let Some(mut window) = open_window(alloc, many, 2, bytes) else {
+        return Ok(false);
+    };
+    Ok(
+        notes.len() == session.document().len().saturating_add(1)
+            && go_everywhere(&mut session, alloc, &notes, bytes).is_none()
+            && go_everywhere(&mut window, alloc, &notes, bytes).is_none(),
+    )
+}
+
 #[test]
 fn from_every_place_to_every_place(rt: HostRuntime) -> Result<(), Fail> {
     for (k, bytes) in WALKED.iter().enumerate() {
-        let notes = notes_of(rt.alloc(), bytes)?;
-        let mut session = Session::open(rt.alloc(), Whole::new(rt.alloc()), bytes)?;
-        assert_eq!(rt;
-            notes.len(),
-            session.document().len().saturating_add(1),
-            "row {k}"
-        );
-        let found = go_everywhere(&mut session, rt.alloc(), &notes, bytes);
-        assert_eq!(rt; found, None, "row {k}");
-        let window = open_window(rt.alloc(), 2, bytes);
-        let found = window.map(|mut session| go_everywhere(
-            &mut session,
-            rt.alloc(),
-            &notes,
-            bytes,
-        ));
-        assert_eq!(rt; found, Some(None), "row {k} in a window");
+        assert!(rt; is_walked(rt.alloc(), false, bytes)?, "row {k}");
+    }
+    for (k, bytes) in MANY_WALKED.iter().enumerate() {
+        assert!(rt; is_walked(rt.alloc(), true, bytes)?, "row {k} of many");
     }
     Ok(())
 }
-
-/// A command; the reply; the cursor, the records kept and the work after it.
-type Counts = (Told, Reply, usize, usize, u64);
 
 /// Windows, and commands in each of them.
 const WINDOWS: [(usize, &[Counts]); 3] = [
@@ -215,11 +239,20 @@ fn is_answered<P: Past>(session: &mut Session<P>, alloc: Global, row: &Counts) -
 #[test]
 fn counts_in_a_window(rt: HostRuntime) {
     for (w, (count, rows)) in WINDOWS.iter().enumerate() {
-        let mut session = open_window(rt.alloc(), *count, PAIR).expect(&rt, "room");
+        let mut session = open_window(rt.alloc(), false, *count, PAIR).expect(&rt, "room");
         for (k, row) in rows.iter().enumerate() {
             let is_answered = is_answered(&mut session, rt.alloc(), row);
             assert!(rt; is_answered, "row {k} of window {w}");
         }
+    }
+}
+
+#[test]
+fn counts_over_two_pickles(rt: HostRuntime) {
+    let mut session = open_window(rt.alloc(), true, 2, WINDOWED).expect(&rt, "room");
+    for (k, row) in IN_A_WINDOW.iter().enumerate() {
+        let is_answered = is_answered(&mut session, rt.alloc(), row);
+        assert!(rt; is_answered, "row {k}");
     }
 }
 
@@ -377,8 +410,8 @@ fn many_marks(rt: HostRuntime) -> Result<(), Fail> {
 }
 
 /// The commands of a way; those after the first few ask for no memory, and are left out where so is said.
-fn go(alloc: Global, bytes: &[u8], told: &[Told], most: usize) -> bool {
-    let Some(mut session) = open_whole(alloc, bytes) else {
+fn go(alloc: Global, many: bool, bytes: &[u8], told: &[Told], most: usize) -> bool {
+    let Some(mut session) = open_whole(alloc, many, bytes) else {
         return false;
     };
     for (k, told) in told.iter().enumerate() {
@@ -434,7 +467,13 @@ const WAYS: [(&[u8], &[Told], usize); 4] = [
 #[test]
 fn forwards(rt: HostRuntime) {
     for (k, (bytes, told, most)) in WAYS.iter().enumerate() {
-        assert!(rt; go(rt.alloc(), bytes, told, *most), "way {k}");
+        assert!(rt; go(rt.alloc(), false, bytes, told, *most), "way {k}");
+    }
+    for (k, (bytes, told, most)) in MANY_WAYS.iter().enumerate() {
+        assert!(rt;
+            go(rt.alloc(), true, bytes, told, *most),
+            "way {k} over many"
+        );
     }
 }
 
@@ -442,6 +481,12 @@ fn forwards(rt: HostRuntime) {
 #[test]
 fn no_memory_for_free_steps(rt: HostRuntime) {
     for (k, (bytes, told, _)) in WAYS.iter().enumerate() {
-        assert!(rt; go(rt.alloc(), bytes, told, told.len()), "way {k}");
+        assert!(rt; go(rt.alloc(), false, bytes, told, told.len()), "way {k}");
+    }
+    for (k, (bytes, told, _)) in MANY_WAYS.iter().enumerate() {
+        assert!(rt;
+            go(rt.alloc(), true, bytes, told, told.len()),
+            "way {k} over many"
+        );
     }
 }

@@ -8,3 +8,5 @@ mod callings;
 mod conversations;
 #[cfg(test)]
 mod listings;
+#[cfg(test)]
+mod several;

@@ -2,20 +2,24 @@
 
 mod rows;
 
-use crate::tests::rows::{REPLIES, SCRIPTS};
+use crate::tests::rows::{MANY, REPLIES, SCRIPTS, Script};
 use pickle_doc::{DocFault, End};
 use pickle_ops::{Failed, Sink, Sip, ToWrite};
-use pickle_session::{Past, Reply, Session, Whole};
+use pickle_session::{Command, Past, Reply, Session, Whole};
 use pickle_text::{
-    Line, Query, Syntax, read_command, write_items, write_no_such_object, write_reply,
-    write_syntax, write_where,
+    Line, Place, Query, Syntax, read_command, write_items, write_no_item_at, write_no_such_object,
+    write_reply, write_syntax, write_where,
 };
 use std::alloc::Global;
 use std::test::Fail;
 
-/// A session of the bytes, with all records kept.
-fn opened(alloc: Global, bytes: &[u8]) -> Result<Session<Whole>, DocFault> {
-    Session::open(alloc, Whole::new(alloc), bytes)
+/// A session of the bytes, as many pickles or as one, with all records kept.
+fn opened(alloc: Global, many: bool, bytes: &[u8]) -> Result<Session<Whole>, DocFault> {
+    if many {
+        Session::open_many(alloc, Whole::new(alloc), bytes)
+    } else {
+        Session::open(alloc, Whole::new(alloc), bytes)
+    }
 }
 
 /// Answers a question, as far as this crate's writers do: of `show` the refusal alone.
@@ -35,16 +39,25 @@ enum Answer {
     Syntax(Syntax),
     Reply(End, Reply),
     Query(Query),
+    Nowhere(u64),
+}
+
+/// Obeys a command.
+fn replied<P: Past>(alloc: Global, session: &mut Session<P>, command: &Command) -> Answer {
+    let reply = session.obey(alloc, command);
+    Answer::Reply(session.document().end(), reply)
 }
 
 /// Obeys a line.
 fn obeyed<P: Past>(alloc: Global, session: &mut Session<P>, line: &[u8]) -> Answer {
     match read_command(alloc, line) {
         Err(syntax) => Answer::Syntax(syntax),
-        Ok(Line::Command(command)) => {
-            let reply = session.obey(alloc, &command);
-            Answer::Reply(session.document().end(), reply)
-        }
+        Ok(Line::Command(command)) => replied(alloc, session, &command),
+        Ok(Line::At(Place::Number(k), action)) => replied(alloc, session, &action.at(k)),
+        Ok(Line::At(Place::Offset(offset), action)) => match session.place_at(offset) {
+            Some(k) => replied(alloc, session, &action.at(k)),
+            None => Answer::Nowhere(offset),
+        },
         Ok(Line::Query(query)) => Answer::Query(query),
         Ok(_) => Answer::Nothing,
     }
@@ -61,20 +74,38 @@ fn write_answer<P: Past, S: Sink>(
         Answer::Syntax(syntax) => write_syntax(syntax, sink),
         Answer::Reply(end, reply) => write_reply(end, reply, sink),
         Answer::Query(query) => tell(session, query, sink),
+        Answer::Nowhere(offset) => write_no_item_at(offset, sink),
     }
 }
 
-/// Each line of each script is answered as the table says.
+/// The first line of a script, told to a session of many pickles or of one, that is answered otherwise, if one is.
+fn first_wrong(alloc: Global, many: bool, script: &Script) -> Result<Option<&'static str>, Fail> {
+    let mut session = opened(alloc, many, script.bytes)?;
+    for (line, reply) in script.lines {
+        let mut sink = ToWrite::new(Vec::new(alloc));
+        let answer = obeyed(alloc, &mut session, line.as_bytes());
+        write_answer(&session, answer, &mut sink)?;
+        if sink.into_inner().as_slice() != reply.as_bytes() {
+            return Ok(Some(*line));
+        }
+    }
+    Ok(None)
+}
+
+/// Each line of each script is answered as the table says, also where many pickles are read.
 #[test]
 fn worked_scripts(rt: HostRuntime) -> Result<(), Fail> {
     for script in &SCRIPTS {
-        let mut session = opened(rt.alloc(), script.bytes)?;
-        for (line, reply) in script.lines {
-            let mut sink = ToWrite::new(Vec::new(rt.alloc()));
-            let answer = obeyed(rt.alloc(), &mut session, line.as_bytes());
-            write_answer(&session, answer, &mut sink)?;
-            assert_eq!(rt; sink.into_inner().as_slice(), reply.as_bytes(), "{line}");
-        }
+        assert_eq!(rt; first_wrong(rt.alloc(), false, script)?, None);
+        assert_eq!(rt; first_wrong(rt.alloc(), true, script)?, None);
+    }
+    Ok(())
+}
+
+#[test]
+fn worked_scripts_of_many(rt: HostRuntime) -> Result<(), Fail> {
+    for script in &MANY {
+        assert_eq!(rt; first_wrong(rt.alloc(), true, script)?, None);
     }
     Ok(())
 }
@@ -152,19 +183,29 @@ fn breaks_right(
     false
 }
 
-#[test]
-fn failing_sinks(rt: HostRuntime) -> Result<(), Fail> {
-    for script in &SCRIPTS {
-        let mut session = opened(rt.alloc(), script.bytes)?;
-        for (line, reply) in script.lines {
-            let answer = obeyed(rt.alloc(), &mut session, line.as_bytes());
-            for most in [1, 2, 7] {
-                let is_right = breaks_right(rt.alloc(), &session, answer, reply.as_bytes(), most);
-                assert!(rt; is_right, "{line}");
+/// The first line of a script whose answer does not break right, if there is one.
+fn first_broken(alloc: Global, many: bool, script: &Script) -> Result<Option<&'static str>, Fail> {
+    let mut session = opened(alloc, many, script.bytes)?;
+    for (line, reply) in script.lines {
+        let answer = obeyed(alloc, &mut session, line.as_bytes());
+        for most in [1, 2, 7] {
+            if !breaks_right(alloc, &session, answer, reply.as_bytes(), most) {
+                return Ok(Some(*line));
             }
         }
     }
-    let session = opened(rt.alloc(), b"N.")?;
+    Ok(None)
+}
+
+#[test]
+fn failing_sinks(rt: HostRuntime) -> Result<(), Fail> {
+    for (many, scripts) in [(false, SCRIPTS.as_slice()), (true, MANY.as_slice())] {
+        for script in scripts {
+            let found = first_broken(rt.alloc(), many, script)?;
+            assert_eq!(rt; found, None);
+        }
+    }
+    let session = opened(rt.alloc(), false, b"N.")?;
     for (reply, text) in &REPLIES {
         let answer = Answer::Reply(End::Stopped, *reply);
         for most in [1, 2, 7] {

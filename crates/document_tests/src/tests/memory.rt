@@ -1,6 +1,6 @@
 //! Edits where a request for memory may be refused once.
 
-use crate::tests::shown::{Edit, Wrong, make};
+use crate::tests::shown::{Edit, Wrong, make, open};
 use pickle_doc::{DocFault, Document, EditFault};
 use pickle_ops::{Opcode, ToWrite};
 use std::alloc::Global;
@@ -32,9 +32,9 @@ fn insist(alloc: Global, document: &mut Document, edit: &Edit) -> Result<(), Wro
 }
 
 /// Reads bytes. Where this is refused for want of memory it succeeds when it is asked again.
-fn insist_on_reading(alloc: Global, bytes: &[u8]) -> Result<Document, Wrong> {
-    match Document::read(alloc, bytes) {
-        Err(DocFault::Memory) => Ok(Document::read(alloc, bytes)?),
+fn insist_on_reading(alloc: Global, many: bool, bytes: &[u8]) -> Result<Document, Wrong> {
+    match open(alloc, many, bytes) {
+        Err(DocFault::Memory) => Ok(open(alloc, many, bytes)?),
         other => Ok(other?),
     }
 }
@@ -46,32 +46,32 @@ fn make_room(alloc: Global, document: &mut Document) -> Result<(), Wrong> {
     Ok(())
 }
 
-/// Puts in an opcode and an empty frame, of which the frame is taken off again. An edit that takes no memory finds it never
-/// wanting.
-fn insert_and_frame(alloc: Global, document: &mut Document) -> Result<(), Wrong> {
-    insist(alloc, document, &Edit::Insert(1, Opcode::None, b""))?;
+/// Puts in an opcode before item k and an empty frame, of which the frame is taken off again. An edit that takes no memory finds
+/// it never wanting.
+fn insert_and_frame(alloc: Global, document: &mut Document, k: usize) -> Result<(), Wrong> {
+    insist(alloc, document, &Edit::Insert(k, Opcode::None, b""))?;
     insist(alloc, document, &Edit::Frame(0, 0))?;
     let _record = document.unframe(0)?;
     Ok(())
 }
 
-/// Puts an opcode with a long argument in the place of another, and takes it out.
-fn replace_and_delete(alloc: Global, document: &mut Document) -> Result<(), Wrong> {
-    let long = Edit::Replace(1, Opcode::ShortBinBytes, b"\x14abcdefghijklmnopqrst");
+/// Puts an opcode with a long argument in the place of item k, and takes it out.
+fn replace_and_delete(alloc: Global, document: &mut Document, k: usize) -> Result<(), Wrong> {
+    let long = Edit::Replace(k, Opcode::ShortBinBytes, b"\x14abcdefghijklmnopqrst");
     insist(alloc, document, &long)?;
-    let _record = document.delete(1)?;
+    let _record = document.delete(k)?;
     Ok(())
 }
 
-/// Reads, and makes every edit so often that the list of items grows more than once.
-pub fn edit_with_little(alloc: Global, bytes: &[u8]) -> Result<(), Wrong> {
-    let mut document = insist_on_reading(alloc, bytes)?;
+/// Reads, and makes every edit, at item k, so often that the list of items grows more than once.
+pub fn edit_with_little(alloc: Global, many: bool, bytes: &[u8], k: usize) -> Result<(), Wrong> {
+    let mut document = insist_on_reading(alloc, many, bytes)?;
     make_room(alloc, &mut document)?;
     for _ in 0..40 {
-        insert_and_frame(alloc, &mut document)?;
+        insert_and_frame(alloc, &mut document, k)?;
     }
     for _ in 0..20 {
-        replace_and_delete(alloc, &mut document)?;
+        replace_and_delete(alloc, &mut document, k)?;
     }
     Ok(())
 }

@@ -1,6 +1,6 @@
 //! Texts that go to sinks which fail at each of their calls in turn.
 
-use pickle_doc::Document;
+use crate::tests::opened;
 use pickle_machine::Machine;
 use pickle_ops::{Failed, Sink, Sip};
 use pickle_report::{
@@ -17,12 +17,17 @@ pub enum Text<'a> {
     Stack,
     Memo,
     Show(u32),
-    Report(&'a [u8]),
+    Report { bytes: &'a [u8], many: bool },
 }
 
 /// Writes the report of some bytes.
-fn write_report_of<S: Sink>(alloc: Global, bytes: &[u8], sink: &mut S) -> Result<(), TextStop> {
-    let Ok(document) = Document::read(alloc, bytes) else {
+fn write_report_of<S: Sink>(
+    alloc: Global,
+    many: bool,
+    bytes: &[u8],
+    sink: &mut S,
+) -> Result<(), TextStop> {
+    let Ok(document) = opened(alloc, many, bytes) else {
         return Err(TextStop::Memory);
     };
     write_document_report(alloc, &document, sink)?;
@@ -50,7 +55,7 @@ fn write_text<S: Sink>(
         Text::Stack => write_stack(machine, sink)?,
         Text::Memo => write_memo(machine, sink)?,
         Text::Show(id) => write_show(alloc, machine, id, sink)?,
-        Text::Report(bytes) => write_report_of(alloc, bytes, sink)?,
+        Text::Report { bytes, many } => write_report_of(alloc, many, bytes, sink)?,
     }
     Ok(())
 }

@@ -1,8 +1,9 @@
 //! Worked scripts, line by line, and worked reports of objects.
 
-/// Bytes, and lines with their answers.
+/// Bytes, read as many pickles or as one, and lines with their answers.
 #[derive(Clone, Copy)]
 pub struct Script {
+    pub many: bool,
     pub bytes: &'static [u8],
     pub lines: &'static [(&'static str, &'static str)],
 }
@@ -14,6 +15,7 @@ pub const DUMP: &[u8] = b"\x80\x04\x95\x06\x00\x00\x00\x00\x00\x00\x00]\x94K\x01
 pub const BY_MEMO: &[u8] = b"]q\x00(h\x00h\x00e.";
 
 pub const BREAKPOINTS: Script = Script {
+    many: false,
     bytes: DUMP,
     lines: &[
         ("break 4\n", "break 4\n"),
@@ -27,6 +29,7 @@ pub const BREAKPOINTS: Script = Script {
 };
 
 pub const APPENDED_BY_MEMO: Script = Script {
+    many: false,
     bytes: BY_MEMO,
     lines: &[
         ("goto 6\n", "at 6\n"),
@@ -43,6 +46,7 @@ pub const SCRIPTS: [Script; 9] = [
     APPENDED_BY_MEMO,
     // a list that is appended to itself
     Script {
+        many: false,
         bytes: b"]2a.",
         lines: &[
             ("step\n", "at 1\n"),
@@ -57,6 +61,7 @@ pub const SCRIPTS: [Script; 9] = [
     },
     // an edit in a frame, and its way back
     Script {
+        many: false,
         bytes: DUMP,
         lines: &[
             ("goto 4\n", "at 4\n"),
@@ -66,6 +71,7 @@ pub const SCRIPTS: [Script; 9] = [
     },
     // an edit before the cursor
     Script {
+        many: false,
         bytes: DUMP,
         lines: &[
             ("goto 4\n", "at 4\n"),
@@ -78,6 +84,7 @@ pub const SCRIPTS: [Script; 9] = [
     },
     // a deletion at the end of a frame
     Script {
+        many: false,
         bytes: b"\x80\x04\x95\x04\x00\x00\x00\x00\x00\x00\x00N0N0N.",
         lines: &[
             ("delete 5\n", "edited 5\n"),
@@ -87,6 +94,7 @@ pub const SCRIPTS: [Script; 9] = [
     },
     // a memo entry that is not there
     Script {
+        many: false,
         bytes: b"K\x01q\x00K\x02q\x00h\x07.",
         lines: &[
             ("goto 3\n", "at 3\n"),
@@ -100,6 +108,7 @@ pub const SCRIPTS: [Script; 9] = [
     },
     // an ordered dictionary, with an item more
     Script {
+        many: false,
         bytes: b"ccollections\nOrderedDict\n)R(K\x01K\x02u.",
         lines: &[
             ("insert 6 NONE\n", "edited 6\n"),
@@ -112,6 +121,7 @@ pub const SCRIPTS: [Script; 9] = [
     },
     // frames round items
     Script {
+        many: false,
         bytes: b"N0N.",
         lines: &[
             ("frame 0 4\n", "edited 0\n"),
@@ -125,6 +135,98 @@ pub const SCRIPTS: [Script; 9] = [
             ("undo\n", "undone 0\n"),
             ("undo\n", "refused: C6 nothing to undo\n"),
             ("redo\n", "redone 0\n"),
+        ],
+    },
+];
+
+/// An entry of the first memo is none of the second.
+pub const ENTRY_OF_THE_FIRST: Script = Script {
+    many: true,
+    bytes: b"Nq\x00.h\x00.",
+    lines: &[
+        ("run\n", "at 3: refused, S3 no memo entry 0\n"),
+        ("memo\n", "memo 0=#0\n"),
+        (
+            "where\n",
+            "at 3 of 5, offset 4, buffers 0, result #0, end stopped\n",
+        ),
+    ],
+};
+
+/// A mark is left behind, and is there again after going back.
+pub const MARK_LEFT_BEHIND: Script = Script {
+    many: true,
+    bytes: b"(N.N.",
+    lines: &[
+        ("goto 3\n", "at 3\n"),
+        ("stack\n", "stack (0\n"),
+        ("step\n", "at 4\n"),
+        ("stack\n", "stack #1\n"),
+        ("back\n", "at 3\n"),
+        ("stack\n", "stack (0\n"),
+    ],
+};
+
+/// The scripts over several pickles.
+pub const MANY: [Script; 5] = [
+    ENTRY_OF_THE_FIRST,
+    MARK_LEFT_BEHIND,
+    // an edit makes the end another, and its undo too
+    Script {
+        many: true,
+        bytes: b"N.N",
+        lines: &[
+            ("delete 2\n", "edited 2\n"),
+            (
+                "where\n",
+                "at 0 of 2, offset 0, buffers 0, result none, end stopped\n",
+            ),
+            ("undo\n", "undone 2\n"),
+            (
+                "where\n",
+                "at 0 of 3, offset 0, buffers 0, result none, end F1 ended at 3\n",
+            ),
+        ],
+    },
+    // edits in the second pickle and in the first
+    Script {
+        many: true,
+        bytes: b"N.K\x01.",
+        lines: &[
+            ("goto 3\n", "at 3\n"),
+            ("insert 3 NONE\n", "edited 3\n"),
+            ("run\n", "at 5: end, stopped\n"),
+            (
+                "where\n",
+                "at 5 of 5, offset 6, buffers 0, result #0 #2, end stopped\n",
+            ),
+            ("goto 1\n", "at 1\n"),
+            ("replace 2 BININT2 0100\n", "edited 2\n"),
+            ("insert 1 EMPTY_LIST\n", "edited 1\n"),
+            ("run\n", "at 6: end, stopped\n"),
+            ("objects\n", "#0 none\n#1 list\n#2 int 1\n#3 none\n"),
+            ("undo\n", "refused: C8 edit at 1 behind the cursor\n"),
+            ("goto 0\n", "at 0\n"),
+            ("undo\n", "undone 1\n"),
+            ("undo\n", "undone 2\n"),
+            ("undo\n", "undone 3\n"),
+            ("redo\n", "redone 3\n"),
+        ],
+    },
+    // an object of the second pickle, and all results
+    Script {
+        many: true,
+        bytes: b"K\x01.]K\x02\x85a.",
+        lines: &[
+            ("run\n", "at 7: end, stopped\n"),
+            ("show 1\n", "0 #1 list +#3\n1 #3 tuple (#2)\n2 #2 int 2\n"),
+            (
+                "where\n",
+                "at 7 of 7, offset 9, buffers 0, result #0 #1, end stopped\n",
+            ),
+            ("memo\n", "memo\n"),
+            ("goto 2\n", "at 2\n"),
+            ("objects\n", "#0 int 1\n"),
         ],
     },
 ];

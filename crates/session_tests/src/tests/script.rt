@@ -28,6 +28,9 @@ pub enum Told {
 /// A command, the reply, the work of it where all records are kept, what is shown after it, and the bytes.
 pub type Row = (Told, Reply, u64, &'static str, &'static [u8]);
 
+/// A command; the reply; the cursor, the records kept and the work after it.
+pub type Counts = (Told, Reply, usize, usize, u64);
+
 /// A script over some bytes: what is shown at first, and its rows.
 pub struct Script {
     pub bytes: &'static [u8],
@@ -62,28 +65,46 @@ pub fn command(alloc: Global, told: Told) -> Option<Command> {
     }
 }
 
-/// A session that keeps all records, where one request for memory may be refused.
-pub fn open_whole(alloc: Global, bytes: &[u8]) -> Option<Session<Whole>> {
-    match Session::open(alloc, Whole::new(alloc), bytes) {
-        Ok(session) => Some(session),
-        Err(_) => Session::open(alloc, Whole::new(alloc), bytes).ok(),
+/// A session that keeps all records, or nothing where memory is refused.
+fn try_whole(alloc: Global, many: bool, bytes: &[u8]) -> Option<Session<Whole>> {
+    if many {
+        Session::open_many(alloc, Whole::new(alloc), bytes).ok()
+    } else {
+        Session::open(alloc, Whole::new(alloc), bytes).ok()
+    }
+}
+
+/// A session of many pickles or of one that keeps all records, where one request for memory may be refused.
+pub fn open_whole(alloc: Global, many: bool, bytes: &[u8]) -> Option<Session<Whole>> {
+    match try_whole(alloc, many, bytes) {
+        Some(session) => Some(session),
+        None => try_whole(alloc, many, bytes),
     }
 }
 
 /// A session that keeps so many of the latest records, or nothing where memory is refused.
-fn try_window(alloc: Global, count: usize, bytes: &[u8]) -> Option<Session<Window>> {
+fn try_window(alloc: Global, many: bool, count: usize, bytes: &[u8]) -> Option<Session<Window>> {
     if count < 1 || count > 1_000_000 {
         return None;
     }
     let window = Window::new(alloc, count).ok()?;
-    Session::open(alloc, window, bytes).ok()
+    if many {
+        Session::open_many(alloc, window, bytes).ok()
+    } else {
+        Session::open(alloc, window, bytes).ok()
+    }
 }
 
-/// A session that keeps so many of the latest records, where one request for memory may be refused.
-pub fn open_window(alloc: Global, count: usize, bytes: &[u8]) -> Option<Session<Window>> {
-    match try_window(alloc, count, bytes) {
+/// A session of many pickles or of one that keeps so many of the latest records, where one request for memory may be refused.
+pub fn open_window(
+    alloc: Global,
+    many: bool,
+    count: usize,
+    bytes: &[u8],
+) -> Option<Session<Window>> {
+    match try_window(alloc, many, count, bytes) {
         Some(session) => Some(session),
-        None => try_window(alloc, count, bytes),
+        None => try_window(alloc, many, count, bytes),
     }
 }
 

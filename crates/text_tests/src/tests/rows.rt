@@ -59,6 +59,57 @@ const MALFORMED: Script = Script {
     ],
 };
 
+/// Places by their offsets: the items begin at 0, 2, 11, 12, 13, 15 and 16, and the dump ends at 17.
+const OFFSETS: Script = Script {
+    bytes: DUMP,
+    lines: &[
+        ("goto @11", "at 2\n"),
+        (
+            "where",
+            "at 2 of 7, offset 11, buffers 0, result none, end stopped\n",
+        ),
+        ("break @13", "break 4\n"),
+        ("goto @14", "refused: V2 no item at offset 14\n"),
+        ("goto @17", "at 7\n"),
+        ("goto @18", "refused: V2 no item at offset 18\n"),
+        ("goto @0000000000000000000000000000011", "at 2\n"),
+        ("goto @00014", "refused: V2 no item at offset 14\n"),
+        (
+            "goto @018446744073709551615",
+            "refused: V2 no item at offset 18446744073709551615\n",
+        ),
+        ("goto @18446744073709551616", "refused: X3 bad number\n"),
+        ("goto @", "refused: X3 bad number\n"),
+        ("goto @@11", "refused: X3 bad number\n"),
+        ("goto @-11", "refused: X3 bad number\n"),
+        ("goto @0b", "refused: X3 bad number\n"),
+        ("goto @ 11", "refused: X3 bad number\n"),
+        ("goto 11@", "refused: X3 bad number\n"),
+        ("show @0", "refused: X3 bad number\n"),
+        ("frame @0 @4", "refused: X3 bad number\n"),
+        ("frame @14 x", "refused: X3 bad number\n"),
+        ("frame @14", "refused: X2 missing word\n"),
+        ("delete @14 x", "refused: X6 extra word\n"),
+        ("insert @14 NOPE", "refused: X4 unknown opcode name\n"),
+        ("insert @1 BININT1 0102", "refused: X8 F9 too long\n"),
+        // No place has the offset, whatever the command itself would be refused for.
+        ("delete @1", "refused: V2 no item at offset 1\n"),
+        ("delete @2", "refused: C5 behind the cursor\n"),
+        ("break @17", "refused: C4 no such place\n"),
+        ("delete @17", "refused: C9 E1 no such item\n"),
+        ("clear @13", "clear 4\n"),
+        // An edit moves the offsets after it, and its undo moves them back.
+        ("replace @13 BININT2 0100", "edited 4\n"),
+        ("goto @15", "refused: V2 no item at offset 15\n"),
+        ("goto @16", "at 5\n"),
+        ("goto @0", "at 0\n"),
+        ("undo", "undone 4\n"),
+        ("unframe @2", "edited 1\n"),
+        ("goto @15", "refused: V2 no item at offset 15\n"),
+        ("goto @6", "at 4\n"),
+    ],
+};
+
 /// The items of a document, with the cursor and a breakpoint.
 const ITEMS: Script = Script {
     bytes: PAIR,
@@ -219,8 +270,9 @@ const DROPPED_FUTURE: Script = Script {
 };
 
 /// All scripts.
-pub const SCRIPTS: [Script; 14] = [
+pub const SCRIPTS: [Script; 15] = [
     MALFORMED,
+    OFFSETS,
     ITEMS,
     LONG_NAME,
     BOTH_CASES,
@@ -234,6 +286,79 @@ pub const SCRIPTS: [Script; 14] = [
     EMPTY_FRAME,
     NESTED,
     DROPPED_FUTURE,
+];
+
+/// Scripts over several pickles in one input.
+pub const MANY: [Script; 4] = [
+    // An entry of the first memo is none of the second.
+    Script {
+        bytes: b"Nq\x00.h\x00.",
+        lines: &[
+            ("run", "at 3: refused, S3 no memo entry 0\n"),
+            (
+                "where",
+                "at 3 of 5, offset 4, buffers 0, result #0, end stopped\n",
+            ),
+            ("step", "refused: C3 item 3: S3 no memo entry 0\n"),
+        ],
+    },
+    // Every result, in order, and the buffers of the second pickle alone.
+    Script {
+        bytes: b"\x97.\x97\x97.N.",
+        lines: &[
+            (
+                "where",
+                "at 0 of 7, offset 0, buffers 0, result none, end stopped\n",
+            ),
+            ("goto 5", "at 5\n"),
+            (
+                "where",
+                "at 5 of 7, offset 5, buffers 2, result #0 #2, end stopped\n",
+            ),
+            ("run", "at 7: end, stopped\n"),
+            (
+                "where",
+                "at 7 of 7, offset 7, buffers 0, result #0 #2 #3, end stopped\n",
+            ),
+            ("back", "at 6\n"),
+            (
+                "where",
+                "at 6 of 7, offset 6, buffers 0, result #0 #2, end stopped\n",
+            ),
+            (
+                "items",
+                "      0     0: NEXT_BUFFER\n      1     1: STOP\n      2     2: NEXT_BUFFER\n      3     3: NEXT_BUFFER\n      4     4: STOP\n      5     5: NONE\n>     6     6: STOP\n",
+            ),
+        ],
+    },
+    // An edit makes the end another, and its undo too.
+    Script {
+        bytes: b"N.N",
+        lines: &[
+            ("delete 2", "edited 2\n"),
+            (
+                "where",
+                "at 0 of 2, offset 0, buffers 0, result none, end stopped\n",
+            ),
+            ("undo", "undone 2\n"),
+            (
+                "where",
+                "at 0 of 3, offset 0, buffers 0, result none, end F1 ended at 3\n",
+            ),
+            ("run", "at 3: end, F1 ended at 3\n"),
+        ],
+    },
+    // A STOP stays, and nothing is put after the last.
+    Script {
+        bytes: b"N.N.",
+        lines: &[
+            ("delete 1", "refused: C9 E2 stop item\n"),
+            ("insert 2 STOP", "refused: C9 E2 stop item\n"),
+            ("insert 4 NONE", "refused: C9 E4 after stop\n"),
+            ("insert 2 BININT1 07", "edited 2\n"),
+            ("goto 4", "at 4\n"),
+        ],
+    },
 ];
 
 /// Replies that no script above meets, and their texts.

@@ -1,24 +1,42 @@
-use Rattle.std.proofs.Common.{◌≡◌, drop, length, true, false, sym, ap, ◌∙◌, arith, rules}
+use Rattle.std.proofs.Common.{◌≡◌, ◌==◌, ◌&&◌, ℕ, drop, length, true, false, sym, ap, ◌∙◌, arith, rules}
 use Rattle.pickle_ops.specs.Spelling.{size_of}
 use Rattle.pickle_doc.specs.Tail.{HasTailFault}
 use Rattle.pickle_doc.specs.Fitting.{left_behind}
-use Rattle.pickle_doc.specs.DocUnit.{ends_reading}
+use Rattle.pickle_doc.specs.DocUnit.{is_stop, ends_reading}
 use Rattle.pickle_doc.specs.Unread.{IsNextItem, Unread}
-use Rattle.pickle_calls.proofs.Walking.{walked_none, closes_ok, closes_err, refused_closes, fault_closes, line_breaks, memory_stops, moved, goes_on, stop_closes, cut_failed, bounds}
+use Rattle.pickle_calls.proofs.Walking.{walked_none, closes_ok, closes_err, refused_closes, fault_closes, none_closes, line_breaks, memory_stops, moved, goes_on, stop_closes, cut_failed, bounds}
 use Rattle.pickle_calls.proofs.calls.calls_of_items.Goals as goal
 
 pub items-init : goal.items-init
-items-init g c = rw (c.requires.first, c.new-machine.ensures, c.none-totals.ensures) (walked_none _ _ c.requires.document c.requires.small)
+items-init g c = rw (c.requires.first, c.machine_of-machine.ensures, c.none-totals.ensures) (walked_none _ _ _ c.requires.document c.requires.small)
+
+pub returns-then-is_last-clause-ok : goal.returns-then-is_last-clause-ok
+returns-then-is_last-clause-ok g c =
+    let f : HasTailFault (g.I.ItemSource.unread c.items.reader).left (g.I.ItemSource.unread c.items.reader).rest c.in-Tail.fault × (g.I.ItemSource.unread c.next.new.self ≡ g.I.ItemSource.unread c.items.reader) = rw c.in-Tail.is at c.next.ensures in
+    let kept : c.unread_len-kept.result ≡ length (g.I.ItemSource.unread c.items.reader).rest = c.unread_len-kept.ensures ∙ ap (λ (u : Unread). length u.rest) f.1 in
+    let last : (length (g.I.ItemSource.unread c.items.reader).rest == 0 && c.items.stop) ≡ c.is_last.result = sym (c.is_last.ensures ∙ ap (λ (n : ℕ). n == 0 && c.items.stop) kept) in
+    closes_ok _ _ _ _ _ _ _ _ (none_closes _ _ _ _ _ _ _ _ _ c.in-Tail.fault c.items.invariant f.0 (last ∙ c.if-is_last.true)) (rw kept at c.write_stopped_end.ensures) c.answer.ensures
+
+pub returns-then-is_last-clause-err : goal.returns-then-is_last-clause-err
+returns-then-is_last-clause-err g c =
+    let f : HasTailFault (g.I.ItemSource.unread c.items.reader).left (g.I.ItemSource.unread c.items.reader).rest c.in-Tail.fault × (g.I.ItemSource.unread c.next.new.self ≡ g.I.ItemSource.unread c.items.reader) = rw c.in-Tail.is at c.next.ensures in
+    let kept : c.unread_len-kept.result ≡ length (g.I.ItemSource.unread c.items.reader).rest = c.unread_len-kept.ensures ∙ ap (λ (u : Unread). length u.rest) f.1 in
+    let last : (length (g.I.ItemSource.unread c.items.reader).rest == 0 && c.items.stop) ≡ c.is_last.result = sym (c.is_last.ensures ∙ ap (λ (n : ℕ). n == 0 && c.items.stop) kept) in
+    closes_err _ _ _ _ _ _ _ _ (none_closes _ _ _ _ _ _ _ _ _ c.in-Tail.fault c.items.invariant f.0 (last ∙ c.if-is_last.true)) (rw kept at c.write_stopped_end.ensures) c.answer.ensures
 
 pub returns-in-Tail-clause-ok : goal.returns-in-Tail-clause-ok
 returns-in-Tail-clause-ok g c =
     let f : HasTailFault (g.I.ItemSource.unread c.items.reader).left (g.I.ItemSource.unread c.items.reader).rest c.in-Tail.fault × (g.I.ItemSource.unread c.next.new.self ≡ g.I.ItemSource.unread c.items.reader) = rw c.in-Tail.is at c.next.ensures in
-    closes_ok _ _ _ _ _ _ _ _ (fault_closes _ _ _ _ _ _ _ _ _ c.in-Tail.fault c.items.invariant f.0) c.write_fault_end.ensures c.answer.ensures
+    let kept : c.unread_len-kept.result ≡ length (g.I.ItemSource.unread c.items.reader).rest = c.unread_len-kept.ensures ∙ ap (λ (u : Unread). length u.rest) f.1 in
+    let last : (length (g.I.ItemSource.unread c.items.reader).rest == 0 && c.items.stop) ≡ c.is_last.result = sym (c.is_last.ensures ∙ ap (λ (n : ℕ). n == 0 && c.items.stop) kept) in
+    closes_ok _ _ _ _ _ _ _ _ (fault_closes _ _ _ _ _ _ _ _ _ c.in-Tail.fault c.items.invariant f.0 (last ∙ c.if-is_last.false)) c.write_fault_end.ensures c.answer-in-Tail.ensures
 
 pub returns-in-Tail-clause-err : goal.returns-in-Tail-clause-err
 returns-in-Tail-clause-err g c =
     let f : HasTailFault (g.I.ItemSource.unread c.items.reader).left (g.I.ItemSource.unread c.items.reader).rest c.in-Tail.fault × (g.I.ItemSource.unread c.next.new.self ≡ g.I.ItemSource.unread c.items.reader) = rw c.in-Tail.is at c.next.ensures in
-    closes_err _ _ _ _ _ _ _ _ (fault_closes _ _ _ _ _ _ _ _ _ c.in-Tail.fault c.items.invariant f.0) c.write_fault_end.ensures c.answer.ensures
+    let kept : c.unread_len-kept.result ≡ length (g.I.ItemSource.unread c.items.reader).rest = c.unread_len-kept.ensures ∙ ap (λ (u : Unread). length u.rest) f.1 in
+    let last : (length (g.I.ItemSource.unread c.items.reader).rest == 0 && c.items.stop) ≡ c.is_last.result = sym (c.is_last.ensures ∙ ap (λ (n : ℕ). n == 0 && c.items.stop) kept) in
+    closes_err _ _ _ _ _ _ _ _ (fault_closes _ _ _ _ _ _ _ _ _ c.in-Tail.fault c.items.invariant f.0 (last ∙ c.if-is_last.false)) c.write_fault_end.ensures c.answer-in-Tail.ensures
 
 pub step_over-requires : goal.step_over-requires
 step_over-requires g c =
@@ -88,9 +106,9 @@ returns-then-ends_reading-clause-ok g c =
     let imports = rw (c.heap-in-Item.ensures, c.reach_of-reach.ensures, c.of_ref-row.ensures, c.of-before.ensures) at c.with-totals.ensures.imports in
     let calls = rw (c.heap-in-Item.ensures, c.reach_of-reach.ensures, c.of_ref-row.ensures, c.of-before.ensures) at c.with-totals.ensures.calls in
     let m = moved _ _ _ _ _ _ _ _ c.in-Item.op _ _ _ c.with-totals.result c.items.invariant n.0 c.in_default.ensures.ok line imports calls in
-    let hit : ends_reading c.in-Item.op.opcode ≡ true = sym (rw c.opcode.ensures at c.ends_reading.ensures) ∙ c.if-ends_reading.true in
-    let rest : c.unread_len-kept.result ≡ length (drop (size_of c.in-Item.op) (g.I.ItemSource.unread c.items.reader).rest) = c.unread_len-kept.ensures ∙ ap (λ (u : Unread). length u.rest) n.1 in
-    closes_ok _ _ _ _ _ _ _ _ (stop_closes _ _ _ _ _ _ _ c.in-Item.op _ _ m hit) (rw rest at c.write_stopped_end.ensures) c.answer-then-ends_reading.ensures
+    let hit : ends_reading c.args.many c.in-Item.op.opcode ≡ true = sym (rw c.opcode.ensures at c.ends_reading.ensures) ∙ c.if-ends_reading.true in
+    let rest : c.unread_len-kept-then-ends_reading.result ≡ length (drop (size_of c.in-Item.op) (g.I.ItemSource.unread c.items.reader).rest) = c.unread_len-kept-then-ends_reading.ensures ∙ ap (λ (u : Unread). length u.rest) n.1 in
+    closes_ok _ _ _ _ _ _ _ _ (stop_closes _ _ _ _ _ _ _ c.in-Item.op _ _ m hit) (rw rest at c.write_stopped_end-then-ends_reading.ensures) c.answer-then-ends_reading.ensures
 
 pub returns-then-ends_reading-clause-err : goal.returns-then-ends_reading-clause-err
 returns-then-ends_reading-clause-err g c =
@@ -100,9 +118,9 @@ returns-then-ends_reading-clause-err g c =
     let imports = rw (c.heap-in-Item.ensures, c.reach_of-reach.ensures, c.of_ref-row.ensures, c.of-before.ensures) at c.with-totals.ensures.imports in
     let calls = rw (c.heap-in-Item.ensures, c.reach_of-reach.ensures, c.of_ref-row.ensures, c.of-before.ensures) at c.with-totals.ensures.calls in
     let m = moved _ _ _ _ _ _ _ _ c.in-Item.op _ _ _ c.with-totals.result c.items.invariant n.0 c.in_default.ensures.ok line imports calls in
-    let hit : ends_reading c.in-Item.op.opcode ≡ true = sym (rw c.opcode.ensures at c.ends_reading.ensures) ∙ c.if-ends_reading.true in
-    let rest : c.unread_len-kept.result ≡ length (drop (size_of c.in-Item.op) (g.I.ItemSource.unread c.items.reader).rest) = c.unread_len-kept.ensures ∙ ap (λ (u : Unread). length u.rest) n.1 in
-    closes_err _ _ _ _ _ _ _ _ (stop_closes _ _ _ _ _ _ _ c.in-Item.op _ _ m hit) (rw rest at c.write_stopped_end.ensures) c.answer-then-ends_reading.ensures
+    let hit : ends_reading c.args.many c.in-Item.op.opcode ≡ true = sym (rw c.opcode.ensures at c.ends_reading.ensures) ∙ c.if-ends_reading.true in
+    let rest : c.unread_len-kept-then-ends_reading.result ≡ length (drop (size_of c.in-Item.op) (g.I.ItemSource.unread c.items.reader).rest) = c.unread_len-kept-then-ends_reading.ensures ∙ ap (λ (u : Unread). length u.rest) n.1 in
+    closes_err _ _ _ _ _ _ _ _ (stop_closes _ _ _ _ _ _ _ c.in-Item.op _ _ m hit) (rw rest at c.write_stopped_end-then-ends_reading.ensures) c.answer-then-ends_reading.ensures
 
 pub items-preserved : goal.items-preserved
 items-preserved g c =
@@ -112,5 +130,6 @@ items-preserved g c =
     let imports = rw (c.heap-in-Item.ensures, c.reach_of-reach.ensures, c.of_ref-row.ensures, c.of-before.ensures) at c.with-totals.ensures.imports in
     let calls = rw (c.heap-in-Item.ensures, c.reach_of-reach.ensures, c.of_ref-row.ensures, c.of-before.ensures) at c.with-totals.ensures.calls in
     let m = moved _ _ _ _ _ _ _ _ c.in-Item.op _ _ _ c.with-totals.result c.items.invariant n.0 c.in_default.ensures.ok line imports calls in
-    let miss : ends_reading c.in-Item.op.opcode ≡ false = sym (rw c.opcode.ensures at c.ends_reading.ensures) ∙ c.if-ends_reading.false in
-    rw (n.1, c.size.ensures) (goes_on _ _ _ _ _ _ _ c.in-Item.op _ _ m miss)
+    let stop : c.is_stop-stop.result ≡ is_stop c.in-Item.op.opcode = c.is_stop-stop.ensures ∙ ap is_stop c.opcode-in-Item.ensures in
+    let miss : ends_reading c.args.many c.in-Item.op.opcode ≡ false = sym (rw c.opcode.ensures at c.ends_reading.ensures) ∙ c.if-ends_reading.false in
+    rw (n.1, c.size.ensures, stop) (goes_on _ _ _ _ _ _ _ c.in-Item.op _ _ m miss)

@@ -11,11 +11,11 @@ returns-in_default-clause-no c =
 pub returns-then-eq-clause-yes : goal.returns-then-eq-clause-yes
 returns-then-eq-clause-yes c =
     λ is. let text : c.in-Some.text.now ≡ codes "true" = search rules in
-      sym (first_value-rows (found_of c.args.found.now) (codes "many")) ∙ (sym c.in-Some.ensures ∙ ap Some text)
+    sym (first_value-rows (found_of c.args.found.now) (codes "many")) ∙ (sym c.in-Some.ensures ∙ ap Some text)
 
 pub returns-else-eq-clause-no : goal.returns-else-eq-clause-no
 returns-else-eq-clause-no c =
     λ e. let same : Some c.in-Some.text.now ≡ Some (codes "true") = c.in-Some.ensures ∙ (first_value-rows (found_of c.args.found.now) (codes "many") ∙ e) in
-      let text : c.in-Some.text.now ≡ codes "true" = cc in
-      let bad : false ≡ true = subst (λ t. false ≡ pointwise nat_eq t (codes "true")) text c.if-eq.ensures in
-      absurd cc
+    let text : c.in-Some.text.now ≡ codes "true" = cc in
+    let bad : false ≡ true = subst (λ t. false ≡ pointwise nat_eq t (codes "true")) text c.if-eq.ensures in
+    absurd cc

@@ -50,6 +50,6 @@ returns-in_ok-file-4-clause-some c =
         file_is = sym (first_value-rows (found_of c.in-Some.found.now) (codes "FILE")) ∙ sym c.in-Some-get_str.ensures ∙ ap Some (sym c.in_ok-file-4.ensures.ok);
         many_is = c.is_many-many.ensures.yes;
         one_is = c.is_many-many.ensures.no;
-        },
+      },
       search rules,
     )

@@ -1,0 +1,245 @@
+#!/usr/bin/python3
+"""Gives the program real pickles one after another in one input, with --many, and goes there and back.
+
+    several.py PROGRAM FOLDER PICKLES LISTINGS COMPARE
+
+FOLDER is for the files. PICKLES is a folder of real pickles, LISTINGS one of their stored listings, which come from Python's pickletools,
+and COMPARE is equipment/compare_listing. Every pickle stands twice in a row, and three at random stand in a row. What is listed follows
+from the stored listings: each with its offsets moved, up to the first refusal or fault. One with a frame that goes on after its STOP is
+left out.
+A conversation goes to the end of each pickle, and back over the same places, where the same has to be shown.
+Each line of the output says what was tried, a tab, and what was wrong, or nothing after it. The last line says how many inputs there were.
+"""
+from __future__ import annotations
+
+import dataclasses
+import pathlib
+import random
+import re
+import subprocess
+import sys
+from collections.abc import Sequence
+
+TRIPLES = 200
+ITEM = re.compile(r" *(\d+)(: .*)")
+MARK = re.compile(r"\(MARK at (\d+)\)$")
+# Faults that further bytes cannot change.
+LASTING = ("F2", "F4", "F5", "F6", "F8")
+
+
+@dataclasses.dataclass(frozen=True)
+class Pickle:
+    """A real pickle up to its STOP, and its stored listing in parts."""
+
+    name: str
+    data: bytes
+    items: list[str]
+    left: list[str]
+    broken: str | None
+    protocol: int
+
+    def ends(self) -> bool:
+        """Whether further bytes change nothing of what is listed of it."""
+        if self.broken is None or self.broken.startswith("refused: "):
+            return True
+        return self.broken.startswith(tuple(f"fault: {code} " for code in LASTING))
+
+
+def first_pickle(data: bytes, items: Sequence[str]) -> bytes | None:
+    """The bytes up to STOP, which is the last item; nothing where a frame goes on after it."""
+    offsets = {int(found[1]): found[2] for found in map(ITEM.match, items) if found is not None}
+    end = max(offsets) + 1
+    frames = [offset for offset, rest in offsets.items() if " FRAME" in rest]
+    if any(offset + 9 + int.from_bytes(data[offset + 1 : offset + 9], "little") > end for offset in frames):
+        return None
+    return data[:end]
+
+
+def read_pickle(path: pathlib.Path, listings: pathlib.Path) -> Pickle | None:
+    lines = (listings / f"{path.stem}.txt").read_text("utf-8", "surrogateescape").splitlines()
+    items = [line for line in lines if ITEM.match(line)]
+    broken = [line for line in lines if line.startswith(("refused: ", "fault: "))]
+    highest = [int(line.rsplit(" ", 1)[1]) for line in lines if line.startswith("highest ")]
+    data: bytes | None = path.read_bytes()
+    if data is not None and not broken:
+        data = first_pickle(data, items)
+    if data is None:
+        return None
+    return Pickle(
+        name=path.stem,
+        data=data,
+        items=items,
+        left=[line for line in lines if line.startswith("left: ")],
+        broken=broken[0] if broken else None,
+        protocol=max(highest, default=-1),
+    )
+
+
+def moved(line: str, base: int) -> str:
+    """A line of a listing whose bytes begin at an offset."""
+    item = ITEM.match(line)
+    if item is None:
+        return re.sub(r"\d+$", lambda number: str(int(number[0]) + base), line)
+    rest = MARK.sub(lambda mark: f"(MARK at {int(mark[1]) + base})", item[2])
+    return f"{int(item[1]) + base:5d}{rest}"
+
+
+@dataclasses.dataclass(frozen=True)
+class Expected:
+    """What is to be listed of an input, and where its pickles end."""
+
+    listing: str
+    status: int
+    place: int
+    reply: str
+    ends: list[tuple[int, int]]
+
+
+def reply_to_run(place: int, broken: str | None) -> tuple[str, int]:
+    """What `run` from the start is answered, and the status."""
+    if broken is not None and broken.startswith("refused: "):
+        why = broken.removeprefix("refused: ")
+        if place == 0:
+            return f"refused: C3 item 0: {why}", 1
+        return f"at {place}: refused, {why}", 0
+    end = "stopped" if broken is None else broken.removeprefix("fault: ")
+    if place == 0:
+        return f"refused: C2 at the end, {end}", 1
+    return f"at {place}: end, {end}", 0
+
+
+def expect(pickles: Sequence[Pickle]) -> Expected:
+    lines: list[str] = []
+    ends: list[tuple[int, int]] = []
+    base = place = 0
+    broken = None
+    protocol = -1
+    for pickle in pickles:
+        if ends and not pickle.data:
+            # (an input that ends after a STOP has no fault)
+            continue
+        lines += [moved(line, base) for line in pickle.items] + pickle.left
+        place += len(pickle.items)
+        protocol = max(protocol, pickle.protocol)
+        if pickle.broken is not None:
+            is_refused = pickle.broken.startswith("refused: ")
+            broken = pickle.broken if is_refused else moved(pickle.broken, base)
+            place -= int(is_refused)
+            lines.append(broken)
+            break
+        base += len(pickle.data)
+        ends.append((place, base))
+    if protocol >= 0:
+        lines.append(f"highest protocol among opcodes = {protocol}")
+    listing = "".join(f"{line}\n" for line in lines)
+    reply, _ = reply_to_run(place, broken)
+    return Expected(listing, int(broken is not None), place, reply, ends)
+
+
+@dataclasses.dataclass(frozen=True)
+class Trial:
+    program: str
+    folder: pathlib.Path
+    compare: str
+
+    def answer(self, words: Sequence[str], script: str = "") -> tuple[str, int]:
+        told = [self.program, *words]
+        done = subprocess.run(told, input=script.encode(), capture_output=True, timeout=100, close_fds=False, check=False)
+        if done.stderr:
+            raise ValueError(f"errors {done.stderr[:100]!r}")
+        return done.stdout.decode("utf-8", "surrogateescape"), done.returncode
+
+    def listing_fault(self, file: pathlib.Path, expected: Expected) -> str:
+        text, status = self.answer(["list", "--many", str(file)])
+        found, wanted = self.folder / "found.txt", self.folder / "wanted.txt"
+        found.write_text(text, "utf-8", "surrogateescape")
+        wanted.write_text(expected.listing, "utf-8", "surrogateescape")
+        done = subprocess.run([self.compare, str(found), str(wanted)], capture_output=True, text=True, check=False)
+        if done.returncode != 0:
+            return f"the listing: {done.stdout or done.stderr}".strip()
+        return "" if status == expected.status else f"the listing has status {status}"
+
+    def report_fault(self, file: pathlib.Path, expected: Expected) -> str:
+        """A report has one result for each STOP that is stepped, after its objects."""
+        text, status = self.answer(["objects", "--many", str(file)])
+        lines = text.splitlines()
+        if expected.status:
+            lines = lines[:-1]
+        results = [line for line in lines if line.startswith("result #")]
+        if status != expected.status or len(results) != len(expected.ends) or lines[len(lines) - len(results) :] != results:
+            return f"the report has {len(results)} results and status {status}"
+        return ""
+
+    def journey_fault(self, file: pathlib.Path, expected: Expected, window: Sequence[str]) -> str:
+        """Goes to each end and to the last place, and back over the same places: the same is shown on both ways."""
+        last, way = expected.place, [0] + [place for place, _ in expected.ends if place != expected.place]
+        shown = "where\nstack\nmemo\n"
+        forward = [f"goto {place}\n{shown}" for place in [*way, last]]
+        script = "".join(forward) + "".join(reversed(forward)) + "run\n"
+        text, status = self.answer(["debug", "--many", *window, str(file)], script)
+        lines = text.splitlines()
+        stops = len(forward)
+        parts = [lines[4 * k : 4 * k + 4] for k in range(2 * stops)]
+        wanted_status = int(expected.reply.startswith("refused: "))
+        if status != wanted_status or len(lines) != 8 * stops + 1 or lines[-1] != expected.reply:
+            return f"the way there and back has status {status}, and the answer to run is {lines[-1:]}"
+        if parts[:stops] != parts[: stops - 1 : -1]:
+            return "the way back shows something else"
+        for k, (place, offset) in enumerate(expected.ends):
+            found = parts[k + 1] if place != last else parts[stops - 1]
+            if not found[1].startswith(f"at {place} of ") or f", offset {offset}, " not in found[1] or found[1].count("#") != k + 1:
+                return f"after pickle {k} there stands: {found[1]}"
+        return ""
+
+    def fault(self, pickles: Sequence[Pickle]) -> str:
+        file = self.folder / "several.pickle"
+        file.write_bytes(b"".join(pickle.data for pickle in pickles))
+        expected = expect(pickles)
+        return (
+            self.listing_fault(file, expected)
+            or self.report_fault(file, expected)
+            or self.journey_fault(file, expected, [])
+            or self.journey_fault(file, expected, ["--window=100"])
+            or self.save_fault(file)
+        )
+
+    def save_fault(self, file: pathlib.Path) -> str:
+        saved = self.folder / "saved.pickle"
+        self.answer(["debug", "--many", str(file), "--save", str(saved)])
+        return "" if saved.read_bytes() == file.read_bytes() else "other bytes are saved"
+
+    def judged(self, pickles: Sequence[Pickle]) -> str:
+        try:
+            return self.fault(pickles)
+        except (ValueError, OSError, subprocess.SubprocessError) as fault:
+            return str(fault)[:200]
+
+
+def inputs_of(pickles: Sequence[Pickle]) -> list[tuple[str, list[Pickle]]]:
+    """Each pickle twice, or behind a whole one where further bytes would change what is listed of it; and three at random."""
+    whole = [pickle for pickle in pickles if pickle.broken is None]
+    dice = random.Random(1)
+    inputs = []
+    for pickle in pickles:
+        first = pickle if pickle.ends() else dice.choice(whole)
+        inputs.append((f"{first.name} and {pickle.name} in a row", [first, pickle]))
+    for _ in range(TRIPLES):
+        three = [dice.choice(whole), dice.choice(whole), dice.choice(pickles)]
+        inputs.append((", ".join(pickle.name for pickle in three) + " in a row", three))
+    return inputs
+
+
+def main() -> None:
+    program, folder, data, listings, compare = sys.argv[1], *(pathlib.Path(word) for word in sys.argv[2:5]), sys.argv[5]
+    folder.mkdir(parents=True, exist_ok=True)
+    found = [read_pickle(path, listings) for path in sorted(data.glob("*.pickle"))]
+    pickles = [pickle for pickle in found if pickle is not None]
+    trial = Trial(program, folder, compare)
+    inputs = inputs_of(pickles)
+    for name, three in inputs:
+        print(f"{name}\t{trial.judged(three)}", flush=True)
+    print(f"{len(inputs)} inputs of several pickles")
+
+
+if __name__ == "__main__":
+    main()
