@@ -364,7 +364,7 @@ def manual(releases: Releases) -> str:
         if run.output or run.errors:
             return (run.output + run.errors)[:300]
     if shutil.which("man"):
-        run = releases.run("man", "--warnings", "-E", "UTF-8", "-l", "-T", "utf8", "-Z", page)
+        run = releases.run("man", "--warnings", "-E", "UTF-8", "-Tutf8", "-Z", "-l", page)
         if run.status != 0 or run.errors:
             return run.errors[:300]
     text = pathlib.Path(page).read_text()
