@@ -190,7 +190,7 @@ def long_string(folder, program, count):
 
 
 def full_file(folder, program, count):
-    """What is said of the largest input, all of it one-byte opcodes."""
+    """What is said of a large input, all of it one-byte opcodes."""
     path = made(folder, 'n', one_byte_opcodes, count)
     length, listing = os.path.getsize(path), measure([program, 'list', path])
     os.unlink(path)

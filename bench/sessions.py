@@ -5,9 +5,9 @@ import subprocess
 import sys
 import tempfile
 
-# commands a second, how many times as long for twice the way, seconds for 10,000 edits at one place and 1,000 at random ones, bytes
-# of memory for each opcode beside the file
-A_SECOND, TWICE, ONE_PLACE, RANDOM_PLACES, BYTES_AN_OPCODE = 500_000, 2.3, 0.1, 5, 160
+# commands a second, how many times as long for twice the way, how many times as long for places by offset, seconds for 10,000 edits at
+# one place and 1,000 at random ones, bytes of memory for each opcode beside the file
+A_SECOND, TWICE, BY_OFFSET, ONE_PLACE, RANDOM_PLACES, BYTES_AN_OPCODE = 500_000, 2.3, 2, 0.1, 5, 160
 
 
 def verdict(holds):
@@ -42,6 +42,16 @@ def conversation_row(program, what, once, twice, commands, *options):
         what, first, '%.0f' % rate if commands else '', second / first, memory / 1e6, verdict(good))
 
 
+def near_places(program, path, middle):
+    """What is said of a thousand gotos between two places in the middle of one-byte opcodes, by number and by offset. A walk to a place
+    and one that looks for it go over the same opcodes."""
+    ways = b'goto %d\n' % middle + (b'goto %d\n' % (middle + 1000) + b'goto %d\n' % middle) * 500
+    number, offset = (min(measure([program, 'debug', path], script)[0] for _ in range(3)) for script in (ways, ways.replace(b' ', b' @')))
+    times = offset / max(number, 0.01)
+    return 'A thousand gotos over the same 1,000 opcodes: by number %.2f s, by offset %.2f s, %.2f times, bar %s: %s.' % (
+        number, offset, times, BY_OFFSET, verdict(times <= BY_OFFSET))
+
+
 def edits_row(tests, what, name, bar, base):
     """A line of the table of edits; the tests also open and write the document, which takes as long as the base."""
     seconds = min(measure([tests, 'tests::' + name])[0] for _ in range(3)) - base
@@ -64,6 +74,7 @@ def main():
         ways = b'goto %d\ngoto 0\n' * 10
         print(conversation_row(program, 'to the end and to the start by goto, ten times', (one, ways.replace(b'%d', b'%d' % million)),
                                (two, ways.replace(b'%d', b'%d' % (2 * million))), 0), flush=True)
+        print('\n' + near_places(program, one, half), flush=True)
         _, memory = measure([program, 'debug', one], b'run\n')
         beside = (memory - os.path.getsize(one)) / million
         print('\nMemory of `run` to the end: %.0f bytes for each opcode beside the file, bar %d: %s.' % (

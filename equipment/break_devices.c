@@ -4,6 +4,7 @@
  * Calls of read and of write are counted from 1, each kind by itself; the loader's own are not counted, nor are those to standard
  * error. READ_MOST=C and WRITE_MOST=C give or take at most C bytes a call. READ_FAIL=N and WRITE_FAIL=N let the Nth call and
  * each later one fail, as a broken disk does. SHRINK=FILE with SHRINK_AT=N empties that file before the Nth read.
+ * FAIL=fsync, rename, fchmod or fchown lets each call of this name fail.
  * At the end DEVICES=FILE has a line: how many reads and writes there were, and how many of them were made of a device that had
  * failed before.
  */
@@ -12,6 +13,8 @@
 #include <fcntl.h>
 #include <stdio.h>
 #include <stdlib.h>
+#include <string.h>
+#include <sys/stat.h>
 #include <sys/syscall.h>
 #include <unistd.h>
 
@@ -77,4 +80,35 @@ ssize_t write(int file, const void *bytes, size_t count)
     if (fails(file, writes, write_fail))
         return -1;
     return syscall(SYS_write, file, bytes, write_most && write_most < count ? write_most : count);
+}
+
+/* Whether each call of this name fails. */
+static int is_broken(const char *name)
+{
+    const char *broken = getenv("FAIL");
+
+    if (!broken || strcmp(broken, name) != 0)
+        return 0;
+    errno = EIO;
+    return 1;
+}
+
+int fsync(int file)
+{
+    return is_broken("fsync") ? -1 : (int)syscall(SYS_fsync, file);
+}
+
+int rename(const char *from, const char *to)
+{
+    return is_broken("rename") ? -1 : (int)syscall(SYS_rename, from, to);
+}
+
+int fchmod(int file, mode_t mode)
+{
+    return is_broken("fchmod") ? -1 : (int)syscall(SYS_fchmod, file, mode);
+}
+
+int fchown(int file, uid_t owner, gid_t group)
+{
+    return is_broken("fchown") ? -1 : (int)syscall(SYS_fchown, file, owner, group);
 }

@@ -197,7 +197,8 @@ def make_pickle(rng, pickles):
 
 PLACED = ("goto", "goto", "break", "clear", "delete", "unframe")
 MALFORMED = ("fly", "goto", "goto x", "step 1", "insert 0 NOPE", "insert 0 BININT1 0", "insert 0 BININT1", "insert 0 NONE 00", "frame 0", "STEP", "show",
-             "goto 18446744073709551616", "replace 0 STOP", "insert 0 FRAME 0000000000000000", "insert 0 GET 780A", "show 4294967296")
+             "goto 18446744073709551616", "goto @", "goto @18446744073709551615", "delete @18446744073709551616", "frame 0 @0", "show @0",
+             "replace 0 STOP", "insert 0 FRAME 0000000000000000", "insert 0 GET 780A", "show 4294967296")
 
 
 def edit_line(rng, place, items):
@@ -261,6 +262,9 @@ class Shown:
 
     def place(self):
         return int(self.where[1])
+
+    def offset(self):
+        return int(self.where[3])
 
     def document(self):
         return [text[2:] for text in self.items]
@@ -373,9 +377,10 @@ class Case:
             raise Broken("what is shown on the way back is not what was shown on the way there")
         places = [self.rng.randrange(far + 1) for _ in range(5)]
         window = self.rng.choice([[], ["--window", str(self.rng.choice(WINDOWS))]])
-        again = split_views(self.debug("".join(f"goto {place}\n{VIEW}" for place in places), *window).splitlines())
+        asked = [f"goto @{there[place][1].offset()}" if self.rng.random() < 0.5 else f"goto {place}" for place in places]
+        again = split_views(self.debug("".join(f"{text}\n{VIEW}" for text in asked), *window).splitlines())
         if [(reply, view.all()) for reply, view in again] != [([f"at {place}"], shown[place]) for place in places]:
-            raise Broken(f"something else is shown after going to {places}")
+            raise Broken(f"something else is shown after {asked}")
 
     def follow(self, lines, views):
         """What each reply says of the views before it and after it."""

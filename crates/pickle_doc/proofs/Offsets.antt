@@ -92,3 +92,16 @@ only_place d items offset (Some j) own (l, is) k e = elim (cases_lt (length item
         ]
       ]
 ]
+
+-- there is a place k, and so many bytes spell the items before it
+pub record Begins (k bytes : ℕ) (items : List Item) : Type 0 where
+  pub within : k ≤ length items
+  pub start : bytes ≡ sizes (take k items)
+
+pub begins : (d : Contents) (items : List Item) (k bytes : ℕ) → items_of d ≡ items → offset_at d k ≡ Some bytes → Begins k bytes items
+begins d items k bytes own e = elim (cases_lt (length items) k) [
+  | inl past ↦ let none : None ≡ Some bytes = rw (own, lt-leb k (length items) past) at e in cc
+  | inr within ↦
+      let some : Some (sizes (take k items)) ≡ Some bytes = rw (own, le-leb k (length items) within) at e in
+      record { within = within; start = cc }
+]

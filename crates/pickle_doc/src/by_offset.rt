@@ -67,3 +67,26 @@ pub(crate) fn place_by(items: &GapList<Item>, mark: Mark, offset: u64) -> Option
         place_from(items, 0, 0, offset)
     }
 }
+
+/// The place with this offset. This goes over the items between it and the nearest of the first place, a mark, and a place that
+/// begins at this start.
+pub(crate) fn place_near(
+    items: &GapList<Item>,
+    mark: Mark,
+    from: usize,
+    start: u64,
+    offset: u64,
+) -> Option<usize>
+    requires mark { IsMark mark items.now.items }
+    requires place { from ≤ length items.now.items }
+    requires start { start ≡ sizes (take from items.now.items) }
+    ensures { Stands result offset items.now.items }
+{
+    if offset.min(offset.abs_diff(mark.offset)) <= offset.abs_diff(start) {
+        place_by(items, mark, offset)
+    } else if start <= offset {
+        place_from(items, from, start, offset)
+    } else {
+        place_back(items, from, start, offset)
+    }
+}

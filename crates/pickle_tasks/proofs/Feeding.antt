@@ -167,6 +167,7 @@ same_quits (Err f) says e = ap quits (sym e)
 same_quits (Ok l) (Ok m) e = ap (λ (k : Line). quits (Ok k)) (sym e.0)
 same_quits (Ok line.Nothing) (Err f) e = refl
 same_quits (Ok (line.Command c)) (Err f) e = refl
+same_quits (Ok (line.At p a)) (Err f) e = refl
 same_quits (Ok (line.Query x)) (Err f) e = refl
 same_quits (Ok line.Quit) (Err f) e = absurd e
 
@@ -201,6 +202,7 @@ quit_gives : (says : Result Line Syntax) (q : Standing) → quits says ≡ true 
 quit_gives (Ok line.Quit) q h = record { text_is = refl; unchanged = refl }
 quit_gives (Ok line.Nothing) q h = absurd cc
 quit_gives (Ok (line.Command c)) q h = absurd cc
+quit_gives (Ok (line.At p a)) q h = absurd cc
 quit_gives (Ok (line.Query x)) q h = absurd cc
 quit_gives (Err f) q h = absurd cc
 

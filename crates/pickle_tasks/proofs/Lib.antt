@@ -1,5 +1,6 @@
 pub mod Refusals
 pub mod Queries
+pub mod Places
 pub mod Cuts
 pub mod Feeding
 pub mod Endings

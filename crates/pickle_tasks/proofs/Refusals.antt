@@ -20,7 +20,7 @@ use Rattle.pickle_session.specs.declared.reply.Why.{Why}
 use Rattle.pickle_session.specs.declared.reply.Reply.TheVariants as reply
 use Rattle.pickle_text.specs.declared.line.Syntax.{Syntax}
 use Rattle.pickle_text.specs.PlaceText.{sign_if, item_line, line_at, items_text, cursor_text, where_text}
-use Rattle.pickle_text.specs.ReplyText.{refused_command, ran_text, placed_text, reply_text, syntax_line, no_object_line}
+use Rattle.pickle_text.specs.ReplyText.{refused_command, ran_text, placed_text, reply_text, syntax_line, no_object_line, no_item_line}
 use Rattle.pickle_tasks.specs.Transcript.{is_refusal}
 
 -- ---- replies
@@ -66,6 +66,10 @@ redone_accepts e k = refl
 pub missing_refuses : true ≡ is_refusal no_object_line
 unfolding no_object_line
 missing_refuses = refl
+
+pub no_item_refuses : (offset : ℕ) → true ≡ is_refusal (no_item_line offset)
+unfolding no_item_line ◌⧺◌
+no_item_refuses offset = refl
 
 pub stack_accepts : (t : State) → false ≡ is_refusal (stack_text t)
 unfolding stack_text ◌⧺◌

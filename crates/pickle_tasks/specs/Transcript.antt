@@ -1,8 +1,8 @@
 -- What the lines of a script may be answered.
 -- Source: own. It is a relation, since a line may also be answered by want of memory.
-use Rattle.std.specs.Prelude.{◌≡◌, ◌≢◌, ℕ, List, [], ◌∷◌, codes, eqb, Bool, true, false, if◌then◌else◌, Some, Result, Ok, Err}
+use Rattle.std.specs.Prelude.{◌≡◌, ◌≢◌, ℕ, List, [], ◌∷◌, codes, eqb, Bool, true, false, if◌then◌else◌, MatchOption, Option, Some, Result, Ok, Err}
 use Rattle.std.specs.List.{starts_with, list_any}
-use Rattle.pickle_doc.specs.Place.{end_of}
+use Rattle.pickle_doc.specs.Place.{IsPlaceAt, end_of}
 use Rattle.pickle_machine.specs.State.{State}
 use Rattle.pickle_session.specs.declared.command.Command.{Command}
 use Rattle.pickle_session.specs.declared.command.Command.TheVariants as command
@@ -14,9 +14,12 @@ use Rattle.pickle_session.specs.Allowed.{Standing, Answers, Goes, IsFree}
 use Rattle.pickle_text.specs.declared.line.Line.{Line}
 use Rattle.pickle_text.specs.declared.line.Line.TheVariants as line
 use Rattle.pickle_text.specs.declared.line.Query.{Query}
+use Rattle.pickle_text.specs.declared.line.Place.{Place}
+use Rattle.pickle_text.specs.declared.line.Place.TheVariants as place
+use Rattle.pickle_text.specs.declared.line.Action.{Action}
 use Rattle.pickle_text.specs.declared.line.Syntax.{Syntax}
 use Rattle.pickle_text.specs.Grammar as grammar
-use Rattle.pickle_text.specs.ReplyText.{reply_text, syntax_line}
+use Rattle.pickle_text.specs.ReplyText.{reply_text, syntax_line, no_item_line}
 use Rattle.pickle_tasks.specs.Query.{IsTold}
 
 -- ---- one line: the session as it stands before it, its text, and the session as it stands after it
@@ -34,6 +37,16 @@ pub record Replies (c : Command) (p : Standing) (text : List ℕ) (q : Standing)
   pub free : c ≡ command.Step → IsFree p → answer ≢ reply.Refused fault.Memory
   pub text_is : text ≡ reply_text (end_of q.session.document) answer
 
+-- the command at the place that has this offset; or, where none has it, that there is none
+pub record RepliesAt (offset : ℕ) (a : Action) (p : Standing) (text : List ℕ) (q : Standing) : Type 0 where
+  pub found : Option ℕ
+  pub is_found : IsPlaceAt p.session.document offset found
+  pub gives : MatchOption found (Tells p (no_item_line offset) text q) (λ k. Replies (grammar.command_at a k) p text q)
+
+abbrev pub GivesAt : Place → Action → Standing → List ℕ → Standing → Type 0
+GivesAt (place.Number k) a p text q = Replies (grammar.command_at a k) p text q
+GivesAt (place.Offset offset) a p text q = RepliesAt offset a p text q
+
 -- what is told of the session and of the state that the items before the cursor reach from nothing
 pub record Shows (query : Query) (p : Standing) (text : List ℕ) (q : Standing) : Type 0 where
   pub state : State
@@ -44,6 +57,7 @@ pub record Shows (query : Query) (p : Standing) (text : List ℕ) (q : Standing)
 abbrev pub GivesBy : Result Line Syntax → Standing → List ℕ → Standing → Type 0
 GivesBy (Ok line.Nothing) p text q = Tells p [] text q
 GivesBy (Ok (line.Command c)) p text q = Replies c p text q
+GivesBy (Ok (line.At place a)) p text q = GivesAt place a p text q
 GivesBy (Ok (line.Query query)) p text q = Shows query p text q
 GivesBy (Ok line.Quit) p text q = Tells p [] text q
 GivesBy (Err f) p text q = Tells p (syntax_line f) text q
@@ -70,6 +84,7 @@ abbrev pub quits : Result Line Syntax → Bool
 quits (Ok line.Quit) = true
 quits (Ok line.Nothing) = false
 quits (Ok (line.Command c)) = false
+quits (Ok (line.At place a)) = false
 quits (Ok (line.Query query)) = false
 quits (Err f) = false
 

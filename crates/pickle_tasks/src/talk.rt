@@ -14,7 +14,7 @@ use crate::query::write_query;
 use crate::stop::Stop;
 use pickle_ops::{Failed, Sink, Source};
 use pickle_session::{Command, Past, Reply, Session};
-use pickle_text::{Line, Syntax, write_reply, write_syntax};
+use pickle_text::{Action, Line, Place, Syntax, write_no_item_at, write_reply, write_syntax};
 use std::alloc::Global;
 
 /// The most bytes that are read at once.
@@ -64,6 +64,30 @@ fn obey_command<P: Past, K: Sink>(
     Ok(outcome_of(reply))
 }
 
+/// Obeys a command at the place that a line names and writes the reply, or that there is none.
+#[tactic(auto, using(crate::proofs::Places::placing_steps))]
+fn obey_at<P: Past, K: Sink>(
+    alloc: Global,
+    session: &mut Session<P>,
+    place: Place,
+    action: Action,
+    sink: &mut K,
+) -> Result<Outcome, Failed>
+    ensures { WritesLine (Ok (Line.At place action)) session.old session.new (K.told sink.old) (K.told sink.new) result }
+{
+    let k = match place {
+        Place::Number(k) => k,
+        Place::Offset(offset) => match session.place_at(offset) {
+            Some(k) => k,
+            None => {
+                write_no_item_at(offset, sink)?;
+                return Ok(Outcome::Refused);
+            }
+        },
+    };
+    obey_command(alloc, session, &action.at(k), sink)
+}
+
 /// Obeys a line and writes its text.
 fn obey_line<P: Past, K: Sink>(
     alloc: Global,
@@ -76,6 +100,7 @@ fn obey_line<P: Past, K: Sink>(
     match says {
         Ok(Line::Nothing) => Ok(Outcome::Accepted),
         Ok(Line::Command(command)) => obey_command(alloc, session, &command, sink),
+        Ok(Line::At(place, action)) => obey_at(alloc, session, place, action, sink),
         Ok(Line::Query(query)) => write_query(alloc, session, query, sink),
         Ok(Line::Quit) => Ok(Outcome::Accepted),
         Err(syntax) => refuse(session, syntax, sink),
@@ -90,6 +115,7 @@ fn quits(says: &Result<Line, Syntax>) -> bool
         Ok(Line::Quit) => true,
         Ok(Line::Nothing) => false,
         Ok(Line::Command(_)) => false,
+        Ok(Line::At(_, _)) => false,
         Ok(Line::Query(_)) => false,
         Err(_) => false,
     }

@@ -10,16 +10,21 @@ use Rattle.pickle_ops.specs.Spelling.{Operation, IsSpelled, FailsAsArg}
 use Rattle.pickle_ops.specs.Table.{opcode_named}
 use Rattle.pickle_ops.specs.declared.opcode.Opcode.{Opcode}
 use Rattle.pickle_ops.specs.declared.fault.OpFault.TheVariants as fault
+use Rattle.pickle_session.specs.declared.command.Command.{Command}
 use Rattle.pickle_session.specs.declared.command.Command.TheVariants as command
 use Rattle.pickle_text.specs.declared.line.Query.TheVariants as query
+use Rattle.pickle_text.specs.declared.line.Place.{Place}
+use Rattle.pickle_text.specs.declared.line.Place.TheVariants as place
+use Rattle.pickle_text.specs.declared.line.Action.{Action}
+use Rattle.pickle_text.specs.declared.line.Action.TheVariants as action
 use Rattle.pickle_text.specs.declared.line.Line.{Line}
 use Rattle.pickle_text.specs.declared.line.Line.TheVariants as line
 use Rattle.pickle_text.specs.declared.line.Syntax.{Syntax}
 use Rattle.pickle_text.specs.declared.line.Syntax.TheVariants as syntax
 use Rattle.pickle_text.specs.declared.keyword.PlainWord.{PlainWord}
 use Rattle.pickle_text.specs.declared.keyword.PlainWord.TheVariants as plain
-use Rattle.pickle_text.specs.declared.keyword.NumberWord.{NumberWord}
-use Rattle.pickle_text.specs.declared.keyword.NumberWord.TheVariants as number
+use Rattle.pickle_text.specs.declared.keyword.PlaceWord.{PlaceWord}
+use Rattle.pickle_text.specs.declared.keyword.PlaceWord.TheVariants as placed
 use Rattle.pickle_text.specs.declared.keyword.OpWord.{OpWord}
 use Rattle.pickle_text.specs.declared.keyword.OpWord.TheVariants as op
 use Rattle.pickle_text.specs.declared.keyword.Word.{Word}
@@ -67,30 +72,30 @@ plain_word w =
     else if bytes_eq w (codes "quit") then Some plain.Quit
     else None
 
--- those after which a number stands
-abbrev pub number_word : List ℕ → Option NumberWord
-number_word w =
-    if bytes_eq w (codes "goto") then Some number.Goto
-    else if bytes_eq w (codes "break") then Some number.Break
-    else if bytes_eq w (codes "clear") then Some number.Clear
-    else if bytes_eq w (codes "delete") then Some number.Delete
-    else if bytes_eq w (codes "unframe") then Some number.Unframe
-    else if bytes_eq w (codes "show") then Some number.Show
+-- those after which a place stands
+abbrev pub place_word : List ℕ → Option PlaceWord
+place_word w =
+    if bytes_eq w (codes "goto") then Some placed.Goto
+    else if bytes_eq w (codes "break") then Some placed.Break
+    else if bytes_eq w (codes "clear") then Some placed.Clear
+    else if bytes_eq w (codes "delete") then Some placed.Delete
+    else if bytes_eq w (codes "unframe") then Some placed.Unframe
     else None
 
--- those after which a number, a name and bytes stand
+-- those after which a place, a name and bytes stand
 abbrev pub op_word : List ℕ → Option OpWord
 op_word w =
     if bytes_eq w (codes "replace") then Some op.Replace
     else if bytes_eq w (codes "insert") then Some op.Insert
     else None
 
--- the first words: these, and `frame`, after which two numbers stand
+-- the first words: these; `show`, after which a number stands; and `frame`, after which a place and a count stand
 abbrev pub keyword : List ℕ → Option Word
 keyword w =
-    if bytes_eq w (codes "frame") then Some word.Pair
+    if bytes_eq w (codes "show") then Some word.Show
+    else if bytes_eq w (codes "frame") then Some word.Frame
     else option_map_or (λ (p : PlainWord). Some (word.Plain p)) (plain_word w)
-    (option_map_or (λ (n : NumberWord). Some (word.Number n)) (number_word w) (option_map word.Op (op_word w)))
+    (option_map_or (λ (n : PlaceWord). Some (word.Place n)) (place_word w) (option_map word.Op (op_word w)))
 
 -- what each of them says
 abbrev pub plain_line : PlainWord → Line
@@ -106,17 +111,27 @@ plain_line plain.Memo = line.Query query.Memo
 plain_line plain.Where = line.Query query.Where
 plain_line plain.Quit = line.Quit
 
-abbrev pub number_line : NumberWord → ℕ → Line
-number_line number.Goto n = line.Command (command.Goto n)
-number_line number.Break n = line.Command (command.Break n)
-number_line number.Clear n = line.Command (command.Clear n)
-number_line number.Delete n = line.Command (command.Delete n)
-number_line number.Unframe n = line.Command (command.Unframe n)
-number_line number.Show n = line.Query (query.Show n)
+abbrev pub place_action : PlaceWord → Action
+place_action placed.Goto = action.Goto
+place_action placed.Break = action.Break
+place_action placed.Clear = action.Clear
+place_action placed.Delete = action.Delete
+place_action placed.Unframe = action.Unframe
 
-abbrev pub op_line : OpWord → ℕ → Operation → Line
-op_line op.Replace k o = line.Command (command.Replace k o)
-op_line op.Insert k o = line.Command (command.Insert k o)
+abbrev pub op_action : OpWord → Operation → Action
+op_action op.Replace o = action.Replace o
+op_action op.Insert o = action.Insert o
+
+-- the command that does this at place k
+abbrev pub command_at : Action → ℕ → Command
+command_at action.Goto k = command.Goto k
+command_at action.Break k = command.Break k
+command_at action.Clear k = command.Clear k
+command_at (action.Replace o) k = command.Replace k o
+command_at (action.Insert o) k = command.Insert k o
+command_at action.Delete k = command.Delete k
+command_at (action.Frame n) k = command.Frame k n
+command_at action.Unframe k = command.Unframe k
 
 -- ---- one word after another
 
@@ -135,17 +150,31 @@ abbrev pub number_first : List (List ℕ) → Result (ℕ × List (List ℕ)) Sy
 number_first [] = Err syntax.MissingWord
 number_first (w ∷ words) = option_map_or (λ (n : ℕ). Ok (n, words)) (decimal_of w) (Err syntax.BadNumber)
 
+-- a place: its number; or `@` and after it, in the same word, its offset
+abbrev pub place_of : List ℕ → Option Place
+place_of [] = None
+place_of (byte ∷ rest) = if byte == 0x40 then option_map place.Offset (decimal_of rest) else option_map place.Number (decimal_of (byte ∷ rest))
+
+-- a place, and the words after it
+abbrev pub place_first : List (List ℕ) → Result (Place × List (List ℕ)) Syntax
+place_first [] = Err syntax.MissingWord
+place_first (w ∷ words) = option_map_or (λ (p : Place). Ok (p, words)) (place_of w) (Err syntax.BadNumber)
+
 -- ---- what a line says by its first word, with the words after it
 
--- one number
-abbrev pub number_says : NumberWord → List (List ℕ) → Result Line Syntax
-number_says w words = and_then (number_first words) (λ (p : ℕ × List (List ℕ)). alone (number_line w p.0) p.1)
+-- the number of an object
+abbrev pub show_says : List (List ℕ) → Result Line Syntax
+show_says words = and_then (number_first words) (λ (p : ℕ × List (List ℕ)). alone (line.Query (query.Show p.0)) p.1)
+
+-- one place
+abbrev pub place_says : PlaceWord → List (List ℕ) → Result Line Syntax
+place_says w words = and_then (place_first words) (λ (p : Place × List (List ℕ)). alone (line.At p.0 (place_action w)) p.1)
 
 -- a place and a count
-abbrev pub pair_says : List (List ℕ) → Result Line Syntax
-pair_says words =
-    and_then (number_first words) (λ (p : ℕ × List (List ℕ)).
-    and_then (number_first p.1) (λ (q : ℕ × List (List ℕ)). alone (line.Command (command.Frame p.0 q.0)) q.1))
+abbrev pub frame_says : List (List ℕ) → Result Line Syntax
+frame_says words =
+    and_then (place_first words) (λ (p : Place × List (List ℕ)).
+    and_then (number_first p.1) (λ (q : ℕ × List (List ℕ)). alone (line.At p.0 (action.Frame q.0)) q.1))
 
 -- ---- operations
 
@@ -168,16 +197,17 @@ arg_last (w ∷ words) = last_bytes (bytes_of_word w) words
 -- a place, an opcode, and its whole argument
 abbrev pub op_says : OpWord → List (List ℕ) → Result Line Syntax
 op_says w words =
-    and_then (number_first words) (λ (p : ℕ × List (List ℕ)).
+    and_then (place_first words) (λ (p : Place × List (List ℕ)).
     and_then (name_first p.1) (λ (q : Opcode × List (List ℕ)).
-    and_then (arg_last q.1) (λ (arg : List ℕ). Ok (op_line w p.0 (record { opcode = q.0; arg = arg })))))
+    and_then (arg_last q.1) (λ (arg : List ℕ). Ok (line.At p.0 (op_action w (record { opcode = q.0; arg = arg }))))))
 
 -- by each kind of first word; an unknown one is a fault whatever stands after it
 abbrev pub word_says : Option Word → List (List ℕ) → Result Line Syntax
 word_says None words = Err syntax.UnknownWord
 word_says (Some (word.Plain w)) words = alone (plain_line w) words
-word_says (Some (word.Number w)) words = number_says w words
-word_says (Some word.Pair) words = pair_says words
+word_says (Some word.Show) words = show_says words
+word_says (Some (word.Place w)) words = place_says w words
+word_says (Some word.Frame) words = frame_says words
 word_says (Some (word.Op w)) words = op_says w words
 
 abbrev pub words_say : List (List ℕ) → Result Line Syntax
@@ -196,8 +226,8 @@ line_says bytes = if nat_lt longest (length bytes) then Err syntax.LineTooLong e
 
 -- the operation that a line names
 abbrev pub op_in : Line → Option Operation
-op_in (line.Command (command.Replace k o)) = Some o
-op_in (line.Command (command.Insert k o)) = Some o
+op_in (line.At p (action.Replace o)) = Some o
+op_in (line.At p (action.Insert o)) = Some o
 op_in _ = None
 
 -- an operation in an answer is spelled

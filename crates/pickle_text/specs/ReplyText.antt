@@ -93,7 +93,7 @@ reply_text e (reply.Undone k) = placed_text (codes "undone ") k
 reply_text e (reply.Redone k) = placed_text (codes "redone ") k
 reply_text e (reply.Refused f) = refused_command f
 
--- ---- lines that say nothing, and a number that is no object's
+-- ---- lines that say nothing, a number that is no object's, and an offset that is no place's
 
 -- why a line says nothing: the words, and after them the fault of an opcode
 unfoldable pub syntax_words : Syntax → List ℕ
@@ -123,3 +123,10 @@ syntax_line f = codes "refused: " ⧺ syntax_words f ⧺ syntax_rest f ⧺ newli
 
 unfoldable pub no_object_line : List ℕ
 no_object_line = codes "refused: V1 no such object\n"
+
+-- no place has this offset
+unfoldable pub no_item_words : List ℕ
+no_item_words = codes "V2 no item at offset "
+
+unfoldable pub no_item_line : ℕ → List ℕ
+no_item_line offset = codes "refused: " ⧺ no_item_words ⧺ decimal offset ⧺ newline

@@ -2,16 +2,15 @@
 
 ghost use Rattle.std.specs.Prelude.{◌≡◌, ℕ, List, MatchResult, Ok, Err};
 ghost use Rattle.hex.specs.Hex.{decode_of, is_hex_digit};
-ghost use Rattle.pickle_text.specs.Grammar.{words_of, alone, plain_line, number_first, number_says, pair_says, name_first, arg_last, last_bytes, bytes_of_word, op_line, op_says, word_says, line_says, Answers};
+ghost use Rattle.pickle_text.specs.Grammar.{words_of, alone, plain_line, number_first, place_of, place_first, show_says, place_says, frame_says, name_first, arg_last, last_bytes, bytes_of_word, op_action, op_says, word_says, line_says, Answers};
 ghost use Rattle.pickle_text.specs.Inside.Words.{is_hex, fault_syntax};
 
 use crate::keyword::{
-    NumberWord, OpWord, PlainWord, Word, keyword, number_line, op_line, plain_line,
+    OpWord, PlaceWord, PlainWord, Word, keyword, op_action, place_action, plain_line,
 };
-use crate::line::{Line, Syntax};
+use crate::line::{Action, Line, Place, Query, Syntax};
 use crate::words::{LONGEST, first_word};
 use pickle_ops::{OpFault, Opcode, decimal_of, op_of};
-use pickle_session::Command;
 use std::alloc::Global;
 
 /// What a line says whose words are all read, unless one stands after them.
@@ -25,14 +24,37 @@ fn alone(says: Line, rest: &[u8]) -> Result<Line, Syntax>
 }
 
 /// The number in front, and what stands after it.
-fn number_first(rest: &[u8]) -> Result<(usize, &[u8]), Syntax>
+fn number_first(rest: &[u8]) -> Result<(u64, &[u8]), Syntax>
     ensures { MatchResult result (λ p. number_first (words_of rest.now) ≡ Ok (p.0, words_of p.1.now)) (λ f. number_first (words_of rest.now) ≡ Err f) }
 {
     match first_word(rest) {
         None => Err(Syntax::MissingWord),
         Some((word, rest)) => match decimal_of(word) {
             None => Err(Syntax::BadNumber),
-            Some(number) => Ok((number as usize, rest)),
+            Some(number) => Ok((number, rest)),
+        },
+    }
+}
+
+/// The place that a word names: by its number, or by `@` and its offset.
+fn place_of(word: &[u8]) -> Option<Place>
+    ensures { result ≡ place_of word.now }
+{
+    match word.split_first() {
+        Some((b'@', digits)) => Some(Place::Offset(decimal_of(digits)?)),
+        _ => Some(Place::Number(decimal_of(word)? as usize)),
+    }
+}
+
+/// The place in front, and what stands after it.
+fn place_first(rest: &[u8]) -> Result<(Place, &[u8]), Syntax>
+    ensures { MatchResult result (λ p. place_first (words_of rest.now) ≡ Ok (p.0, words_of p.1.now)) (λ f. place_first (words_of rest.now) ≡ Err f) }
+{
+    match first_word(rest) {
+        None => Err(Syntax::MissingWord),
+        Some((word, rest)) => match place_of(word) {
+            None => Err(Syntax::BadNumber),
+            Some(place) => Ok((place, rest)),
         },
     }
 }
@@ -44,21 +66,29 @@ fn read_plain(word: PlainWord, rest: &[u8]) -> Result<Line, Syntax>
     alone(plain_line(word), rest)
 }
 
-/// What a line says by a word and a number.
-fn read_number(word: NumberWord, rest: &[u8]) -> Result<Line, Syntax>
-    ensures { result ≡ number_says word (words_of rest.now) }
+/// What a line says that shows an object, by its number.
+fn read_show(rest: &[u8]) -> Result<Line, Syntax>
+    ensures { result ≡ show_says (words_of rest.now) }
 {
     let (number, rest) = number_first(rest)?;
-    alone(number_line(word, number), rest)
+    alone(Line::Query(Query::Show(number)), rest)
 }
 
-/// What a line says by two numbers.
-fn read_pair(rest: &[u8]) -> Result<Line, Syntax>
-    ensures { result ≡ pair_says (words_of rest.now) }
+/// What a line says by a word and a place.
+fn read_place(word: PlaceWord, rest: &[u8]) -> Result<Line, Syntax>
+    ensures { result ≡ place_says word (words_of rest.now) }
 {
-    let (place, rest) = number_first(rest)?;
+    let (place, rest) = place_first(rest)?;
+    alone(Line::At(place, place_action(word)), rest)
+}
+
+/// What a line says by a place and a count.
+fn read_frame(rest: &[u8]) -> Result<Line, Syntax>
+    ensures { result ≡ frame_says (words_of rest.now) }
+{
+    let (place, rest) = place_first(rest)?;
     let (count, rest) = number_first(rest)?;
-    alone(Line::Command(Command::Frame(place, count)), rest)
+    alone(Line::At(place, Action::Frame(count as usize)), rest)
 }
 
 /// The opcode in front, by its name, and what stands after it.
@@ -134,14 +164,14 @@ fn syntax_of(fault: OpFault) -> Syntax
 fn make_op(
     alloc: Global,
     word: OpWord,
-    place: usize,
+    place: Place,
     opcode: Opcode,
     arg: &[u8],
 ) -> Result<Line, Syntax>
-    ensures { Answers (Ok (op_line word place (record { opcode = opcode; arg = arg.now }))) result }
+    ensures { Answers (Ok (Line.At place (op_action word (record { opcode = opcode; arg = arg.now })))) result }
 {
     match op_of(alloc, opcode, arg) {
-        Ok(op) => Ok(op_line(word, place, op)),
+        Ok(op) => Ok(Line::At(place, op_action(word, op))),
         Err(fault) => Err(syntax_of(fault)),
     }
 }
@@ -150,11 +180,11 @@ fn make_op(
 fn make_line(
     alloc: Global,
     word: OpWord,
-    place: usize,
+    place: Place,
     opcode: Opcode,
     hex: &[u8],
 ) -> Result<Line, Syntax>
-    ensures { (bytes : List ℕ) → decode_of hex.now ≡ Ok bytes → Answers (Ok (op_line word place (record { opcode = opcode; arg = bytes }))) result }
+    ensures { (bytes : List ℕ) → decode_of hex.now ≡ Ok bytes → Answers (Ok (Line.At place (op_action word (record { opcode = opcode; arg = bytes })))) result }
 {
     match hex::decode(alloc, hex) {
         Ok(arg) => make_op(alloc, word, place, opcode, arg.as_slice()),
@@ -166,7 +196,7 @@ fn make_line(
 fn read_op(alloc: Global, word: OpWord, rest: &[u8]) -> Result<Line, Syntax>
     ensures { Answers (op_says word (words_of rest.now)) result }
 {
-    let (place, rest) = number_first(rest)?;
+    let (place, rest) = place_first(rest)?;
     let (opcode, rest) = name_first(rest)?;
     let hex = hex_last(rest)?;
     make_line(alloc, word, place, opcode, hex)
@@ -180,8 +210,9 @@ fn read_words(alloc: Global, word: Option<Word>, rest: &[u8]) -> Result<Line, Sy
     match word {
         None => Err(Syntax::UnknownWord),
         Some(Word::Plain(word)) => read_plain(word, rest),
-        Some(Word::Number(word)) => read_number(word, rest),
-        Some(Word::Pair) => read_pair(rest),
+        Some(Word::Show) => read_show(rest),
+        Some(Word::Place(word)) => read_place(word, rest),
+        Some(Word::Frame) => read_frame(rest),
         Some(Word::Op(word)) => read_op(alloc, word, rest),
     }
 }

@@ -1,9 +1,9 @@
 //! The first word of a line.
 
 ghost use Rattle.std.specs.Prelude.{◌≡◌};
-ghost use Rattle.pickle_text.specs.Grammar.{plain_word, number_word, op_word, keyword, plain_line, number_line, op_line};
+ghost use Rattle.pickle_text.specs.Grammar.{plain_word, place_word, op_word, keyword, plain_line, place_action, op_action};
 
-use crate::line::{Line, Query};
+use crate::line::{Action, Line, Query};
 use pickle_ops::Op;
 use pickle_session::Command;
 
@@ -23,18 +23,17 @@ pub(crate) enum PlainWord {
     Quit,
 }
 
-/// A word after which a number stands.
+/// A word after which a place stands.
 #[derive(Clone, Copy)]
-pub(crate) enum NumberWord {
+pub(crate) enum PlaceWord {
     Goto,
     Break,
     Clear,
     Delete,
     Unframe,
-    Show,
 }
 
-/// A word after which a number, a name and bytes stand.
+/// A word after which a place, a name and bytes stand.
 #[derive(Clone, Copy)]
 pub(crate) enum OpWord {
     Replace,
@@ -46,11 +45,13 @@ pub(crate) enum OpWord {
 pub(crate) enum Word {
     /// It stands alone.
     Plain(PlainWord),
-    /// A number stands after it.
-    Number(NumberWord),
-    /// Two numbers stand after it: `frame`.
-    Pair,
-    /// A number, a name and bytes stand after it.
+    /// `show`, after which the number of an object stands.
+    Show,
+    /// A place stands after it.
+    Place(PlaceWord),
+    /// `frame`, after which a place and a count stand.
+    Frame,
+    /// A place, a name and bytes stand after it.
     Op(OpWord),
 }
 
@@ -85,28 +86,26 @@ fn plain_word(word: &[u8]) -> Option<PlainWord>
     }
 }
 
-/// The first word of a line after which a number stands.
-fn number_word(word: &[u8]) -> Option<NumberWord>
-    ensures { result ≡ number_word word.now }
+/// The first word of a line after which a place stands.
+fn place_word(word: &[u8]) -> Option<PlaceWord>
+    ensures { result ≡ place_word word.now }
 {
     if word == b"goto".as_slice() {
-        Some(NumberWord::Goto)
+        Some(PlaceWord::Goto)
     } else if word == b"break".as_slice() {
-        Some(NumberWord::Break)
+        Some(PlaceWord::Break)
     } else if word == b"clear".as_slice() {
-        Some(NumberWord::Clear)
+        Some(PlaceWord::Clear)
     } else if word == b"delete".as_slice() {
-        Some(NumberWord::Delete)
+        Some(PlaceWord::Delete)
     } else if word == b"unframe".as_slice() {
-        Some(NumberWord::Unframe)
-    } else if word == b"show".as_slice() {
-        Some(NumberWord::Show)
+        Some(PlaceWord::Unframe)
     } else {
         None
     }
 }
 
-/// The first word of a line after which a number, a name and bytes stand.
+/// The first word of a line after which a place, a name and bytes stand.
 fn op_word(word: &[u8]) -> Option<OpWord>
     ensures { result ≡ op_word word.now }
 {
@@ -123,14 +122,17 @@ fn op_word(word: &[u8]) -> Option<OpWord>
 pub(crate) fn keyword(word: &[u8]) -> Option<Word>
     ensures { result ≡ keyword word.now }
 {
+    if word == b"show".as_slice() {
+        return Some(Word::Show);
+    }
     if word == b"frame".as_slice() {
-        return Some(Word::Pair);
+        return Some(Word::Frame);
     }
     if let Some(plain) = plain_word(word) {
         return Some(Word::Plain(plain));
     }
-    if let Some(number) = number_word(word) {
-        return Some(Word::Number(number));
+    if let Some(place) = place_word(word) {
+        return Some(Word::Place(place));
     }
     match op_word(word) {
         Some(op) => Some(Word::Op(op)),
@@ -157,26 +159,25 @@ pub(crate) fn plain_line(word: PlainWord) -> Line
     }
 }
 
-/// What a word says with a number.
-pub(crate) fn number_line(word: NumberWord, number: usize) -> Line
-    ensures { result ≡ number_line word number }
+/// What a word says that is done at a place.
+pub(crate) fn place_action(word: PlaceWord) -> Action
+    ensures { result ≡ place_action word }
 {
     match word {
-        NumberWord::Goto => Line::Command(Command::Goto(number)),
-        NumberWord::Break => Line::Command(Command::Break(number)),
-        NumberWord::Clear => Line::Command(Command::Clear(number)),
-        NumberWord::Delete => Line::Command(Command::Delete(number)),
-        NumberWord::Unframe => Line::Command(Command::Unframe(number)),
-        NumberWord::Show => Line::Query(Query::Show(number as u64)),
+        PlaceWord::Goto => Action::Goto,
+        PlaceWord::Break => Action::Break,
+        PlaceWord::Clear => Action::Clear,
+        PlaceWord::Delete => Action::Delete,
+        PlaceWord::Unframe => Action::Unframe,
     }
 }
 
-/// What a word says with a place and an operation.
-pub(crate) fn op_line(word: OpWord, place: usize, op: Op) -> Line
-    ensures { result ≡ op_line word place op }
+/// What a word says with an operation that is done at a place.
+pub(crate) fn op_action(word: OpWord, op: Op) -> Action
+    ensures { result ≡ op_action word op }
 {
     match word {
-        OpWord::Replace => Line::Command(Command::Replace(place, op)),
-        OpWord::Insert => Line::Command(Command::Insert(place, op)),
+        OpWord::Replace => Action::Replace(op),
+        OpWord::Insert => Action::Insert(op),
     }
 }

@@ -1,6 +1,9 @@
 //! What a line asks for, and why it asks for nothing.
 
-use pickle_ops::OpFault;
+ghost use Rattle.std.specs.Prelude.{◌≡◌};
+ghost use Rattle.pickle_text.specs.Grammar.{command_at};
+
+use pickle_ops::{Op, OpFault};
 use pickle_session::Command;
 
 /// What is asked about a session; it changes nothing.
@@ -20,13 +23,63 @@ pub enum Query {
     Where,
 }
 
+/// A place of the document, as a line names it.
+#[derive(Clone, Copy, Debug, PartialEq, Eq)]
+pub enum Place {
+    /// `K`: by its number.
+    Number(usize),
+    /// `@O`: by its offset, in the document as it is when the line is obeyed.
+    Offset(u64),
+}
+
+/// What is done at a place. Each is the command of the same name.
+#[derive(Debug, Drop)]
+pub enum Action {
+    /// `goto K`
+    Goto,
+    /// `break K`
+    Break,
+    /// `clear K`
+    Clear,
+    /// `replace K NAME HEX`
+    Replace(Op),
+    /// `insert K NAME HEX`
+    Insert(Op),
+    /// `delete K`
+    Delete,
+    /// `frame K COUNT`
+    Frame(usize),
+    /// `unframe K`
+    Unframe,
+}
+
+impl Action {
+    /// The command that does this at place k.
+    pub fn at(self, k: usize) -> Command
+        ensures { result ≡ command_at self k }
+    {
+        match self {
+            Action::Goto => Command::Goto(k),
+            Action::Break => Command::Break(k),
+            Action::Clear => Command::Clear(k),
+            Action::Replace(op) => Command::Replace(k, op),
+            Action::Insert(op) => Command::Insert(k, op),
+            Action::Delete => Command::Delete(k),
+            Action::Frame(count) => Command::Frame(k, count),
+            Action::Unframe => Command::Unframe(k),
+        }
+    }
+}
+
 /// What a line asks for.
 #[derive(Debug, Drop)]
 pub enum Line {
     /// It has no word.
     Nothing,
-    /// A command to the session.
+    /// A command to the session that names no place.
     Command(Command),
+    /// A command to the session at this place.
+    At(Place, Action),
     /// A question about the session.
     Query(Query),
     /// `quit`: nothing after this line is obeyed.
@@ -40,7 +93,7 @@ pub enum Syntax {
     UnknownWord,
     /// X2: a word is missing.
     MissingWord,
-    /// X3: a word is no number below 2^64 in decimal digits.
+    /// X3: a word is no number below 2^64 in decimal digits, which has `@` in front where a place is named by its offset.
     BadNumber,
     /// X4: a word is no opcode's name.
     UnknownOpcodeName,

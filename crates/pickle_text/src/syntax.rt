@@ -3,11 +3,11 @@
 
 ghost use Rattle.std.specs.Prelude.{◌≡◌};
 ghost use Rattle.pickle_io.specs.Device.{Writes};
-ghost use Rattle.pickle_text.specs.ReplyText.{syntax_words, syntax_rest, syntax_line, no_object_line};
+ghost use Rattle.pickle_text.specs.ReplyText.{syntax_words, syntax_rest, syntax_line, no_object_line, no_item_words, no_item_line};
 
 use crate::fault_text::write_op_fault;
 use crate::line::Syntax;
-use pickle_ops::{Failed, Sink, write_all};
+use pickle_ops::{Failed, Sink, write_all, write_decimal};
 
 /// Why a line says nothing.
 #[tactic(auto, unfolding(crate::specs::ReplyText::syntax_words))]
@@ -64,4 +64,24 @@ pub fn write_no_such_object<S: Sink>(sink: &mut S) -> Result<(), Failed>
     ensures { Writes (S.told sink.old) (S.told sink.new) result no_object_line }
 {
     write_all(sink, no_such_object().as_bytes())
+}
+
+/// What stands before an offset that no place has.
+#[tactic(auto, unfolding(crate::specs::ReplyText::no_item_words))]
+fn no_item_words() -> &'static str
+    ensures { result.now ≡ no_item_words }
+{
+    "V2 no item at offset "
+}
+
+/// Writes the line that a command is answered with whose place is named by an offset that no place has. It takes no memory. Where
+/// the sink fails, a front of the line was written.
+#[tactic(auto, using(pickle_io::proofs::Devices::text_steps), unfolding(crate::specs::ReplyText::no_item_line))]
+pub fn write_no_item_at<S: Sink>(offset: u64, sink: &mut S) -> Result<(), Failed>
+    ensures { Writes (S.told sink.old) (S.told sink.new) result (no_item_line offset) }
+{
+    write_all(sink, b"refused: ")?;
+    write_all(sink, no_item_words().as_bytes())?;
+    write_decimal(offset, sink)?;
+    write_all(sink, b"\n")
 }

@@ -11,7 +11,7 @@ use std::test::Fail;
 const PAIR: &[u8] = b"K\x012\x86.";
 
 /// How many lines there are on the pair.
-const COUNT: usize = 26;
+const COUNT: usize = 28;
 
 /// Lines on the pair, and what they are answered.
 const LINES: [(&str, &str); COUNT] = [
@@ -44,6 +44,8 @@ const LINES: [(&str, &str); COUNT] = [
     ("clear 3\n", "clear 3\n"),
     ("run\n", "at 4: end, stopped\n"),
     ("goto 5\n", "refused: C4 no such place\n"),
+    ("goto @1\n", "refused: V2 no item at offset 1\n"),
+    ("goto @2\n", "at 1\n"),
 ];
 
 /// A line whose argument does not fit beside its opcode.
@@ -218,6 +220,44 @@ const ROWS: [(&[u8], &str, &str, u8); 27] = [
     ),
 ];
 
+/// The usual dump of a list with the number 1.
+const DUMP: &[u8] = b"\x80\x04\x95\x06\x00\x00\x00\x00\x00\x00\x00]\x94K\x01a.";
+
+/// Scripts with places by their offsets in the dump of a list, with their transcripts: the same where one pickle is read and where
+/// several are.
+const OFFSETS: [(&str, &str); 5] = [
+    (
+        "goto @11\nwhere\nbreak @13\ngoto @14\ngoto @17\n",
+        "at 2\nat 2 of 7, offset 11, buffers 0, result none, end stopped\nbreak 4\nrefused: V2 no item at offset 14\nat 7\n",
+    ),
+    (
+        "replace @13 BININT2 0100\ngoto @15\ngoto @16\n",
+        "edited 4\nrefused: V2 no item at offset 15\nat 5\n",
+    ),
+    (
+        "goto @\nshow @0\nframe @0 @4\n",
+        "refused: X3 bad number\nrefused: X3 bad number\nrefused: X3 bad number\n",
+    ),
+    ("insert @1 BININT1 0102\n", "refused: X8 F9 too long\n"),
+    // V2 comes before what the command itself would be refused for, and changes nothing.
+    (
+        "goto 4\ndelete @1\ndelete @2\nback\nbreak @17\ndelete @17\nfly @1\n",
+        "at 4\nrefused: V2 no item at offset 1\nrefused: C5 behind the cursor\nat 3\nrefused: C4 no such place\nrefused: C9 E1 no such item\nrefused: X1 unknown word\n",
+    ),
+];
+
+/// Two pickles, one after the other, and lines on both.
+const TWO: &[u8] = b"\x80\x04K\x07.N.";
+
+const TWO_LINES: &str = "goto @5\ngoto @6\ngoto @7\nbreak @5\ngoto @8\n";
+
+/// What the lines are answered where one pickle is read: what follows it is its tail.
+const AS_ONE: &str =
+    "at 3\nrefused: V2 no item at offset 6\nrefused: V2 no item at offset 7\nrefused: C4 no such place\nrefused: V2 no item at offset 8\n";
+
+/// And where several are.
+const AS_SEVERAL: &str = "at 3\nat 4\nat 5\nbreak 3\nrefused: V2 no item at offset 8\n";
+
 /// A session of the bytes.
 fn opened(alloc: Global, bytes: &[u8]) -> Result<Session<Whole>, DocFault> {
     Session::open(alloc, Whole::new(alloc), bytes)
@@ -226,6 +266,15 @@ fn opened(alloc: Global, bytes: &[u8]) -> Result<Session<Whole>, DocFault> {
 /// The transcript of a script and its status.
 fn answered(alloc: Global, bytes: &[u8], script: &[u8]) -> Result<(Vec<u8>, u8), Stop> {
     let mut session = opened(alloc, bytes)?;
+    let mut source = FromRead::new(script);
+    let mut sink = ToWrite::new(Vec::new(alloc));
+    let status = converse(alloc, &mut session, &mut source, &mut sink)?;
+    Ok((sink.into_inner(), status))
+}
+
+/// The same where the bytes are several pickles.
+fn answered_as_several(alloc: Global, bytes: &[u8], script: &[u8]) -> Result<(Vec<u8>, u8), Stop> {
+    let mut session = Session::open_many(alloc, Whole::new(alloc), bytes)?;
     let mut source = FromRead::new(script);
     let mut sink = ToWrite::new(Vec::new(alloc));
     let status = converse(alloc, &mut session, &mut source, &mut sink)?;
@@ -279,6 +328,23 @@ fn rows(rt: HostRuntime) -> Result<(), Fail> {
     assert_eq!(rt; found.0.as_slice(), text.as_slice());
     assert_eq!(rt; found.1, 1);
     one_cut();
+    Ok(())
+}
+
+#[test]
+fn places_by_offset(rt: HostRuntime) -> Result<(), Fail> {
+    for (script, text) in &OFFSETS {
+        let one = answered(rt.alloc(), DUMP, script.as_bytes())?;
+        let several = answered_as_several(rt.alloc(), DUMP, script.as_bytes())?;
+        for (found, status) in [one, several] {
+            assert_eq!(rt; found.as_slice(), text.as_bytes());
+            assert_eq!(rt; status, 1);
+        }
+    }
+    let one = answered(rt.alloc(), TWO, TWO_LINES.as_bytes())?;
+    assert_eq!(rt; one.0.as_slice(), AS_ONE.as_bytes());
+    let several = answered_as_several(rt.alloc(), TWO, TWO_LINES.as_bytes())?;
+    assert_eq!(rt; several.0.as_slice(), AS_SEVERAL.as_bytes());
     Ok(())
 }
 

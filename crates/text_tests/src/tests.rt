@@ -5,10 +5,10 @@ mod rows;
 use crate::tests::rows::{MANY, REPLIES, SCRIPTS, Script};
 use pickle_doc::{DocFault, End};
 use pickle_ops::{Failed, Sink, Sip, ToWrite};
-use pickle_session::{Past, Reply, Session, Whole};
+use pickle_session::{Command, Past, Reply, Session, Whole};
 use pickle_text::{
-    Line, Query, Syntax, read_command, write_items, write_no_such_object, write_reply,
-    write_syntax, write_where,
+    Line, Place, Query, Syntax, read_command, write_items, write_no_item_at, write_no_such_object,
+    write_reply, write_syntax, write_where,
 };
 use std::alloc::Global;
 use std::test::Fail;
@@ -39,16 +39,25 @@ enum Answer {
     Syntax(Syntax),
     Reply(End, Reply),
     Query(Query),
+    Nowhere(u64),
+}
+
+/// Obeys a command.
+fn replied<P: Past>(alloc: Global, session: &mut Session<P>, command: &Command) -> Answer {
+    let reply = session.obey(alloc, command);
+    Answer::Reply(session.document().end(), reply)
 }
 
 /// Obeys a line.
 fn obeyed<P: Past>(alloc: Global, session: &mut Session<P>, line: &[u8]) -> Answer {
     match read_command(alloc, line) {
         Err(syntax) => Answer::Syntax(syntax),
-        Ok(Line::Command(command)) => {
-            let reply = session.obey(alloc, &command);
-            Answer::Reply(session.document().end(), reply)
-        }
+        Ok(Line::Command(command)) => replied(alloc, session, &command),
+        Ok(Line::At(Place::Number(k), action)) => replied(alloc, session, &action.at(k)),
+        Ok(Line::At(Place::Offset(offset), action)) => match session.place_at(offset) {
+            Some(k) => replied(alloc, session, &action.at(k)),
+            None => Answer::Nowhere(offset),
+        },
         Ok(Line::Query(query)) => Answer::Query(query),
         Ok(_) => Answer::Nothing,
     }
@@ -65,6 +74,7 @@ fn write_answer<P: Past, S: Sink>(
         Answer::Syntax(syntax) => write_syntax(syntax, sink),
         Answer::Reply(end, reply) => write_reply(end, reply, sink),
         Answer::Query(query) => tell(session, query, sink),
+        Answer::Nowhere(offset) => write_no_item_at(offset, sink),
     }
 }
 

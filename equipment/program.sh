@@ -1,0 +1,98 @@
+# shellcheck shell=bash disable=SC2034,SC2154
+# Which program is started: what ./picklestep, ./build, ./release, ./install and ./test know of it together. They set `root`,
+# the folder of the repository, before they read this file.
+
+crate=$root/crates/picklestep
+program=$crate/out/picklestep
+released=$root/dist/linux-x86_64
+checked=$root/out/released
+
+complain() {
+    echo "picklestep: $1" >&2
+}
+
+# The lines of crates.txt for the program and for each crate that it stands on, sorted. No crate of tests is among them.
+product_lines() {
+    local -A libraries=() seen=()
+    local name libraries_of more todo=(picklestep)
+    while IFS=: read -r name libraries_of; do
+        libraries[${name:-#}]=$libraries_of
+    done <"$root/crates.txt"
+    while [ "${#todo[@]}" -gt 0 ]; do
+        name=${todo[0]}
+        todo=("${todo[@]:1}")
+        if [ -n "${libraries[$name]-}" ] && [ -z "${seen[$name]-}" ]; then
+            seen[$name]=yes
+            read -r -a more <<<"${libraries[$name]}"
+            todo+=("${more[@]}")
+            echo "$name:${libraries[$name]}"
+        fi
+    done | LC_ALL=C sort
+}
+
+# The crates of the program.
+product_crates() {
+    product_lines | cut -d : -f 1
+}
+
+# The files that the program is made from, but for crates.txt, each with its sum. A crate may lack one of the folders.
+product_files() {
+    local folders=() name
+    cd -- "$root" || return
+    while read -r name; do
+        folders+=("crates/$name"/{src,specs,proofs})
+    done < <(product_crates)
+    find "${folders[@]}" -type f -print0 2>/dev/null | LC_ALL=C sort -z | xargs -0 -r sha256sum --
+}
+
+# The SHA-256 over the lines of crates.txt, and over the names and contents of the files. Times and modes do not count.
+sum_of_sources() {
+    { product_lines && (product_files); } | sha256sum | cut -d ' ' -f 1
+}
+
+# newer_source FILE [FOLDER]: a source, or a file of FOLDER, that is newer than FILE; nothing where there is none. The folders
+# count too: their times tell that a file was taken away.
+newer_source() {
+    shopt -s nullglob
+    find "$root"/crates.txt "$root"/crates/*/{src,specs,proofs} "${@:2}" -newer "$1" -print -quit 2>/dev/null
+}
+
+# Whether the program was built here, from the sources as they are.
+is_built() {
+    [ -x "$program" ] && [ -z "$(newer_source "$program")" ]
+}
+
+# Whether the released program is the one of the sources as they are, and whole; else it says which of the two it is not.
+release_fault() {
+    if [ ! -r "$released/SOURCES" ] || [ "$(sum_of_sources)" != "$(<"$released/SOURCES")" ]; then
+        echo 'dist/linux-x86_64/SOURCES is not the sum of the sources'
+    elif ! (cd -- "$released" && sha256sum --check --status SHA256SUMS) 2>/dev/null; then
+        echo 'dist/linux-x86_64/picklestep has not the sum in SHA256SUMS'
+    fi
+}
+
+# Whether the released program can be started here. That it fits the sources is remembered by the file $checked, which is as old
+# as the beginning of the comparison; where it cannot be written, each start compares.
+is_released() {
+    local stamp=$checked.$$
+    [ "$(uname -sm)" = 'Linux x86_64' ] && [ -x "$released/picklestep" ] || return 1
+    [ -e "$checked" ] && [ -z "$(newer_source "$checked" "$released")" ] && return
+    { mkdir -p -- "$root/out" && : >"$stamp"; } 2>/dev/null || stamp=
+    if [ -z "$(release_fault)" ]; then
+        [ -z "$stamp" ] || mv -f -- "$stamp" "$checked"
+    else
+        rm -f -- "$stamp" "$checked"
+        return 1
+    fi
+}
+
+# Names the program to start, in `chosen`. Where none fits the sources it is built, and where that fails there is none.
+choose_program() {
+    if is_built; then
+        chosen=$program
+    elif is_released; then
+        chosen=$released/picklestep
+    else
+        "$root/build" --kept >/dev/null && chosen=$program
+    fi
+}

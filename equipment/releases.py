@@ -1,0 +1,440 @@
+#!/usr/bin/python3
+"""Tries the released program, from outside: in a fresh clone, where something was changed, installed, and with nothing but the C library.
+
+    releases.py ROOT FOLDER
+
+ROOT is the repository, of which the last commit is cloned. FOLDER is for the files. Each line says what was tried, a tab, and what was wrong, or
+nothing after it. The last line says how many starts there were.
+"""
+from __future__ import annotations
+
+import os
+import pathlib
+import re
+import shutil
+import subprocess
+import sys
+import time
+from collections.abc import Callable
+from dataclasses import dataclass, field
+
+HOSTILE = b"cposix\nsystem\n(X\x02\x00\x00\x00idtR."
+LISTING = """\
+    0: c    GLOBAL     'posix' 'system'
+   14: (    MARK
+   15: X        BINUNICODE 'id'
+   22: t        TUPLE      (MARK at 14)
+   23: R    REDUCE
+   24: .    STOP
+highest protocol among opcodes = 1
+"""
+DIST = "dist/linux-x86_64"
+# What stands on the path in the place of the toolchain: it writes down that it was called, and builds what it is told to.
+STAND_IN = """\
+#!/bin/bash
+echo "$*" >>"$CALLED"
+if [ "$1" = version ]; then
+    echo "$VERSION"
+elif [ -n "$BUILT" ] && [ "$1" = run ]; then
+    cp -- "$BUILT" out/picklestep && chmod 755 out/picklestep
+else
+    echo 'rt is not here' >&2
+    exit 1
+fi
+"""
+SECONDS = 5.0
+
+
+@dataclass
+class Run:
+    status: int
+    output: str
+    errors: str
+    seconds: float
+
+
+@dataclass
+class Releases:
+    root: pathlib.Path
+    folder: pathlib.Path
+    starts: int = 0
+    clone: pathlib.Path = field(init=False)
+    called: pathlib.Path = field(init=False)
+    environment: dict[str, str] = field(init=False)
+
+    def __post_init__(self) -> None:
+        self.folder.mkdir(parents=True)
+        self.clone = self.folder / "a clone"
+        self.called = self.folder / "called"
+        (self.folder / "hostile.pickle").write_bytes(HOSTILE)
+        (self.folder / "gitconfig").write_text("[safe]\n\tdirectory = *\n")
+        (self.folder / "bin").mkdir()
+        (self.folder / "bin" / "rt").write_text(STAND_IN)
+        (self.folder / "bin" / "rt").chmod(0o755)
+        path = [at for at in os.environ["PATH"].split(":") if not os.path.exists(f"{at}/rt")]
+        self.environment = {
+            "PATH": ":".join(path),
+            "HOME": str(self.folder),
+            "LC_ALL": "C.UTF-8",
+            "CALLED": str(self.called),
+            "GIT_CONFIG_GLOBAL": str(self.folder / "gitconfig"),
+        }
+
+    def run(self, *words: str, at: pathlib.Path | None = None, **environment: str) -> Run:
+        """Runs a command with no toolchain on the path."""
+        self.starts += 1
+        begin = time.monotonic()
+        done = subprocess.run(
+            words,
+            cwd=at or self.clone,
+            stdin=subprocess.DEVNULL,
+            capture_output=True,
+            timeout=100,
+            env={**self.environment, **environment},
+        )
+        return Run(done.returncode, done.stdout.decode(), done.stderr.decode(), time.monotonic() - begin)
+
+    def run_stand_in(self, *words: str, at: pathlib.Path | None = None, **environment: str) -> Run:
+        """Runs a command with the stand-in for the toolchain first on the path."""
+        self.called.unlink(missing_ok=True)
+        return self.run(*words, at=at, **{**environment, "PATH": f"{self.folder}/bin:{self.environment['PATH']}"})
+
+    def copy(self, name: str) -> pathlib.Path:
+        """A copy of the clone that may be changed."""
+        at = self.folder / name
+        shutil.copytree(self.clone, at, symlinks=True)
+        return at
+
+    def lists(self, *words: str, at: pathlib.Path | None = None) -> str:
+        """What is wrong with a listing by the program that is started so, with no toolchain on the path."""
+        run = self.run(*words, "list", str(self.folder / "hostile.pickle"), at=at)
+        if (run.status, run.output, run.errors) != (0, LISTING, ""):
+            return f"status {run.status}, output {run.output[:60]!r}, errors {run.errors[:200]!r}"
+        return "" if run.seconds < SECONDS else f"it took {run.seconds:.1f} seconds"
+
+
+def change_byte(file: pathlib.Path) -> None:
+    content = bytearray(file.read_bytes())
+    content[len(content) // 2] ^= 1
+    file.write_bytes(content)
+
+
+# --- Starts ---
+
+
+def clone_starts(releases: Releases) -> str:
+    done = releases.run("git", "clone", "-q", str(releases.root), str(releases.clone), at=releases.folder)
+    if done.status != 0:
+        return f"git clone: {done.errors[:200]}"
+    for number in ("first", "second"):
+        why = releases.lists("./picklestep")
+        if why:
+            return f"the {number} start: {why}"
+    if (releases.clone / "crates/picklestep/out").exists():
+        return "it was built"
+    status = releases.run("git", "status", "--porcelain")
+    return f"git status: {status.output[:200]}" if status.output else ""
+
+
+def starts_read_only(releases: Releases) -> str:
+    at = releases.copy("read only")
+    shutil.rmtree(at / "out", ignore_errors=True)
+    subprocess.run(["chmod", "-R", "a-w", str(at)], check=True)
+    words = ["./picklestep"]
+    if os.geteuid() == 0:
+        words = ["setpriv", "--inh-caps=-all", "--ambient-caps=-all", "--bounding-set=-all", *words]
+    why = releases.lists(*words, at=at)
+    subprocess.run(["chmod", "-R", "u+w", str(at)], check=True)
+    return why
+
+
+def is_refused(releases: Releases, at: pathlib.Path, says: str) -> str:
+    """What is wrong where neither the check nor a start may take the released program for that of the sources."""
+    check = releases.run("./release", "--check", at=at)
+    if check.status != 1 or says not in check.errors or "run ./release" not in check.errors:
+        return f"the check: status {check.status}, errors {check.errors[:200]!r}"
+    start = releases.run_stand_in("./picklestep", "list", str(releases.folder / "hostile.pickle"), at=at)
+    if start.status != 2 or start.output or "picklestep: the build failed: rt is not here" not in start.errors:
+        return f"the start: status {start.status}, output {start.output[:60]!r}, errors {start.errors[:200]!r}"
+    gate = releases.run_stand_in("./test", at=at)
+    if gate.status != 1 or not gate.output.endswith("\n0 passed, 1 failed\n") or "run ./release" not in gate.output:
+        return f"./test: status {gate.status}, output {gate.output[-200:]!r}"
+    return "./test went on to the proofs" if releases.called.exists() else ""
+
+
+def source_changed(releases: Releases) -> str:
+    at = releases.copy("source")
+    for file in ("crates/picklestep/src/main.rt", "crates/pickle_io/src/lib.rt", "crates/pickle_ops/specs/Table.antt"):
+        was = (at / file).read_bytes()
+        change_byte(at / file)
+        why = is_refused(releases, at, "SOURCES")
+        if why:
+            return f"a byte of {file}: {why}"
+        (at / file).write_bytes(was)
+        why = releases.lists("./picklestep", at=at)
+        if why:
+            return f"{file} as it was: {why}"
+    (at / "crates/pickle_io/src/more.rt").write_bytes(b"")
+    why = is_refused(releases, at, "SOURCES")
+    if why:
+        return f"a further file: {why}"
+    (at / "crates/pickle_io/src/more.rt").unlink()
+    (at / "crates/pickle_io/src/lib.rt").rename(at / "crates/pickle_io/src/other.rt")
+    return is_refused(releases, at, "SOURCES")
+
+
+def program_changed(releases: Releases) -> str:
+    at = releases.copy("program")
+    releases.lists("./picklestep", at=at)
+    change_byte(at / DIST / "picklestep")
+    why = is_refused(releases, at, "SHA256SUMS")
+    if why:
+        return why
+    (at / DIST / "picklestep").unlink()
+    return is_refused(releases, at, "SHA256SUMS")
+
+
+def crates_changed(releases: Releases) -> str:
+    """A crate of tests does not count, and one that the program stands on does."""
+    at = releases.copy("crates")
+    text = (at / "crates.txt").read_text()
+    for part in ("src", "specs"):
+        (at / "crates/another" / part).mkdir(parents=True)
+    (at / "crates/another/src/lib.rt").write_text("// another crate\n")
+    (at / "crates.txt").write_text(text + "another: pickle_ops\n")
+    check = releases.run("./release", "--check", at=at)
+    if check.status != 0:
+        return f"a crate of tests: status {check.status}, errors {check.errors[:200]!r}"
+    why = releases.lists("./picklestep", at=at)
+    if why:
+        return f"a crate of tests: {why}"
+    lines = re.sub(r"^(picklestep|pickle_tasks): ", r"\1: another ", text + "another: pickle_ops\n", flags=re.M)
+    (at / "crates.txt").write_text(lines)
+    return is_refused(releases, at, "SOURCES")
+
+
+def other_machine(releases: Releases) -> str:
+    at = releases.copy("machine")
+    uname = releases.folder / "bin" / "uname"
+    uname.write_text("#!/bin/sh\necho 'Linux aarch64'\n")
+    uname.chmod(0o755)
+    start = releases.run_stand_in("./picklestep", "list", "x", at=at)
+    uname.unlink()
+    if start.status != 2 or "picklestep: building" not in start.errors or not releases.called.exists():
+        return f"status {start.status}, errors {start.errors[:200]!r}"
+    return ""
+
+
+# --- The release ---
+
+
+def release_again(releases: Releases) -> str:
+    """From the program that the proofs built: where it is the released one nothing changes, else all that depends on it does."""
+    at = releases.copy("again")
+    version = (at / DIST / "TOOLCHAIN").read_text().strip()
+    same = {"BUILT": str(releases.clone / DIST / "picklestep"), "VERSION": version}
+    for _ in range(2):
+        run = releases.run_stand_in("./release", at=at, **same)
+        if run.status != 0 or len(run.output.splitlines()) != 1:
+            return f"status {run.status}, output {run.output!r}, errors {run.errors[:200]!r}"
+        status = releases.run("git", "status", "--porcelain", at=at)
+        if status.output:
+            return f"the same program: {status.output[:200]}"
+    change_byte(at / "crates/picklestep/src/main.rt")
+    other = releases.folder / "other"
+    other.write_bytes((releases.clone / DIST / "picklestep").read_bytes() + b"\n")
+    run = releases.run_stand_in("./release", at=at, BUILT=str(other), VERSION=version)
+    if run.status != 0 or (at / DIST / "picklestep").read_bytes() != other.read_bytes():
+        return f"another program: status {run.status}, errors {run.errors[:200]!r}"
+    check = releases.run("./release", "--check", at=at)
+    if check.status != 0:
+        return f"another program: {check.errors[:200]}"
+    run = releases.run_stand_in("./release", at=at)
+    return "" if run.status != 0 and releases.run("./release", "--check", at=at).status == 0 else "a build that fails: it is released"
+
+
+def told_beside_it(releases: Releases) -> str:
+    dist = releases.clone / DIST
+    names = sorted(os.listdir(dist))
+    if names != ["GLIBC", "SHA256SUMS", "SOURCES", "TOOLCHAIN", "picklestep"]:
+        return f"there is {names}"
+    if releases.run("sha256sum", "--check", "--status", "SHA256SUMS", at=dist).status != 0:
+        return "the sum"
+    least = (dist / "GLIBC").read_text().strip()
+    if shutil.which("readelf"):
+        said = releases.run("readelf", "--version-info", "--wide", str(dist / "picklestep")).output
+        versions = [tuple(map(int, number.split("."))) for number in re.findall(r"GLIBC_([\d.]+)", said)]
+        if tuple(map(int, least.split("."))) != max(versions):
+            return f"glibc {least}, and not {max(versions)}"
+    readme = (releases.clone / "README.md").read_text()
+    for what in (f"glibc {least}", (dist / "TOOLCHAIN").read_text().strip()):
+        if what not in readme:
+            return f"README.md does not tell {what}"
+    return ""
+
+
+# --- With the C library alone ---
+
+
+def libraries(program: pathlib.Path) -> list[str]:
+    said = subprocess.run(["ldd", str(program)], capture_output=True, text=True, check=True).stdout
+    return re.findall(r"(/\S+) \(0x", said)
+
+
+def runs_bare(releases: Releases) -> str:
+    bare = releases.folder / "bare"
+    program = releases.clone / DIST / "picklestep"
+    (bare / "bin").mkdir(parents=True)
+    shutil.copy(program, bare / "bin" / "picklestep")
+    shutil.copy(releases.folder / "hostile.pickle", bare)
+    files = libraries(program)
+    if len(files) != 2:
+        return f"it needs {files}"
+    for file in files:
+        (bare / file[1:]).parent.mkdir(parents=True, exist_ok=True)
+        shutil.copy(file, bare / file[1:])
+    loader = next(file for file in files if "ld-linux" in file)
+    library = next(file for file in files if "ld-linux" not in file)
+    words = [f"{bare}{loader}", "--inhibit-cache", "--library-path", str(bare / library[1:].rsplit("/", 1)[0]), "bin/picklestep"]
+    why = releases.lists(*words, at=bare)
+    if why:
+        return f"by its loader: {why}"
+    may_change_root = releases.run("chroot", str(bare), "/bin/picklestep", at=bare)
+    if may_change_root.status == 125:
+        return ""
+    run = releases.run("chroot", str(bare), "/bin/picklestep", "list", "/hostile.pickle", at=bare)
+    return "" if (run.status, run.output, run.errors) == (0, LISTING, "") else f"in a chroot: {run}"
+
+
+# --- Installed ---
+
+FILES = (
+    "bin/picklestep",
+    "share/man/man1/picklestep.1",
+    "share/bash-completion/completions/picklestep",
+    "share/zsh/site-functions/_picklestep",
+)
+
+
+def files_below(folder: pathlib.Path) -> list[str]:
+    return sorted(str(path.relative_to(folder)) for path in folder.rglob("*") if not path.is_dir())
+
+
+def installs(releases: Releases) -> str:
+    prefix = releases.folder / "a prefix"
+    (prefix / "bin").mkdir(parents=True)
+    (prefix / "bin" / "other").write_text("")
+    for _ in range(2):
+        run = releases.run("./install", str(prefix))
+        if run.status != 0 or run.errors:
+            return f"status {run.status}, errors {run.errors[:200]!r}"
+    if files_below(prefix) != sorted([*FILES, "bin/other"]):
+        return f"there is {files_below(prefix)}"
+    why = releases.lists(str(prefix / "bin" / "picklestep"))
+    if why:
+        return why
+    run = releases.run("./install", "--remove", str(prefix))
+    if run.status != 0 or sorted(os.listdir(prefix)) != ["bin"] or files_below(prefix) != ["bin/other"]:
+        return f"taken away: status {run.status}, and there is {files_below(prefix)}"
+    return ""
+
+
+def installs_at_home(releases: Releases) -> str:
+    home = releases.folder / "home"
+    home.mkdir()
+    run = releases.run("./install", HOME=str(home))
+    if run.status != 0 or files_below(home / ".local") != sorted(FILES):
+        return f"status {run.status}, errors {run.errors[:200]!r}"
+    run = releases.run("./install", "--remove", HOME=str(home))
+    if run.status != 0 or files_below(home):
+        return f"taken away: status {run.status}, and there is {files_below(home)}"
+    for words in (["--fly"], ["a", "b"], ["--remove", "a", "b"]):
+        run = releases.run("./install", *words, HOME=str(home))
+        if run.status != 2 or not run.errors.startswith("usage: ") or files_below(home):
+            return f"{words}: status {run.status}"
+    (home / "file").write_text("")
+    run = releases.run("./install", str(home / "file"))
+    return "" if run.status == 2 else f"into a file: status {run.status}"
+
+
+def manual(releases: Releases) -> str:
+    page = str(releases.clone / FILES[1])
+    if shutil.which("mandoc"):
+        run = releases.run("mandoc", "-T", "lint", "-W", "warning", page)
+        if run.output or run.errors:
+            return (run.output + run.errors)[:300]
+    if shutil.which("man"):
+        run = releases.run("man", "--warnings", "-E", "UTF-8", "-Tutf8", "-Z", "-l", page)
+        if run.status != 0 or run.errors:
+            return run.errors[:300]
+    text = pathlib.Path(page).read_text()
+    for word in ("list", "objects", "calls", "debug", "Fl -many", "Fl -window", "Fl -save"):
+        if word not in text:
+            return f"it does not tell {word}"
+    return ""
+
+
+COMPLETE = """\
+. "$1"
+shift
+COMP_WORDS=("$@")
+COMP_CWORD=$(($# - 1))
+_picklestep
+printf '%s\\n' "${COMPREPLY[@]}"
+"""
+
+
+def completions(releases: Releases) -> str:
+    at = releases.folder / "files"
+    at.mkdir()
+    (at / "one.pickle").write_text("")
+    (at / "two words").write_text("")
+    page = str(releases.clone / FILES[2])
+    for words, wanted in (
+        ([""], ["calls", "debug", "list", "objects"]),
+        (["ob"], ["objects"]),
+        (["list", "--"], ["--many"]),
+        (["calls", "--m"], ["--many"]),
+        (["debug", "--"], ["--many", "--save", "--window"]),
+        (["debug", "one.pickle", "--w"], ["--window"]),
+        (["debug", "--window", ""], [""]),
+        (["debug", "--save", ""], ["one.pickle", "two words"]),
+        (["list", ""], ["one.pickle", "two words"]),
+        (["list", "--many", "tw"], ["two words"]),
+    ):
+        run = releases.run("bash", "-c", COMPLETE, "bash", page, "picklestep", *words, at=at)
+        if run.status != 0 or run.errors or sorted(run.output.splitlines()) != wanted:
+            return f"{words}: {run.output.split()}, errors {run.errors[:100]!r}"
+    if shutil.which("zsh"):
+        run = releases.run("zsh", "-n", str(releases.clone / FILES[3]))
+        if run.status != 0:
+            return f"zsh: {run.errors[:200]}"
+    return ""
+
+
+TRIED: list[tuple[str, Callable[[Releases], str]]] = [
+    ("the first start in a fresh clone", clone_starts),
+    ("a start in a clone that may not be written", starts_read_only),
+    ("what stands beside the released program", told_beside_it),
+    ("a source that was changed", source_changed),
+    ("a released program that was changed", program_changed),
+    ("crates that come to it", crates_changed),
+    ("another machine", other_machine),
+    ("a release from a built program", release_again),
+    ("the released program with the C library alone", runs_bare),
+    ("installed and taken away", installs),
+    ("installed at home", installs_at_home),
+    ("the manual page", manual),
+    ("the completions", completions),
+]
+
+
+def main() -> None:
+    releases = Releases(pathlib.Path(sys.argv[1]).resolve(), pathlib.Path(sys.argv[2]).resolve())
+    for name, attempt in TRIED:
+        print(f"{name}\t{attempt(releases)}", flush=True)
+    print(f"{releases.starts} starts were tried")
+
+
+if __name__ == "__main__":
+    main()
