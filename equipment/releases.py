@@ -258,7 +258,8 @@ def builds(releases: Releases) -> str:
     at = releases.copy("built")
     of_product, of_tests = at / "crates/pickle_io/out/kept", at / "crates/plain_tests/out/kept"
     same = {"BUILT": str(releases.clone / DIST / "picklestep")}
-    for words, stays in ((["--kept"], True), ([], False)):
+    ways: list[tuple[list[str], bool]] = [(["--kept"], True), ([], False)]
+    for words, stays in ways:
         for file in (of_product, of_tests):
             file.parent.mkdir(exist_ok=True)
             file.write_text("")
