@@ -253,6 +253,29 @@ def release_again(releases: Releases) -> str:
     return "" if run.status != 0 and releases.run("./release", "--check", at=at).status == 0 else "a build that fails: it is released"
 
 
+def builds(releases: Releases) -> str:
+    """From nothing what earlier runs kept of the program's crates is taken away; else it stays."""
+    at = releases.copy("built")
+    of_product, of_tests = at / "crates/pickle_io/out/kept", at / "crates/plain_tests/out/kept"
+    same = {"BUILT": str(releases.clone / DIST / "picklestep")}
+    ways: list[tuple[list[str], bool]] = [(["--kept"], True), ([], False)]
+    for words, stays in ways:
+        for file in (of_product, of_tests):
+            file.parent.mkdir(exist_ok=True)
+            file.write_text("")
+        run = releases.run_stand_in("./build", *words, at=at, **same)
+        sums = [line.split()[0] for line in run.output.splitlines()]
+        if run.status != 0 or len(sums) != 2 or sums[0] != sums[1]:
+            return f"{words}: status {run.status}, output {run.output!r}, errors {run.errors[:200]!r}"
+        if of_product.exists() != stays or not of_tests.exists():
+            return f"{words}: what was kept"
+    run = releases.run_stand_in("./build", at=at)
+    if run.status != 2 or run.output or "picklestep: the build failed: rt is not here" not in run.errors:
+        return f"a build that fails: status {run.status}, output {run.output!r}, errors {run.errors[:200]!r}"
+    run = releases.run("./build", "--fly", at=at)
+    return "" if run.status == 2 and run.errors.startswith("usage: ") else f"--fly: status {run.status}"
+
+
 def told_beside_it(releases: Releases) -> str:
     dist = releases.clone / DIST
     names = sorted(os.listdir(dist))
@@ -420,6 +443,7 @@ TRIED: list[tuple[str, Callable[[Releases], str]]] = [
     ("a released program that was changed", program_changed),
     ("crates that come to it", crates_changed),
     ("another machine", other_machine),
+    ("a build", builds),
     ("a release from a built program", release_again),
     ("the released program with the C library alone", runs_bare),
     ("installed and taken away", installs),
