@@ -72,6 +72,17 @@ def calls(file, count):
     file.write(b'cm\nn\nq\x000' + b'h\x00)R0' * count + b'N.')
 
 
+def small_pickles(file, count):
+    """NONE and STOP, again and again."""
+    file.write(b'N.' * count)
+
+
+def behind_a_large_one(file, count):
+    """Small pickles behind one with a thousand open marks and ten thousand entries of the memo."""
+    file.write(b'(' * 1000 + b'N\x94' * 10_000 + b'.')
+    small_pickles(file, count)
+
+
 # letter, what it is, who writes it, how many items or bytes
 FILES = [
     ('a', 'small integers and short strings, protocol 4', numbers_and_strings, 4_125_000),
@@ -80,6 +91,8 @@ FILES = [
     ('e', 'nested dictionaries with memo', dictionaries, 252_500),
 ]
 LONG_STRING, MARKED, FULL, CALLED = 50_000_000, 30_000, 134_217_728, 1_000_000
+# small pickles in one input, how many times as long twice that may take, and how many bytes of memory for each beside the file
+SEVERAL, SEVERAL_TWICE, BYTES_A_PICKLE = 1_000_000, 2.1, 3
 
 
 # --- Runs ---
@@ -189,6 +202,19 @@ def long_string(folder, program, count):
         megabytes(count), listing.seconds, megabytes(listing.memory), copy.seconds, factor, AS_COPY, verdict(factor <= AS_COPY))
 
 
+def several_row(folder, program, letter, what, write, count):
+    """A line of the table of several pickles in one input."""
+    once, twice = made(folder, letter, write, count), made(folder, letter, write, 2 * count)
+    length, command = os.path.getsize(once), [program, 'list', '--many']
+    listing, longer = shortest([*command, once]), shortest([*command, twice])
+    factor, beside = longer.seconds / listing.seconds, (listing.memory - length) / count
+    counted = instructions([*command, made(folder, letter, write, 2 * count // 25)]) / instructions([*command, made(folder, letter, write, count // 25)])
+    os.unlink(once), os.unlink(twice)
+    good = factor <= SEVERAL_TWICE and counted <= SEVERAL_TWICE and beside <= BYTES_A_PICKLE and listing.status == 0
+    return '| (%s) %s | %d | %.2f s | %.2f | %.3f | %s | %.1f | %s |' % (
+        letter, what, count, listing.seconds, factor, counted, megabytes(listing.memory), beside, verdict(good))
+
+
 def full_file(folder, program, count):
     """What is said of a large input, all of it one-byte opcodes."""
     path = made(folder, 'n', one_byte_opcodes, count)
@@ -222,6 +248,10 @@ def main():
         print('|---|---|---|---|---|---|---|---|')
         for letter, what, write, count in [*FILES, ('r', 'REDUCE again and again', calls, CALLED)]:
             print(called_row(folder, program, letter, what, write, int(count * scale)), flush=True)
+        print('\n| `list --many` | small pickles | list | twice as many | in instructions | memory, MB | bytes a pickle beside the file | |')
+        print('|---|---|---|---|---|---|---|---|')
+        print(several_row(folder, program, 's', '`N.` again and again', small_pickles, int(SEVERAL * scale)), flush=True)
+        print(several_row(folder, program, 't', 'the same behind a large pickle', behind_a_large_one, int(SEVERAL * scale)), flush=True)
         print('\n' + long_string(folder, program, int(LONG_STRING * scale)))
         print('\n' + full_file(folder, program, int(FULL * scale)))
 

@@ -8,7 +8,8 @@ hexadecimal. After `pickles` they are of several pickles, and every command has 
 script after `debug> `, then the lines that answer it, and so on. `$ list`, `$ objects` or `$ calls` stands before what that command writes. A last line `saved` has the bytes that the pickle is saved as. The block ends at an empty
 line, or at the end of the page.
 
-Each script is run with all records and in windows of 1 and 2. The status has to be 1 just where an answer refuses.
+Each script is run with all records and in windows of 1 and 2. The status has to be 1 just where an answer refuses. What is shown of one
+pickle is also tried with --many, where no byte stands after its STOP: the answers are the same then.
 
 For each block it writes a line: its place on the page, a tab, and what is wrong or nothing. FOLDER gets the pickles.
 """
@@ -79,20 +80,20 @@ def differs(words, done, wanted, status):
     return None
 
 
-def fault_of_command(program, block, command, file):
+def fault_of_command(program, block, mode, command, file):
     wanted = block.written[command]
     status = int(any(line.startswith(("refused: ", "fault: ")) for line in wanted))
-    done, why = run(program, [command, *block.options, str(file)], b"")
-    return why or differs([command], done, wanted, status)
+    done, why = run(program, [command, *mode, str(file)], b"")
+    return why or differs([command, *mode], done, wanted, status)
 
 
-def fault_of_script(program, block, file, saved):
+def fault_of_script(program, block, mode, file, saved):
     script = "".join(line + "\n" for line in block.script).encode()
     status = int(any(line.startswith("refused: ") for line in block.answers))
     for options in ([], ["--window", "1"], ["--window", "2"]):
         saved.unlink(missing_ok=True)
-        done, why = run(program, ["debug", *block.options, str(file), "--save", str(saved), *options], script)
-        why = why or differs(["debug", *options], done, block.answers, status)
+        done, why = run(program, ["debug", *mode, str(file), "--save", str(saved), *options], script)
+        why = why or differs(["debug", *mode, *options], done, block.answers, status)
         if why:
             return why
         if block.saved is not None and saved.read_bytes() != block.saved:
@@ -100,16 +101,31 @@ def fault_of_script(program, block, file, saved):
     return None
 
 
-def fault_of(program, block, folder):
+def fault_in(program, block, mode, folder):
     file = folder / "shown.pickle"
     file.write_bytes(block.pickle)
     for command in block.written:
-        why = fault_of_command(program, block, command, file)
+        why = fault_of_command(program, block, mode, command, file)
         if why:
             return why
     if block.script or block.saved is not None:
-        return fault_of_script(program, block, file, folder / "saved.pickle")
+        return fault_of_script(program, block, mode, file, folder / "saved.pickle")
     return None if block.written else "there is nothing to run"
+
+
+def keeps_bytes(program, block, folder):
+    """Whether bytes stand after STOP."""
+    file = folder / "shown.pickle"
+    file.write_bytes(block.pickle)
+    done, _ = run(program, ["list", str(file)], b"")
+    return done is not None and b"\nkept: " in done.stdout
+
+
+def fault_of(program, block, folder):
+    why = fault_in(program, block, block.options, folder)
+    if why or block.options or keeps_bytes(program, block, folder):
+        return why
+    return fault_in(program, block, ["--many"], folder)
 
 
 def main():

@@ -24,6 +24,8 @@ The laws:
 - after a script, going to the start and undoing every edit gives the bytes that were opened, and making them again the bytes
   that the script saved;
 - the status says whether something was refused.
+
+A third of the cases are several pickles in one input, and every command has the option --many.
 """
 import argparse
 import datetime
@@ -42,7 +44,7 @@ OPAQUE_LINE = re.compile(r"^#(\d+) (?:global|stack-global|ext|inst|call|new|new-
 MADE_LINE = re.compile(r"^ *\d+: (?!readonly ).* as #(\d+)$", re.M)
 IMPORT_LINE = re.compile(r"^ *\d+: (?:import|inst) ", re.M)
 CALL_LINE = re.compile(r"^ *\d+: (?:inst|call|new|state|append|set|add) ", re.M)
-WHERE = re.compile(r"at (\d+) of (\d+), offset (\d+), buffers (\d+), result (none|#\d+), end (.*)")
+WHERE = re.compile(r"at (\d+) of (\d+), offset (\d+), buffers (\d+), result (none|#\d+(?: #\d+)*), end (.*)")
 VIEW = "where\nitems\nstack\nmemo\nobjects\n"
 
 
@@ -195,6 +197,16 @@ def make_pickle(rng, pickles):
     return mutated(pickled, rng) if rng.random() < 0.4 else pickled
 
 
+def make_several(rng, pickles):
+    """Some pickles one after another, most of them cut after their STOP."""
+    parts = []
+    for _ in range(rng.randrange(1, 5)):
+        pickled = make_pickle(rng, pickles)
+        end = pickled.rfind(b".") + 1
+        parts.append(pickled[:end] if rng.random() < 0.9 else pickled)
+    return b"".join(parts)
+
+
 PLACED = ("goto", "goto", "break", "clear", "delete", "unframe")
 MALFORMED = ("fly", "goto", "goto x", "step 1", "insert 0 NOPE", "insert 0 BININT1 0", "insert 0 BININT1", "insert 0 NONE 00", "frame 0", "STEP", "show",
              "goto 18446744073709551616", "goto @", "goto @18446744073709551615", "delete @18446744073709551616", "frame 0 @0", "show @0",
@@ -297,12 +309,13 @@ class Case:
         self.saved = folder / "saved.pickle"
         self.rng = rng
         self.runs = 0
-        self.pickled = make_pickle(rng, pickles)
+        self.options = ["--many"] if rng.random() < 1 / 3 else []
+        self.pickled = make_several(rng, pickles) if self.options else make_pickle(rng, pickles)
         self.file.write_bytes(self.pickled)
 
     def answers(self, words, script=""):
         self.runs += 1
-        done = subprocess.run([self.program, *words], input=script.encode(), capture_output=True, timeout=100)
+        done = subprocess.run([self.program, *words, *self.options], input=script.encode(), capture_output=True, timeout=100)
         if done.returncode not in (0, 1) or done.stderr:
             raise Broken(f"status {done.returncode}, errors {done.stderr[:200]}, words {words}, script {script!r}")
         return done.stdout.decode(), done.returncode
@@ -346,13 +359,12 @@ class Case:
         shown = self.debug("run\nobjects\nwhere\n").splitlines()
         where = WHERE.fullmatch(shown[-1])
         refused = re.search(r"^refused: (.*)$", listing, re.M)
+        closing = [f"result {result}" for result in where[5].split() if result != "none"]
         if refused:
-            closing = f"refused: item {where[1]}: {refused[1]}"
-        elif where[6] == "stopped":
-            closing = f"result {where[5]}"
-        else:
-            closing = f"fault: {where[6]}"
-        if report.splitlines() != shown[1:-1] + [closing] or status != (not closing.startswith("result")):
+            closing.append(f"refused: item {where[1]}: {refused[1]}")
+        elif where[6] != "stopped":
+            closing.append(f"fault: {where[6]}")
+        if report.splitlines() != shown[1:-1] + closing or status != (not closing[-1].startswith("result")):
             raise Broken("another report of the objects")
         if listing and self.items_of(listing)[: int(where[1])] != self.items_of(listing)[: len(self.items_of(listing)) - bool(refused)]:
             raise Broken("the listing and the conversation end at other places")

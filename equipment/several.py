@@ -75,11 +75,16 @@ def read_pickle(path: pathlib.Path, listings: pathlib.Path) -> Pickle | None:
     )
 
 
+def moved_number(line: str, base: int) -> str:
+    """A line that ends in the number of an offset or of an object, which counts from a base."""
+    return re.sub(r"\d+$", lambda number: str(int(number[0]) + base), line)
+
+
 def moved(line: str, base: int) -> str:
-    """A line of a listing whose bytes begin at an offset."""
+    """A line of an item whose bytes begin at an offset."""
     item = ITEM.match(line)
     if item is None:
-        return re.sub(r"\d+$", lambda number: str(int(number[0]) + base), line)
+        return line
     rest = MARK.sub(lambda mark: f"(MARK at {int(mark[1]) + base})", item[2])
     return f"{int(item[1]) + base:5d}{rest}"
 
@@ -95,26 +100,30 @@ class Expected:
     ends: list[tuple[int, int]]
 
 
-def reply_to_run(place: int, broken: str | None) -> tuple[str, int]:
-    """What `run` from the start is answered, and the status."""
+def reply_to_run(place: int, broken: str | None) -> str:
+    """What `run` from the start is answered."""
     if broken is not None and broken.startswith("refused: "):
         why = broken.removeprefix("refused: ")
-        if place == 0:
-            return f"refused: C3 item 0: {why}", 1
-        return f"at {place}: refused, {why}", 0
+        return f"at {place}: refused, {why}" if place > 0 else f"refused: C3 item 0: {why}"
     end = "stopped" if broken is None else broken.removeprefix("fault: ")
-    if place == 0:
-        return f"refused: C2 at the end, {end}", 1
-    return f"at {place}: end, {end}", 0
+    return f"at {place}: end, {end}" if place > 0 else f"refused: C2 at the end, {end}"
 
 
-def expect(pickles: Sequence[Pickle]) -> Expected:
+def broken_line(broken: str, base: int, objects: int) -> str:
+    """A refusal or fault of a pickle behind others."""
+    if broken.startswith("fault: "):
+        return moved_number(broken, base)
+    return moved_number(broken, objects) if re.search(r" #\d+$", broken) else broken
+
+
+def expect(pickles: Sequence[Pickle], objects: Sequence[int]) -> Expected:
+    """What is expected of pickles that make so many objects each."""
     lines: list[str] = []
     ends: list[tuple[int, int]] = []
     base = place = 0
     broken = None
     protocol = -1
-    for pickle in pickles:
+    for number, pickle in enumerate(pickles):
         if ends and not pickle.data:
             # (an input that ends after a STOP has no fault)
             continue
@@ -122,9 +131,8 @@ def expect(pickles: Sequence[Pickle]) -> Expected:
         place += len(pickle.items)
         protocol = max(protocol, pickle.protocol)
         if pickle.broken is not None:
-            is_refused = pickle.broken.startswith("refused: ")
-            broken = pickle.broken if is_refused else moved(pickle.broken, base)
-            place -= int(is_refused)
+            broken = broken_line(pickle.broken, base, sum(objects[:number]))
+            place -= int(broken.startswith("refused: "))
             lines.append(broken)
             break
         base += len(pickle.data)
@@ -132,8 +140,7 @@ def expect(pickles: Sequence[Pickle]) -> Expected:
     if protocol >= 0:
         lines.append(f"highest protocol among opcodes = {protocol}")
     listing = "".join(f"{line}\n" for line in lines)
-    reply, _ = reply_to_run(place, broken)
-    return Expected(listing, int(broken is not None), place, reply, ends)
+    return Expected(listing, int(broken is not None), place, reply_to_run(place, broken), ends)
 
 
 @dataclasses.dataclass(frozen=True)
@@ -148,6 +155,13 @@ class Trial:
         if done.stderr:
             raise ValueError(f"errors {done.stderr[:100]!r}")
         return done.stdout.decode("utf-8", "surrogateescape"), done.returncode
+
+    def objects_of(self, pickle: Pickle) -> int:
+        """How many objects a pickle makes by itself."""
+        file = self.folder / "alone.pickle"
+        file.write_bytes(pickle.data)
+        text, _ = self.answer(["objects", str(file)])
+        return sum(line.startswith("#") for line in text.splitlines())
 
     def listing_fault(self, file: pathlib.Path, expected: Expected) -> str:
         text, status = self.answer(["list", "--many", str(file)])
@@ -194,7 +208,7 @@ class Trial:
     def fault(self, pickles: Sequence[Pickle]) -> str:
         file = self.folder / "several.pickle"
         file.write_bytes(b"".join(pickle.data for pickle in pickles))
-        expected = expect(pickles)
+        expected = expect(pickles, [self.objects_of(pickle) for pickle in pickles])
         return (
             self.listing_fault(file, expected)
             or self.report_fault(file, expected)

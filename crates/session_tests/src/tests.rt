@@ -72,17 +72,12 @@ fn refused_memory_of_many(rt: HostRuntime) {
 #[test]
 fn in_every_window(rt: HostRuntime) {
     for count in [1, 2, 3, 1000] {
-        for (many, scripts) in [
-            (false, SCRIPTS.as_slice()),
-            (true, SCRIPTS.as_slice()),
-            (true, MANY.as_slice()),
-        ] {
-            assert_eq!(rt;
-                first_wrong(rt.alloc(), many, scripts, Some(count)),
-                None,
-                "a window of {count}"
-            );
-        }
+        let found = first_wrong(rt.alloc(), false, &SCRIPTS, Some(count));
+        assert_eq!(rt; found, None, "a window of {count}");
+        let found = first_wrong(rt.alloc(), true, &SCRIPTS, Some(count));
+        assert_eq!(rt; found, None, "read as many, a window of {count}");
+        let found = first_wrong(rt.alloc(), true, &MANY, Some(count));
+        assert_eq!(rt; found, None, "over many, a window of {count}");
     }
 }
 

@@ -162,10 +162,8 @@ fn insists(alloc: Global, task: Task, row: &Row) -> Result<bool, Stop> {
     let text = text_of(row, task).as_bytes();
     match answer {
         Ok(status) => Ok(written.as_slice() == text && status == row.status),
-        Err(Stop::Memory | Stop::Write) => {
-            Ok(text.starts_with(written.as_slice()) && is_told(alloc, task, row)?)
-        }
-        Err(stop) => Err(stop),
+        Err(Stop::TooLarge) => Ok(false),
+        Err(_) => Ok(text.starts_with(written.as_slice()) && is_told(alloc, task, row)?),
     }
 }
 

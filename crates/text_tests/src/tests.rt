@@ -199,11 +199,11 @@ fn first_broken(alloc: Global, many: bool, script: &Script) -> Result<Option<&'s
 
 #[test]
 fn failing_sinks(rt: HostRuntime) -> Result<(), Fail> {
-    for (many, scripts) in [(false, SCRIPTS.as_slice()), (true, MANY.as_slice())] {
-        for script in scripts {
-            let found = first_broken(rt.alloc(), many, script)?;
-            assert_eq!(rt; found, None);
-        }
+    for script in &SCRIPTS {
+        assert_eq!(rt; first_broken(rt.alloc(), false, script)?, None);
+    }
+    for script in &MANY {
+        assert_eq!(rt; first_broken(rt.alloc(), true, script)?, None);
     }
     let session = opened(rt.alloc(), false, b"N.")?;
     for (reply, text) in &REPLIES {
