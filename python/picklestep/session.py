@@ -4,7 +4,7 @@ from __future__ import annotations
 
 from typing import Optional
 
-from .tasks import Source
+from .sources import Source
 
 __all__ = ['Session']
 
