@@ -89,7 +89,8 @@ class Listing(Answer[Opcode]):
     _line = re.compile(r'^ *([0-9]+): (\S+) +([A-Z][A-Z0-9_]*)(?: +(.*))?$', re.MULTILINE)
     _what = 'opcodes'
 
-    _read = staticmethod(texts.opcode_at)  # type: ignore[assignment]
+    def _read(self, match: 're.Match[str]') -> Opcode:
+        return texts.opcode_at(match)
 
     @cached_property
     def _closing(self) -> Dict[str, str]:

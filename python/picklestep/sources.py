@@ -2,15 +2,24 @@
 
 from __future__ import annotations
 
-import contextlib
 import os
 import tempfile
-from typing import BinaryIO, List, Optional, Tuple, Union
+from typing import Any, List, Protocol, Union
 
-__all__ = ['LIMIT', 'Input', 'Source']
+from .errors import ProgramError
+
+__all__ = ['LIMIT', 'Input', 'Source', 'is_word', 'nameless_file']
+
+class Readable(Protocol):
+    """A binary file object, as far as it is needed."""
+
+    def read(self, size: int, /) -> bytes:
+        """At most so many bytes more; none at the end."""
+        ...
+
 
 # A pickle: its bytes, the path of a file, or an open binary file (read from where it stands to its end).
-Source = Union[bytes, bytearray, memoryview, str, 'os.PathLike[str]', BinaryIO]
+Source = Union[bytes, bytearray, memoryview, str, 'os.PathLike[str]', Readable]
 
 # The program refuses inputs above this many bytes.
 LIMIT = 1 << 30
@@ -18,71 +27,63 @@ LIMIT = 1 << 30
 _BLOCK = 1 << 20
 
 
-class Input(contextlib.AbstractContextManager['Input']):
+class Input:
     """An input of the program, which stays open until it is closed.
 
     Bytes and what a file object gives lie in memory (`memfd_create`), or where the system has no such files in a temporary file
-    without a name; the program opens them as /dev/fd/N. Neither can be left behind.
+    without a name; the program opens them as /dev/fd/N. Neither can be left behind. With `own`, a file is copied so too: then nobody
+    else can change it.
     """
 
-    def __init__(self, source: Source) -> None:
-        self.file: Optional[int] = None
-        self._seen: Optional[Tuple[int, ...]] = None
+    def __init__(self, source: Source, own: bool = False) -> None:
+        self.files: List[int] = []
+        self.path = ''
         try:
-            self.path = self._opened(source)
+            self._open(source, own)
         except BaseException:
             self.close()
             raise
 
-    def _opened(self, source: Source) -> str:
-        """The path under which the program finds the input."""
+    def _open(self, source: Source, own: bool) -> None:
         if isinstance(source, (str, os.PathLike)):
             path = os.path.join(os.getcwd(), os.fsdecode(source))
-            with contextlib.suppress(OSError, ValueError):
-                self._seen = _state(path)
-            return path if _is_utf_8(path) else self._of_file(os.open(path, os.O_RDONLY | os.O_CLOEXEC))
-        self._of_file(_nameless_file())
-        assert self.file is not None
-        if hasattr(source, 'read'):
-            _copy(source, self.file)
+            if own or not is_word(path):
+                self._keep_file(path)
+            else:
+                self.path = path
+            return
+        content: Any = source  # a type for all that gives its bytes came with Python 3.12
+        if hasattr(content, 'read'):
+            _copy(content, self._make())
         else:
-            _write_all(self.file, memoryview(source))
-        return f'/dev/fd/{self.file}'
+            _write_all(self._make(), memoryview(content))
 
-    def _of_file(self, file: int) -> str:
-        self.file = file
-        return f'/dev/fd/{file}'
-
-    @property
-    def files(self) -> List[int]:
-        """The open files that the program is to inherit."""
-        return [] if self.file is None else [self.file]
-
-    def has_changed(self) -> bool:
-        """Whether the file was changed since it was first opened, as far as its times and its size tell."""
-        if self._seen is None:
-            return False
+    def _keep_file(self, path: str) -> None:
         try:
-            return _state(self.path) != self._seen
-        except OSError:
-            return True
+            with open(path, 'rb', buffering=0) as file:
+                _copy(file, self._make())
+        except OSError as error:
+            raise ProgramError(f'cannot read: {error}') from error
+
+    def _make(self) -> int:
+        file = nameless_file()
+        self.files.append(file)
+        self.path = f'/dev/fd/{file}'
+        return file
 
     def close(self) -> None:
         """Lets the input go."""
-        file, self.file = self.file, None
-        if file is not None:
-            os.close(file)
+        while self.files:
+            os.close(self.files.pop())
+
+    def __enter__(self) -> Input:
+        return self
 
     def __exit__(self, *error: object) -> None:
         self.close()
 
 
-def _state(path: str) -> Tuple[int, ...]:
-    state = os.stat(path)
-    return state.st_dev, state.st_ino, state.st_size, state.st_mtime_ns
-
-
-def _is_utf_8(path: str) -> bool:
+def is_word(path: str) -> bool:
     """Whether the program can be given the path as a word (it takes words in UTF-8)."""
     try:
         path.encode('utf-8')
@@ -91,7 +92,7 @@ def _is_utf_8(path: str) -> bool:
     return True
 
 
-def _nameless_file() -> int:
+def nameless_file() -> int:
     """An open file without a name, which is gone when it is closed."""
     if hasattr(os, 'memfd_create'):
         return os.memfd_create('picklestep', os.MFD_CLOEXEC)
@@ -100,12 +101,12 @@ def _nameless_file() -> int:
 
 
 def _write_all(file: int, data: memoryview) -> None:
-    rest = data.cast('B') if data.contiguous else memoryview(data.tobytes())
+    rest = data.cast('B') if data.c_contiguous else memoryview(data.tobytes())
     while rest:
         rest = rest[os.write(file, rest):]
 
 
-def _copy(source: BinaryIO, file: int) -> None:
+def _copy(source: Readable, file: int) -> None:
     """Copies what a file object gives, up to one byte past the program's limit."""
     left = LIMIT + 1
     while left:
