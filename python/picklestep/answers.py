@@ -86,7 +86,7 @@ class Listing(Answer[Opcode]):
     ('NONE', 2, 'stopped', 0)
     """
 
-    _line = re.compile(r'^ *([0-9]+): (\S+) +([A-Z][A-Z0-9_]*)(?: +(.*))?$', re.MULTILINE)
+    _line = texts.OPCODE
     _what = 'opcodes'
 
     def _read(self, match: 're.Match[str]') -> Opcode:

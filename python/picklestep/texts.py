@@ -8,13 +8,12 @@ from typing import Callable, Dict, List, Optional, Tuple, Union
 
 from .records import (Argument, Brief, Briefs, Change, End, Extension, Global, Item, Mark, Name, Object, Opcode, Reach, Ref, Value, Where)
 
-__all__ = ['LinesError', 'memo_of', 'object_of', 'opcode_of', 'reach_of', 'stack_of', 'unquoted', 'where_of']
+__all__ = ['LinesError', 'OPCODE', 'memo_of', 'object_of', 'opcode_of', 'reach_of', 'stack_of', 'unquoted', 'where_of']
 
 _QUOTED = r"'(?:[^'\\]|\\.)*'"
 _NUMBER = r'-?[0-9]+|le:[0-9a-f]*|f8:[0-9a-f]{16}'
 _ESCAPE = re.compile(rb'\\(x[0-9a-f]{2}|.)')
 _ATOM = re.compile(f'({_QUOTED})|({_NUMBER})')
-_OPCODE = re.compile(r' *([0-9]+): (\S+) +([A-Z][A-Z0-9_]*)(?: +(.*))?')
 _OBJECT = re.compile(r'#([0-9]+) ([a-z-]+)')
 _PARTS = re.compile(r' \((#[^)]*)\)')
 _CHANGE = re.compile(r' (?:([+&!])#([0-9]+)|\[#([0-9]+)\]=#([0-9]+))')
@@ -75,7 +74,7 @@ def opcode_of(line: str) -> Opcode:
     >>> opcode_of("   11: c        GLOBAL     'os' 'getcwd'")
     Opcode(offset=11, code=b'c', name='GLOBAL', argument=(b'os', b'getcwd'), note='', marks=1)
     """
-    match = _OPCODE.fullmatch(line)
+    match = OPCODE.match(line)
     if match is None:
         raise LinesError(line)
     return opcode_at(match)
@@ -83,15 +82,21 @@ def opcode_of(line: str) -> Opcode:
 
 def opcode_at(match: 're.Match[str]') -> Opcode:
     """The opcode of a line that matched."""
-    offset, code, name, rest = match.groups()
+    offset, code, name, number, rest = match.groups()
     argument: Argument = None
     note = ''
-    if rest:
+    if number is not None:
+        argument = int(number)
+    elif rest is not None:
         argument, end = _argument(rest, 0)
         if end < len(rest):
             note = rest[end:].strip(' ()')
-    marks = (match.start(3) - match.end(1) - 7) >> 2
-    return Opcode(int(offset), code.encode() if len(code) == 1 else bytes((int(code[2:], 16),)), name, argument, note, marks)
+    return Opcode(int(offset), _CODES[code], name, argument, note, (match.start(3) - match.end(1) - 7) >> 2)
+
+
+# The codes as a listing shows them: four blanks for each mark stand between them and the name, and one more.
+_CODES = {**{f'\\x{code:02x}': bytes((code,)) for code in range(256)}, **{chr(code): bytes((code,)) for code in range(33, 127)}}
+OPCODE = re.compile(r'^ *([0-9]+): (\S+) +([A-Z][A-Z0-9_]*)(?: +(-?[0-9]+)$| +(.*))?$', re.MULTILINE)
 
 
 def item_at(match: 're.Match[str]') -> Item:
