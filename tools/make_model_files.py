@@ -18,6 +18,7 @@ import lzma
 import pickle
 import pickletools
 import sys
+import tarfile
 import warnings
 import zipfile
 import zlib
@@ -210,7 +211,12 @@ def pickles_in(content: bytes) -> Iterator[bytes]:
     if content[:2] == b"PK":
         with zipfile.ZipFile(io.BytesIO(content)) as archive:
             for name in archive.namelist():
-                yield from pickles_in(archive.read(name))
+                if not name.endswith(".py"):
+                    yield from pickles_in(archive.read(name))
+    elif content[257:262] == b"ustar":
+        with tarfile.open(fileobj=io.BytesIO(content)) as archive:
+            for member in archive:
+                yield from pickles_in(archive.extractfile(member).read())
     elif content[:6] == b"\x93NUMPY":
         width = 2 if content[6] == 1 else 4
         yield content[8 + width + int.from_bytes(content[8 : 8 + width], "little") :]
@@ -230,12 +236,15 @@ def names_in(content: bytes) -> set[str]:
     texts: list[str] = []
     memo: dict[int, Any] = {}
     last: Any = None
+    stream = io.BytesIO(content)
     try:
-        for opcode, value, _ in pickletools.genops(content):
+        for opcode, value, _ in (each for _ in content for each in pickletools.genops(stream)):
             if opcode.name in ("GLOBAL", "INST"):
                 names.add(value.replace(" ", "."))
             elif opcode.name == "STACK_GLOBAL":
                 names.add(".".join(texts[-2:]))
+            elif opcode.name == "STOP":
+                memo.clear()
             elif opcode.name == "MEMOIZE":
                 memo[len(memo)] = last
                 continue

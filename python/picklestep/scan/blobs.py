@@ -5,7 +5,7 @@ from __future__ import annotations
 import os
 import tempfile
 from dataclasses import dataclass
-from typing import BinaryIO, Iterable, Iterator
+from typing import BinaryIO, Iterable, Iterator, cast
 
 __all__ = ['Blob', 'Budget', 'FileBlob', 'LimitMet', 'Limits', 'OpenedBlob', 'Part', 'spooled']
 
@@ -113,10 +113,8 @@ class Part(Blob):
 
     def __init__(self, whole: Blob, offset: int, size: int) -> None:
         # A part of a part reads from the whole at once.
-        if isinstance(whole, Part):
-            whole, offset = whole.whole, whole.offset + offset
-        self.whole = whole
-        self.offset = offset
+        self.whole: Blob = whole.whole if isinstance(whole, Part) else whole
+        self.offset: int = whole.offset + offset if isinstance(whole, Part) else offset
         self.size = size
 
     def read(self, offset: int, count: int) -> bytes:
@@ -128,8 +126,8 @@ class Part(Blob):
 def nameless_file() -> BinaryIO:
     """A file without a name: in memory where the system has such, else in the folder for temporary files."""
     if hasattr(os, 'memfd_create'):
-        return os.fdopen(os.memfd_create('picklestep-scan', os.MFD_CLOEXEC), 'w+b', buffering=0)
-    return tempfile.TemporaryFile(buffering=0)
+        return cast(BinaryIO, os.fdopen(os.memfd_create('picklestep-scan', os.MFD_CLOEXEC), 'w+b', buffering=0))
+    return cast(BinaryIO, tempfile.TemporaryFile(buffering=0))
 
 
 def spooled(pieces: Iterable[bytes]) -> FileBlob:

@@ -6,7 +6,7 @@ package, the program, and the files under the same paths (a shared folder, or UR
 
 from __future__ import annotations
 
-from typing import Any, Iterable, Iterator, List
+from typing import Any, Generator, Iterable, Iterator, List
 
 from .look import Options, look
 from .results import Result
@@ -21,14 +21,14 @@ class NoCluster(Exception):
     """Dask is not installed, or no cluster answers at the address."""
 
 
-def look_on_cluster(paths: Iterable[str], options: Options, address: str) -> Iterator[Result]:
+def look_on_cluster(paths: Iterable[str], options: Options, address: str) -> Generator[Result, None, None]:
     """The results of the files, as they are ready."""
     try:
         import distributed
     except ImportError:
         raise NoCluster("a cluster needs dask.distributed: pip install 'picklestep[cluster]'") from None
     try:
-        client = distributed.Client(address, timeout='20s', set_as_default=False)
+        client = distributed.Client(address, timeout='20s', set_as_default=False)  # type: ignore[no-untyped-call]
     except (OSError, ValueError) as error:
         raise NoCluster(f'no cluster answers at {address}: {error}') from None
     with client:

@@ -3,13 +3,14 @@
 from __future__ import annotations
 
 import argparse
+import io
 import json
 import os
 import re
 import signal
 import sys
 from contextlib import closing
-from typing import Dict, Iterator, List, Optional
+from typing import Dict, Generator, List, Optional
 
 from ..errors import ProgramError
 from ..program import find_program
@@ -91,7 +92,7 @@ def _is_same(path: str, earlier: Result) -> bool:
     return (state.st_size, state.st_mtime_ns) == (earlier.size, earlier.modified)
 
 
-def _results(words: argparse.Namespace, paths: List[str]) -> Iterator[Result]:
+def _results(words: argparse.Namespace, paths: List[str]) -> Generator[Result, None, None]:
     options = Options(Limits(words.max_bytes, words.max_members, words.max_depth), words.lines)
     if words.cluster is not None:
         return look_on_cluster(paths, options, words.cluster)
@@ -131,8 +132,8 @@ def main(words: Optional[List[str]] = None) -> int:
     """Does what the words say, and answers the status."""
     parsed = _parser().parse_args(words)
     for stream in (sys.stdout, sys.stderr):
-        # Names of files may hold what the terminal's encoding does not.
-        stream.reconfigure(errors='backslashreplace')
+        if isinstance(stream, io.TextIOWrapper):  # names of files may hold what the terminal's encoding does not
+            stream.reconfigure(errors='backslashreplace')
     try:
         find_program()
         return _scan(parsed)

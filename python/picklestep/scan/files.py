@@ -5,6 +5,7 @@ from __future__ import annotations
 import os
 import stat
 import sys
+from importlib import import_module
 from typing import BinaryIO, Iterable, Iterator, List
 
 from .look import is_url, left_out
@@ -58,7 +59,7 @@ class Found:
 def _urls(url: str) -> List[str]:
     """The files below a URL, or the URL itself."""
     try:
-        import fsspec
+        fsspec = import_module('fsspec')
         system, path = fsspec.core.url_to_fs(url)
         if system.isdir(path):
             return [system.unstrip_protocol(name) for name in sorted(system.find(path))]

@@ -9,7 +9,8 @@ import stat
 import zlib
 from collections import Counter
 from dataclasses import dataclass, replace
-from typing import Any, BinaryIO, Callable, Iterator, List, Optional, Tuple
+from importlib import import_module
+from typing import Any, BinaryIO, Callable, Dict, Iterator, List, Optional, Set, Tuple
 
 from ..errors import ProgramError
 from ..sources import LIMIT
@@ -60,7 +61,7 @@ class Looker:
         kind = None if is_gap else kind_of(head)
         if kind is not None and self._open(kind, blob, where, names, depth):
             if kind == 'tar' and may_be_pickle(head, blob.size):
-                self._read_pickle(blob, head, where, names)  # the name of the first member can be opcodes
+                self._is_read(blob, head, where, ())  # the name of the first member can be opcodes
             return
         unread = unread_kind_of(head)
         if unread is not None:
@@ -69,29 +70,29 @@ class Looker:
         elif not is_gap and zips.end_of_directory(blob) is not None:
             self._open_zip_at_end(blob, head, where, names, depth)
         elif may_be_pickle(head, blob.size) or any(is_pickle_name(name) for name in names):
-            self._read_pickle(blob, head, where, names)
+            self.others += not self._is_read(blob, head, where, names)
         else:
             self.others += 1
 
-    def _read_pickle(self, blob: Blob, head: bytes, where: Place, names: Tuple[str, ...]) -> None:
-        """Asks the program, and keeps its answer where the bytes are a pickle."""
+    def _is_read(self, blob: Blob, head: bytes, where: Place, names: Tuple[str, ...]) -> bool:
+        """Asks the program, and keeps its answer where the bytes are a pickle. False where they are none."""
         if blob.size > LIMIT:
             self.note(where, f'it has more than {LIMIT:,} bytes, which is too large for the program', missed=True)
-            return
+            return True
         try:
             answer = asks_program(blob)
         except ProgramError as error:
             self.note(where, f'the program did not read it: {error.words}', missed=True)
-            return
+            return True
         begins = head[:1] == b'\x80' and head[1:2] <= b'\x05' and not any(is_storage_name(name) for name in names)
         if not (begins or any(is_pickle_name(name) for name in names) or reaches_out(answer)):
-            self.others += 1
-            return
+            return False
         pickle = summed_up(where, blob.size, answer, self.options.lines)
         self.pickles.append(pickle)
         why = why_unread(head, pickle)
         if why is not None:
             self.note(where, why)
+        return True
 
     # --- Containers ---
 
@@ -131,7 +132,7 @@ class Looker:
         start, has_objects = _array_header(blob)
         rest = blob.part(start, blob.size - start)
         if has_objects:
-            self._read_pickle(rest, rest.read(0, HEAD), where + ('(objects)',), ('objects.pkl',))
+            self._is_read(rest, rest.read(0, HEAD), where + ('(objects)',), ('objects.pkl',))
         else:
             self.look_at(rest, where + ('(numbers)',), (), depth + 1, is_gap=True)
 
@@ -166,14 +167,14 @@ class Looker:
         self._open_zip(blob, where, names, depth)
         first = [pickle for pickle in self.pickles[found:] if pickle.where[:-1] == where and pickle.where[-1].startswith('(bytes 0 to ')]
         if may_be_pickle(head, blob.size) and not any(pickle.end.is_stopped for pickle in first):
-            self._read_pickle(blob, head, where, names)
+            self._is_read(blob, head, where, names)
 
     def _open_zip(self, blob: Blob, where: Place, names: Tuple[str, ...], depth: int) -> None:
         archive = zips.read_archive(blob)
         for text in archive.odd:
             self.note(where, text)
         seen: Counter[str] = Counter()
-        headers: set[Tuple[str, int]] = set()
+        headers: Set[Tuple[str, int]] = set()
         for entry in archive.entries:
             inner = where + (entry.name,)
             self.at = inner
@@ -332,7 +333,7 @@ def _unpacker(blob: Blob, entry: zips.Entry) -> Optional[_Start]:
     """What unpacks a member, where its method is one that is read."""
     if entry.method == zips.STORED:
         return _Plain
-    starts: dict[int, Callable[[], Decompressor]] = {zips.DEFLATED: raw_deflate, zips.BZIP2: METHODS['bz2']}
+    starts: Dict[int, Callable[[], Decompressor]] = {zips.DEFLATED: raw_deflate, zips.BZIP2: METHODS['bz2']}
     if entry.method in starts:
         return lambda packed: Unpacking(packed, starts[entry.method])
     if entry.method == zips.LZMA:
@@ -396,7 +397,7 @@ def left_out(mode: int) -> str:
 
 def _look_at_url(looker: Looker, path: str) -> Result:
     try:
-        import fsspec
+        fsspec = import_module('fsspec')
     except ImportError:
         return Result(path, error='a URL is opened where fsspec is installed')
     with fsspec.open(path, 'rb') as file:

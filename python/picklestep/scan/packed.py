@@ -5,7 +5,7 @@ from __future__ import annotations
 import bz2
 import lzma
 import zlib
-from typing import Callable, Iterator, Optional, Union
+from typing import Callable, Dict, Iterator, Optional, Union
 
 from .blobs import Blob
 
@@ -61,7 +61,7 @@ def raw_lzma(properties: bytes) -> Decompressor:
 
 
 # What unpacks each kind of file.
-METHODS = {
+METHODS: Dict[str, Callable[[], Decompressor]] = {
     'gzip': lambda: _Inflate(31), 'zlib': lambda: _Inflate(15), 'bz2': bz2.BZ2Decompressor,
     'xz': lambda: lzma.LZMADecompressor(lzma.FORMAT_XZ, LZMA_MEMORY),
     'lzma': lambda: lzma.LZMADecompressor(lzma.FORMAT_ALONE, LZMA_MEMORY),

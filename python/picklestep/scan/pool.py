@@ -11,7 +11,7 @@ import os
 import signal
 from collections import deque
 from multiprocessing.connection import Connection, wait
-from typing import Deque, Dict, Iterable, Iterator, Optional, Tuple
+from typing import Deque, Dict, Generator, Iterable, Optional, Tuple
 
 from .look import Options, look
 from .results import Result
@@ -22,7 +22,7 @@ __all__ = ['look_at_all']
 TRIES = 2
 
 
-def look_at_all(paths: Iterable[str], options: Options, jobs: int) -> Iterator[Result]:
+def look_at_all(paths: Iterable[str], options: Options, jobs: int) -> Generator[Result, None, None]:
     """The results of the files, as they are ready."""
     if jobs == 1:
         return (look(path, options) for path in paths)
@@ -80,13 +80,14 @@ class _Pool:
         self.jobs = min(jobs, len(self.waiting))
         self.workers: Dict[Connection, _Worker] = {}
 
-    def results(self) -> Iterator[Result]:
+    def results(self) -> Generator[Result, None, None]:
         """Hands out the files and answers what comes back."""
         try:
             while self.waiting or self.workers:
                 self._fill()
-                for link in wait(list(self.workers)):
-                    result = self._answer_of(self.workers[link])
+                ready = wait(list(self.workers))
+                for worker in [worker for link, worker in self.workers.items() if link in ready]:
+                    result = self._answer_of(worker)
                     if result is not None:
                         yield result
         finally:

@@ -86,8 +86,8 @@ def summed_up(where: Place, size: int, answer: Calls, lines: bool) -> Pickle:
             done.setdefault((reach.what, name), [0, reach.offset])[0] += 1
             texts.setdefault((reach.what, name), reach.text)
     return Pickle(
-        where, size, tuple(Import(name, *found) for name, found in imports.items()),
-        tuple(Call(what, name, *found, texts[what, name]) for (what, name), found in done.items()), answer.end,
+        where, size, tuple(Import(name, count, first) for name, (count, first) in imports.items()),
+        tuple(Call(what, name, count, first, texts[what, name]) for (what, name), (count, first) in done.items()), answer.end,
         tuple(f'{reach.offset:5}: {reach.text}' for reach in answer) if lines else (),
     )
 
