@@ -23,6 +23,11 @@ class Answer(Sequence[Line]):
     """An answer of the program: a sequence over the lines of `text`, which is the program's own.
 
     Only the text is kept, and 8 bytes for each line once there was an index or a length: a line is read each time it is asked for.
+
+    >>> import picklestep
+    >>> answer = picklestep.listing(b'N.')
+    >>> answer.text
+    '    0: N    NONE\\n    1: .    STOP\\nhighest protocol among opcodes = 0\\n'
     """
 
     _line: ClassVar[Pattern[str]]
@@ -125,7 +130,13 @@ class Listing(Answer[Opcode]):
 
 
 class Heap(Answer[Object]):
-    """Objects, in the order in which they were made."""
+    """Objects, in the order in which they were made.
+
+    >>> import picklestep
+    >>> with picklestep.Session(b'N.') as session:
+    ...     session.step(), session.objects()[0].kind
+    (1, 'none')
+    """
 
     _line = re.compile(r'^#.*$', re.MULTILINE)
     _what = 'objects'
@@ -204,7 +215,13 @@ class Calls(Answer[Reach]):
 
 
 class Items(Answer[Item]):
-    """The opcodes of a session, with their places."""
+    """The opcodes of a session, with their places.
+
+    >>> import picklestep
+    >>> with picklestep.Session(b'N.') as session:
+    ...     [item.name for item in session.items()]
+    ['NONE', 'STOP']
+    """
 
     _line = re.compile(r'^([> ])([* ]) *([0-9]+) +([0-9]+): ([A-Z][A-Z0-9_]*)(?: (.*))?$', re.MULTILINE)
     _what = 'items'
@@ -214,7 +231,13 @@ class Items(Answer[Item]):
 
 
 class ShownObjects(Answer[Shown]):
-    """An object and all that it holds, each with its depth."""
+    r"""An object and all that it holds, each with its depth.
+
+    >>> import picklestep
+    >>> with picklestep.Session(b'N\x85.') as session:
+    ...     session.run().place, [shown.number for shown in session.show(1)]
+    (3, [1, 0])
+    """
 
     _line = re.compile(r'^([0-9]+) (#[0-9]+)( .*)?$', re.MULTILINE)
     _what = 'lines'

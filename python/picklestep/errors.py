@@ -8,7 +8,11 @@ __all__ = ['OutOfMemory', 'PicklestepError', 'ProgramError', 'Refused', 'TimedOu
 
 
 class PicklestepError(Exception):
-    """Anything that this package raises by itself."""
+    """Anything that this package raises by itself.
+
+    >>> issubclass(Refused, PicklestepError), issubclass(TimedOut, PicklestepError)
+    (True, True)
+    """
 
 
 class Refused(PicklestepError):
@@ -43,12 +47,28 @@ class ProgramError(PicklestepError):
 
 
 class TooLarge(ProgramError):
-    """The input has more than 1,073,741,824 bytes."""
+    """The input has more than 1,073,741,824 bytes.
+
+    >>> issubclass(TooLarge, ProgramError)
+    True
+    """
 
 
 class OutOfMemory(ProgramError):
-    """The program got no more memory from the system, or it reached the limit that the call gave."""
+    """The program got no more memory from the system, or it reached the limit that the call gave.
+
+    >>> import picklestep
+    >>> try:
+    ...     picklestep.objects(b'N' * 2_000_000 + b'.', memory=32_000_000)
+    ... except picklestep.OutOfMemory as error:
+    ...     error.words
+    'out of memory'
+    """
 
 
 class TimedOut(ProgramError, TimeoutError):
-    """The program took longer than the call allows, and was ended."""
+    """The program took longer than the call allows, and was ended.
+
+    >>> issubclass(TimedOut, TimeoutError)
+    True
+    """

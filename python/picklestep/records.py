@@ -22,6 +22,10 @@ class End:
     `how` is 'stopped' (STOP was read), 'refused' (the machine refused an opcode) or 'fault' (the bytes cannot be read on).
     `code` is the code of the refusal or fault ('S2', 'F1'), and `text` the program's words for it. `offset` tells where in the bytes,
     and `item` which opcode was refused, where the answer says so.
+
+    >>> import picklestep
+    >>> picklestep.listing(b'N').end
+    End(how='fault', code='F1', text='F1 ended at 1', offset=1, item=None)
     """
 
     how: str
@@ -42,6 +46,10 @@ class Opcode:
 
     `code` is the opcode's byte, `argument` the value of its argument (texts as bytes), `note` what the listing says of it besides,
     without parentheses ('MARK at 3', 'as 0', or ''), and `marks` the number of open marks before it.
+
+    >>> import picklestep
+    >>> picklestep.listing(b'(N1N.')[2]
+    Opcode(offset=2, code=b'1', name='POP_MARK', argument=None, note='MARK at 0', marks=1)
     """
 
     offset: int
@@ -57,6 +65,10 @@ class Change:
     """What was done to an object after it was made.
 
     `how` is 'append', 'add', 'set' or 'state'. `value` is the number of the object that was put in, `key` that of the key of a 'set'.
+
+    >>> import picklestep
+    >>> picklestep.objects(b'}NNs.')[0].changes
+    (Change(how='set', value=2, key=1),)
     """
 
     how: str
@@ -66,10 +78,14 @@ class Change:
 
 @dataclass(frozen=True, **_SLOTS)
 class Object:
-    """An object that the pickle makes.
+    r"""An object that the pickle makes.
 
     `kind` is its word ('list', 'global', 'call', ..), `text` what its opcode says of it, `parts` the numbers of the objects that it
     was made of, and `changes` what was done to it later.
+
+    >>> import picklestep
+    >>> picklestep.objects(b'NK\x07\x86.')[2]
+    Object(number=2, kind='tuple', text=None, parts=(0, 1), changes=())
     """
 
     number: int
@@ -81,14 +97,24 @@ class Object:
 
 @dataclass(frozen=True, **_SLOTS)
 class Ref:
-    """An object of which only the number is told."""
+    r"""An object of which only the number is told.
+
+    >>> import picklestep
+    >>> picklestep.calls(b'ca\nb\n]R.')[1].value
+    Brief(kind='object', value=Ref(number=1), more=0)
+    """
 
     number: int
 
 
 @dataclass(frozen=True, **_SLOTS)
 class Global:
-    """What an import names. A part that no text gives is the object that it comes from."""
+    r"""What an import names. A part that no text gives is the object that it comes from.
+
+    >>> import picklestep
+    >>> picklestep.calls(b'cos\ngetcwd\n.')[0].name
+    Global(module=b'os', name=b'getcwd')
+    """
 
     module: Union[bytes, Ref]
     name: Union[bytes, Ref]
@@ -96,7 +122,12 @@ class Global:
 
 @dataclass(frozen=True, **_SLOTS)
 class Extension:
-    """An entry of the extension registry."""
+    r"""An entry of the extension registry.
+
+    >>> import picklestep
+    >>> picklestep.calls(b'\x82\x07.')[0].name
+    Extension(code=7)
+    """
 
     code: int
 
@@ -107,7 +138,12 @@ Name = Union[Global, Extension, Ref]
 
 @dataclass(frozen=True, **_SLOTS)
 class Brief:
-    """A value in a line of `calls`: its kind ('text', 'int', 'global', 'object', ..), the value, and how many bytes were cut off."""
+    """A value in a line of `calls`: its kind ('text', 'int', 'global', 'object', ..), the value, and how many bytes were cut off.
+
+    >>> import picklestep
+    >>> picklestep.calls(b'NQ.')[0].value
+    Brief(kind='none', value=None, more=0)
+    """
 
     kind: str
     value: Union[None, bool, int, float, bytes, Name]
@@ -116,7 +152,12 @@ class Brief:
 
 @dataclass(frozen=True, **_SLOTS)
 class Briefs:
-    """The items of a tuple in a line of `calls`: the first 16 of them, and how many come after these."""
+    r"""The items of a tuple in a line of `calls`: the first 16 of them, and how many come after these.
+
+    >>> import picklestep
+    >>> picklestep.calls(b'ca\nb\nK\x05\x85R.')[1].value
+    Briefs(items=(Brief(kind='int', value=5, more=0),), more=0)
+    """
 
     items: Tuple[Brief, ...]
     more: int = 0
@@ -127,12 +168,17 @@ Value = Union[Brief, Briefs]
 
 @dataclass(frozen=True, **_SLOTS)
 class Reach:
-    """A line of `calls`: an import, a call, or something else that reaches out of the pickle.
+    r"""A line of `calls`: an import, a call, or something else that reaches out of the pickle.
 
     `what` is the line's first word: 'import', 'inst', 'call', 'new', 'state', 'append', 'set', 'add', 'persistent', 'buffer' or
     'readonly'. `name` is what is imported or called; `value` the arguments, the state or the persistent id; `keywords` those of a
     'new' that has them; `count` how many items were put in, or the number of the buffer. `number` is the object that was made, and
     `target` the one that was changed or made read-only. `text` is the line without its offset.
+
+    >>> import picklestep
+    >>> reach = picklestep.calls(b'ca\nb\n}b.')[1]
+    >>> reach.what, reach.target, reach.text
+    ('state', 0, 'state #1 to #0')
     """
 
     offset: int
@@ -148,7 +194,13 @@ class Reach:
 
 @dataclass(frozen=True, **_SLOTS)
 class Item:
-    """A line of a session's `items`: an opcode with its place, whether the cursor is at it, and whether it has a breakpoint."""
+    """A line of a session's `items`: an opcode with its place, whether the cursor is at it, and whether it has a breakpoint.
+
+    >>> import picklestep
+    >>> with picklestep.Session(b'N.') as session:
+    ...     session.items()[1]
+    Item(place=1, offset=1, name='STOP', argument=None, at_cursor=False, has_break=False)
+    """
 
     place: int
     offset: int
@@ -160,14 +212,26 @@ class Item:
 
 @dataclass(frozen=True, **_SLOTS)
 class Mark:
-    """An open mark on the stack, and the place of the opcode that set it."""
+    """An open mark on the stack, and the place of the opcode that set it.
+
+    >>> import picklestep
+    >>> with picklestep.Session(b'(N.') as session:
+    ...     session.step(), session.stack()
+    (1, (Mark(place=0),))
+    """
 
     place: int
 
 
 @dataclass(frozen=True, **_SLOTS)
 class Shown:
-    """A line of a session's `show`: an object and how deep it lies. An object that comes again is only its number."""
+    """A line of a session's `show`: an object and how deep it lies. An object that comes again is only its number.
+
+    >>> import picklestep
+    >>> with picklestep.Session(b'N.') as session:
+    ...     session.step(), session.show(0)[0].depth
+    (1, 0)
+    """
 
     depth: int
     number: int
@@ -176,7 +240,13 @@ class Shown:
 
 @dataclass(frozen=True, **_SLOTS)
 class Ran:
-    """Where a session's `run` stopped, and why: 'end', 'breakpoint' or 'refused'. `text` is the program's words for it."""
+    """Where a session's `run` stopped, and why: 'end', 'breakpoint' or 'refused'. `text` is the program's words for it.
+
+    >>> import picklestep
+    >>> with picklestep.Session(b'N.') as session:
+    ...     session.run()
+    Ran(place=2, why='end', text='end, stopped')
+    """
 
     place: int
     why: str
@@ -186,7 +256,13 @@ class Ran:
 @dataclass(frozen=True, **_SLOTS)
 class Where:
     """Where a session is: the cursor's place, the number of places, the cursor's offset, how many buffers were asked for, the numbers
-    of the results (none before STOP), and how the pickle ends."""
+    of the results (none before STOP), and how the pickle ends.
+
+    >>> import picklestep
+    >>> with picklestep.Session(b'N.') as session:
+    ...     session.where().places
+    2
+    """
 
     place: int
     places: int

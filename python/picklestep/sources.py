@@ -110,8 +110,8 @@ def _copy(source: Readable, file: int) -> None:
     """Copies what a file object gives, up to one byte past the program's limit."""
     left = LIMIT + 1
     while left:
-        block = source.read(min(left, _BLOCK))
+        block = memoryview(source.read(min(left, _BLOCK)))
         if not block:
             return
-        _write_all(file, memoryview(block))
+        _write_all(file, block)
         left -= len(block)

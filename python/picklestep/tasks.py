@@ -5,6 +5,7 @@ from __future__ import annotations
 from typing import Optional
 
 from .answers import Calls, Listing, Objects
+from .errors import ProgramError
 from .program import run_program
 from .sources import Input, Source
 
@@ -51,4 +52,7 @@ def _answer(word: str, source: Source, many: bool, timeout: Optional[float], mem
     """What the program writes about an input."""
     with Input(source) as given:
         words = [word, given.path, *(['--many'] if many else [])]
-        return run_program(words, given.files, timeout=timeout, memory=memory).decode('ascii')
+        answer = run_program(words, given.files, timeout=timeout, memory=memory)
+    if not answer.endswith(b'\n'):
+        raise ProgramError('the program gave no whole answer')
+    return answer.decode('ascii')
