@@ -48,7 +48,7 @@ def _results(distributed: Any, client: Any, paths: List[str], options: Options) 
         handed[future.key] = path
         return [future]
 
-    answers = distributed.as_completed([future for _ in range(AHEAD) for future in hand_out()])
+    answers = distributed.as_completed([future for _ in range(AHEAD) for future in hand_out()], loop=client.loop)
     for future in answers:
         path = handed.pop(future.key)
         yield _result_of(future, path)

@@ -78,7 +78,9 @@ class Report:
             for found in pickle.imports:
                 self.imports[found.name] += found.count
                 self.pickles_with[found.name] += 1
-                self.first_with.setdefault(found.name, _place(result.path, pickle.where))
+                # The first by name: files come in any order.
+                place = _place(result.path, pickle.where)
+                self.first_with[found.name] = min(place, self.first_with.get(found.name, place))
                 counts['not allowed'] += not self._is_allowed(found.name)
         self.asks = any(counts[key] for key in ('errors', 'missed', 'not stopped', 'not allowed'))
 
