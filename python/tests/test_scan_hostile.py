@@ -146,7 +146,7 @@ class HostileZip(ScanCase):
             data = bytearray(whole)
             for _ in range(chance.randrange(1, 6)):
                 data[chance.randrange(len(data))] = chance.choice((0, 1, 8, 80, 255, chance.randrange(256)))
-            with mock.patch('picklestep.scan.look.asks_program', return_value=NOTHING):
+            with mock.patch('picklestep.scan.looking.asks_program', return_value=NOTHING):
                 self.assertIsNone(self.look('a.zip', bytes(data)).error)
 
 
@@ -329,7 +329,7 @@ class HostileFolders(ScanCase):
     def test_reading_that_is_refused(self) -> None:
         # As a user without permission meets it, for users who may read every file.
         path = self.file('a.pkl', HOSTILE)
-        with mock.patch('picklestep.scan.look.os.open', side_effect=PermissionError(13, 'Permission denied')):
+        with mock.patch('picklestep.scan.looking.os.open', side_effect=PermissionError(13, 'Permission denied')):
             self.assertEqual(look(str(path)).error, 'Permission denied')
         with mock.patch('picklestep.scan.blobs.os.pread', side_effect=OSError(5, 'Input/output error')):
             self.assertEqual(look(str(path)).error, 'Input/output error')

@@ -4,8 +4,9 @@
     python -m picklestep scan upload.pt
 """
 
+from .blobs import Limits
 from .command import main, run
-from .look import Options, look
-from .results import Call, Import, Note, Pickle, Result
+from .looking import Options, look, look_at_bytes
+from .results import Call, Import, Note, Pickle, Result, from_json, to_json
 
-__all__ = ['Call', 'Import', 'Note', 'Options', 'Pickle', 'Result', 'look', 'main', 'run']
+__all__ = ['Call', 'Import', 'Limits', 'Note', 'Options', 'Pickle', 'Result', 'from_json', 'look', 'look_at_bytes', 'main', 'run', 'to_json']

@@ -7,7 +7,7 @@ import tempfile
 from dataclasses import dataclass
 from typing import BinaryIO, Iterable, Iterator, cast
 
-__all__ = ['Blob', 'Budget', 'FileBlob', 'LimitMet', 'Limits', 'OpenedBlob', 'Part', 'spooled']
+__all__ = ['Blob', 'Budget', 'BytesBlob', 'FileBlob', 'LimitMet', 'Limits', 'OpenedBlob', 'Part', 'spooled']
 
 CHUNK = 1 << 18
 
@@ -92,6 +92,17 @@ class FileBlob(Blob):
     def path(self) -> str:
         """A path that opens this very file again, whatever its name stands for by then."""
         return f'/proc/{os.getpid()}/fd/{self.file.fileno()}'
+
+
+class BytesBlob(Blob):
+    """Bytes in memory."""
+
+    def __init__(self, content: bytes) -> None:
+        self.content = memoryview(content)
+        self.size = len(content)
+
+    def read(self, offset: int, count: int) -> bytes:
+        return bytes(self.content[offset:offset + max(0, count)])
 
 
 class OpenedBlob(Blob):

@@ -8,7 +8,7 @@ from __future__ import annotations
 
 from typing import Any, Generator, Iterable, Iterator, List
 
-from .look import Options, look
+from .looking import Options, look
 from .results import Result
 
 __all__ = ['NoCluster', 'look_on_cluster']

@@ -18,7 +18,7 @@ from .allow import SETS, read_allowed
 from .blobs import Limits
 from .cluster import NoCluster, look_on_cluster
 from .files import find_files
-from .look import Options
+from .looking import Options
 from .pool import look_at_all
 from .progress import with_progress
 from .report import Report

@@ -8,7 +8,7 @@ import sys
 from importlib import import_module
 from typing import BinaryIO, Iterable, Iterator, List
 
-from .look import is_url, left_out
+from .looking import is_url, left_out
 from .results import Result
 
 __all__ = ['Found', 'find_files', 'read_names']

@@ -13,7 +13,7 @@ from collections import deque
 from multiprocessing.connection import Connection, wait
 from typing import Deque, Dict, Generator, Iterable, Optional, Tuple
 
-from .look import Options, look
+from .looking import Options, look
 from .results import Result
 
 __all__ = ['look_at_all']

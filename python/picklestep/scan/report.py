@@ -127,7 +127,7 @@ class Report:
     # --- The summary ---
 
     def summary(self) -> List[str]:
-        """The counts over all files, and the imports with the rarest first."""
+        """The counts over all files, and the imports: those that are not allowed, then the rarest first."""
         counts = self.counts
         told = [f'{counts["files"]} files', f'{counts["pickles"]} pickles in {counts["files with pickles"]} of them',
                 f'{counts["others"]} others that are no pickles']
@@ -136,7 +136,7 @@ class Report:
             if counts[key]:
                 told.append(f'{counts[key]} {words}')
         lines = [', '.join(told)]
-        for name in sorted(self.imports, key=lambda name: (self.pickles_with[name], name)):
+        for name in sorted(self.imports, key=lambda name: (self._is_allowed(name), self.pickles_with[name], name)):
             mark = ' ' if self._is_allowed(name) else '!'
             lines.append(f'{mark} {shown(name)}: {_times(self.imports[name])}, in {self.pickles_with[name]} pickles, first in '
                          f'{self.first_with[name]}')

@@ -16,12 +16,12 @@ from ..errors import ProgramError
 from ..sources import LIMIT
 from . import tars, zips
 from .begins import HEAD, is_pickle_name, is_storage_name, kind_of, may_be_pickle, unread_kind_of
-from .blobs import Blob, Budget, FileBlob, LimitMet, Limits, OpenedBlob, spooled
+from .blobs import Blob, Budget, BytesBlob, FileBlob, LimitMet, Limits, OpenedBlob, spooled
 from .packed import METHODS, Decompressor, Unpacking, raw_deflate, raw_lzma
 from .reading import asks_program, reaches_out, summed_up, why_unread
 from .results import Note, Pickle, Place, Result
 
-__all__ = ['Options', 'look']
+__all__ = ['Options', 'look', 'look_at_bytes']
 
 _URL = re.compile(r'[A-Za-z][A-Za-z0-9+.-]*(::|://)')
 _PACKED_ENDING = re.compile(r'\.(gz|gzip|bz2|xz|lzma|z|zlib)$', re.IGNORECASE)
@@ -425,8 +425,23 @@ def _gone_through(looker: Looker, blob: Blob, start: Result) -> Result:
 def look(path: str, options: Options = Options()) -> Result:
     """All that is found in a file. Whatever is wrong with it becomes part of the result."""
     looker = Looker(options)
+    return _whatever_happens(looker, path, lambda: _look_at_url(looker, path) if is_url(path) else _look_at_file(looker, path))
+
+
+def look_at_bytes(name: str, content: bytes, options: Options = Options()) -> Result:
+    """All that is found in the content of a file that somebody else read, such as Spark.
+
+    >>> look_at_bytes('a.pkl', b'cposix\\nsystem\\n.').pickles[0].imports
+    (Import(name='posix.system', count=1, offset=0),)
+    """
+    looker = Looker(options)
+    return _whatever_happens(looker, name, lambda: _gone_through(looker, BytesBlob(content), Result(name, len(content))))
+
+
+def _whatever_happens(looker: Looker, path: str, work: Callable[[], Result]) -> Result:
+    """What the work answers, or a result that says why it did not."""
     try:
-        return _look_at_url(looker, path) if is_url(path) else _look_at_file(looker, path)
+        return work()
     except OSError as error:
         return Result(path, error=error.strerror or str(error))
     except Exception as error:  # a hostile file must not end the others
