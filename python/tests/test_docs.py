@@ -31,6 +31,11 @@ class Examples(unittest.TestCase):
         self.assertEqual(results.failed, 0)
         self.assertGreater(results.attempted, 20)
 
+    def test_readme(self) -> None:
+        text = (ROOT / 'README.md').read_text(encoding='utf-8').partition('## From Python')[2].partition('\n## ')[0]
+        test = doctest.DocTestParser().get_doctest(text, {}, 'README.md', 'README.md', 0)
+        self.assertEqual(doctest.DocTestRunner().run(test), doctest.TestResults(0, 2))
+
     def test_docstrings(self) -> None:
         for found in pkgutil.walk_packages(picklestep.__path__, 'picklestep.'):
             if not found.name.startswith(_APART):
