@@ -174,9 +174,9 @@ class Errors(LeavesNothing):
         self.assertEqual(len(picklestep.objects(b'N.', memory=64 * MB)), 1)
 
     def test_a_limit_that_a_session_meets(self) -> None:
-        with Session(b'N0' * MB + b'N.', memory=160 * MB) as session:
+        with Session(b'N0' * 900_000 + b'N.', memory=160 * MB) as session:
             with self.assertRaises(picklestep.Refused) as caught:
-                session.goto(2 * MB)
+                session.goto(1_800_000)
             self.assertEqual(caught.exception.text, 'M out of memory')
             self.assertEqual((session.where().place, session.goto(10)), (0, 10))
 
