@@ -2,7 +2,8 @@
 
 from __future__ import annotations
 
-from typing import Dict, List, Optional, Tuple
+import re
+from typing import Dict, Iterator, List, Optional, Tuple
 
 from ..answers import Calls
 from ..records import Extension, Global, Name, Reach, Ref
@@ -14,6 +15,13 @@ __all__ = ['asks_program', 'reaches_out', 'shown_name', 'summed_up', 'why_unread
 
 # These lines tell of an import.
 _IMPORTS = ('import', 'inst')
+
+# These lines name what they import or call.
+_WITH_NAME = ('import', 'inst', 'call', 'new')
+
+# A line of the program, and the name in it where its first part stands in quotes.
+_QUOTED = r"'(?:[^'\\]|\\.)*'"
+_LINE = re.compile(rf"(?m)^ *([0-9]+): ((\w+)(?: ({_QUOTED} (?:{_QUOTED}|#[0-9]+)))?.*)$")
 
 # These lines alone show no pickle: many texts begin with the letters P and Q, and what a loader does with such an id is its own.
 _WEAK = ('persistent', 'buffer', 'readonly')
@@ -73,22 +81,38 @@ def reaches_out(answer: Calls) -> bool:
     return answer.end.is_stopped or any(_is_sure(reach) for reach in answer)
 
 
+def _lines(answer: Calls) -> Iterator[Tuple[int, str, str, str]]:
+    """The offset of each line, its first word, the name that is imported or called, and the line without its offset.
+
+    A pickle may have a hundred thousand lines and few names, so a name is read once, and not at each of its lines.
+    """
+    shown: Dict[str, str] = {}
+    for index, match in enumerate(_LINE.finditer(answer.text)):
+        offset, text, what, name = match.groups()
+        if what not in _WITH_NAME:
+            known = ''
+        elif name is None:
+            known = shown_name(answer[index].name)
+        else:
+            known = shown.get(name) or shown.setdefault(name, shown_name(answer[index].name))
+        yield int(offset), what, known, text
+
+
 def summed_up(where: Place, size: int, answer: Calls, lines: bool) -> Pickle:
     """The answer by names, in the order in which they come first."""
     imports: Dict[str, List[int]] = {}
     done: Dict[Tuple[str, str], List[int]] = {}
     texts: Dict[Tuple[str, str], str] = {}
-    for reach in answer:
-        name = shown_name(reach.name)
-        if reach.what in _IMPORTS:
-            imports.setdefault(name, [0, reach.offset])[0] += 1
-        if reach.what != 'import':
-            done.setdefault((reach.what, name), [0, reach.offset])[0] += 1
-            texts.setdefault((reach.what, name), reach.text)
+    for offset, what, name, text in _lines(answer):
+        if what in _IMPORTS:
+            imports.setdefault(name, [0, offset])[0] += 1
+        if what != 'import':
+            done.setdefault((what, name), [0, offset])[0] += 1
+            texts.setdefault((what, name), text)
     return Pickle(
         where, size, tuple(Import(name, count, first) for name, (count, first) in imports.items()),
         tuple(Call(what, name, count, first, texts[what, name]) for (what, name), (count, first) in done.items()), answer.end,
-        tuple(f'{reach.offset:5}: {reach.text}' for reach in answer) if lines else (),
+        tuple(match[0] for match in _LINE.finditer(answer.text)) if lines else (),
     )
 
 
