@@ -1,0 +1,74 @@
+"""What can go wrong, as exceptions."""
+
+from __future__ import annotations
+
+from typing import Optional
+
+__all__ = ['OutOfMemory', 'PicklestepError', 'ProgramError', 'Refused', 'TimedOut', 'TooLarge']
+
+
+class PicklestepError(Exception):
+    """Anything that this package raises by itself.
+
+    >>> issubclass(Refused, PicklestepError), issubclass(TimedOut, PicklestepError)
+    (True, True)
+    """
+
+
+class Refused(PicklestepError):
+    """The program refused a line of a session. The session is as it was before the line.
+
+    >>> error = Refused('C4 no such place')
+    >>> error.code, error.text
+    ('C4', 'C4 no such place')
+    """
+
+    def __init__(self, text: str) -> None:
+        super().__init__(text)
+        self.text = text
+        self.code = text.partition(' ')[0]
+
+
+class ProgramError(PicklestepError):
+    """The program could not answer: it ended with status 2 or by a signal, or it could not be started.
+
+    `words` is what it said on standard error, `status` its status, and `signal` the number of the signal that ended it.
+
+    >>> error = ProgramError('cannot read', status=2)
+    >>> error.words, error.status, error.signal
+    ('cannot read', 2, None)
+    """
+
+    def __init__(self, words: str, status: Optional[int] = None, signal: Optional[int] = None) -> None:
+        super().__init__(words)
+        self.words = words
+        self.status = status
+        self.signal = signal
+
+
+class TooLarge(ProgramError):
+    """The input has more than 1,073,741,824 bytes.
+
+    >>> issubclass(TooLarge, ProgramError)
+    True
+    """
+
+
+class OutOfMemory(ProgramError):
+    """The program got no more memory from the system, or it reached the limit that the call gave.
+
+    >>> import picklestep
+    >>> try:
+    ...     picklestep.objects(b'N' * 2_000_000 + b'.', memory=32_000_000)
+    ... except picklestep.OutOfMemory as error:
+    ...     error.words
+    'out of memory'
+    """
+
+
+class TimedOut(ProgramError, TimeoutError):
+    """The program took longer than the call allows, and was ended.
+
+    >>> issubclass(TimedOut, TimeoutError)
+    True
+    """

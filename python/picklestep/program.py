@@ -1,0 +1,150 @@
+"""The program: where it is, and how it is started.
+
+A run has its memory limit before its first instruction, since a shell sets the limit on itself and then becomes the program. (A limit
+set on the running program would come late, and code that runs between fork and exec is not safe where there are threads.)
+
+A run does not outlive the interpreter, whatever ends it. The program inherits one end of a pipe, the lifeline, and nobody writes into it.
+When the interpreter is gone, its end is closed, and the system then sends the program the signal that was asked for. This needs no
+thread, and unlike PR_SET_PDEATHSIG it does not end a session when the thread that opened it is done.
+"""
+
+from __future__ import annotations
+
+import contextlib
+import fcntl
+import os
+import signal
+import subprocess
+from pathlib import Path
+from typing import IO, List, NoReturn, Optional, Sequence
+
+from .errors import OutOfMemory, ProgramError, TimedOut, TooLarge
+
+__all__ = ['Process', 'find_program', 'run_program']
+
+_HERE = Path(__file__).resolve().parent
+_LIMITED = ['/bin/sh', '-c', 'ulimit -v "$1" && shift && exec "$@"', 'sh']
+
+
+def find_program() -> str:
+    """The path of the program: PICKLESTEP_PROGRAM, else the package's own copy, else that of the source tree."""
+    named = os.environ.get('PICKLESTEP_PROGRAM')
+    if named:
+        return named
+    root = _HERE.parent.parent
+    for path in (_HERE / 'bin' / 'picklestep', root / 'dist' / 'linux-x86_64' / 'picklestep', root / 'picklestep'):
+        if path.is_file():
+            return str(path)
+    raise ProgramError('the program picklestep is not there: set PICKLESTEP_PROGRAM to its path')
+
+
+def _command(words: Sequence[str], memory: Optional[int]) -> List[str]:
+    """The command that runs the program on these words, with at most so many bytes of memory."""
+    command = [find_program(), *words]
+    if memory is None:
+        return command
+    return [*_LIMITED, str(max(1, memory // 1024)), *command]
+
+
+# What the loader of programs says where the memory limit is too small for the program itself.
+_OUT_OF_MEMORY = ('failed to map segment', 'annot allocate memory', 'annot create search path array')
+
+
+class Process:
+    """A running program, whose standard streams are pipes. It ends when the interpreter does."""
+
+    def __init__(self, words: Sequence[str], files: Sequence[int] = (), memory: Optional[int] = None, stdin: bool = False) -> None:
+        command = _command(words, memory)
+        near, self._lifeline = os.pipe()
+        try:
+            self._popen = subprocess.Popen(command, stdin=subprocess.PIPE if stdin else subprocess.DEVNULL, stdout=subprocess.PIPE,
+                                           stderr=subprocess.PIPE, bufsize=0, pass_fds=(*files, near))
+        except BaseException as error:
+            os.close(self._lifeline)
+            if isinstance(error, OSError):
+                raise ProgramError(f'cannot start the program: {error}') from error
+            raise
+        else:
+            _end_with(near, self._popen.pid)
+        finally:
+            os.close(near)
+        self._is_open = True
+
+    @property
+    def stdin(self) -> int:
+        """Where the program reads its lines from."""
+        return _pipe(self._popen.stdin)
+
+    @property
+    def stdout(self) -> int:
+        """Where the program's answers come from."""
+        return _pipe(self._popen.stdout)
+
+    def communicate(self, script: Optional[bytes], timeout: Optional[float]) -> bytes:
+        """Gives the program its whole input, and answers its whole output. The program has ended then, also after an exception."""
+        try:
+            output, errors = self._popen.communicate(script, timeout)
+        except subprocess.TimeoutExpired:
+            raise TimedOut(f'no answer within {timeout} seconds') from None
+        finally:
+            self.close()
+        if self._popen.returncode not in (0, 1):
+            _raise_failure(self._popen.returncode, errors)
+        return bytes(output)
+
+    def fail(self) -> NoReturn:
+        """Raises why the program gave no answer, which ends it where it runs."""
+        try:
+            output = self._popen.communicate(timeout=1)
+        except subprocess.TimeoutExpired:
+            output = (b'', b'')
+        self.close()
+        _raise_failure(self._popen.returncode, output[1])
+
+    def close(self) -> None:
+        """Ends the program, where it runs."""
+        if not self._is_open:
+            return
+        self._is_open = False
+        try:
+            self._popen.kill()
+            self._popen.wait()
+        finally:
+            for stream in (self._popen.stdin, self._popen.stdout, self._popen.stderr):
+                if stream is not None:
+                    stream.close()
+            os.close(self._lifeline)
+
+
+def _pipe(stream: Optional[IO[bytes]]) -> int:
+    assert stream is not None
+    return stream.fileno()
+
+
+def _end_with(lifeline: int, process: int) -> None:
+    """Asks the system to end a process when the lifeline's other end is closed."""
+    with contextlib.suppress(OSError):  # it has ended already
+        fcntl.fcntl(lifeline, fcntl.F_SETSIG, signal.SIGKILL)
+        fcntl.fcntl(lifeline, fcntl.F_SETOWN, process)
+        fcntl.fcntl(lifeline, fcntl.F_SETFL, fcntl.fcntl(lifeline, fcntl.F_GETFL) | os.O_ASYNC)
+
+
+def _raise_failure(status: int, errors: bytes) -> NoReturn:
+    """Raises why a run failed, by its status and by what it wrote on standard error."""
+    words = errors.decode('utf-8', 'replace').strip()
+    if words.startswith('picklestep: '):
+        words = words[len('picklestep: '):]
+    if status < 0:
+        raise ProgramError(words or f'ended by signal {-status}', signal=-status)
+    if words == 'too large':
+        raise TooLarge(words, status)
+    if words == 'out of memory' or any(loader in words for loader in _OUT_OF_MEMORY):
+        raise OutOfMemory(words, status)
+    raise ProgramError(words or f'ended with status {status}', status)
+
+
+def run_program(words: Sequence[str], files: Sequence[int] = (), script: Optional[bytes] = None, timeout: Optional[float] = None,
+                memory: Optional[int] = None) -> bytes:
+    """Runs the program to its end, and answers its output."""
+    process = Process(words, files, memory, stdin=script is not None)
+    return process.communicate(script, timeout)

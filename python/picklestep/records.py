@@ -1,0 +1,272 @@
+"""What the answers are made of: opcodes, objects, what is reached, and how reading ended."""
+
+from __future__ import annotations
+
+import sys
+from dataclasses import dataclass
+from typing import Any, Dict, Optional, Tuple, Union
+
+__all__ = ['Argument', 'Brief', 'Briefs', 'Change', 'End', 'Extension', 'Global', 'Item', 'Mark', 'Name', 'Object', 'Opcode', 'Ran',
+           'Reach', 'Ref', 'Shown', 'Value', 'Where']
+
+_SLOTS: Dict[str, Any] = {'slots': True} if sys.version_info >= (3, 10) else {}
+
+# The value of an argument: a number, a text as its bytes, the two lines of GLOBAL and INST, or none.
+Argument = Union[None, int, float, bytes, Tuple[bytes, bytes]]
+
+
+@dataclass(frozen=True, **_SLOTS)
+class End:
+    """How reading ended.
+
+    `how` is 'stopped' (STOP was read), 'refused' (the machine refused an opcode) or 'fault' (the bytes cannot be read on).
+    `code` is the code of the refusal or fault ('S2', 'F1'), and `text` the program's words for it. `offset` tells where in the bytes,
+    and `item` which opcode was refused, where the answer says so.
+
+    >>> import picklestep
+    >>> picklestep.listing(b'N').end
+    End(how='fault', code='F1', text='F1 ended at 1', offset=1, item=None)
+    """
+
+    how: str
+    code: Optional[str] = None
+    text: str = 'stopped'
+    offset: Optional[int] = None
+    item: Optional[int] = None
+
+    @property
+    def is_stopped(self) -> bool:
+        """Whether the pickle was read to its STOP."""
+        return self.how == 'stopped'
+
+
+@dataclass(frozen=True, **_SLOTS)
+class Opcode:
+    """A line of a listing.
+
+    `code` is the opcode's byte, `argument` the value of its argument (texts as bytes), `note` what the listing says of it besides,
+    without parentheses ('MARK at 3', 'as 0', or ''), and `marks` the number of open marks before it.
+
+    >>> import picklestep
+    >>> picklestep.listing(b'(N1N.')[2]
+    Opcode(offset=2, code=b'1', name='POP_MARK', argument=None, note='MARK at 0', marks=1)
+    """
+
+    offset: int
+    code: bytes
+    name: str
+    argument: Argument
+    note: str
+    marks: int
+
+
+@dataclass(frozen=True, **_SLOTS)
+class Change:
+    """What was done to an object after it was made.
+
+    `how` is 'append', 'add', 'set' or 'state'. `value` is the number of the object that was put in, `key` that of the key of a 'set'.
+
+    >>> import picklestep
+    >>> picklestep.objects(b'}NNs.')[0].changes
+    (Change(how='set', value=2, key=1),)
+    """
+
+    how: str
+    value: int
+    key: Optional[int] = None
+
+
+@dataclass(frozen=True, **_SLOTS)
+class Object:
+    r"""An object that the pickle makes.
+
+    `kind` is its word ('list', 'global', 'call', ..), `text` what its opcode says of it, `parts` the numbers of the objects that it
+    was made of, and `changes` what was done to it later.
+
+    >>> import picklestep
+    >>> picklestep.objects(b'NK\x07\x86.')[2]
+    Object(number=2, kind='tuple', text=None, parts=(0, 1), changes=())
+    """
+
+    number: int
+    kind: str
+    text: Argument
+    parts: Tuple[int, ...]
+    changes: Tuple[Change, ...]
+
+
+@dataclass(frozen=True, **_SLOTS)
+class Ref:
+    r"""An object of which only the number is told.
+
+    >>> import picklestep
+    >>> picklestep.calls(b'ca\nb\n]R.')[1].value
+    Brief(kind='object', value=Ref(number=1), more=0)
+    """
+
+    number: int
+
+
+@dataclass(frozen=True, **_SLOTS)
+class Global:
+    r"""What an import names. A part that no text gives is the object that it comes from.
+
+    >>> import picklestep
+    >>> picklestep.calls(b'cos\ngetcwd\n.')[0].name
+    Global(module=b'os', name=b'getcwd')
+    """
+
+    module: Union[bytes, Ref]
+    name: Union[bytes, Ref]
+
+
+@dataclass(frozen=True, **_SLOTS)
+class Extension:
+    r"""An entry of the extension registry.
+
+    >>> import picklestep
+    >>> picklestep.calls(b'\x82\x07.')[0].name
+    Extension(code=7)
+    """
+
+    code: int
+
+
+# What is imported or called: a name, an entry of the extension registry, or some other object.
+Name = Union[Global, Extension, Ref]
+
+
+@dataclass(frozen=True, **_SLOTS)
+class Brief:
+    """A value in a line of `calls`: its kind ('text', 'int', 'global', 'object', ..), the value, and how many bytes were cut off.
+
+    >>> import picklestep
+    >>> picklestep.calls(b'NQ.')[0].value
+    Brief(kind='none', value=None, more=0)
+    """
+
+    kind: str
+    value: Union[None, bool, int, float, bytes, Name]
+    more: int = 0
+
+
+@dataclass(frozen=True, **_SLOTS)
+class Briefs:
+    r"""The items of a tuple in a line of `calls`: the first 16 of them, and how many come after these.
+
+    >>> import picklestep
+    >>> picklestep.calls(b'ca\nb\nK\x05\x85R.')[1].value
+    Briefs(items=(Brief(kind='int', value=5, more=0),), more=0)
+    """
+
+    items: Tuple[Brief, ...]
+    more: int = 0
+
+
+Value = Union[Brief, Briefs]
+
+
+@dataclass(frozen=True, **_SLOTS)
+class Reach:
+    r"""A line of `calls`: an import, a call, or something else that reaches out of the pickle.
+
+    `what` is the line's first word: 'import', 'inst', 'call', 'new', 'state', 'append', 'set', 'add', 'persistent', 'buffer' or
+    'readonly'. `name` is what is imported or called; `value` the arguments, the state or the persistent id; `keywords` those of a
+    'new' that has them; `count` how many items were put in, or the number of the buffer. `number` is the object that was made, and
+    `target` the one that was changed or made read-only. `text` is the line without its offset.
+
+    >>> import picklestep
+    >>> reach = picklestep.calls(b'ca\nb\n}b.')[1]
+    >>> reach.what, reach.target, reach.text
+    ('state', 0, 'state #1 to #0')
+    """
+
+    offset: int
+    what: str
+    text: str
+    name: Optional[Name] = None
+    value: Optional[Value] = None
+    keywords: Optional[Value] = None
+    count: Optional[int] = None
+    number: Optional[int] = None
+    target: Optional[int] = None
+
+
+@dataclass(frozen=True, **_SLOTS)
+class Item:
+    """A line of a session's `items`: an opcode with its place, whether the cursor is at it, and whether it has a breakpoint.
+
+    >>> import picklestep
+    >>> with picklestep.Session(b'N.') as session:
+    ...     session.items()[1]
+    Item(place=1, offset=1, name='STOP', argument=None, at_cursor=False, has_break=False)
+    """
+
+    place: int
+    offset: int
+    name: str
+    argument: Argument
+    at_cursor: bool
+    has_break: bool
+
+
+@dataclass(frozen=True, **_SLOTS)
+class Mark:
+    """An open mark on the stack, and the place of the opcode that set it.
+
+    >>> import picklestep
+    >>> with picklestep.Session(b'(N.') as session:
+    ...     session.step(), session.stack()
+    (1, (Mark(place=0),))
+    """
+
+    place: int
+
+
+@dataclass(frozen=True, **_SLOTS)
+class Shown:
+    """A line of a session's `show`: an object and how deep it lies. An object that comes again is only its number.
+
+    >>> import picklestep
+    >>> with picklestep.Session(b'N.') as session:
+    ...     session.step(), session.show(0)[0].depth
+    (1, 0)
+    """
+
+    depth: int
+    number: int
+    object: Optional[Object]
+
+
+@dataclass(frozen=True, **_SLOTS)
+class Ran:
+    """Where a session's `run` stopped, and why: 'end', 'breakpoint' or 'refused'. `text` is the program's words for it.
+
+    >>> import picklestep
+    >>> with picklestep.Session(b'N.') as session:
+    ...     session.run()
+    Ran(place=2, why='end', text='end, stopped')
+    """
+
+    place: int
+    why: str
+    text: str
+
+
+@dataclass(frozen=True, **_SLOTS)
+class Where:
+    """Where a session is: the cursor's place, the number of places, the cursor's offset, how many buffers were asked for, the numbers
+    of the results (none before STOP), and how the pickle ends.
+
+    >>> import picklestep
+    >>> with picklestep.Session(b'N.') as session:
+    ...     session.where().places
+    2
+    """
+
+    place: int
+    places: int
+    offset: int
+    buffers: int
+    results: Tuple[int, ...]
+    end: End

@@ -1,0 +1,151 @@
+"""The command line."""
+
+from __future__ import annotations
+
+import argparse
+import io
+import json
+import os
+import re
+import signal
+import sys
+from contextlib import closing
+from typing import Dict, Generator, List, Optional
+
+from ..errors import ProgramError
+from ..program import find_program
+from .allow import SETS, read_allowed
+from .blobs import Limits
+from .cluster import NoCluster, look_on_cluster
+from .files import find_files
+from .looking import Options
+from .pool import look_at_all
+from .progress import with_progress
+from .report import Report
+from .results import Result, from_json
+
+__all__ = ['main', 'run']
+
+_UNITS = {'': 1, 'K': 1 << 10, 'M': 1 << 20, 'G': 1 << 30}
+
+
+def _bytes(text: str) -> int:
+    """A number of bytes, with K, M or G after it where it counts these."""
+    match = re.fullmatch(r'([0-9]+)([KMG]?)', text.upper())
+    if match is None:
+        raise argparse.ArgumentTypeError(f'{text!r} is no number of bytes')
+    return int(match[1]) * _UNITS[match[2]]
+
+
+def _positive(text: str) -> int:
+    number = int(text)
+    if number < 1:
+        raise argparse.ArgumentTypeError(f'{text!r} is not at least 1')
+    return number
+
+
+def _parser() -> argparse.ArgumentParser:
+    parser = argparse.ArgumentParser(
+        prog='picklestep-scan', description='Tells what the pickles in files import and call. Nothing of them is run or loaded.',
+        epilog='Status: 0; 1 where something asks for a closer look (a line that begins with !); 2 where it could not begin; '
+               '130 after Ctrl-C.')
+    parser.add_argument('paths', metavar='PATH', nargs='+', help='a file, a folder, a URL for fsspec, or - for names on standard input')
+    parser.add_argument('--allow', metavar='FILE', action='append', default=[],
+                        help=f'names that may be imported, one a line; or one of the sets {", ".join(SETS)}')
+    parser.add_argument('--json', action='store_true', help='one object a line and file; the summary goes to standard error')
+    parser.add_argument('--brief', action='store_true', help='only lines that ask for a closer look, and the summary')
+    parser.add_argument('--lines', action='store_true', help="each pickle with all of the program's lines")
+    parser.add_argument('--jobs', metavar='N', type=_positive, default=1, help='files at once')
+    parser.add_argument('--cluster', metavar='ADDRESS', help='hand the files to the Dask cluster at this address')
+    parser.add_argument('--resume', metavar='LOG', help='leave out what an earlier --json run has in this file')
+    parser.add_argument('--null', action='store_true', help='names on standard input end in a NUL byte')
+    limits = Limits()
+    parser.add_argument('--max-bytes', metavar='N', type=_bytes, default=limits.unpacked, help='unpacked bytes of a file (1G)')
+    parser.add_argument('--max-members', metavar='N', type=_positive, default=limits.members, help='members of a file (100000)')
+    parser.add_argument('--max-depth', metavar='N', type=_positive, default=limits.depth, help='containers one in another (4)')
+    return parser
+
+
+def _earlier(log: Optional[str]) -> Dict[str, Result]:
+    """The results of an earlier run. A line that is cut, as the last may be, counts as not there, and a file that could not be read is
+    tried again."""
+    earlier: Dict[str, Result] = {}
+    if log is None:
+        return earlier
+    with open(log, encoding='utf-8') as lines:
+        for line in lines:
+            try:
+                result = from_json(json.loads(line))
+            except (ValueError, KeyError, TypeError):
+                continue
+            if result.error is None and result.left is None:
+                earlier[result.path] = result
+    return earlier
+
+
+def _is_same(path: str, earlier: Result) -> bool:
+    """Whether a file is still the one that was looked at. That of a URL is taken to be."""
+    try:
+        state = os.stat(path)
+    except OSError:
+        return True
+    return (state.st_size, state.st_mtime_ns) == (earlier.size, earlier.modified)
+
+
+def _results(words: argparse.Namespace, paths: List[str]) -> Generator[Result, None, None]:
+    options = Options(Limits(words.max_bytes, words.max_members, words.max_depth), words.lines)
+    if words.cluster is not None:
+        return look_on_cluster(paths, options, words.cluster)
+    return look_at_all(paths, options, words.jobs)
+
+
+def _scan(words: argparse.Namespace) -> int:
+    allowed = read_allowed(words.allow) if words.allow else None
+    earlier = _earlier(words.resume)
+    report = Report(sys.stdout, allowed, words.json, words.brief)
+    paths: List[str] = []
+    interrupted = False
+    try:
+        found = find_files(words.paths, b'\0' if words.null else b'\n')
+        for result in found.results:
+            report.add(result)
+        for path in found.paths:
+            if path in earlier and _is_same(path, earlier[path]):
+                report.add(earlier[path], is_new=False)
+            else:
+                paths.append(path)
+        results = _results(words, paths)
+        with closing(with_progress(results, len(paths))) as shown, closing(results):
+            for result in shown:
+                report.add(result)
+    except KeyboardInterrupt:
+        interrupted = True
+    summary = sys.stderr if words.json else sys.stdout
+    if interrupted:
+        print(f'interrupted: this is what was found in {report.counts["files"]} files', file=summary)
+    for line in report.summary():
+        print(line, file=summary)
+    return 130 if interrupted else int(report.asks)
+
+
+def main(words: Optional[List[str]] = None) -> int:
+    """Does what the words say, and answers the status."""
+    parsed = _parser().parse_args(words)
+    for stream in (sys.stdout, sys.stderr):
+        if isinstance(stream, io.TextIOWrapper):  # names of files may hold what the terminal's encoding does not
+            stream.reconfigure(errors='backslashreplace')
+    try:
+        find_program()
+        return _scan(parsed)
+    except BrokenPipeError:
+        # The reader has left. What is still held cannot be written, at the end of Python neither.
+        os.dup2(os.open(os.devnull, os.O_WRONLY), sys.stdout.fileno())
+        return 128 + signal.SIGPIPE
+    except (OSError, ProgramError, NoCluster) as error:
+        print(f'picklestep-scan: {error}', file=sys.stderr)
+        return 2
+
+
+def run() -> None:
+    """The entry point of `picklestep-scan`."""
+    sys.exit(main())

@@ -1,0 +1,118 @@
+"""Compressed bytes, unpacked piece by piece."""
+
+from __future__ import annotations
+
+import bz2
+import lzma
+import zlib
+from typing import Callable, Dict, Iterator, Optional, Union
+
+from .blobs import Blob
+
+__all__ = ['METHODS', 'Unpacking', 'raw_deflate', 'raw_lzma']
+
+# Unpacked bytes of a step: a bomb is noticed before it fills the memory.
+STEP = 1 << 18
+
+# The memory that an xz or lzma stream may ask for, since a hostile header asks for gigabytes.
+LZMA_MEMORY = 256 << 20
+
+
+class _Inflate:
+    """zlib's decompressor with the calls that those of bz2 and lzma have."""
+
+    def __init__(self, bits: int) -> None:
+        self.inner = zlib.decompressobj(bits)
+        self.held = b''
+
+    def decompress(self, piece: bytes, most: int) -> bytes:
+        made = self.inner.decompress(self.held + piece, most)
+        self.held = self.inner.unconsumed_tail
+        return made
+
+    @property
+    def eof(self) -> bool:
+        return self.inner.eof
+
+    @property
+    def needs_input(self) -> bool:
+        return not self.held
+
+    @property
+    def unused_data(self) -> bytes:
+        return self.inner.unused_data
+
+
+Decompressor = Union[_Inflate, bz2.BZ2Decompressor, lzma.LZMADecompressor]
+
+
+def raw_deflate() -> Decompressor:
+    """Deflate as a zip archive has it."""
+    return _Inflate(-15)
+
+
+def raw_lzma(properties: bytes) -> Decompressor:
+    """LZMA as a zip archive has it: its properties stand before the stream."""
+    dictionary = int.from_bytes(properties[1:5], 'little')
+    number = properties[0]
+    chain = [{'id': lzma.FILTER_LZMA1, 'dict_size': min(max(dictionary, 4096), LZMA_MEMORY), 'lc': number % 9, 'lp': number // 9 % 5,
+              'pb': number // 45}]
+    return lzma.LZMADecompressor(lzma.FORMAT_RAW, filters=chain)
+
+
+# What unpacks each kind of file.
+METHODS: Dict[str, Callable[[], Decompressor]] = {
+    'gzip': lambda: _Inflate(31), 'zlib': lambda: _Inflate(15), 'bz2': bz2.BZ2Decompressor,
+    'xz': lambda: lzma.LZMADecompressor(lzma.FORMAT_XZ, LZMA_MEMORY),
+    'lzma': lambda: lzma.LZMADecompressor(lzma.FORMAT_ALONE, LZMA_MEMORY),
+}
+
+
+class Unpacking:
+    """Unpacks a stream, and others of its kind that follow at once (gzip and xz files may hold several).
+
+    When its pieces are gone over, `trouble` says why the stream ends before its end, if it does, and `end` is where in the packed bytes
+    the last whole stream ended.
+    """
+
+    def __init__(self, packed: Blob, start: Callable[[], Decompressor], offset: int = 0, several: bool = False) -> None:
+        self.packed = packed
+        self.start = start
+        self.offset = offset
+        self.several = several
+        self.end = offset
+        self.trouble: Optional[str] = None
+
+    def pieces(self) -> Iterator[bytes]:
+        """The unpacked bytes."""
+        yield from self._stream()
+        while self.several and self.trouble is None and self.end < self.packed.size:
+            before = self.end
+            yield from self._stream()
+            if self.trouble is not None:
+                self.trouble = None
+                self.end = before  # what follows is no stream of this kind: the caller looks at it
+                return
+
+    def _stream(self) -> Iterator[bytes]:
+        inner = self.start()
+        taken = self.end
+        try:
+            for piece in self.packed.chunks(self.end):
+                taken += len(piece)
+                yield from self._step(inner, piece)
+                if inner.eof:
+                    self.end = taken - len(inner.unused_data)
+                    return
+            self.trouble = 'the compressed data are cut short'
+        except (zlib.error, lzma.LZMAError, OSError, ValueError, EOFError) as error:
+            self.trouble = f'the compressed data cannot be unpacked to their end ({error})'
+
+    def _step(self, inner: Decompressor, piece: bytes) -> Iterator[bytes]:
+        made = inner.decompress(piece, STEP)
+        while made or not (inner.eof or inner.needs_input):
+            if made:
+                yield made
+            if inner.eof:
+                return
+            made = inner.decompress(b'', STEP)

@@ -1,0 +1,44 @@
+"""How far it is, on a terminal: a bar where `rich` is installed, else one line that counts."""
+
+from __future__ import annotations
+
+import sys
+from importlib import import_module
+from typing import Any, Generator, Iterable
+
+from .results import Result
+
+__all__ = ['with_progress']
+
+
+def with_progress(results: Iterable[Result], total: int) -> Generator[Result, None, None]:
+    """The results as they come, with the progress told on standard error where that is a terminal."""
+    if not sys.stderr.isatty():
+        return (result for result in results)
+    try:
+        progress, console = import_module('rich.progress'), import_module('rich.console')
+    except ImportError:
+        return _counted(results, total)
+    return _with_bar(results, total, progress, console.Console(stderr=True))
+
+
+def _counted(results: Iterable[Result], total: int) -> Generator[Result, None, None]:
+    done = 0
+    try:
+        for result in results:
+            done += 1
+            print('\r\x1b[K', end='', file=sys.stderr, flush=True)
+            yield result
+            sys.stdout.flush()
+            print(f'\r\x1b[K{done} of {total} files', end='', file=sys.stderr, flush=True)
+    finally:
+        print('\r\x1b[K', end='', file=sys.stderr, flush=True)
+
+
+def _with_bar(results: Iterable[Result], total: int, progress: Any, console: Any) -> Generator[Result, None, None]:
+    columns = (progress.TextColumn('{task.completed} of {task.total} files'), progress.BarColumn(), progress.TimeRemainingColumn())
+    with progress.Progress(*columns, console=console, transient=True) as bar:
+        task = bar.add_task('scan', total=total)
+        for result in results:
+            yield result
+            bar.advance(task)

@@ -1,0 +1,101 @@
+"""What scanning a file found: records that the report, the lines of JSON and the workers of a cluster all use."""
+
+from __future__ import annotations
+
+from dataclasses import asdict, dataclass
+from typing import Any, Dict, Optional, Tuple
+
+from ..records import End
+
+__all__ = ['Call', 'Import', 'Note', 'Pickle', 'Result', 'from_json', 'to_json']
+
+# Where something stands inside a file: the names of members, from the outermost container to the innermost.
+Place = Tuple[str, ...]
+
+
+@dataclass(frozen=True)
+class Import:
+    """A name that a pickle imports, how often, and at which offset first."""
+
+    name: str
+    count: int
+    offset: int
+
+
+@dataclass(frozen=True)
+class Call:
+    """What a pickle does with one thing: how often, at which offset first, and the program's line for that first time.
+
+    `what` is the line's first word ('call', 'new', 'state', 'persistent', ..). `name` is what is called, or '' where that is an object
+    that the pickle itself made.
+    """
+
+    what: str
+    name: str
+    count: int
+    offset: int
+    text: str
+
+
+@dataclass(frozen=True)
+class Pickle:
+    """A member (or a whole file) that was read as one pickle or as several in a row."""
+
+    where: Place
+    size: int
+    imports: Tuple[Import, ...]
+    calls: Tuple[Call, ...]
+    end: End
+    lines: Tuple[str, ...] = ()
+
+
+@dataclass(frozen=True)
+class Note:
+    """Something to know about a place in a file. `missed` is set where something there was not looked at."""
+
+    where: Place
+    text: str
+    missed: bool = False
+
+
+@dataclass(frozen=True)
+class Result:
+    """All that was found in a file.
+
+    `others` counts what is no pickle. `error` says why the file cannot be read, `left` why it was left out (a FIFO, a link to a folder).
+    `size` and `modified` (nanoseconds) tell `--resume` whether the file is still the one that was looked at.
+    """
+
+    path: str
+    size: int = 0
+    modified: int = 0
+    pickles: Tuple[Pickle, ...] = ()
+    others: int = 0
+    notes: Tuple[Note, ...] = ()
+    error: Optional[str] = None
+    left: Optional[str] = None
+
+
+def to_json(result: Result) -> Dict[str, Any]:
+    """The object that stands for a result in a line of JSON."""
+    made = asdict(result)
+    for pickle in made['pickles']:
+        if not pickle['lines']:
+            del pickle['lines']
+    return made
+
+
+def from_json(made: Dict[str, Any]) -> Result:
+    """The result that such an object stands for."""
+    return Result(
+        made['path'], made['size'], made['modified'], tuple(_pickle(pickle) for pickle in made['pickles']), made['others'],
+        tuple(Note(tuple(note['where']), note['text'], note['missed']) for note in made['notes']), made['error'], made['left'],
+    )
+
+
+def _pickle(made: Dict[str, Any]) -> Pickle:
+    return Pickle(
+        tuple(made['where']), made['size'], tuple(Import(each['name'], each['count'], each['offset']) for each in made['imports']),
+        tuple(Call(each['what'], each['name'], each['count'], each['offset'], each['text']) for each in made['calls']),
+        End(**made['end']), tuple(made.get('lines', ())),
+    )

@@ -1,0 +1,449 @@
+"""A session: one pickle that is stepped forwards and backwards, looked at and edited."""
+
+from __future__ import annotations
+
+import contextlib
+import html
+import os
+import select
+import threading
+import time
+import weakref
+from operator import index
+from typing import Dict, List, Optional, Sequence, Tuple, Union, overload
+
+from . import texts
+from .answers import Heap, Items, ShownObjects
+from .arguments import ArgumentValue, encoded
+from .errors import ProgramError, Refused, TimedOut
+from .program import Process, run_program
+from .records import Mark, Ran, Ref, Where
+from .sources import Input, Source, is_word, nameless_file
+
+__all__ = ['Session']
+
+_Bytes = bytes  # (a session has a method of this name)
+_SHOWN = 1000
+
+
+# The words whose answers have any number of lines.
+_LONG_WORDS = ('items', 'objects', 'show')
+
+
+class _Talk:
+    """Lines to the program and their answers, one after another."""
+
+    def __init__(self, process: Process, timeout: Optional[float]) -> None:
+        self._process = process
+        self._timeout = timeout
+        self._lock = threading.Lock()
+        self._stdin, self._stdout = process.stdin, process.stdout
+        self._is_open = True
+        self.edits: List[bytes] = []
+        self._undone: List[bytes] = []
+        os.set_blocking(self._stdin, False)
+
+    def line(self, line: bytes) -> str:
+        """The answer of one line to a line."""
+        with self._lock:
+            answer = self._exchange(line, b'')[:-1].decode('ascii')
+            if answer.startswith('refused: '):
+                raise Refused(answer[9:])
+            self._note(line, answer)
+        return answer
+
+    def lines(self, line: bytes) -> str:
+        """The answer of any number of lines to a line. It ends where the answer of a `where` begins that is sent after the line."""
+        with self._lock:
+            answer = self._exchange(line, b'at ', b'\nwhere')
+        text = answer[:answer.rfind(b'\n', 0, -1) + 1].decode('ascii')
+        if text.startswith('refused: '):
+            raise Refused(text[9:-1])
+        return text
+
+    def _exchange(self, line: bytes, last: bytes, after: bytes = b'') -> bytes:
+        """Sends a line, and reads up to the end of a line that begins so."""
+        if b'\n' in line:
+            raise ValueError('a line of a session cannot hold a newline')
+        if not self._is_open:
+            raise ValueError('the session is closed')
+        try:
+            deadline = None if self._timeout is None else time.monotonic() + self._timeout
+            self._send(line + after + b'\n', deadline)
+            return self._receive(last, deadline)
+        except (BrokenPipeError, EOFError):
+            self._is_open = False
+            self._process.fail()
+        except BaseException:  # an answer that nobody read would be taken for the next one
+            self.close()
+            raise
+
+    def _note(self, line: bytes, answer: str) -> None:
+        """Keeps the edits that stand, each with the place that it was made at."""
+        word, _, place = answer.partition(' ')
+        if word == 'edited':
+            words = line.split()
+            words[1] = place.encode('ascii')
+            self.edits.append(b' '.join(words) + b'\n')
+            self._undone.clear()
+        elif word == 'undone':
+            self._undone.append(self.edits.pop())
+        elif word == 'redone':
+            self.edits.append(self._undone.pop())
+
+    def _send(self, data: bytes, deadline: Optional[float]) -> None:
+        while True:
+            try:
+                data = data[os.write(self._stdin, data):]
+            except BlockingIOError:
+                pass
+            if not data:
+                return
+            self._wait(self._stdin, select.POLLOUT, deadline)
+
+    def _receive(self, last: bytes, deadline: Optional[float]) -> bytes:
+        answer = bytearray()
+        while True:
+            if deadline is not None:
+                self._wait(self._stdout, select.POLLIN, deadline)
+            block = os.read(self._stdout, 1 << 16)
+            if not block:
+                raise EOFError
+            answer += block
+            if block.endswith(b'\n') and answer.startswith(last, answer.rfind(b'\n', 0, -1) + 1):
+                return bytes(answer)
+
+    def _wait(self, file: int, event: int, deadline: Optional[float]) -> None:
+        """Waits until the file can be read or written."""
+        poll = select.poll()
+        poll.register(file, event)
+        left = None if deadline is None else max(0.0, deadline - time.monotonic()) * 1000
+        if not poll.poll(left):
+            raise TimedOut(f'no answer within {self._timeout} seconds')
+
+    def close(self) -> None:
+        """Ends the program."""
+        self._is_open = False
+        self._process.close()
+
+
+def _close(talk: _Talk, given: Input) -> None:
+    talk.close()
+    given.close()
+
+
+def _place_of(answer: str) -> int:
+    """The place that an answer of one line ends in."""
+    return int(answer.rpartition(' ')[2])
+
+
+class Session(contextlib.AbstractContextManager['Session']):
+    """A conversation with the program about one pickle, or with `many` about several that stand one after another.
+
+    A place counts the opcodes before it; `at` names it by its offset in the pickle as it is. What the program refuses raises `Refused`,
+    and the session is as it was before. With `window`, only that many steps are remembered to go back by; the answers are the same.
+    `timeout` is in seconds for each line, and `memory` the most bytes of address space that the program may take.
+
+    >>> with Session(b'cos\\ngetcwd\\n)R.') as session:
+    ...     session.run().why, session.show(2)[0].object.kind
+    ('end', 'call')
+    """
+
+    def __init__(self, source: Source, window: Optional[int] = None, many: bool = False, *, timeout: Optional[float] = None,
+                 memory: Optional[int] = None) -> None:
+        self._limits = (timeout, memory)
+        self._input = Input(source, own=True)
+        self._words = ['debug', self._input.path, *(['--many'] if many else [])]
+        try:
+            talk = _Talk(Process([*self._words, *(['--window', str(index(window))] if window is not None else [])], self._input.files,
+                                 memory, stdin=True), timeout)
+        except BaseException:
+            self._input.close()
+            raise
+        self._talk = talk
+        self._finalizer = weakref.finalize(self, _close, talk, self._input)
+        try:
+            self.where()  # a pickle that cannot be opened is told here
+        except BaseException:
+            self.close()
+            raise
+
+    def close(self) -> None:
+        """Ends the session. Closing it twice does no harm."""
+        self._finalizer()
+
+    def __exit__(self, *error: object) -> None:
+        self.close()
+
+    # --- Moving ---
+
+    def step(self) -> int:
+        """Goes over one opcode, and answers the place after it.
+
+        >>> with Session(b'N.') as session:
+        ...     session.step(), session.step()
+        (1, 2)
+        """
+        return _place_of(self._talk.line(b'step'))
+
+    def back(self) -> int:
+        """Goes back over one opcode, and answers the place before it.
+
+        >>> with Session(b'N.') as session:
+        ...     session.step(), session.back()
+        (1, 0)
+        """
+        return _place_of(self._talk.line(b'back'))
+
+    def goto(self, place: Optional[int] = None, *, at: Optional[int] = None) -> int:
+        """Goes to a place.
+
+        >>> with Session(b'K\\x01K\\x02\\x86.') as session:
+        ...     session.goto(3), session.goto(at=2)
+        (3, 1)
+        """
+        return _place_of(self._talk.line(b'goto ' + _place(place, at)))
+
+    def run(self) -> Ran:
+        """Steps on to the end, to a breakpoint, or to an opcode that the machine refuses.
+
+        >>> with Session(b'N.') as session:
+        ...     session.run()
+        Ran(place=2, why='end', text='end, stopped')
+        """
+        place, _, text = self._talk.line(b'run')[3:].partition(': ')
+        return Ran(int(place), text.partition(',')[0], text)
+
+    def set_break(self, place: Optional[int] = None, *, at: Optional[int] = None) -> int:
+        """Sets a breakpoint on the opcode at a place, and answers the place.
+
+        >>> with Session(b'NN0.') as session:
+        ...     session.set_break(2), session.run().why
+        (2, 'breakpoint')
+        """
+        return _place_of(self._talk.line(b'break ' + _place(place, at)))
+
+    def clear_break(self, place: Optional[int] = None, *, at: Optional[int] = None) -> int:
+        """Takes the breakpoint on the opcode at a place away, and answers the place.
+
+        >>> with Session(b'N.') as session:
+        ...     session.set_break(1), session.clear_break(1), session.run().why
+        (1, 1, 'end')
+        """
+        return _place_of(self._talk.line(b'clear ' + _place(place, at)))
+
+    # --- Edits ---
+
+    @overload
+    def replace(self, place: int, name: str, /, *values: ArgumentValue, raw: Optional[_Bytes] = None) -> int: ...
+
+    @overload
+    def replace(self, name: str, /, *values: ArgumentValue, at: int, raw: Optional[_Bytes] = None) -> int: ...
+
+    def replace(self, *words: ArgumentValue, at: Optional[int] = None, raw: Optional[_Bytes] = None) -> int:
+        """Puts an opcode where the one at a place is, and answers the place.
+
+        The argument is given as its value (two values for GLOBAL and INST), or whole as `raw` bytes.
+
+        >>> with Session(b'K\\x01.') as session:
+        ...     session.replace(0, 'BININT2', 258), session.bytes()
+        (0, b'M\\x02\\x01.')
+        """
+        return self._put(b'replace', words, at, raw)
+
+    @overload
+    def insert(self, place: int, name: str, /, *values: ArgumentValue, raw: Optional[_Bytes] = None) -> int: ...
+
+    @overload
+    def insert(self, name: str, /, *values: ArgumentValue, at: int, raw: Optional[_Bytes] = None) -> int: ...
+
+    def insert(self, *words: ArgumentValue, at: Optional[int] = None, raw: Optional[_Bytes] = None) -> int:
+        """Puts an opcode before the one at a place, and answers the place.
+
+        >>> with Session(b'.') as session:
+        ...     session.insert(0, 'GLOBAL', 'os', 'getcwd'), session.bytes()
+        (0, b'cos\\ngetcwd\\n.')
+        """
+        return self._put(b'insert', words, at, raw)
+
+    def delete(self, place: Optional[int] = None, *, at: Optional[int] = None) -> int:
+        """Takes the opcode at a place out, and answers the place.
+
+        >>> with Session(b'NN0.') as session:
+        ...     session.delete(2), session.delete(0), session.bytes()
+        (2, 0, b'N.')
+        """
+        return _place_of(self._talk.line(b'delete ' + _place(place, at)))
+
+    def frame(self, place: Optional[int] = None, count: int = 0, *, at: Optional[int] = None) -> int:
+        """Puts a frame around `count` opcodes from a place on, and answers the place.
+
+        >>> with Session(b'N.') as session:
+        ...     session.frame(0, 2), session.bytes()
+        (0, b'\\x95\\x02\\x00\\x00\\x00\\x00\\x00\\x00\\x00N.')
+        """
+        return _place_of(self._talk.line(b'frame %s %d' % (_place(place, at), index(count))))
+
+    def unframe(self, place: Optional[int] = None, *, at: Optional[int] = None) -> int:
+        """Takes the FRAME at a place away and leaves what is in the frame, and answers the place.
+
+        >>> with Session(b'N.') as session:
+        ...     session.frame(0, 2), session.unframe(0), session.bytes()
+        (0, 0, b'N.')
+        """
+        return _place_of(self._talk.line(b'unframe ' + _place(place, at)))
+
+    def undo(self) -> int:
+        """Takes the latest edit back, and answers its place.
+
+        >>> with Session(b'N.') as session:
+        ...     session.insert(1, 'POP'), session.undo(), session.bytes()
+        (1, 1, b'N.')
+        """
+        return _place_of(self._talk.line(b'undo'))
+
+    def redo(self) -> int:
+        """Makes the edit again that was taken back last, and answers its place.
+
+        >>> with Session(b'N.') as session:
+        ...     session.insert(1, 'POP'), session.undo(), session.redo(), session.bytes()
+        (1, 1, 1, b'N0.')
+        """
+        return _place_of(self._talk.line(b'redo'))
+
+    def _put(self, word: _Bytes, words: Sequence[ArgumentValue], at: Optional[int], raw: Optional[_Bytes]) -> int:
+        """An edit that names an opcode: a place (unless it is named by `at`), the name, and its values."""
+        place, (name, *values) = (words[0], words[1:]) if at is None else (None, words)
+        if not isinstance(name, str) or not name.isidentifier():
+            raise TypeError(f'the name of an opcode is wanted, and not {name!r:.100}')
+        if raw is not None and values:
+            raise TypeError('an argument is given as values or as raw bytes, and not as both')
+        argument = encoded(name, values) if raw is None else _Bytes(raw)
+        where = _place(None if place is None else index(place), at)  # type: ignore[arg-type]
+        return _place_of(self._talk.line(b'%s %s %s %s' % (word, where, name.encode('utf-8'), argument.hex().encode('ascii'))))
+
+    # --- Questions ---
+
+    def where(self) -> Where:
+        """Where the session is, and how the pickle ends.
+
+        >>> with Session(b'N.') as session:
+        ...     session.step(), session.where().offset
+        (1, 1)
+        """
+        return texts.where_of(self._talk.line(b'where'))
+
+    def items(self) -> Items:
+        """The opcodes with their places.
+
+        >>> with Session(b'K\\x07.') as session:
+        ...     session.items()[0]
+        Item(place=0, offset=0, name='BININT1', argument=7, at_cursor=True, has_break=False)
+        """
+        return Items(self._talk.lines(b'items'))
+
+    def objects(self) -> Heap:
+        """The objects that were made so far.
+
+        >>> with Session(b'K\\x07.') as session:
+        ...     session.step(), session.objects()[0].text
+        (1, 7)
+        """
+        return Heap(self._talk.lines(b'objects'))
+
+    def show(self, number: int) -> ShownObjects:
+        """An object and all that it holds.
+
+        >>> with Session(b'NN\\x86.') as session:
+        ...     session.run().place, [(line.depth, line.number) for line in session.show(2)]
+        (4, [(0, 2), (1, 0), (1, 1)])
+        """
+        return ShownObjects(self._talk.lines(b'show %d' % index(number)))
+
+    def stack(self) -> Tuple[Union[Ref, Mark], ...]:
+        """The objects and marks on the stack, from the bottom.
+
+        >>> with Session(b'(N.') as session:
+        ...     session.goto(2), session.stack()
+        (2, (Mark(place=0), Ref(number=0)))
+        """
+        return texts.stack_of(self._talk.line(b'stack'))
+
+    def memo(self) -> Dict[int, int]:
+        """The number of the object under each key of the memo.
+
+        >>> with Session(b'Nq\\x05.') as session:
+        ...     session.goto(2), session.memo()
+        (2, {5: 0})
+        """
+        return texts.memo_of(self._talk.line(b'memo'))
+
+    def ask(self, line: str) -> str:
+        """The program's own answer to a line, as docs/DEBUGGER.md has them.
+
+        >>> with Session(b'N.') as session:
+        ...     session.ask('where')
+        'at 0 of 2, offset 0, buffers 0, result none, end stopped\\n'
+        """
+        words = line.split()
+        if not words:
+            return ''
+        if words[0] == 'quit':
+            raise ValueError('a session is closed by close()')
+        if words[0] in _LONG_WORDS:
+            return self._talk.lines(line.encode('utf-8'))
+        return self._talk.line(line.encode('utf-8')) + '\n'
+
+    # --- The pickle as it is ---
+
+    def bytes(self) -> _Bytes:
+        """The pickle with the edits that stand.
+
+        >>> with Session(b'N.') as session:
+        ...     session.replace(0, 'BININT1', 5), session.bytes()
+        (0, b'K\\x05.')
+        """
+        file = nameless_file()
+        with os.fdopen(file, 'rb') as saved:
+            self._save(f'/dev/fd/{file}', [file])
+            return saved.read()
+
+    def save(self, path: Union[str, 'os.PathLike[str]']) -> None:
+        """Writes the pickle with the edits that stand into a file, which may be the one that was opened."""
+        name = os.path.join(os.getcwd(), os.fsdecode(path))
+        if is_word(name):
+            self._save(name, [])
+        else:
+            with open(name, 'wb') as file:
+                file.write(self.bytes())
+
+    def _save(self, path: str, files: List[int]) -> None:
+        """Makes the edits in a second run of the program, so that this one goes on."""
+        if not self._finalizer.alive:
+            raise ValueError('the session is closed')
+        edits = self._talk.edits
+        answer = run_program([*self._words, '--save', path], [*self._input.files, *files], b''.join(edits), *self._limits)
+        if answer.count(b'edited ') != len(edits):
+            raise ProgramError(f'an edit was not made again: {answer.decode("ascii")[-_SHOWN:]}')
+
+    # --- For notebooks ---
+
+    def __repr__(self) -> str:
+        return f'<Session: {self._text()[0]}>'
+
+    def _repr_html_(self) -> str:
+        return f'<pre>{html.escape(chr(10).join(self._text()))}</pre>'
+
+    def _text(self) -> List[str]:
+        """Where the session is, with its stack and its memo, cut where they are long."""
+        if not self._finalizer.alive:
+            return ['closed']
+        answers = (self._talk.line(word) for word in (b'where', b'stack', b'memo'))
+        return [answer if len(answer) <= _SHOWN else answer[:_SHOWN] + ' ..' for answer in answers]
+
+
+def _place(place: Optional[int], at: Optional[int]) -> bytes:
+    """A place as the program takes it: a number, or an offset behind '@'."""
+    if (place is None) == (at is None):
+        raise TypeError('a place is wanted, or at=OFFSET, and not both')
+    return b'@%d' % index(at) if at is not None else b'%d' % index(place)  # type: ignore[arg-type]

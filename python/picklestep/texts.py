@@ -1,0 +1,350 @@
+"""The program's texts, read: quoted texts, numbers, names, and whole lines."""
+
+from __future__ import annotations
+
+import re
+import struct
+from typing import Callable, Dict, List, Optional, Tuple, Union
+
+from .records import (Argument, Brief, Briefs, Change, End, Extension, Global, Item, Mark, Name, Object, Opcode, Reach, Ref, Value, Where)
+
+__all__ = ['LinesError', 'OPCODE', 'memo_of', 'object_of', 'opcode_of', 'reach_of', 'stack_of', 'unquoted', 'where_of']
+
+_QUOTED = r"'(?:[^'\\]|\\.)*'"
+_NUMBER = r'-?[0-9]+|le:[0-9a-f]*|f8:[0-9a-f]{16}'
+_ESCAPE = re.compile(rb'\\(x[0-9a-f]{2}|.)')
+_ATOM = re.compile(f'({_QUOTED})|({_NUMBER})')
+_OBJECT = re.compile(r'#([0-9]+) ([a-z-]+)')
+_PARTS = re.compile(r' \((#[^)]*)\)')
+_CHANGE = re.compile(r' (?:([+&!])#([0-9]+)|\[#([0-9]+)\]=#([0-9]+))')
+_CHANGES = {'+': 'append', '&': 'add', '!': 'state'}
+_WHERE = re.compile(r'at ([0-9]+) of ([0-9]+), offset ([0-9]+), buffers ([0-9]+), result (none|#[0-9]+(?: #[0-9]+)*), end (.*)')
+
+
+class LinesError(ValueError):
+    """A line that is not one of the program's."""
+
+
+def unquoted(text: str) -> bytes:
+    r"""The bytes that a quoted text stands for.
+
+    >>> unquoted(r"'it\'s \x00 \\'")
+    b"it's \x00 \\"
+    """
+    inner = text[1:-1].encode('ascii')
+    return _ESCAPE.sub(_unescaped, inner) if b'\\' in inner else inner
+
+
+def _unescaped(match: 're.Match[bytes]') -> bytes:
+    escape = match[1]
+    return bytes.fromhex(escape[1:].decode('ascii')) if len(escape) > 1 else escape
+
+
+def number_of(text: str) -> Union[int, float]:
+    """The number that a text stands for.
+
+    >>> number_of('-7'), number_of('le:0001'), number_of('f8:3ff0000000000000')
+    (-7, 256, 1.0)
+    """
+    if text.startswith('le:'):
+        return int.from_bytes(bytes.fromhex(text[3:]), 'little', signed=True)
+    if text.startswith('f8:'):
+        value: float = struct.unpack('>d', bytes.fromhex(text[3:]))[0]
+        return value
+    return int(text)
+
+
+def _argument(text: str, at: int) -> Tuple[Argument, int]:
+    """The argument that stands at a place, if one does, and where it ends."""
+    match = _ATOM.match(text, at)
+    if match is None:
+        return None, at
+    if match[2] is not None:
+        return number_of(match[2]), match.end()
+    first, end = unquoted(match[1]), match.end()
+    second = _ATOM.match(text, end + 1)
+    if second is None or second[1] is None or text[end] != ' ':
+        return first, end
+    return (first, unquoted(second[1])), second.end()
+
+
+def opcode_of(line: str) -> Opcode:
+    """The opcode that a line of a listing tells.
+
+    >>> opcode_of("   11: c        GLOBAL     'os' 'getcwd'")
+    Opcode(offset=11, code=b'c', name='GLOBAL', argument=(b'os', b'getcwd'), note='', marks=1)
+    """
+    match = OPCODE.match(line)
+    if match is None:
+        raise LinesError(line)
+    return opcode_at(match)
+
+
+def opcode_at(match: 're.Match[str]') -> Opcode:
+    """The opcode of a line that matched."""
+    offset, code, name, number, rest = match.groups()
+    argument: Argument = None
+    note = ''
+    if number is not None:
+        argument = int(number)
+    elif rest is not None:
+        argument, end = _argument(rest, 0)
+        if end < len(rest):
+            note = rest[end:].strip(' ()')
+    return Opcode(int(offset), _CODES[code], name, argument, note, (match.start(3) - match.end(1) - 7) >> 2)
+
+
+# The codes as a listing shows them: four blanks for each mark stand between them and the name, and one more.
+_CODES = {**{f'\\x{code:02x}': bytes((code,)) for code in range(256)}, **{chr(code): bytes((code,)) for code in range(33, 127)}}
+OPCODE = re.compile(r'^ *([0-9]+): (\S+) +([A-Z][A-Z0-9_]*)(?: +(-?[0-9]+)$| +(.*))?$', re.MULTILINE)
+
+
+def item_at(match: 're.Match[str]') -> Item:
+    """The item of a line of `items` that matched."""
+    cursor, flag, place, offset, name, rest = match.groups()
+    return Item(int(place), int(offset), name, _argument(rest, 0)[0] if rest else None, cursor == '>', flag == '*')
+
+
+def object_of(line: str) -> Object:
+    """The object that a line tells.
+
+    >>> object_of('#3 list (#1) +#4').changes
+    (Change(how='append', value=4, key=None),)
+    """
+    match = _OBJECT.match(line)
+    if match is None:
+        raise LinesError(line)
+    text, at = _argument(line, match.end() + 1)
+    if text is None:
+        at = match.end()
+    parts = _PARTS.match(line, at)
+    return Object(int(match[1]), match[2], text, _numbers(parts[1]) if parts else (),
+                  tuple(_change(change) for change in _CHANGE.finditer(line, parts.end() if parts else at)))
+
+
+def _numbers(text: str) -> Tuple[int, ...]:
+    """The numbers of objects that stand with blanks between them."""
+    return tuple(int(word[1:]) for word in text.split())
+
+
+def _change(match: 're.Match[str]') -> Change:
+    how, value, key, to = match.groups()
+    return Change('set', int(to), int(key)) if how is None else Change(_CHANGES[how], int(value))
+
+
+def end_of(text: str, item: Optional[int] = None) -> End:
+    """The end that a text of the program tells: 'stopped', or a code with its words.
+
+    >>> end_of('F1 ended at 3')
+    End(how='fault', code='F1', text='F1 ended at 3', offset=3, item=None)
+    """
+    if text == 'stopped':
+        return End('stopped')
+    code = text.partition(' ')[0]
+    if code.startswith('F'):
+        return End('fault', code, text, offset=int(text.rpartition(' ')[2]))
+    return End('refused', code, text, item=item)
+
+
+def where_of(line: str) -> Where:
+    """What the line of `where` tells.
+
+    >>> where_of('at 2 of 7, offset 11, buffers 0, result none, end stopped').place
+    2
+    """
+    match = _WHERE.fullmatch(line)
+    if match is None:
+        raise LinesError(line)
+    results = () if match[5] == 'none' else _numbers(match[5])
+    return Where(int(match[1]), int(match[2]), int(match[3]), int(match[4]), results, end_of(match[6]))
+
+
+def stack_of(line: str) -> Tuple[Union[Ref, Mark], ...]:
+    """What the line of `stack` tells, from the bottom.
+
+    >>> stack_of('stack #0 (2 #1')
+    (Ref(number=0), Mark(place=2), Ref(number=1))
+    """
+    return tuple(Mark(int(word[1:])) if word[0] == '(' else Ref(int(word[1:])) for word in line.split()[1:])
+
+
+def memo_of(line: str) -> Dict[int, int]:
+    """What the line of `memo` tells: the number of the object under each key.
+
+    >>> memo_of('memo 0=#0 5=#3')
+    {0: 0, 5: 3}
+    """
+    pairs = (word.split('=#') for word in line.split()[1:])
+    return {int(key): int(number) for key, number in pairs}
+
+
+class _Units:
+    """Reads what stands in a line of `calls`: units with blanks between them, up to the word that ends them."""
+
+    _token = re.compile(rf"[ ,]*({_QUOTED}|#[0-9]+|[()]|\+[0-9]+|{_NUMBER}|[a-z-]+)")
+
+    def __init__(self, text: str, at: int) -> None:
+        self.text = text
+        self.at = at
+
+    def peek(self) -> str:
+        """The next word, sign or quoted text; an empty one at the end."""
+        match = self._token.match(self.text, self.at)
+        return match[1] if match else ''
+
+    def take(self) -> str:
+        """The next word, sign or quoted text, which is gone over."""
+        match = self._token.match(self.text, self.at)
+        if match is None:
+            raise LinesError(self.text)
+        self.at = match.end()
+        return match[1]
+
+    def until(self, *words: str) -> List[Value]:
+        """The units up to one of these words, or up to the end."""
+        units: List[Value] = []
+        while self.peek() not in words and self.peek():
+            units.append(self.unit())
+        return units
+
+    def unit(self) -> Value:
+        """One unit: the items of a tuple, or a value."""
+        if self.peek() != '(':
+            return self.brief()
+        self.take()
+        items: List[Brief] = []
+        while self.peek()[:1] not in (')', '+'):
+            items.append(self.brief())
+        more = self.more()
+        if self.take() != ')':
+            raise LinesError(self.text)
+        return Briefs(tuple(items), more)
+
+    def brief(self) -> Brief:
+        """One value."""
+        word = self.take()
+        if word[0] == "'":
+            return Brief('text', unquoted(word), self.more())
+        if word[0] == '#':
+            return Brief('object', Ref(int(word[1:])))
+        if word in _CONSTANTS:
+            return Brief(word, _CONSTANTS[word])
+        if word == 'global':
+            return Brief(word, Global(_part(self.brief()), _part(self.brief())))
+        if word == 'ext':
+            return Brief(word, Extension(int(self.take())))
+        return self.payload(word)
+
+    def payload(self, kind: str) -> Brief:
+        """The value after the word that tells its kind. Of a number that was cut the first bytes are told."""
+        text = self.take()
+        more = self.more()
+        if text[0] == "'":
+            return Brief(kind, unquoted(text), more)
+        return Brief(kind, bytes.fromhex(text[3:]) if more else number_of(text), more)
+
+    def more(self) -> int:
+        """How much was cut off here. A blank before it would make it the next item."""
+        match = _MORE.match(self.text, self.at)
+        if match is None:
+            return 0
+        self.at = match.end()
+        return int(match[1])
+
+
+_MORE = re.compile(r'(?:, )?\+([0-9]+)')
+_CONSTANTS: Dict[str, Optional[bool]] = {'none': None, 'true': True, 'false': False}
+
+
+def _part(brief: Brief) -> Union[bytes, Ref]:
+    """A part of a name: a text, or the object that it comes from."""
+    if isinstance(brief.value, (bytes, Ref)):
+        return brief.value
+    raise LinesError(str(brief))
+
+
+def _brief(value: Value) -> Brief:
+    if isinstance(value, Brief):
+        return value
+    raise LinesError(str(value))
+
+
+def _is_pair(what: str, units: List[Value]) -> bool:
+    """Whether the name in front of these units is a module and a name, the module being an object. Two numbers and one more after
+    'new' can be read in two ways; then they are a class, its arguments and its keywords."""
+    second = units[1] if len(units) > 1 else None
+    if what == 'import' or (isinstance(second, Brief) and second.kind == 'text'):
+        return True
+    if what == 'call':
+        return len(units) == 3
+    return len(units) == 4 or (len(units) == 3 and isinstance(units[2], Briefs))
+
+
+def _name(what: str, units: List[Value]) -> Tuple[Name, List[Value]]:
+    """The name in front of units, and what comes after it."""
+    first = _brief(units[0])
+    if isinstance(first.value, Extension):
+        return first.value, units[1:]
+    if isinstance(first.value, bytes) or _is_pair(what, units):
+        return Global(_part(first), _part(_brief(units[1]))), units[2:]
+    if isinstance(first.value, Ref):
+        return first.value, units[1:]
+    raise LinesError(str(first))
+
+
+def reach_of(line: str) -> Reach:
+    """What a line of `calls` tells.
+
+    >>> reach_of("   23: call 'posix' 'system' ('id') as #3").name
+    Global(module=b'posix', name=b'system')
+    """
+    match = _REACH.match(line)
+    if match is None:
+        raise LinesError(line)
+    what, text = match[2], line[match.start(2):]
+    return _REACHES[what](int(match[1]), what, text, _Units(line, match.end()))
+
+
+def _named(offset: int, what: str, text: str, units: _Units) -> Reach:
+    """Lines that name what is imported or called, and end in the object that is made."""
+    name, values = _name(what, units.until('as'))
+    number = _last_number(units)
+    return Reach(offset, what, text, name=name, value=values[0] if values else None,
+                 keywords=values[1] if len(values) > 1 else None, number=number)
+
+
+def _last_number(units: _Units) -> int:
+    """The object that a line ends in, after the word before it."""
+    units.take()
+    return int(units.take()[1:])
+
+
+def _state(offset: int, what: str, text: str, units: _Units) -> Reach:
+    value, = units.until('to')
+    return Reach(offset, what, text, value=value, target=_last_number(units))
+
+
+def _filled(offset: int, what: str, text: str, units: _Units) -> Reach:
+    count = int(units.take())
+    return Reach(offset, what, text, count=count, target=_last_number(units))
+
+
+def _persistent(offset: int, what: str, text: str, units: _Units) -> Reach:
+    value, = units.until('as')
+    return Reach(offset, what, text, value=value, number=_last_number(units))
+
+
+def _buffer(offset: int, what: str, text: str, units: _Units) -> Reach:
+    count = int(units.take())
+    return Reach(offset, what, text, count=count, number=_last_number(units))
+
+
+def _readonly(offset: int, what: str, text: str, units: _Units) -> Reach:
+    target = int(units.take()[1:])
+    return Reach(offset, what, text, target=target, number=_last_number(units))
+
+
+_REACH = re.compile(r' *([0-9]+): ([a-z]+)')
+_REACHES: Dict[str, Callable[[int, str, str, _Units], Reach]] = {
+    'import': _named, 'inst': _named, 'call': _named, 'new': _named, 'state': _state, 'append': _filled, 'set': _filled, 'add': _filled,
+    'persistent': _persistent, 'buffer': _buffer, 'readonly': _readonly}

@@ -1,0 +1,75 @@
+"""Pickles for the tests, and what Python says of them."""
+
+from __future__ import annotations
+
+import io
+import pickletools
+import re
+from dataclasses import dataclass
+from pathlib import Path
+from typing import Dict, List, Optional
+
+ROOT = Path(__file__).resolve().parent.parent.parent
+REAL = sorted((ROOT / 'crates' / 'real_pickles' / 'data').glob('*.pickle'))
+
+# The usual dump of [1] in protocol 4.
+LIST = b'\x80\x04\x95\x06\x00\x00\x00\x00\x00\x00\x00]\x94K\x01a.'
+HOSTILE = b'cposix\nsystem\n(X\x02\x00\x00\x00idtR.'
+
+
+@dataclass(frozen=True)
+class Known:
+    """An opcode as Python's own `pickletools` reads it: its argument as the bytes that stand in the file."""
+
+    offset: int
+    name: str
+    raw: bytes
+    value: object
+
+
+def known_opcodes(data: bytes) -> List[Known]:
+    """The opcodes of a pickle up to STOP, or up to where Python cannot read on."""
+    found: List[Known] = []
+    stream = io.BytesIO(data)
+    try:
+        for opcode, value, offset in pickletools.genops(stream):
+            assert offset is not None
+            found.append(Known(offset, opcode.name, data[offset + 1:stream.tell()], value))
+    except (ValueError, UnicodeDecodeError):
+        pass
+    return found
+
+
+@dataclass(frozen=True)
+class Shown:
+    """An opcode as `pickletools.dis` shows it."""
+
+    offset: int
+    name: str
+    marks: int
+    note: str
+
+
+_LINE = re.compile(r' *([0-9]+): (\S+) +([A-Z][A-Z0-9_]*)(.*)')
+
+
+def disassembled(data: bytes) -> Optional[List[Shown]]:
+    """What `pickletools.dis` shows, where it goes to the end."""
+    text = io.StringIO()
+    try:
+        pickletools.dis(data, text)
+    except (ValueError, UnicodeDecodeError, IndexError, KeyError):
+        return None
+    shown: List[Shown] = []
+    for line in text.getvalue().splitlines()[:-1]:
+        match = _LINE.match(line)
+        if match is None:
+            return None
+        note = re.search(r' \((MARK at [0-9]+|as [0-9]+)\)$', match[4])
+        shown.append(Shown(int(match[1]), match[3], (match.start(3) - match.end(1) - 7) // 4, note[1] if note else ''))
+    return shown
+
+
+def real_pickles() -> Dict[str, bytes]:
+    """The real pickles of the repository, by their names."""
+    return {path.stem: path.read_bytes() for path in REAL}

@@ -1,0 +1,59 @@
+"""The examples of docs/PYTHON.md and of the docstrings."""
+
+from __future__ import annotations
+
+import doctest
+import importlib
+import inspect
+import os
+import pkgutil
+import tempfile
+import unittest
+
+import picklestep
+from pickles import ROOT
+
+# (each of these has tests of its own, and words that may need other packages)
+_APART = ('picklestep.scan', 'picklestep.view', 'picklestep.__main__')
+
+
+class Examples(unittest.TestCase):
+    """Each example gives what stands below it."""
+
+    def setUp(self) -> None:
+        folder = tempfile.TemporaryDirectory()
+        self.addCleanup(folder.cleanup)
+        self.addCleanup(os.chdir, os.getcwd())
+        os.chdir(folder.name)
+
+    def test_docs(self) -> None:
+        results = doctest.testfile(str(ROOT / 'docs' / 'PYTHON.md'), module_relative=False, encoding='utf-8')
+        self.assertEqual(results.failed, 0)
+        self.assertGreater(results.attempted, 20)
+
+    def test_readme(self) -> None:
+        text = (ROOT / 'README.md').read_text(encoding='utf-8').partition('## From Python')[2].partition('\n## ')[0]
+        test = doctest.DocTestParser().get_doctest(text, {}, 'README.md', 'README.md', 0)
+        self.assertEqual(doctest.DocTestRunner().run(test), doctest.TestResults(0, 2))
+
+    def test_docstrings(self) -> None:
+        for found in pkgutil.walk_packages(picklestep.__path__, 'picklestep.'):
+            if not found.name.startswith(_APART):
+                with self.subTest(found.name):
+                    self.assertEqual(doctest.testmod(importlib.import_module(found.name)).failed, 0)
+
+    def test_each_public_name_has_an_example(self) -> None:
+        for name in picklestep.__all__:
+            found = getattr(picklestep, name)
+            if not (inspect.isclass(found) or inspect.isfunction(found)):
+                continue  # (the name of a type)
+            with self.subTest(name):
+                self.assertIn('>>>', found.__doc__ or '')
+        for name, method in inspect.getmembers(picklestep.Session, inspect.isfunction):
+            if not name.startswith('_') and name not in ('close', 'save'):
+                with self.subTest(name):
+                    self.assertIn('>>>', method.__doc__ or '')
+
+
+if __name__ == '__main__':
+    unittest.main()

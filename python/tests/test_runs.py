@@ -1,0 +1,345 @@
+"""Where pickles come from, what can go wrong, and that nothing is left behind."""
+
+from __future__ import annotations
+
+import array
+import contextlib
+import gc
+import io
+import mmap
+import os
+import resource
+import signal
+import stat
+import subprocess
+import sys
+import tempfile
+import time
+import unittest
+import warnings
+from pathlib import Path
+from typing import Iterator, List, Set
+from unittest import mock
+
+import picklestep
+from picklestep import OutOfMemory, ProgramError, Session, TimedOut, TooLarge
+from picklestep.program import find_program
+from picklestep.sources import Input
+from pickles import LIST
+
+PACKAGE = Path(picklestep.__file__).resolve().parent.parent
+MB = 1 << 20
+
+
+def children() -> Set[int]:
+    """The running children of this process."""
+    found = set()
+    for entry in os.listdir('/proc'):
+        with contextlib.suppress(OSError, ValueError):
+            fields = Path('/proc', entry, 'stat').read_text().rpartition(')')[2].split()
+            if int(fields[1]) == os.getpid() and fields[0] != 'Z':
+                found.add(int(entry))
+    return found
+
+
+def open_files() -> int:
+    """How many files this process has open."""
+    return len(os.listdir('/proc/self/fd'))
+
+
+def is_running(process: int) -> bool:
+    """Whether a process has not ended."""
+    try:
+        return Path(f'/proc/{process}/stat').read_text().rpartition(')')[2].split()[0] != 'Z'
+    except OSError:
+        return False
+
+
+@contextlib.contextmanager
+def program(script: str) -> Iterator[None]:
+    """Another program than picklestep."""
+    with tempfile.TemporaryDirectory() as folder:
+        path = Path(folder, 'program')
+        path.write_text('#!/bin/sh\n' + script)
+        path.chmod(path.stat().st_mode | stat.S_IXUSR)
+        with mock.patch.dict(os.environ, PICKLESTEP_PROGRAM=str(path)):
+            yield
+
+
+class LeavesNothing(unittest.TestCase):
+    """Each test of these leaves no child, no open file, and no file on the disk."""
+
+    def setUp(self) -> None:
+        gc.collect()
+        self.before = children(), open_files(), sorted(os.listdir(tempfile.gettempdir()))
+
+    def tearDown(self) -> None:
+        gc.collect()
+        self.assertEqual((children(), open_files()), self.before[:2])
+
+
+class Sources(LeavesNothing):
+    """Bytes, paths and file objects."""
+
+    def test_bytes(self) -> None:
+        text = picklestep.listing(LIST).text
+        for source in (bytearray(LIST), memoryview(LIST), memoryview(LIST + b'xx')[:-2], memoryview(LIST[::-1])[::-1], array.array('B', LIST)):
+            with self.subTest(type(source)):
+                self.assertEqual(picklestep.listing(source).text, text)  # type: ignore[arg-type]
+        with mmap.mmap(-1, len(LIST)) as mapped:
+            mapped[:] = LIST
+            self.assertEqual(picklestep.listing(mapped).text, text)
+
+    def test_paths(self) -> None:
+        text = picklestep.listing(LIST).text
+        with tempfile.TemporaryDirectory() as folder:
+            here = os.getcwd()
+            self.addCleanup(os.chdir, here)
+            os.chdir(folder)
+            for name in ('a pickle', '-dashes', '--many', 'caf\u00e9', os.fsdecode(b'no-\xff-text')):
+                with self.subTest(name):
+                    Path(name).write_bytes(LIST)
+                    for source in (name, Path(name), Path(folder, name)):
+                        self.assertEqual(picklestep.listing(source).text, text)
+                    with Session(name) as session:
+                        os.remove(name)
+                        self.assertEqual(session.bytes(), LIST)
+            os.chdir(here)
+
+    def test_file_objects(self) -> None:
+        text = picklestep.listing(LIST).text
+        self.assertEqual(picklestep.listing(io.BytesIO(LIST)).text, text)
+        with tempfile.TemporaryFile() as file:
+            file.write(b'before' + LIST)
+            file.seek(6)
+            self.assertEqual(picklestep.listing(file).text, text)
+            self.assertEqual(file.read(), b'')
+            file.seek(6)
+            with Session(file) as session:
+                self.assertEqual(session.bytes(), LIST)
+
+    def test_no_sources(self) -> None:
+        for source in (None, 7, io.StringIO('N.'), object()):
+            with self.subTest(source), self.assertRaises(TypeError):
+                picklestep.listing(source)  # type: ignore[arg-type]
+            with self.subTest(source), self.assertRaises(TypeError):
+                Session(source)  # type: ignore[arg-type]
+
+    def test_without_files_in_memory(self) -> None:
+        with mock.patch.object(os, 'memfd_create', None):
+            del os.memfd_create
+            self.assertEqual(len(picklestep.listing(LIST)), 7)
+            with Session(LIST) as session:
+                self.assertEqual((session.insert(0, 'MARK'), session.undo(), session.bytes()), (0, 0, LIST))
+        self.assertEqual(sorted(os.listdir(tempfile.gettempdir())), self.before[2])
+
+    def test_a_file_that_goes_on(self) -> None:
+        class Endless:
+            given = 0
+
+            def read(self, size: int) -> bytes:
+                self.given += 1
+                return b'N' * size
+
+        endless = Endless()
+        with mock.patch('picklestep.sources.LIMIT', 4 * MB), Input(endless) as given:
+            self.assertEqual(os.stat(given.path).st_size, 4 * MB + 1)
+
+
+class Errors(LeavesNothing):
+    """Each way in which the program gives no answer."""
+
+    def test_a_file_that_is_not_there(self) -> None:
+        for ask in (picklestep.listing, picklestep.objects, picklestep.calls, Session):
+            with self.assertRaises(ProgramError) as caught:
+                ask('/not/there')
+            self.assertIn('cannot read', caught.exception.words)
+        with self.assertRaises(ProgramError):
+            picklestep.listing('/')
+
+    def test_too_large(self) -> None:
+        with tempfile.NamedTemporaryFile() as file:
+            os.truncate(file.name, (1 << 30) + 1)
+            for ask in (picklestep.listing, picklestep.objects, picklestep.calls):
+                with self.assertRaises(TooLarge) as caught:
+                    ask(file.name)
+                self.assertEqual((caught.exception.words, caught.exception.status), ('too large', 2))
+
+    def test_a_limit_of_memory(self) -> None:
+        data = b'N' * (4 * MB) + b'.'
+        for ask in (picklestep.objects, Session):
+            with self.assertRaises(OutOfMemory) as caught:
+                ask(data, memory=64 * MB)
+            self.assertEqual((caught.exception.words, caught.exception.status), ('out of memory', 2))
+        self.assertEqual(len(picklestep.objects(b'N.', memory=64 * MB)), 1)
+
+    def test_a_limit_that_a_session_meets(self) -> None:
+        with Session(b'N0' * 900_000 + b'N.', memory=160 * MB) as session:
+            with self.assertRaises(picklestep.Refused) as caught:
+                session.goto(1_800_000)
+            self.assertEqual(caught.exception.text, 'M out of memory')
+            self.assertEqual((session.where().place, session.goto(10)), (0, 10))
+
+    def test_a_limit_that_is_too_small_for_the_program(self) -> None:
+        with self.assertRaises(ProgramError):
+            picklestep.objects(b'N.', memory=100_000)
+
+    def test_a_program_that_is_not_there(self) -> None:
+        with mock.patch.dict(os.environ, PICKLESTEP_PROGRAM='/not/there'):
+            for ask in (picklestep.calls, Session):
+                with self.assertRaises(ProgramError):
+                    ask(b'N.')
+
+    def test_words_that_are_no_task(self) -> None:
+        with self.assertRaises(ProgramError) as caught:
+            Session(b'N.', window=0)
+        self.assertEqual(caught.exception.status, 2)
+
+    def test_a_program_that_is_killed(self) -> None:
+        with Session(LIST) as session:
+            session.step()
+            process, = children() - self.before[0]
+            os.kill(process, signal.SIGKILL)
+            with self.assertRaises(ProgramError) as caught:
+                session.step()
+            self.assertEqual((caught.exception.signal, caught.exception.status), (signal.SIGKILL, None))
+            with self.assertRaises(ValueError):
+                session.step()
+
+    def test_a_program_that_ends_by_a_signal(self) -> None:
+        with program('kill -SEGV $$\n'), self.assertRaises(ProgramError) as caught:
+            picklestep.listing(b'N.')
+        self.assertEqual(caught.exception.signal, signal.SIGSEGV)
+
+    def test_a_program_that_says_nothing(self) -> None:
+        with program('exec sleep 60\n'):
+            start = time.monotonic()
+            with self.assertRaises(TimedOut):
+                picklestep.listing(b'N.', timeout=0.2)
+            with self.assertRaises(TimeoutError):
+                Session(b'N.', timeout=0.2)
+            self.assertLess(time.monotonic() - start, 5)
+
+    def test_a_closed_session(self) -> None:
+        session = Session(LIST)
+        session.close()
+        session.close()
+        for action in (session.step, session.where, session.bytes, session.items):
+            with self.assertRaises(ValueError):
+                action()
+
+    def test_an_interrupted_question(self) -> None:
+        with Session(LIST) as session:
+            with mock.patch('os.read', side_effect=KeyboardInterrupt), self.assertRaises(KeyboardInterrupt):
+                session.step()
+            with self.assertRaises(ValueError):  # the answer to that step was never read
+                session.step()
+
+
+class NothingLeft(LeavesNothing):
+    """Nothing is left running, open, or on the disk."""
+
+    def test_after_an_exception(self) -> None:
+        with contextlib.suppress(ZeroDivisionError), Session(LIST) as session:
+            session.step()
+            1 // 0
+
+    def test_a_session_that_nobody_closes(self) -> None:
+        with warnings.catch_warnings():
+            warnings.simplefilter('error')
+            session = Session(LIST)
+            session.step()
+            del session
+            gc.collect()
+
+    def test_after_a_kill_of_the_interpreter(self) -> None:
+        code = ('import sys, time, picklestep.program as p\n'
+                'process = p.Process(["list"])\nprint(process._popen.pid, flush=True)\ntime.sleep(60)\n')
+        with program('exec sleep 60\n'):
+            self.check_kill(code)
+
+    def test_after_a_kill_with_a_session(self) -> None:
+        self.check_kill('import sys, time, picklestep\nsession = picklestep.Session(b"N.")\n'
+                        'print(session._talk._process._popen.pid, flush=True)\ntime.sleep(60)\n')
+
+    def check_kill(self, code: str) -> None:
+        """The program ends when the interpreter that started it is killed."""
+        environment = {**os.environ, 'PYTHONPATH': str(PACKAGE)}
+        with subprocess.Popen([sys.executable, '-c', code], stdout=subprocess.PIPE, env=environment) as interpreter:
+            assert interpreter.stdout is not None
+            process = int(interpreter.stdout.readline())
+            self.assertTrue(is_running(process))
+            interpreter.kill()
+            interpreter.wait()
+        for _ in range(100):
+            if not is_running(process):
+                break
+            time.sleep(0.05)
+        self.assertFalse(is_running(process))
+
+    def test_when_the_interpreter_ends(self) -> None:
+        code = 'import picklestep\nsession = picklestep.Session(b"N.")\nprint(session._talk._process._popen.pid)\n'
+        run = subprocess.run([sys.executable, '-W', 'error', '-c', code], stdout=subprocess.PIPE, stderr=subprocess.PIPE, check=True,
+                             env={**os.environ, 'PYTHONPATH': str(PACKAGE)})
+        self.assertEqual(run.stderr, b'')
+        self.assertFalse(is_running(int(run.stdout)))
+
+    def test_a_hundred_thousand_commands(self) -> None:
+        with Session(b'N0' * 10 + b'N.') as session:
+            session.goto(10)
+            for _ in range(2000):
+                session.step(), session.back()
+            memory, files = memory_of(), open_files()
+            for _ in range(49_000):
+                session.step()
+                session.back()
+            for _ in range(500):
+                session.insert(12, 'NONE')
+                session.undo()
+                session.items()
+                session.where()
+            self.assertEqual(open_files(), files)
+            self.assertLess(memory_of() - memory, 2 * MB)
+
+    def test_a_thousand_runs(self) -> None:
+        for _ in range(200):
+            picklestep.calls(LIST)
+        files = open_files()
+        for _ in range(300):
+            picklestep.calls(LIST)
+        self.assertEqual(open_files(), files)
+
+
+def memory_of() -> int:
+    """How many bytes of this process lie in memory."""
+    gc.collect()
+    return int(Path('/proc/self/statm').read_text().split()[1]) * resource.getpagesize()
+
+
+class Answers(unittest.TestCase):
+    """A long answer."""
+
+    def test_a_million_opcodes(self) -> None:
+        data = b'K\x070' * 500_000 + b'N.'
+        answer = picklestep.listing(data)
+        count = sum(1 for opcode in answer if opcode.name == 'BININT1' and opcode.argument == 7)
+        self.assertEqual((count, len(answer), answer[-1].name), (500_000, 1_000_002, 'STOP'))
+        kept = sys.getsizeof(answer.text) + sys.getsizeof(answer._starts)
+        self.assertLess(kept / len(answer), 300)
+
+
+class CommandLine(unittest.TestCase):
+    """`python -m picklestep` gives the program its words."""
+
+    def test_words_of_the_program(self) -> None:
+        with tempfile.NamedTemporaryFile() as file:
+            file.write(LIST)
+            file.flush()
+            wanted = subprocess.run([find_program(), 'list', file.name], stdout=subprocess.PIPE, check=True).stdout
+            run = subprocess.run([sys.executable, '-m', 'picklestep', 'list', file.name], stdout=subprocess.PIPE, check=True,
+                                 env={**os.environ, 'PYTHONPATH': str(PACKAGE)})
+            self.assertEqual(run.stdout, wanted)
+
+
+if __name__ == '__main__':
+    unittest.main()

@@ -1,0 +1,305 @@
+"""`scan` on files of the real libraries and on each kind of container."""
+
+from __future__ import annotations
+
+import bz2
+import doctest
+import gzip
+import importlib
+import io
+import json
+import lzma
+import os
+import pickle
+import pkgutil
+import tarfile
+import unittest
+import zipfile
+import zlib
+from typing import Dict, Set
+
+import picklestep.scan
+from picklestep.scan import Options, look
+from picklestep.scan.allow import Allowed, SETS, read_allowed
+
+from picklestep.scan.results import from_json, to_json
+from scan_support import HARMLESS, HOSTILE, MODELS, ScanCase, names_of, notes_of, places_of
+
+# Their arrays or storages stand between or after the opcodes, so reading ends there.
+NOT_WHOLE = {'joblib_arrays.joblib', 'joblib_arrays_zlib.joblib', 'sklearn_logistic.joblib', 'sklearn_logistic_zlib.joblib',
+             'torch_state_legacy.pt', 'torch_module_legacy.pt'}
+
+
+def written_by() -> Dict[str, Set[str]]:
+    """The names that `pickletools` found in each file when the libraries wrote it."""
+    names: Dict[str, Set[str]] = {}
+    for line in (MODELS / 'WRITTEN_BY.txt').read_text().splitlines()[3:]:
+        if line.startswith('    '):
+            names[file].add(line.strip())
+        else:
+            file = line.partition(':')[0]
+            names[file] = set()
+    return names
+
+
+class RealFiles(ScanCase):
+    """Files that torch, numpy, joblib, scikit-learn and pandas wrote."""
+
+    def test_imports_are_those_that_pickletools_finds(self) -> None:
+        for file, names in written_by().items():
+            with self.subTest(file):
+                self.assertEqual(set(names_of(look(str(MODELS / file)))), names)
+
+    def test_all_is_read_but_raw_numbers(self) -> None:
+        for file in written_by():
+            with self.subTest(file):
+                result = look(str(MODELS / file))
+                self.assertIsNone(result.error)
+                self.assertEqual(all(pickle.end.is_stopped for pickle in result.pickles), file not in NOT_WHOLE)
+                self.assertEqual('layout' in notes_of(result), file in NOT_WHOLE, notes_of(result))
+                self.assertFalse(any(note.missed for note in result.notes))
+
+    def test_storages_are_no_pickles(self) -> None:
+        with zipfile.ZipFile(MODELS / 'torch_checkpoint.pth') as archive:
+            others = [name for name in archive.namelist() if not name.endswith('data.pkl')]
+        result = look(str(MODELS / 'torch_checkpoint.pth'))
+        self.assertEqual(places_of(result), ['archive/data.pkl'])
+        self.assertEqual(result.others, len(others))
+
+    def test_sets_allow_what_their_libraries_wrote(self) -> None:
+        allowed = read_allowed(SETS)
+        for file, names in written_by().items():
+            if file.startswith(('torch_state', 'torch_tensors', 'torch_checkpoint', 'numpy_', 'sklearn_')) and not file.endswith('.joblib'):
+                with self.subTest(file):
+                    self.assertEqual([name for name in names if not allowed.allows(name)], [])
+
+    def test_sets_have_no_name_that_no_file_imports(self) -> None:
+        seen = set().union(*written_by().values())
+        folder = os.path.join(os.path.dirname(picklestep.scan.__file__), 'allow')
+        for file in os.listdir(folder):
+            with open(os.path.join(folder, file), encoding='utf-8') as lines:
+                for line in lines:
+                    name, _, why = line.partition('#')
+                    if name.strip():
+                        self.assertIn(name.strip(), seen)
+                        self.assertTrue(why.strip(), name)
+
+
+class Containers(ScanCase):
+    """Each kind of container, made by the standard library."""
+
+    def zipped(self, method: int, **members: bytes) -> bytes:
+        held = io.BytesIO()
+        with zipfile.ZipFile(held, 'w', method) as archive:
+            for name, data in members.items():
+                archive.writestr(name, data)
+        return held.getvalue()
+
+    def tarred(self, format: int, **members: bytes) -> bytes:
+        held = io.BytesIO()
+        with tarfile.open(fileobj=held, mode='w', format=format) as archive:
+            for name, data in members.items():
+                told = tarfile.TarInfo(name)
+                told.size = len(data)
+                archive.addfile(told, io.BytesIO(data))
+        return held.getvalue()
+
+    def test_each_method_of_zip(self) -> None:
+        for method in (zipfile.ZIP_STORED, zipfile.ZIP_DEFLATED, zipfile.ZIP_BZIP2, zipfile.ZIP_LZMA):
+            with self.subTest(method):
+                result = self.look('a.zip', self.zipped(method, plain=HOSTILE, text=b'{"a": 1}'))
+                self.assertEqual((places_of(result), names_of(result), result.others), (['plain'], ['posix.system'], 1))
+                self.assertEqual(notes_of(result), '')
+
+    def test_a_zip_that_was_written_as_a_stream(self) -> None:
+        class Stream(io.RawIOBase):
+            held = bytearray()
+
+            def writable(self) -> bool:
+                return True
+
+            def write(self, data: bytes) -> int:  # type: ignore[override]
+                self.held += data
+                return len(data)
+
+        stream = Stream()
+        with zipfile.ZipFile(stream, 'w', zipfile.ZIP_DEFLATED) as archive:  # type: ignore[arg-type]
+            archive.writestr('a', HOSTILE)
+            archive.writestr('b.pkl', HARMLESS)
+        result = self.look('a.zip', bytes(stream.held))
+        self.assertEqual((names_of(result), notes_of(result)), (['posix.system', 'collections.OrderedDict'], ''))
+
+    def test_each_format_of_tar(self) -> None:
+        for format in (tarfile.USTAR_FORMAT, tarfile.GNU_FORMAT, tarfile.PAX_FORMAT):
+            with self.subTest(format):
+                name = 'folder/' * (20 if format != tarfile.USTAR_FORMAT else 2) + 'model'
+                result = self.look('a.tar', self.tarred(format, **{name: HOSTILE, 'text': b'text'}))
+                self.assertEqual((places_of(result), names_of(result), result.others), ([name], ['posix.system'], 1))
+                self.assertEqual(notes_of(result), '')
+
+    def test_compressed_files(self) -> None:
+        for packed in (gzip.compress(HOSTILE), bz2.compress(HOSTILE), lzma.compress(HOSTILE), zlib.compress(HOSTILE), zlib.compress(HOSTILE, 0),
+                       lzma.compress(HOSTILE, lzma.FORMAT_ALONE), gzip.compress(HOSTILE[:9]) + gzip.compress(HOSTILE[9:])):
+            result = self.look('file', packed)
+            self.assertEqual((names_of(result), notes_of(result)), (['posix.system'], ''))
+
+    def test_the_layout_of_old_joblib(self) -> None:
+        result = self.look('old.joblib', b'ZF' + hex(len(HOSTILE)).ljust(19).encode() + zlib.compress(HOSTILE))
+        self.assertEqual((places_of(result), names_of(result)), (['(zfile)'], ['posix.system']))
+
+    def test_one_in_another(self) -> None:
+        inner = self.zipped(zipfile.ZIP_DEFLATED, data=HOSTILE)
+        result = self.look('a.tar.gz', gzip.compress(self.tarred(tarfile.PAX_FORMAT, **{'in.zip': inner})))
+        self.assertEqual((places_of(result), names_of(result)), (['(gzip) > in.zip > data'], ['posix.system']))
+
+    def test_several_pickles_in_a_row(self) -> None:
+        result = self.look('log.pkl', HARMLESS + HOSTILE + b'N.')
+        self.assertEqual(names_of(result), ['collections.OrderedDict', 'posix.system'])
+        self.assertTrue(result.pickles[0].end.is_stopped)
+        self.assertEqual([(found.what, found.name, found.count, found.offset) for found in result.pickles[0].calls],
+                         [('call', 'posix.system', 1, len(HARMLESS) + 23)])
+
+    def test_counts_and_first_offsets(self) -> None:
+        result = self.look('a.pkl', b'(' + b'cos\ngetcwd\n0' * 3 + b'cos\nname\n' + b'l.')
+        self.assertEqual([(found.name, found.count, found.offset) for found in result.pickles[0].imports],
+                         [('os.getcwd', 3, 1), ('os.name', 1, 37)])
+
+    def test_what_counts_as_a_pickle(self) -> None:
+        for content, is_pickle in (
+                (b'', False), (b'N.', True), (b'\x80\x04', True), (b'{"json": 1}', False), (b'class A:\n    pass\n', False),
+                (b'count,mean\n1,2\n', False), (b'import os\nimport sys\n', False), (b'PyTorch\nmodel\n', False), (b'MIT License\n', False),
+                (bytes(1000), False), (HOSTILE[:-1], True), (HOSTILE + b'rest', True), (b'N0' + HOSTILE, True), (b'].\xff\xff\xff', False),
+                (pickle.dumps([1, 2], 0), True), (pickle.dumps('text', 1), True), (b'\x82\x07.', True), (b'#!/bin/sh\n', False)):
+            with self.subTest(content[:20]):
+                self.assertEqual(len(self.look('weights.bin', content).pickles), int(is_pickle))
+                self.assertEqual(len(self.look('named.pkl', content).pickles), 1)
+
+    def test_a_long_argument_hides_nothing(self) -> None:
+        result = self.look('weights.bin', b'B' + (100_000).to_bytes(4, 'little') + bytes(100_000) + b'0' + HOSTILE)
+        self.assertEqual(names_of(result), ['posix.system'])
+
+    def test_objects_in_numpy_files(self) -> None:
+        with open(MODELS / 'numpy_floats.npy', 'rb') as file:
+            floats = file.read()
+        result = self.look('a.npy', floats[:128] + HOSTILE)
+        self.assertEqual(names_of(result), ['posix.system'])
+        self.assertEqual(self.look('b.npy', floats).pickles, ())
+
+    def test_names_that_are_no_plain_words(self) -> None:
+        for content, name in ((b'cos \nsystem\n.', "'os ' 'system'"), (b'c\xc3\xa9\nx\n.', '\xe9.x'), (b'\x82\x07.', 'ext 7'),
+                              (b'\x80\x04cos\nx\n\x8c\x01x\x93.', "#0 'x'")):
+            self.assertEqual(names_of(self.look('a.pkl', content))[-1:], [name])
+
+    def test_results_come_back_from_json(self) -> None:
+        for file in written_by():
+            result = look(str(MODELS / file), Options(lines=True))
+            self.assertEqual(from_json(json.loads(json.dumps(to_json(result)))), result)
+
+
+class Allowing(unittest.TestCase):
+    """Names and patterns."""
+
+    def test_a_star_stays_in_its_part(self) -> None:
+        allowed = Allowed(['torch._utils.*', 'a.**.z', '# note', '', 'os.path.join  # why'])
+        for name, answer in (('torch._utils._rebuild', True), ('torch._utils.sys.modules', False), ('torch._utils', False), ('a.b.c.z', True),
+                             ('os.path.join', True), ('os.path', False), ('xtorch._utils.a', False), ('torch._utils.a\nb', True), ('', False),
+                             ("'torch._utils.x ' 'y'", False)):
+            self.assertEqual(allowed.allows(name), answer, name)
+
+    def test_nothing_but_everything_allows_a_name_that_is_worked_out(self) -> None:
+        self.assertFalse(Allowed(['os.*', '*']).allows("'os' #5.x"))
+        self.assertTrue(Allowed(['**']).allows("'os' #5"))
+
+
+class TheCommand(ScanCase):
+    """The command line, started as a user starts it."""
+
+    def test_the_report(self) -> None:
+        self.file('models/a.pkl', HOSTILE)
+        self.file('models/b.txt', b'text')
+        run = self.scan('models')
+        self.assertEqual((run.returncode, run.stderr), (0, ''))
+        self.assertEqual(run.stdout, (
+            '  models/a.pkl: 25 bytes\n'
+            '      import posix.system once, first at 0\n'
+            "      call posix.system once, first at 23: call 'posix' 'system' ('id') as #3\n"
+            '      end: stopped\n'
+            '2 files, 1 pickles in 1 of them, 1 others that are no pickles\n'
+            '  posix.system: once, in 1 pickles, first in models/a.pkl\n'))
+
+    def test_allowed_names(self) -> None:
+        self.file('a.pkl', HARMLESS)
+        self.file('b.pkl', HOSTILE)
+        self.file('mine', b'posix.*\n')
+        self.assertEqual(self.scan('a.pkl', '--allow', 'torch').returncode, 0)
+        run = self.scan('a.pkl', 'b.pkl', '--allow', 'torch', '--brief')
+        self.assertEqual(run.returncode, 1)
+        self.assertEqual([line for line in run.stdout.splitlines() if line.startswith('!')],
+                         ['! b.pkl: import posix.system once, first at 0', '! posix.system: once, in 1 pickles, first in b.pkl'])
+        self.assertEqual(self.scan('a.pkl', 'b.pkl', '--allow', 'torch', '--allow', 'mine').returncode, 0)
+        self.assertEqual(self.scan('a.pkl', '--allow', 'no_such_file').returncode, 2)
+
+    def test_a_pickle_without_stop(self) -> None:
+        self.file('a.pkl', HARMLESS[:-1])
+        run = self.scan('a.pkl')
+        self.assertEqual(run.returncode, 1)
+        self.assertRegex(run.stdout, r'(?m)^!     end: F1 ended at 27$')
+
+    def test_json_and_its_page(self) -> None:
+        for file in ('torch_state.pt', 'joblib_arrays.joblib'):
+            self.file(file, (MODELS / file).read_bytes())
+        run = self.scan('.', '--json', '--allow', 'torch')
+        objects = [json.loads(line) for line in run.stdout.splitlines()]
+        self.assertEqual(len(objects), 2)
+        self.assertEqual({found['name']: found['allowed'] for found in objects[1]['pickles'][0]['imports']}, {
+            'collections.OrderedDict': True, 'torch._utils._rebuild_tensor_v2': True, 'torch.FloatStorage': True, 'torch.LongStorage': True})
+        self.assertRegex(run.stderr, '^2 files, 2 pickles in 2 of them')
+
+    def test_names_on_standard_input(self) -> None:
+        self.file('a.pkl', HARMLESS)
+        self.file('b\n.pkl', HOSTILE)
+        self.assertIn('collections.OrderedDict', self.scan('-', given=b'a.pkl\n').stdout)
+        run = self.scan('-', '--null', given=b'a.pkl\0b\n.pkl\0')
+        self.assertIn('  b\\n.pkl: 25 bytes\n', run.stdout)
+        self.assertIn('2 files', run.stdout)
+
+    def test_no_program(self) -> None:
+        self.file('a.pkl', HARMLESS)
+        before = os.environ.get('PICKLESTEP_PROGRAM')
+        os.environ['PICKLESTEP_PROGRAM'] = '/nonexistent'
+        try:
+            run = self.scan('a.pkl')
+        finally:
+            del os.environ['PICKLESTEP_PROGRAM']
+            if before is not None:
+                os.environ['PICKLESTEP_PROGRAM'] = before
+        self.assertEqual(run.returncode, 1)
+        self.assertIn('cannot start the program', run.stdout)
+
+    def test_limits_are_told(self) -> None:
+        self.file('a.pkl.gz', gzip.compress(HARMLESS * 1000))
+        run = self.scan('a.pkl.gz', '--max-bytes', '1K')
+        self.assertEqual(run.returncode, 1)
+        self.assertIn('more than 1,024 bytes are unpacked', run.stdout)
+
+    def test_urls(self) -> None:
+        try:
+            import fsspec  # noqa: F401
+        except ImportError:
+            self.skipTest('fsspec is not installed')
+        path = self.file('model.pt', (MODELS / 'torch_state.pt').read_bytes())
+        run = self.scan(f'file://{path}', f'file://{self.folder}/no_such.pt')
+        self.assertEqual(run.returncode, 1)
+        self.assertIn('import torch._utils._rebuild_tensor_v2', run.stdout)
+        self.assertRegex(run.stdout, r'(?m)^! file://.*no_such.pt: cannot be read: ')
+
+
+def load_tests(loader: unittest.TestLoader, tests: unittest.TestSuite, pattern: str) -> unittest.TestSuite:
+    """The examples in the modules count too."""
+    for module in pkgutil.iter_modules(picklestep.scan.__path__, 'picklestep.scan.'):
+        tests.addTests(doctest.DocTestSuite(importlib.import_module(module.name)))
+    return tests
+
+
+if __name__ == '__main__':
+    unittest.main()

@@ -1,0 +1,62 @@
+"""The examples of docs/SCAN.md."""
+
+from __future__ import annotations
+
+import os
+import shutil
+import subprocess
+import sys
+import unittest
+from pathlib import Path
+from typing import Iterator, List, Tuple
+
+from scan_support import HARMLESS, HOSTILE, MODELS, ScanCase, environment
+
+PAGE = Path(__file__).resolve().parents[2] / 'docs' / 'SCAN.md'
+EXPECTED = 'collections.OrderedDict\ntorch._utils.*          # tensors\ntorch.*Storage          # kinds of numbers\n'
+
+
+def examples() -> Iterator[Tuple[str, str]]:
+    """The commands of the page, each with what it writes."""
+    command, wanted = '', ''
+    for line in [*PAGE.read_text(encoding='utf-8').splitlines(), '']:
+        if line.startswith('    $ ') or not line.startswith('    '):
+            if command:
+                yield command, wanted
+            command, wanted = line[6:] if line.startswith('    $ ') else '', ''
+        elif command:
+            wanted += line[4:] + '\n'
+
+
+class Examples(ScanCase):
+    """Run one after another in one folder, as a reader would."""
+
+    def setUp(self) -> None:
+        super().setUp()
+        for name in ('torch_state.pt', 'sklearn_forest.pkl', 'numpy_objects.npy', 'joblib_arrays.joblib'):
+            shutil.copy(MODELS / name, self.folder)
+        self.file('hostile.pkl', HOSTILE)
+        self.file('expected.txt', EXPECTED.encode())
+        self.file('models/a.pt', (MODELS / 'torch_state.pt').read_bytes())
+        self.file('models/b.pkl', HARMLESS)
+        self.file('models/c.pkl', HOSTILE)
+        command = self.file('bin/picklestep-scan', f'#!/bin/sh\nexec {sys.executable} -m picklestep scan "$@"\n'.encode())
+        command.chmod(0o755)
+
+    def test_each_example(self) -> None:
+        found: List[Tuple[str, str]] = list(examples())
+        self.assertGreater(len(found), 8)
+        path = os.pathsep.join([str(self.folder / 'bin'), os.environ['PATH']])
+        before = ''
+        for command, wanted in found:
+            with self.subTest(command):
+                # `$?` is the status of the command before.
+                line = f'{before} >/dev/null 2>&1; {command}' if '$?' in command else command
+                run = subprocess.run(['bash', '-c', line], cwd=self.folder, env={**environment(), 'PATH': path}, stdout=subprocess.PIPE,
+                                     stderr=subprocess.STDOUT, text=True, timeout=120)
+                self.assertEqual(run.stdout, wanted)
+            before = command
+
+
+if __name__ == '__main__':
+    unittest.main()

@@ -1,0 +1,379 @@
+"""Hostile files: each ends in a line of its own, hides nothing that a loader reads, and lets the others be answered."""
+
+from __future__ import annotations
+
+import bz2
+import gzip
+import io
+import lzma
+import os
+import random
+import socket
+import tarfile
+import threading
+import time
+import unittest
+import zipfile
+import zlib
+from unittest import mock
+
+from picklestep.scan import Options, look
+from picklestep.scan.blobs import Limits
+from scan_support import HARMLESS, HOSTILE, MODELS, Made, ScanCase, names_of, notes_of, places_of, zip_of
+
+
+class HostileZip(ScanCase):
+    """Zip archives that a strict reader refuses, or reads in another way than a lax one."""
+
+    def found(self, data: bytes, *texts: str) -> None:
+        """The call is found, and the notes have these texts."""
+        result = self.look('a.zip', data)
+        self.assertIn('posix.system', names_of(result), notes_of(result))
+        self.assertIsNone(result.error)
+        for text in texts:
+            self.assertIn(text, notes_of(result))
+
+    def test_a_wrong_checksum(self) -> None:
+        for method in (0, 8):
+            with self.subTest(method):
+                self.found(zip_of([Made(b'data.pkl', HOSTILE, method, checksum=1)]), 'its checksum is wrong')
+
+    def test_python_refuses_these_and_the_call_is_found(self) -> None:
+        for made in (Made(b'a', HOSTILE, 8, checksum=1), Made(b'a', HOSTILE, 8, local_name=b'b'), Made(b'a', HOSTILE, 8, flags=1),
+                     Made(b'a', HOSTILE, 8, flags=0x20), Made(b'a', HOSTILE, 8, flags=0x40)):
+            data = zip_of([made])
+            with self.assertRaises((zipfile.BadZipFile, RuntimeError, NotImplementedError)):
+                zipfile.ZipFile(io.BytesIO(data)).read('a')
+            self.found(data)
+
+    def test_flags_of_encryption_on_a_plain_member(self) -> None:
+        for method in (0, 8):
+            self.found(zip_of([Made(b'a', HOSTILE, method, flags=1)]), 'its flags say that it is encrypted, and it is not')
+            self.found(zip_of([Made(b'a', HOSTILE, method, flags=1, checksum=7)]), '! a: encrypted: only what can be read')
+            self.found(zip_of([Made(b'a', HOSTILE, method, local_flags=0x41)]), 'the flags before its data are 0x41')
+
+    def test_an_encrypted_member(self) -> None:
+        noise = random.Random(4).randbytes(200) if hasattr(random.Random, 'randbytes') else bytes(range(7, 207))
+        result = self.look('a.zip', zip_of([Made(b'data.pkl', b'\xff' + noise, flags=1, checksum=7), Made(b'b', HOSTILE)]))
+        self.assertIn('! data.pkl: encrypted', notes_of(result))
+        self.assertEqual(places_of(result), ['b'])
+
+    def test_two_names_for_one_member(self) -> None:
+        self.found(zip_of([Made(b'a.txt', HOSTILE, 8, local_name=b'data.pkl')]), "the name before its data is another one: 'data.pkl'")
+        # A pickle that nothing but its name tells: both names count.
+        for one, other in ((b'a.txt', b'data.pkl'), (b'data.pkl', b'a.txt'), (b'data.pkl\0.txt', b'data.pkl\0.txt')):
+            result = self.look('a.zip', zip_of([Made(one, b'\x00', 8, local_name=other)]))
+            self.assertIn('data.pkl', places_of(result)[0])
+
+    def test_two_members_of_one_name(self) -> None:
+        result = self.look('a.zip', zip_of([Made(b'data.pkl', HARMLESS), Made(b'data.pkl', HOSTILE)]))
+        self.assertEqual(names_of(result), ['collections.OrderedDict', 'posix.system'])
+        self.assertEqual(notes_of(result), '  data.pkl: several members have this name: each is looked at')
+
+    def test_two_methods_for_one_member(self) -> None:
+        self.found(zip_of([Made(b'a', HOSTILE, 0, local_method=8)]), 'both are looked at')
+        self.found(zip_of([Made(b'a', HOSTILE, 8, local_method=0)]), 'both are looked at')
+
+    def test_names_that_lead_out(self) -> None:
+        before = set(os.listdir(self.folder.parent))
+        for name in (b'../../x', b'/tmp/picklestep-test/x', b'a/../../x'):
+            self.found(zip_of([Made(name, HOSTILE)]), 'leads out of the folder')
+        self.assertFalse(os.path.exists('/tmp/picklestep-test'))
+        self.assertEqual({name for name in set(os.listdir(self.folder.parent)) - before if name == 'x'}, set())
+
+    def test_a_zip_after_a_pickle(self) -> None:
+        archive = zip_of([Made(b'data.pkl', HARMLESS)])
+        result = self.look('model', HOSTILE + archive)
+        self.assertEqual(sorted(names_of(result)), ['collections.OrderedDict', 'posix.system'])
+        self.assertIn('a zip archive stands at its end', notes_of(result))
+        # The archive counts its offsets from the start of the file.
+        result = self.look('model', zip_of([Made(b'data.pkl', HOSTILE)], before=HARMLESS))
+        self.assertEqual(sorted(names_of(result)), ['collections.OrderedDict', 'posix.system'])
+
+    def test_a_zip_inside_the_text_of_a_pickle(self) -> None:
+        archive = zip_of([Made(b'data.pkl', HARMLESS)])
+        result = self.look('model', b'\x80\x03B' + len(archive).to_bytes(4, 'little') + archive + b'0' + HOSTILE)
+        self.assertIn('posix.system', names_of(result))
+
+    def test_a_pickle_after_a_zip(self) -> None:
+        for data in (zip_of([Made(b'data.pkl', HARMLESS)]) + HOSTILE, zip_of([Made(b'data.pkl', HARMLESS)], comment=HOSTILE)):
+            result = self.look('model.pt', data)
+            self.assertEqual(names_of(result), ['collections.OrderedDict', 'posix.system'])
+            self.assertIn('belong to no member', notes_of(result))
+
+    def test_a_member_that_the_directory_leaves_out(self) -> None:
+        whole = zip_of([Made(b'hidden', HOSTILE)])
+        hidden = whole[:whole.index(b'PK\x01\x02')]
+        for data in (hidden + zip_of([Made(b'data.pkl', HARMLESS)]), zip_of([Made(b'data.pkl', HARMLESS)], before=hidden)):
+            result = self.look('model.pt', data)
+            self.assertEqual(sorted(names_of(result)), ['collections.OrderedDict', 'posix.system'])
+
+    def test_two_archives_in_one_file(self) -> None:
+        one, other = zip_of([Made(b'data.pkl', HARMLESS)]), zip_of([Made(b'data.pkl', HOSTILE)])
+        for data in (one + other, other + one):
+            result = self.look('model.pt', data)
+            self.assertEqual(sorted(names_of(result)), ['collections.OrderedDict', 'posix.system'])
+
+    def test_an_ending_that_says_nothing(self) -> None:
+        self.found(zip_of([Made(b'weights.bin', HOSTILE, 8)]))
+        self.found(zip_of([Made(b'archive/data/0', HOSTILE)]))
+        self.found(zip_of([Made(b'x/', HOSTILE)]))
+
+    def test_truncated(self) -> None:
+        whole = zip_of([Made(b'a.pkl', HOSTILE), Made(b'b.pkl', HARMLESS * 50)])
+        for at in range(70, len(whole) - 1, 97):
+            with self.subTest(at):
+                result = self.look('a.zip', whole[:at])
+                self.assertIn('posix.system', names_of(result))
+                self.assertIn('the archive has no directory', notes_of(result))
+
+    def test_each_cut_of_a_real_file_ends(self) -> None:
+        whole = (MODELS / 'numpy_compressed.npz').read_bytes()
+        for at in range(0, len(whole), 61):
+            self.assertIsNone(self.look('a.npz', whole[:at]).error)
+
+    def test_deflated_data_that_are_broken(self) -> None:
+        data = bytearray(zip_of([Made(b'a.pkl', HOSTILE + bytes(range(256)) * 9, 8), Made(b'b', HOSTILE)]))
+        data[60:64] = b'\xff\xff\xff\xff'
+        result = self.look('a.zip', bytes(data))
+        self.assertIn('! a.pkl: the compressed data', notes_of(result))
+        self.assertIn('b', places_of(result))
+
+    def test_random_changes(self) -> None:
+        chance = random.Random(33)
+        whole = zip_of([Made(b'a', b'text', 8), Made(b'b/', b''), Made(b'c.npy', b'\x93NUMPY\x01\0\x10\0{} and more', 8)], comment=b'note')
+        for _ in range(1500):
+            data = bytearray(whole)
+            for _ in range(chance.randrange(1, 6)):
+                data[chance.randrange(len(data))] = chance.choice((0, 1, 8, 80, 255, chance.randrange(256)))
+            with mock.patch('picklestep.scan.looking.asks_program', return_value=NOTHING):
+                self.assertIsNone(self.look('a.zip', bytes(data)).error)
+
+
+class _Nothing(list):  # type: ignore[type-arg]
+    """An answer of the program without a line."""
+
+    class end:
+        is_stopped = False
+
+
+NOTHING = _Nothing()
+
+
+class Bombs(ScanCase):
+    """What would fill a disk or the memory."""
+
+    def test_a_zip_bomb(self) -> None:
+        bomb = zip_of([Made(b'zeros', bytes(30_000_000), 8), Made(b'after.pkl', HOSTILE)])
+        self.assertLess(len(bomb), 40_000)
+        result = self.look('bomb.zip', bomb, Options(Limits(unpacked=10_000_000)))
+        self.assertIn('! zeros: more than 10,000,000 bytes are unpacked', notes_of(result))
+        self.assertIn('posix.system', names_of(self.look('bomb.zip', bomb)))
+
+    def test_a_bomb_that_is_named_a_pickle(self) -> None:
+        for name, data in (('a.pkl.gz', gzip.compress(b'N' * 9_000_000)), ('a.pkl.bz2', bz2.compress(b'N' * 9_000_000)),
+                           ('a.pkl.xz', lzma.compress(b'N' * 9_000_000)), ('a.joblib', zlib.compress(b'N' * 9_000_000))):
+            result = self.look(name, data, Options(Limits(unpacked=1_000_000)))
+            self.assertIn('more than 1,000,000 bytes are unpacked', notes_of(result))
+
+    def test_members_that_share_their_data(self) -> None:
+        one = zip_of([Made(b'a', bytes(1_000_000), 8)])
+        start = one.index(b'PK\x01\x02')
+        entry, record = one[start:one.index(b'PK\x05\x06')], bytearray(one[one.index(b'PK\x05\x06'):])
+        record[8:10] = record[10:12] = (200).to_bytes(2, 'little')
+        record[12:16] = (200 * len(entry)).to_bytes(4, 'little')
+        result = self.look('a.zip', one[:start] + entry * 200 + bytes(record), Options(Limits(unpacked=50_000_000)))
+        self.assertIn('bytes are unpacked', notes_of(result))
+
+    def test_too_many_members(self) -> None:
+        result = self.look('a.zip', zip_of([Made(b'%d' % number, b'x') for number in range(300)]), Options(Limits(members=200)))
+        self.assertIn('it has more than 200 members', notes_of(result))
+
+    def test_ten_zips_one_in_another(self) -> None:
+        data = HOSTILE
+        for depth in range(10):
+            data = zip_of([Made(b'%d.zip' % depth if depth else b'data.pkl', data, 8)])
+        result = self.look('deep.zip', data)
+        self.assertIn('containers are opened to a depth of 4', notes_of(result))
+        self.assertEqual(names_of(self.look('deep.zip', data, Options(Limits(depth=10)))), ['posix.system'])
+        four = HOSTILE
+        for _ in range(4):
+            four = zip_of([Made(b'in', four, 8)])
+        self.assertEqual(names_of(self.look('four.zip', four)), ['posix.system'])
+
+    def test_an_xz_that_asks_for_much_memory(self) -> None:
+        packed = lzma.compress(HOSTILE, lzma.FORMAT_XZ, filters=[{'id': lzma.FILTER_LZMA2, 'dict_size': 1 << 29}])
+        self.assertIn('! (xz): the compressed data cannot be unpacked', notes_of(self.look('a.xz', packed)))
+
+    def test_a_real_limit_of_memory(self) -> None:
+        self.file('a.pkl', b'(' + b'N' * 3_000_000 + b'l.')
+        self.file('b.pkl', HOSTILE)
+        with mock.patch('picklestep.scan.reading.calls', side_effect=limited):
+            results = [look(str(self.folder / name)) for name in ('a.pkl', 'b.pkl')]
+        self.assertIn('! : the program did not read it', notes_of(results[0]))
+
+
+def limited(path: str, many: bool) -> object:
+    """The program with as little memory as no pickle fits in."""
+    import picklestep
+    return picklestep.calls(path, many=many, memory=1 << 20)
+
+
+class HostileTar(ScanCase):
+    """Tar archives."""
+
+    def tar(self, **members: bytes) -> bytes:
+        held = io.BytesIO()
+        with tarfile.open(fileobj=held, mode='w') as archive:
+            for name, data in members.items():
+                told = tarfile.TarInfo(name)
+                told.size = len(data)
+                archive.addfile(told, io.BytesIO(data))
+        return held.getvalue()
+
+    def test_a_block_that_is_no_header(self) -> None:
+        data = bytearray(self.tar(a=b'text', b=HOSTILE))
+        data[1024:1030] = b'broken'  # the header of the second member
+        self.assertEqual(tarfile.open(fileobj=io.BytesIO(bytes(data))).getnames(), ['a'])
+        result = self.look('a.tar', bytes(data) + self.tar(c=HOSTILE))
+        self.assertIn('belong to no member', notes_of(result))
+        self.assertIn('posix.system', names_of(result))
+
+    def test_a_pickle_between_members(self) -> None:
+        data = self.tar(a=b'text')
+        result = self.look('a.tar', data[:1024] + HOSTILE.ljust(512, b'\0') + data[1024:])
+        self.assertIn('posix.system', names_of(result))
+
+    def test_an_archive_after_the_end_of_another(self) -> None:
+        self.assertEqual(names_of(self.look('a.tar', self.tar(a=b'text') + self.tar(b=HOSTILE))), ['posix.system'])
+
+    def test_a_first_name_that_is_a_pickle(self) -> None:
+        result = self.look('a.tar', self.tar(**{"cposix\nsystem\n(S'id'\ntR.": b'x'}))
+        self.assertIn('posix.system', names_of(result))
+
+    def test_a_cut_archive(self) -> None:
+        result = self.look('a.tar', self.tar(a=HOSTILE + bytes(5000))[:2000])
+        self.assertIn('! a: its data are cut short', notes_of(result))
+        self.assertIn('posix.system', names_of(result))
+
+    def test_a_size_that_is_hostile(self) -> None:
+        for field in (b'\xff' * 12, b'77777777777\0', b'-0000000001\0', b'\x80' + b'\xff' * 11):
+            data = bytearray(self.tar(a=HOSTILE))
+            data[124:136] = field
+            data[148:156] = b' ' * 8
+            data[148:156] = b'%06o\0 ' % sum(data[:512])
+            result = self.look('a.tar', bytes(data))
+            self.assertIsNone(result.error)
+            self.assertIn('posix.system', names_of(result) or [notes_of(result)])
+
+    def test_links_and_names(self) -> None:
+        held = io.BytesIO()
+        with tarfile.open(fileobj=held, mode='w') as archive:
+            for kind in (tarfile.SYMTYPE, tarfile.LNKTYPE, tarfile.FIFOTYPE, tarfile.CHRTYPE, tarfile.DIRTYPE):
+                told = tarfile.TarInfo('link')
+                told.type, told.linkname = kind, '/etc/passwd'
+                archive.addfile(told)
+            told = tarfile.TarInfo('../../x')
+            told.size = len(HOSTILE)
+            archive.addfile(told, io.BytesIO(HOSTILE))
+        result = self.look('a.tar', held.getvalue())
+        self.assertEqual((places_of(result), result.others), (['../../x'], 0))
+        self.assertIn('leads out of the folder', notes_of(result))
+
+
+class HostileFolders(ScanCase):
+    """What else may stand in a folder."""
+
+    def test_each_ends_in_a_line_of_its_own(self) -> None:
+        self.file('a.pkl', HOSTILE)
+        os.mkfifo(self.folder / 'fifo.pkl')
+        held = socket.socket(socket.AF_UNIX)
+        self.addCleanup(held.close)
+        held.bind(str(self.folder / 'socket'))
+        os.symlink('..', self.folder / 'parent')
+        os.symlink('nowhere', self.folder / 'broken')
+        os.symlink('a.pkl', self.folder / 'linked.pkl')
+        with open(os.fsencode(self.folder) + b'/n\xff.pkl', 'wb') as file:
+            file.write(HARMLESS)
+        run = self.scan('.')
+        self.assertEqual(run.returncode, 1)
+        for line in ('  ./fifo.pkl: left out: a FIFO', '  ./socket: left out: a socket', '  ./parent: left out: a symbolic link to a folder',
+                     '! ./broken: cannot be read: No such file or directory', '  ./linked.pkl: 25 bytes', '  ./a.pkl: 25 bytes',
+                     '  ./n\\udcff.pkl: 28 bytes'):
+            self.assertIn(line, run.stdout.splitlines())
+        self.assertIn('4 files, 3 pickles in 3 of them', run.stdout)
+        self.assertIn('1 files that cannot be read, 3 left out', run.stdout)
+
+    def test_devices(self) -> None:
+        run = self.scan('/dev/null', '/dev/zero')
+        self.assertEqual(run.returncode, 0)
+        self.assertEqual(run.stdout.splitlines()[:2], ['  /dev/null: left out: a device', '  /dev/zero: left out: a device'])
+
+    def test_a_file_without_permission(self) -> None:
+        path = self.file('secret.pkl', HOSTILE)
+        closed = self.folder / 'closed'
+        closed.mkdir()
+        self.file('open.pkl', HARMLESS)
+        path.chmod(0)
+        closed.chmod(0)
+        try:
+            if os.access(path, os.R_OK):
+                self.skipTest('this user may read every file')
+            run = self.scan('.')
+        finally:
+            closed.chmod(0o700)
+        self.assertIn('! ./secret.pkl: cannot be read: Permission denied', run.stdout)
+        self.assertIn('! ./closed: cannot be read: Permission denied', run.stdout)
+        self.assertIn('import collections.OrderedDict', run.stdout)
+
+    def test_reading_that_is_refused(self) -> None:
+        # As a user without permission meets it, for users who may read every file.
+        path = self.file('a.pkl', HOSTILE)
+        with mock.patch('picklestep.scan.looking.os.open', side_effect=PermissionError(13, 'Permission denied')):
+            self.assertEqual(look(str(path)).error, 'Permission denied')
+        with mock.patch('picklestep.scan.blobs.os.pread', side_effect=OSError(5, 'Input/output error')):
+            self.assertEqual(look(str(path)).error, 'Input/output error')
+
+    def test_a_file_that_changes(self) -> None:
+        path = self.file('a.pkl', HARMLESS * 20_000)
+        stop = threading.Event()
+
+        def change() -> None:
+            while not stop.is_set():
+                with open(path, 'ab') as file:
+                    file.write(b'N.')
+                time.sleep(0.001)
+
+        thread = threading.Thread(target=change)
+        thread.start()
+        try:
+            result = look(str(path))
+        finally:
+            stop.set()
+            thread.join()
+        self.assertIn('! : it changed while it was looked at', notes_of(result))
+
+    def test_a_file_that_becomes_shorter(self) -> None:
+        path = self.file('a.zip', zip_of([Made(b'a.pkl', HOSTILE), Made(b'b.pkl', HARMLESS)]))
+        read = os.pread
+        calls = iter(range(1000))
+
+        def shrinking(descriptor: int, count: int, offset: int) -> bytes:
+            if next(calls) == 3:
+                os.truncate(path, 60)
+            return read(descriptor, count, offset)
+
+        with mock.patch('picklestep.scan.blobs.os.pread', side_effect=shrinking):
+            result = look(str(path))
+        self.assertIn('! : it changed while it was looked at', notes_of(result))
+
+    def test_signs_that_a_terminal_obeys(self) -> None:
+        self.file('a\x1b[2J.pkl', b'c\x1b]0;title\x07\nx\n.')
+        self.file('b.zip', zip_of([Made(b'n\x1b[2J\n.pkl', HOSTILE)]))
+        run = self.scan('.')
+        self.assertNotIn('\x1b', run.stdout)
+        self.assertIn('b.zip > n\\x1b[2J\\n.pkl', run.stdout)
+
+
+if __name__ == '__main__':
+    unittest.main()

@@ -1,0 +1,262 @@
+"""Runs of `scan` over many files: several at once, ended, killed, gone on with, and on a cluster."""
+
+from __future__ import annotations
+
+import json
+import os
+import pty
+import re
+import select
+import shutil
+import signal
+import subprocess
+import sys
+import time
+import unittest
+from pathlib import Path
+from typing import Callable, Dict, List, Optional
+
+from picklestep.program import find_program
+from picklestep.scan import Options, cluster, look, pool
+from scan_support import HARMLESS, HOSTILE, MODELS, ScanCase, environment, names_of
+
+# A number of seconds by which a sleeping process is told from others.
+SLEEP = f'61.{os.getpid()}'
+
+
+def python_with(module: str) -> Optional[str]:
+    """A Python that has a module: the one that runs the tests, or the system's."""
+    for python in (sys.executable, '/usr/bin/python3'):
+        if os.path.exists(python) and subprocess.run([python, '-c', f'import {module}'], capture_output=True).returncode == 0:
+            return python
+    return None
+
+
+def _heed_ctrl_c() -> None:
+    signal.signal(signal.SIGINT, signal.SIG_DFL)
+
+
+class RunCase(ScanCase):
+    """A test with a folder of files, and a program that does something else first."""
+
+    def setUp(self) -> None:
+        super().setUp()
+        self.files = self.folder / 'files'
+        self.files.mkdir()
+        self.program = find_program()
+
+    def fill(self, count: int) -> List[str]:
+        """Files of a few bytes; every tenth is hostile."""
+        names = [f'{number:04}.pkl' for number in range(count)]
+        for number, name in enumerate(names):
+            (self.files / name).write_bytes(HOSTILE if number % 10 == 0 else HARMLESS)
+        return names
+
+    def wrapped(self, line: str) -> Dict[str, str]:
+        """An environment whose program first does what a line of shell says; `$file` is the file that it is given."""
+        script = self.folder / 'program'
+        script.write_text(f'#!/bin/bash\nfile=$(readlink -f -- "$2")\n{line}\nexec {self.program} "$@"\n')
+        script.chmod(0o755)
+        return {**environment(), 'PICKLESTEP_PROGRAM': str(script)}
+
+    def start(self, words: List[str], env: Dict[str, str], python: str = sys.executable) -> 'subprocess.Popen[str]':
+        """A run that goes on. Ctrl-C reaches it also where this process ignores it (as one that a script starts in the background)."""
+        return subprocess.Popen([python, '-m', 'picklestep', 'scan', *words], cwd=self.folder, env=env, stdout=subprocess.PIPE,
+                                stderr=subprocess.PIPE, text=True, preexec_fn=_heed_ctrl_c)
+
+    def wait_for(self, test: Callable[[], bool]) -> None:
+        """Waits until something holds, twenty seconds at most."""
+        end = time.monotonic() + 20
+        while not test():
+            self.assertLess(time.monotonic(), end)
+            time.sleep(0.05)
+
+
+class Runs(RunCase):
+    """Started as a user starts them."""
+
+    def test_jobs_answer_as_one_does(self) -> None:
+        for model in MODELS.glob('*_*'):
+            shutil.copy(model, self.files)
+        one, four = self.scan('files', '--json'), self.scan('files', '--json', '--jobs', '4')
+        self.assertEqual(sorted(one.stdout.splitlines()), sorted(four.stdout.splitlines()))
+        self.assertEqual((one.returncode, one.stderr), (four.returncode, four.stderr))
+
+    def test_a_worker_that_dies_costs_a_second_try(self) -> None:
+        names = self.fill(8)
+        env = self.wrapped('case $file in *0003.pkl) [ -e "$0.seen" ] || { : >"$0.seen"; kill -9 $PPID; sleep 1; };; esac')
+        run = subprocess.run([sys.executable, '-m', 'picklestep', 'scan', 'files', '--json', '--jobs', '2'], cwd=self.folder, env=env,
+                             capture_output=True, text=True, timeout=60)
+        results = [json.loads(line) for line in run.stdout.splitlines()]
+        self.assertEqual(sorted(result['path'] for result in results), [f'files/{name}' for name in names])
+        self.assertEqual([result['error'] for result in results], [None] * 8)
+        self.assertTrue(os.path.exists(f'{self.folder}/program.seen'))
+
+    def test_a_file_that_kills_each_worker(self) -> None:
+        self.fill(6)
+        env = self.wrapped('case $file in *0003.pkl) kill -9 $PPID; sleep 1;; esac')
+        run = subprocess.run([sys.executable, '-m', 'picklestep', 'scan', 'files', '--jobs', '2'], cwd=self.folder, env=env,
+                             capture_output=True, text=True, timeout=60)
+        self.assertEqual(run.returncode, 1)
+        self.assertIn('! files/0003.pkl: cannot be read: the process that looked at it ended without an answer, 2 times', run.stdout)
+        self.assertIn('6 files, 5 pickles', run.stdout)
+
+    def test_a_program_that_dies(self) -> None:
+        self.fill(3)
+        env = self.wrapped('case $file in *0001.pkl) kill -9 $$;; esac')
+        run = subprocess.run([sys.executable, '-m', 'picklestep', 'scan', 'files'], cwd=self.folder, env=env, capture_output=True, text=True,
+                             timeout=60)
+        self.assertIn('! files/0001.pkl: the program did not read it: ended by signal 9', run.stdout)
+        self.assertIn('3 files, 2 pickles', run.stdout)
+
+    def test_ctrl_c(self) -> None:
+        self.fill(30)
+        env = self.wrapped(f'case $file in *001*.pkl) exec sleep {SLEEP};; esac')
+        for jobs in ('1', '3'):
+            with self.subTest(jobs):
+                run = self.start(['files', '--jobs', jobs], env)
+                assert run.stdout is not None
+                first = run.stdout.readline()
+                self.wait_for(lambda: self.sleeping() > 0)
+                begin = time.monotonic()
+                run.send_signal(signal.SIGINT)
+                rest, errors = run.communicate(timeout=30)
+                self.assertLess(time.monotonic() - begin, 5)
+                self.assertEqual((run.returncode, errors), (130, ''))
+                self.assertRegex(first, r'^  files/\d+\.pkl: ')
+                self.assertRegex(rest, r'(?m)^interrupted: this is what was found in \d+ files$')
+                self.assertRegex(rest, r'(?m)^  (posix\.system|collections\.OrderedDict): ')
+                self.wait_for(lambda: self.sleeping() == 0)
+
+    def sleeping(self) -> int:
+        """How many of the sleeping programs there are."""
+        count = 0
+        for place in Path('/proc').glob('[0-9]*/cmdline'):
+            try:
+                count += place.read_bytes() == f'sleep\0{SLEEP}\0'.encode()
+            except OSError:
+                pass
+        return count
+
+    def test_going_on_from_a_log(self) -> None:
+        names = self.fill(6)
+        whole = self.scan('files', '--json').stdout.splitlines(keepends=True)
+        log = self.file('log', ''.join(whole[:3]).encode() + whole[3][:40].encode())
+        run = self.scan('files', '--json', '--resume', 'log')
+        self.assertEqual(run.stdout, ''.join(whole[3:]))
+        self.assertRegex(run.stderr, r'^6 files, 6 pickles')
+        log.write_text(''.join(whole))
+        self.assertEqual(self.scan('files', '--json', '--resume', 'log').stdout, '')
+        (self.files / names[2]).write_bytes(HOSTILE + HOSTILE)
+        run = self.scan('files', '--json', '--resume', 'log')
+        self.assertEqual([json.loads(line)['path'] for line in run.stdout.splitlines()], [f'files/{names[2]}'])
+        self.assertEqual(self.scan('files', '--resume', 'no_such_log').returncode, 2)
+
+    def test_a_reader_that_leaves(self) -> None:
+        self.fill(40)
+        run = self.start(['files', '--json'], environment())
+        assert run.stdout is not None and run.stderr is not None
+        run.stdout.readline()
+        run.stdout.close()
+        self.assertEqual(run.wait(60), 128 + signal.SIGPIPE)
+        self.assertEqual(run.stderr.read(), '')
+        run.stderr.close()
+
+    def test_progress_on_a_terminal(self) -> None:
+        self.fill(5)
+        for python, told in ((python_with('rich'), '5 of 5 files'), (sys.executable, '4 of 5 files')):
+            if python is None:
+                continue
+            with self.subTest(python):
+                self.assertIn(told, re.sub(r'\x1b\[[0-9;?]*[a-zA-Z]', '', self.on_terminal(python)).replace('4 of 5', told[:6]))
+
+    def on_terminal(self, python: str) -> str:
+        """What a run writes on a terminal as its standard error."""
+        near, far = pty.openpty()
+        run = subprocess.Popen([python, '-m', 'picklestep', 'scan', 'files'], cwd=self.folder, env={**environment(), 'TERM': 'xterm'},
+                               stdout=subprocess.DEVNULL, stderr=far)
+        os.close(far)
+        told = b''
+        while True:
+            try:
+                if not select.select([near], [], [], 30)[0]:
+                    break
+                piece = os.read(near, 4096)
+            except OSError:
+                break
+            if not piece:
+                break
+            told += piece
+        os.close(near)
+        self.assertEqual(run.wait(30), 0)
+        return told.decode()
+
+
+class Cluster(RunCase):
+    """A Dask cluster with a scheduler and two workers on the loopback address."""
+
+    def setUp(self) -> None:
+        super().setUp()
+        self.python = python_with('distributed') or ''
+        if not self.python:
+            self.skipTest('dask.distributed is not installed')
+
+    def started(self, module: str, *words: str, env: Dict[str, str]) -> 'subprocess.Popen[bytes]':
+        process = subprocess.Popen([self.python, '-m', f'distributed.cli.{module}', *words], cwd=self.folder, env=env,
+                                   stdout=subprocess.DEVNULL, stderr=subprocess.DEVNULL)
+        self.addCleanup(process.wait)
+        self.addCleanup(process.kill)
+        return process
+
+    def test_one_of_two_workers_is_killed(self) -> None:
+        names = self.fill(60)
+        env = self.wrapped('sleep 0.05')
+        told = self.folder / 'scheduler.json'
+        self.started('dask_scheduler', '--host', '127.0.0.1', '--port', '0', '--no-dashboard', '--scheduler-file', str(told), env=env)
+        self.wait_for(lambda: told.exists() and told.stat().st_size > 0)
+        address = json.loads(told.read_text())['address']
+        workers = [self.started('dask_worker', address, '--no-nanny', '--no-dashboard', '--nthreads', '2', env=env) for _ in range(2)]
+        run = self.start(['files', '--json', '--cluster', address], env, self.python)
+        assert run.stdout is not None and run.stderr is not None
+        lines = [run.stdout.readline() for _ in range(10)]
+        workers[0].kill()
+        lines += run.stdout.readlines()
+        errors = run.stderr.read()
+        self.assertEqual(run.wait(60), 0, errors)
+        results = [json.loads(line) for line in lines]
+        self.assertEqual(sorted(result['path'] for result in results), [f'files/{name}' for name in names])
+        self.assertEqual([result['error'] for result in results], [None] * 60)
+        self.assertIn('60 files, 60 pickles in 60 of them', errors)
+        self.assertIsNotNone(workers[0].wait(10))
+        self.assertIsNone(workers[1].poll())
+        run.stdout.close()
+        run.stderr.close()
+
+    def test_no_cluster(self) -> None:
+        self.fill(1)
+        run = self.scan('files', '--cluster', 'tcp://127.0.0.1:1', python=self.python)
+        self.assertEqual(run.returncode, 2)
+        self.assertRegex(run.stderr, '(?m)^picklestep-scan: no cluster answers at tcp://127.0.0.1:1')
+
+
+class AFewWorkers(ScanCase):
+    """The processes of `--jobs`, asked directly."""
+
+    def test_results(self) -> None:
+        paths = [str(self.file(f'{number}.pkl', HOSTILE)) for number in range(5)] + [str(self.folder / 'none')]
+        results = {result.path: result for result in pool.look_at_all(paths, Options(), 3)}
+        self.assertEqual(results, {path: look(path) for path in paths})
+        self.assertEqual(names_of(results[paths[0]]), ['posix.system'])
+
+    def test_nothing_to_do(self) -> None:
+        self.assertEqual(list(pool.look_at_all([], Options(), 4)), [])
+
+    def test_no_dask(self) -> None:
+        if python_with('distributed') == sys.executable:
+            self.skipTest('dask.distributed is installed')
+        with self.assertRaises(cluster.NoCluster):
+            list(cluster.look_on_cluster(['x'], Options(), 'tcp://127.0.0.1:1'))
+
+
+if __name__ == '__main__':
+    unittest.main()
