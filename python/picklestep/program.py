@@ -16,7 +16,7 @@ import os
 import signal
 import subprocess
 from pathlib import Path
-from typing import IO, List, NoReturn, Optional, Sequence
+from typing import IO, Iterable, List, NoReturn, Optional, Sequence
 
 from .errors import OutOfMemory, ProgramError, TimedOut, TooLarge
 
@@ -55,20 +55,31 @@ class Process:
 
     def __init__(self, words: Sequence[str], files: Sequence[int] = (), memory: Optional[int] = None, stdin: bool = False) -> None:
         command = _command(words, memory)
+        self._is_open = False
         near, self._lifeline = os.pipe()
+        # (an interrupt that came while the program starts would leave it without anybody who ends it)
+        masked = signal.pthread_sigmask(signal.SIG_BLOCK, {signal.SIGINT})
         try:
             self._popen = subprocess.Popen(command, stdin=subprocess.PIPE if stdin else subprocess.DEVNULL, stdout=subprocess.PIPE,
                                            stderr=subprocess.PIPE, bufsize=0, pass_fds=(*files, near))
+            _end_with(near, self._popen.pid)
+            self._is_open = True
         except BaseException as error:
             os.close(self._lifeline)
             if isinstance(error, OSError):
                 raise ProgramError(f'cannot start the program: {error}') from error
             raise
-        else:
-            _end_with(near, self._popen.pid)
         finally:
             os.close(near)
-        self._is_open = True
+            self._unmask(masked)
+
+    def _unmask(self, masked: Iterable[int]) -> None:
+        """Lets interrupts come again. One that came meanwhile ends the program."""
+        try:
+            signal.pthread_sigmask(signal.SIG_SETMASK, masked)
+        except BaseException:
+            self.close()
+            raise
 
     @property
     def stdin(self) -> int:

@@ -24,7 +24,7 @@ def value_of(known: Known) -> object:
     if known.name in ('GLOBAL', 'INST'):
         return tuple(known.raw.split(b'\n')[:2])
     if isinstance(known.value, str):
-        return known.raw[-len(known.raw) + {'BINSTRING': 4, 'BINUNICODE': 4, 'BINUNICODE8': 8}.get(known.name, 1):]
+        return known.raw[{'BINSTRING': 4, 'BINUNICODE': 4, 'BINUNICODE8': 8}.get(known.name, 1):]
     return bytes(known.value) if isinstance(known.value, bytearray) else known.value
 
 
