@@ -1,7 +1,7 @@
 //! Listings over memory. The expected texts are what `pickletools.dis` prints for these bytes, in the listing's form of arguments, notes and
 //! closing lines.
 
-use pickle_doc::Document;
+use pickle_doc::{Document, LIMIT};
 use pickle_listing::{list_bytes, write_listing};
 use pickle_ops::{Opcode, ToWrite, op_of};
 use std::alloc::Global;
@@ -122,6 +122,9 @@ fn is_listed(
     text: &str,
     status: u8,
 ) -> Result<bool, Fail> {
+    if bytes.len() > LIMIT {
+        return Ok(false);
+    }
     let mut sink = ToWrite::new(Vec::new(alloc));
     let first = list_bytes(alloc, many, bytes, &mut sink)?;
     let document = if many {
