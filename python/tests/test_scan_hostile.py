@@ -17,6 +17,7 @@ import zipfile
 import zlib
 from unittest import mock
 
+from picklestep.records import End
 from picklestep.scan import Options, look
 from picklestep.scan.blobs import Limits
 from scan_support import HARMLESS, HOSTILE, MODELS, Made, ScanCase, names_of, notes_of, places_of, zip_of
@@ -153,8 +154,8 @@ class HostileZip(ScanCase):
 class _Nothing(list):  # type: ignore[type-arg]
     """An answer of the program without a line."""
 
-    class end:
-        is_stopped = False
+    text = '0 imports, 0 calls\n'
+    end = End('stopped')
 
 
 NOTHING = _Nothing()
@@ -187,6 +188,10 @@ class Bombs(ScanCase):
 
     def test_too_many_members(self) -> None:
         result = self.look('a.zip', zip_of([Made(b'%d' % number, b'x') for number in range(300)]), Options(Limits(members=200)))
+        self.assertIn('it has more than 200 members', notes_of(result))
+        # Headers without a directory: no more of them are kept than the limit allows.
+        header = zip_of([Made(b'', b'')])[:30]
+        result = self.look('b.zip', header * 300_000, Options(Limits(members=200)))
         self.assertIn('it has more than 200 members', notes_of(result))
 
     def test_ten_zips_one_in_another(self) -> None:

@@ -170,7 +170,7 @@ class Looker:
             self._is_read(blob, head, where, names)
 
     def _open_zip(self, blob: Blob, where: Place, names: Tuple[str, ...], depth: int) -> None:
-        archive = zips.read_archive(blob)
+        archive = zips.read_archive(blob, self.options.limits.members)
         for text in archive.odd:
             self.note(where, text)
         seen: Counter[str] = Counter()

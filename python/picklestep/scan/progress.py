@@ -1,4 +1,7 @@
-"""How far it is, on a terminal: a bar where `rich` is installed, else one line that counts."""
+"""How far it is, on a terminal: a bar where `rich` is installed, else one line that counts.
+
+Where the results go to the terminal too there is the line alone, since it can be wiped out before each of them.
+"""
 
 from __future__ import annotations
 
@@ -15,6 +18,8 @@ def with_progress(results: Iterable[Result], total: int) -> Generator[Result, No
     """The results as they come, with the progress told on standard error where that is a terminal."""
     if not sys.stderr.isatty():
         return (result for result in results)
+    if sys.stdout.isatty():
+        return _counted(results, total)
     try:
         progress, console = import_module('rich.progress'), import_module('rich.console')
     except ImportError:
@@ -37,7 +42,7 @@ def _counted(results: Iterable[Result], total: int) -> Generator[Result, None, N
 
 def _with_bar(results: Iterable[Result], total: int, progress: Any, console: Any) -> Generator[Result, None, None]:
     columns = (progress.TextColumn('{task.completed} of {task.total} files'), progress.BarColumn(), progress.TimeRemainingColumn())
-    with progress.Progress(*columns, console=console, transient=True) as bar:
+    with progress.Progress(*columns, console=console, transient=True, redirect_stdout=False) as bar:
         task = bar.add_task('scan', total=total)
         for result in results:
             yield result
