@@ -164,11 +164,12 @@ class Runs(RunCase):
 
     def test_progress_on_a_terminal(self) -> None:
         self.fill(5)
-        for python, told in ((python_with('rich'), '5 of 5 files'), (sys.executable, '4 of 5 files')):
+        for python in (python_with('rich'), sys.executable):
             if python is None:
                 continue
             with self.subTest(python):
-                self.assertIn(told, re.sub(r'\x1b\[[0-9;?]*[a-zA-Z]', '', self.on_terminal(python)).replace('4 of 5', told[:6]))
+                # (the line that counts is wiped out at the last file, the bar of `rich` stands with it)
+                self.assertRegex(re.sub(r'\x1b\[[0-9;?]*[a-zA-Z]', '', self.on_terminal(python)), '[45] of 5 files')
 
     def on_terminal(self, python: str) -> str:
         """What a run writes on a terminal as its standard error."""
