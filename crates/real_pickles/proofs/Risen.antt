@@ -8,12 +8,12 @@ use Rattle.pickle_doc.specs.Turn.{Leads, LeadsOn, risen}
 not_risen : (d : Contents) → risen 0 d ≡ d
 not_risen d =
     let next : d.next + 0 ≡ d.next = omega arith in
-    ap (λ (k : ℕ). record { units = d.units; tail = d.tail; next = k }) next
+    ap (λ (k : ℕ). record { many = d.many; units = d.units; tail = d.tail; next = k }) next
 
 pub risen_more : (n m : ℕ) (d : Contents) → risen m (risen n d) ≡ risen (n + m) d
 risen_more n m d =
     let next : d.next + n + m ≡ d.next + (n + m) = omega arith in
-    ap (λ (k : ℕ). record { units = d.units; tail = d.tail; next = k }) next
+    ap (λ (k : ℕ). record { many = d.many; units = d.units; tail = d.tail; next = k }) next
 
 -- the record of an edit that gives no identity, and of one that gives one
 pub given_none : (r : EditRecord) (d e : Contents) → Leads r d e → (n : ℕ) × Leads r d (risen n e)
