@@ -108,7 +108,8 @@ def install(python: str, program: str, folder: Path) -> Tuple[str, str]:
 
 def check_types(folder: Path) -> str:
     """What mypy says of the package, where there is one."""
-    return call(['mypy', '--strict', '--cache-dir', str(folder / 'types'), str(SOURCES / 'picklestep')], folder)
+    words = ['--strict', '--config-file', str(SOURCES / 'pyproject.toml'), '--cache-dir', str(folder / 'types')]
+    return call(['mypy', *words, str(SOURCES / 'picklestep')], folder)
 
 
 def main(program: str, folder: Path) -> int:

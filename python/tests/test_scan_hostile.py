@@ -256,6 +256,12 @@ class HostileTar(ScanCase):
         result = self.look('a.tar', self.tar(**{"cposix\nsystem\n(S'id'\ntR.": b'x'}))
         self.assertIn('posix.system', names_of(result))
 
+    def test_a_pickle_that_is_a_compressed_stream_too(self) -> None:
+        # (BINUNICODE and its length begin a zlib stream, which ends within the text)
+        text = b'X\x09\x03\x00\x00' + b'\x00\x00\x01' + b'z' * 774 + b'0'
+        self.assertEqual(zlib.decompressobj().decompress(text), b'')
+        self.assertIn('posix.system', names_of(self.look('model.bin', text + HOSTILE)))
+
     def test_a_cut_archive(self) -> None:
         result = self.look('a.tar', self.tar(a=HOSTILE + bytes(5000))[:2000])
         self.assertIn('! a: its data are cut short', notes_of(result))

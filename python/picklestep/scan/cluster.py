@@ -28,7 +28,7 @@ def look_on_cluster(paths: Iterable[str], options: Options, address: str) -> Gen
     except ImportError:
         raise NoCluster("a cluster needs dask.distributed: pip install 'picklestep[cluster]'") from None
     try:
-        client = distributed.Client(address, timeout='20s', set_as_default=False)  # type: ignore[no-untyped-call]
+        client = distributed.Client(address, timeout='20s', set_as_default=False)
     except (OSError, ValueError) as error:
         raise NoCluster(f'no cluster answers at {address}: {error}') from None
     with client:
