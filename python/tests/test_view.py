@@ -217,7 +217,7 @@ class Asking(unittest.TestCase):
         self.addCleanup(self._end, thread)
 
     def _end(self, thread: threading.Thread) -> None:
-        self.viewer._until = 0
+        self.viewer.stop()
         thread.join()
         self.viewer.__exit__()
 
@@ -319,11 +319,17 @@ class Running(unittest.TestCase):
         """The processes below a process."""
         return Path(f'/proc/{process}/task/{process}/children').read_text(encoding='ascii').split()
 
-    def test_nothing_is_left_after_ctrl_c(self) -> None:
+    def test_nothing_is_left_after_a_signal(self) -> None:
+        for number in (signal.SIGINT, signal.SIGTERM, signal.SIGHUP):
+            with self.subTest(number):
+                self._end_by(number)
+
+    def _end_by(self, number: signal.Signals) -> None:
+        """Ends a server by a signal, and looks at what is left."""
         process, address = self.start()
         children = self.children(process.pid)
         self.assertTrue(children)
-        process.send_signal(signal.SIGINT)
+        process.send_signal(number)
         self.assertEqual(process.wait(20), 0)
         assert process.stderr is not None
         self.assertEqual(process.stderr.read(), '')

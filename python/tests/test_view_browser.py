@@ -18,6 +18,7 @@ from typing import Any, List
 
 from chromium import PROGRAM, Browser
 from picklestep.view import main
+from picklestep.view.command import _leading_to
 from picklestep.view.document import Document
 from picklestep.view.server import Viewer
 
@@ -56,7 +57,7 @@ class InBrowser(unittest.TestCase):
     def _end(self, viewer: Viewer, thread: threading.Thread) -> None:
         errors = self.browser.errors()
         self.browser.go('about:blank')
-        viewer._until = 0
+        viewer.stop()
         thread.join()
         viewer.__exit__()
         self.assertEqual(errors, [])
@@ -82,7 +83,7 @@ class InBrowser(unittest.TestCase):
     def test_steps_on_a_real_pickle(self) -> None:
         data = (DATA / 'sklearn_tree.pkl').read_bytes()
         opcodes = list(pickletools.genops(data))
-        calls = [at for at, (opcode, _, _) in enumerate(opcodes) if opcode.name in ('REDUCE', 'NEWOBJ')]
+        calls = [at for at, (opcode, _, _) in enumerate(opcodes) if opcode.name in ('REDUCE', 'NEWOBJ', 'BUILD')]
         self.open(data)
         shown = [name for name in self.texts('.row:not([hidden]) .name') if name]
         self.assertEqual(shown[:20], [opcode.name for opcode, _, _ in opcodes[:20]])
@@ -90,7 +91,7 @@ class InBrowser(unittest.TestCase):
         self.press('ArrowRight', 2)
         self.press('ArrowLeft', 1)
         self.press('n', calls[0])
-        self.press('n', min(at for at, (opcode, _, _) in enumerate(opcodes) if opcode.name in ('REDUCE', 'NEWOBJ', 'BUILD') and at > calls[0]))
+        self.press('n', calls[1])
         self.press('p', calls[0])
         self.press('End', len(opcodes))
         self.press('ArrowLeft', len(opcodes) - 1)
@@ -171,6 +172,16 @@ class InBrowser(unittest.TestCase):
         self.assertIn(f"#0 global '{HOSTILE_NAME}' '<b>&amp;'", self.texts('#objects .thing'))
         self.assertEqual(self.browser.js("document.querySelectorAll('img, b, script:not([src])').length"), 0)
         self.assertEqual(self.browser.js('document.title'), 'a pickle: picklestep')
+
+    def test_the_page_that_leads_to_the_address(self) -> None:
+        viewer = self.open(b'N.')
+        self.browser.go('about:blank')
+        with _leading_to(viewer.address) as path:
+            self.assertEqual(path.parent.stat().st_mode & 0o077, 0)
+            self.browser.go(path.as_uri())
+            self.browser.wait(READY)
+            self.assertEqual(self.browser.js('location.href'), viewer.address)
+        self.assertFalse(path.parent.exists())
 
     def test_find(self) -> None:
         self.open((DATA / 'sklearn_tree.pkl').read_bytes())

@@ -3,10 +3,13 @@
 from __future__ import annotations
 
 import argparse
+import contextlib
+import signal
 import sys
+import tempfile
 import webbrowser
 from pathlib import Path
-from typing import List, Optional
+from typing import Iterator, List, Optional
 
 from ..errors import PicklestepError
 from .document import Document
@@ -36,10 +39,25 @@ def _export(document: Document, path: Path) -> int:
 def _serve(document: Document, with_browser: bool, idle: float) -> int:
     with Viewer(document, idle) as viewer:
         print(f'{viewer.address}\nCtrl-C ends it.', flush=True)
-        if with_browser:
-            webbrowser.open(viewer.address)
-        viewer.serve()
+        for number in (signal.SIGTERM, signal.SIGHUP):
+            signal.signal(number, signal.default_int_handler)
+        if not with_browser:
+            viewer.serve()
+            return 0
+        with _leading_to(viewer.address) as path:
+            webbrowser.open(path.as_uri())
+            viewer.serve()
     return 0
+
+
+@contextlib.contextmanager
+def _leading_to(address: str) -> Iterator[Path]:
+    """A page that leads to an address, for as long as it is wanted. Only its owner can read it. A browser that got the address as a word
+    would show the token to all who list the processes."""
+    with tempfile.TemporaryDirectory(prefix='picklestep-') as folder:
+        path = Path(folder) / 'open.html'
+        path.write_text(f'<!DOCTYPE html><title>picklestep</title><meta http-equiv="refresh" content="0; url={address}">', encoding='ascii')
+        yield path
 
 
 def main(words: Optional[List[str]] = None) -> int:

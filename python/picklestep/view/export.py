@@ -20,7 +20,8 @@ _HEAD = '''<!DOCTYPE html>
 <html lang="en"><head><meta charset="utf-8"><meta name="viewport" content="width=device-width">
 <meta http-equiv="Content-Security-Policy" content="default-src 'none'; style-src 'sha256-{hash}'; base-uri 'none'; form-action 'none'">
 <title>{name}: picklestep</title><style>{style}</style></head><body>
-<header><h1>{name}</h1><p>{summary}</p><nav><a href="#calls">Calls</a> <a href="#listing">Listing</a> <a href="#objects">Objects</a></nav></header>
+<header><h1>{name}</h1><p>{summary}</p>
+<nav><a href="#calls">Calls</a> <a href="#listing">Listing</a> <a href="#objects">Objects</a></nav></header>
 <main>
 '''
 
@@ -68,7 +69,8 @@ def write_report(document: Document, file: IO[str]) -> Tuple[int, int]:
     """Writes the report, and answers how many opcodes it shows and how many there are."""
     count = min(len(document.lines), MOST)
     answer = document.reaches.answer
-    summary = f'{len(document.lines):,} opcodes, {answer.imports:,} imports, {answer.calls:,} calls. ' + '; '.join(document.lines.closing) + '.'
+    counts = f'{len(document.lines):,} opcodes, {answer.imports:,} imports, {answer.calls:,} calls'
+    summary = f'{counts}. {"; ".join(document.lines.closing)}.'
     file.write(_HEAD.format(hash=_HASH, style=_STYLE, name=escape(document.name), summary=escape(summary)))
     for part in (_calls(document), _listing(document, count), _objects(document, count)):
         file.writelines(part)

@@ -6,6 +6,7 @@ import contextlib
 import hmac
 import json
 import secrets
+import sys
 import threading
 import time
 from http.server import BaseHTTPRequestHandler, ThreadingHTTPServer
@@ -39,7 +40,8 @@ class Viewer(contextlib.AbstractContextManager['Viewer']):
         self.token = secrets.token_urlsafe(24)
         self._lock = threading.Lock()
         self._idle = idle
-        self._until = time.monotonic() + max(idle, 60.0)
+        self._until = time.monotonic() + idle
+        self._is_stopped = False
         self._server = _Server(('127.0.0.1', 0), _Handler)
         self._server.viewer = self
         self.host = f'127.0.0.1:{self._server.server_address[1]}'
@@ -47,9 +49,13 @@ class Viewer(contextlib.AbstractContextManager['Viewer']):
 
     def serve(self) -> None:
         """Serves until no page was open for a while."""
-        self._server.timeout = 0.5
-        while time.monotonic() < self._until:
+        self._server.timeout = 0.2
+        while not self._is_stopped and time.monotonic() < self._until:
             self._server.handle_request()
+
+    def stop(self) -> None:
+        """Ends `serve`, which may run in another thread."""
+        self._is_stopped = True
 
     def __exit__(self, *error: object) -> None:
         self._server.server_close()
@@ -83,6 +89,11 @@ class _Server(ThreadingHTTPServer):
     daemon_threads = True
     block_on_close = False
     viewer: Viewer
+
+    def handle_error(self, request: Any, client_address: Any) -> None:
+        """Says nothing of a browser that went away in the middle of a request."""
+        if not isinstance(sys.exc_info()[1], ConnectionError):
+            super().handle_error(request, client_address)
 
 
 class _Handler(BaseHTTPRequestHandler):
