@@ -1,0 +1,81 @@
+"""The words of `python -m picklestep view`."""
+
+from __future__ import annotations
+
+import argparse
+import contextlib
+import signal
+import sys
+import tempfile
+import webbrowser
+from pathlib import Path
+from typing import Iterator, List, Optional
+
+from ..errors import PicklestepError
+from .document import Document
+from .export import MOST, write_report
+from .server import IDLE, Viewer
+
+__all__ = ['main']
+
+
+def _parser() -> argparse.ArgumentParser:
+    parser = argparse.ArgumentParser(prog='picklestep view', description='Shows a pickle in a browser; nothing of it is run.')
+    parser.add_argument('file', metavar='FILE', help='the pickle')
+    parser.add_argument('--export', metavar='OUT.html', type=Path, help='write a report as a page of its own, and end')
+    parser.add_argument('--no-browser', action='store_true', help='print the address, and open no browser')
+    parser.add_argument('--idle', metavar='SECONDS', type=float, default=IDLE, help='end when no page was open for so long (%(default)g)')
+    return parser
+
+
+def _export(document: Document, path: Path) -> int:
+    with open(path, 'w', encoding='utf-8') as file:
+        shown, all_lines = write_report(document, file)
+    if shown < all_lines:
+        print(f'picklestep: {path} has the first {MOST:,} of {all_lines:,} opcodes', file=sys.stderr)
+    return 0
+
+
+def _serve(document: Document, with_browser: bool, idle: float) -> int:
+    with Viewer(document, idle) as viewer:
+        print(f'{viewer.address}\nCtrl-C ends it.', flush=True)
+        for number in (signal.SIGTERM, signal.SIGHUP):
+            signal.signal(number, signal.default_int_handler)
+        if not with_browser:
+            viewer.serve()
+            return 0
+        with _leading_to(viewer.address) as path:
+            webbrowser.open(path.as_uri())
+            viewer.serve()
+    return 0
+
+
+@contextlib.contextmanager
+def _leading_to(address: str) -> Iterator[Path]:
+    """A page that leads to an address, for as long as it is wanted. Only its owner can read it. A browser that got the address as a word
+    would show the token to all who list the processes."""
+    with tempfile.TemporaryDirectory(prefix='picklestep-') as folder:
+        path = Path(folder) / 'open.html'
+        path.write_text(f'<!DOCTYPE html><title>picklestep</title><meta http-equiv="refresh" content="0; url={address}">', encoding='ascii')
+        yield path
+
+
+def main(words: Optional[List[str]] = None) -> int:
+    """Does what the words say, and answers the status."""
+    try:
+        options = _parser().parse_args(words)
+    except SystemExit as end:
+        return int(end.code or 0)
+    try:
+        document = Document(options.file, Path(options.file).name)
+        try:
+            if options.export is not None:
+                return _export(document, options.export)
+            return _serve(document, not options.no_browser, options.idle)
+        finally:
+            document.close()
+    except KeyboardInterrupt:
+        return 0
+    except (OSError, PicklestepError) as error:
+        print(f'picklestep: {error}', file=sys.stderr)
+        return 2

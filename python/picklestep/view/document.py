@@ -1,0 +1,352 @@
+"""What the page shows of one pickle: a session, and what the program tells of the pickle as it is."""
+
+from __future__ import annotations
+
+import os
+import re
+from array import array
+from bisect import bisect_left, bisect_right
+from itertools import islice
+from pathlib import Path
+from typing import Any, Dict, List, Optional, Set, Tuple
+
+from ..answers import Calls
+from ..arguments import ArgumentValue
+from ..program import run_program
+from ..session import Session
+from ..sources import Input, Source
+from .lines import Lines, add_items, lines_of, makers_of, opcode_names, read_listing, read_objects
+
+__all__ = ['Document', 'Fields']
+
+Fields = Dict[str, Any]
+
+# Up to this many objects, with texts of this many bytes, are asked of the session at each step. Above that the page shows them as they
+# are at the end.
+_MOST_EXACT = 20_000
+_MOST_TEXT = 1 << 24
+_MOST_LINES = 2000
+_MOST_PARTS = 500
+_MOST_ENTRIES = 500
+_MOST_HOLDERS = 20
+_IMPORTS = ('import', 'inst')
+_CALLS = ('inst', 'call', 'new', 'state', 'append', 'set', 'add')
+_PLACES = {'replace': 0, 'insert': 1, 'delete': -1, 'frame': 1, 'unframe': -1}
+
+
+class Reaches:
+    """What the pickle imports and calls, by the offsets of the opcodes."""
+
+    def __init__(self, answer: Calls) -> None:
+        self.answer = answer
+        self.offsets = array('Q')
+        self.kinds: List[str] = []
+        for match in _REACH.finditer(answer.text):
+            self.offsets.append(int(match[1]))
+            self.kinds.append(match[2])
+
+    def kind_at(self, offset: int) -> str:
+        """How the line at an offset is coloured: 'call', 'import', 'other' or ''."""
+        at = bisect_left(self.offsets, offset)
+        kinds = self.kinds[at:bisect_right(self.offsets, offset)]
+        if any(kind in _CALLS for kind in kinds):
+            return 'call'
+        if any(kind in _IMPORTS for kind in kinds):
+            return 'import'
+        return 'other' if kinds else ''
+
+    def before(self, offset: int) -> Tuple[int, int]:
+        """How many imports and calls stand before an offset."""
+        kinds = self.kinds[:bisect_left(self.offsets, offset)]
+        return sum(map(_IMPORTS_COUNT, kinds)), sum(map(_CALLS_COUNT, kinds))
+
+    def next_call(self, offset: int, direction: int) -> Optional[int]:
+        """The offset of the next call behind an offset, or before it."""
+        at = bisect_right(self.offsets, offset) if direction > 0 else bisect_left(self.offsets, offset) - 1
+        while 0 <= at < len(self.kinds):
+            if self.kinds[at] in _CALLS:
+                return self.offsets[at]
+            at += direction
+        return None
+
+
+_REACH = re.compile(r'^ *([0-9]+): ([a-z]+)', re.MULTILINE)
+_IMPORTS_COUNT = _IMPORTS.__contains__
+_CALLS_COUNT = _CALLS.__contains__
+
+
+class Document:
+    """A pickle that is looked at and edited."""
+
+    def __init__(self, source: Source, name: str) -> None:
+        self.name = name
+        self.session = Session(source)
+        self.breaks: Set[int] = set()
+        self._has_breaks = False
+        self._edits: List[Tuple[str, int]] = []
+        self._undone: List[Tuple[str, int]] = []
+        self.version = 0
+        self.place = 0
+        try:
+            self._read()
+        except BaseException:
+            self.session.close()
+            raise
+
+    def close(self) -> None:
+        """Ends the session."""
+        self.session.close()
+
+    # --- The pickle as it is ---
+
+    def _read(self) -> None:
+        """Reads the listing, the objects, and what is imported and called."""
+        if self._edits or self.version:
+            with Input(self.session.bytes()) as given:
+                self._read_from(given)
+        else:
+            self._read_from(self.session._input)
+        self.version += 1
+        self._heap: Optional[Lines] = None
+        self.edited = _edited(self._edits)
+        if self._has_breaks:
+            self.breaks = {int(match[1]) for match in _BROKEN.finditer(self.session.items().text)}
+
+    def _read_from(self, given: Input) -> None:
+        self.lines = read_listing(given)
+        if len(self.lines) < self.session.where().places:
+            add_items(self.lines, given)
+        self._final = read_objects(given)
+        self.reaches = Reaches(Calls(run_program(['calls', given.path], given.files).decode('ascii')))
+        self._makers = makers_of(self.lines)
+
+    def slice(self, start: int, count: int) -> List[List[Any]]:
+        """Lines of the listing, each as offset, code, name, argument, marks, kind, whether it has a breakpoint and was edited."""
+        stop = min(len(self.lines), start + min(count, _MOST_LINES))
+        rows = []
+        for place in range(max(0, start), stop):
+            line = self.lines.at(place)
+            rows.append([line.offset, line.code, line.name, line.argument, line.marks, self.reaches.kind_at(line.offset),
+                         place in self.breaks, place in self.edited])
+        return rows
+
+    def state(self) -> Fields:
+        """Where the session is, with the stack and the memo."""
+        where = self.session.where()
+        self.place = where.place
+        self._heap = None
+        imports, calls_before = self.reaches.before(where.offset)
+        return {
+            'version': self.version, 'name': self.name, 'place': where.place, 'places': where.places, 'offset': where.offset,
+            'results': list(where.results), 'end': where.end.text, 'imports': [imports, self.reaches.answer.imports],
+            'calls': [calls_before, self.reaches.answer.calls], 'stack': _last(self.session.ask('stack')),
+            'memo': _last(self.session.ask('memo')), 'made': self._made(), 'exact': self._is_exact(), 'edits': len(self._edits),
+            'undone': len(self._undone), 'breaks': len(self.breaks), 'closing': self.lines.closing}
+
+    # --- Objects ---
+
+    def _made(self) -> int:
+        """How many objects were made before the cursor."""
+        return self.made_before(self.place)[0]
+
+    def _is_exact(self) -> bool:
+        return self._final.whole <= _MOST_TEXT and self._made() <= _MOST_EXACT
+
+    def _objects(self) -> Lines:
+        """The objects at the cursor; where they are many, as they are at the end."""
+        if not self._is_exact():
+            return self._final
+        if self._heap is None:
+            self._heap = lines_of(self.session.objects().text)
+        return self._heap
+
+    def brief(self, number: int) -> str:
+        """An object in a line: its kind, its text, and the first of what it holds."""
+        heap = self._objects()
+        return heap.brief(number).partition(' ')[2] if 0 <= number < len(heap) else ''
+
+    def objects(self, start: int, count: int) -> List[str]:
+        """Objects that were made before the cursor, each in a line."""
+        return [self.brief(number) for number in range(max(0, start), min(self._made(), start + min(count, _MOST_LINES)))]
+
+    def briefs(self, numbers: List[int]) -> Dict[str, str]:
+        """Some objects, each in a line."""
+        return {str(number): self.brief(number) for number in numbers[:_MOST_ENTRIES]}
+
+    def holds(self, number: int) -> Fields:
+        """What an object holds: each with what it is to the object."""
+        heap = self._objects()
+        if not 0 <= number < len(heap):
+            return {'parts': [], 'more': 0}
+        start, end = heap.starts[number], heap.starts[number + 1] - 1
+        after = max(heap.text.rfind(b"'", start, end), start)
+        held = islice(_HELD.finditer(heap.text, after + 1, end), _MOST_PARTS)
+        shown = [[_HOW.get(match[1][-1:], ''), int(match[2]), self.brief(int(match[2]))] for match in held]
+        return {'parts': shown, 'more': heap.text.count(b'#', after + 1, end) - len(shown)}
+
+    def about(self, number: int) -> Fields:
+        """The opcode that made an object, and where the object stands: on the stack, in the memo, in other objects."""
+        maker = self._makers[number] if 0 <= number < self._made() else None
+        stack = [at for at, word in enumerate(self.session.ask('stack').split()[1:]) if word == f'#{number}']
+        memo = [key for key, other in self.session.memo().items() if other == number]
+        return {'maker': maker, 'line': None if maker is None else self.lines.raw(maker).strip(), 'stack': stack[:_MOST_HOLDERS],
+                'memo': memo[:_MOST_HOLDERS], 'held': self._holders(number)}
+
+    def _holders(self, number: int) -> List[int]:
+        """The objects that hold an object, the first of them."""
+        heap, made = self._objects(), self._made()
+        found: List[int] = []
+        for match in re.finditer(rb'[ (+&![=]#%d(?![0-9])' % number, heap.text):
+            holder = heap.number_at(match.start())
+            is_in_text = heap.text.find(b"'", match.end(), heap.starts[holder + 1]) >= 0
+            if holder >= made or len(found) == _MOST_HOLDERS:
+                break
+            if not is_in_text and holder not in found:
+                found.append(holder)
+        return found
+
+    # --- For reports: the objects as they are at the end ---
+
+    def made_before(self, place: int) -> Tuple[int, int]:
+        """How many objects were made before a place, and how many at all."""
+        return min(bisect_left(self._makers, place), len(self._final)), len(self._final)
+
+    def offset_of_maker(self, number: int) -> Optional[int]:
+        """The offset of the opcode that made an object."""
+        return self.lines.offset(self._makers[number]) if number < len(self._makers) else None
+
+    def final_brief(self, number: int) -> str:
+        """An object as it is at the end, in a line."""
+        return self._final.brief(number).partition(' ')[2]
+
+    # --- Moving ---
+
+    def move(self, what: str, place: int) -> str:
+        """Moves the cursor, and tells the program's words."""
+        if what == 'run':
+            ran = self.session.run()
+            return f'at {ran.place}: {ran.text}'
+        if what in ('next', 'previous'):
+            return self._to_call(1 if what == 'next' else -1)
+        moved = {'step': self.session.step, 'back': self.session.back}.get(what)
+        return f'at {moved() if moved else self.session.goto(place)}'
+
+    def _to_call(self, direction: int) -> str:
+        where = self.session.where()
+        offset = self.reaches.next_call(where.offset, direction)
+        if offset is None:
+            return 'no call there'
+        return f'at {self.session.goto(self.lines.place_of(offset))}'
+
+    def toggle_break(self, place: int) -> str:
+        """Sets a breakpoint, or takes it away."""
+        if place in self.breaks:
+            self.session.clear_break(place)
+            self.breaks.discard(place)
+            return f'clear {place}'
+        self._has_breaks = True
+        self.session.set_break(place)
+        self.breaks.add(place)
+        return f'break {place}'
+
+    def find(self, text: str, after: int) -> Optional[int]:
+        """The place that a search finds: an offset, a name or a text."""
+        if text.isdecimal() and len(self.lines) and int(text) <= self.lines.offset(len(self.lines) - 1):
+            return self.lines.place_of(int(text))
+        return self.lines.find(text.encode('ascii', 'backslashreplace'), after) if text else None
+
+    # --- Edits ---
+
+    def edit(self, what: str, place: int, name: str, form: str, argument: str, count: int) -> str:
+        """Makes an edit, and tells the program's words."""
+        if what in ('replace', 'insert'):
+            values, raw = argument_of(name, form, argument)
+            put = self.session.replace if what == 'replace' else self.session.insert
+            done = put(place, name, *values, raw=raw)
+        elif what == 'frame':
+            done = self.session.frame(place, count)
+        elif what in ('delete', 'unframe'):
+            done = self.session.delete(place) if what == 'delete' else self.session.unframe(place)
+        else:
+            raise ValueError('this is no edit')
+        self._edits.append((what, done))
+        self._undone.clear()
+        self._read()
+        return f'edited {done}'
+
+    def undo(self) -> str:
+        """Takes the latest edit back."""
+        place = self.session.undo()
+        self._undone.append(self._edits.pop())
+        self._read()
+        return f'undone {place}'
+
+    def redo(self) -> str:
+        """Makes the edit again that was taken back last."""
+        place = self.session.redo()
+        self._edits.append(self._undone.pop())
+        self._read()
+        return f'redone {place}'
+
+    def save(self, name: str, over: bool) -> str:
+        """Writes the pickle as it is. A file that is there is written over only where that is asked for."""
+        if not name.strip():
+            raise ValueError('a name is wanted')
+        path = Path(os.path.abspath(os.path.expanduser(name)))
+        if over:
+            self.session.save(path)
+        else:
+            self._save_new(path)
+        return f'saved {path}'
+
+    def _save_new(self, path: Path) -> None:
+        """Saves into a file that was not there, and leaves none where that fails."""
+        os.close(os.open(path, os.O_WRONLY | os.O_CREAT | os.O_EXCL, 0o666))
+        try:
+            self.session.save(path)
+        except BaseException:
+            path.unlink()
+            raise
+
+
+def argument_of(name: str, form: str, argument: str) -> Tuple[List[ArgumentValue], Optional[bytes]]:
+    """The values of an argument that was typed, or its bytes where it was given in hexadecimal."""
+    if form == 'hex':
+        return [], bytes.fromhex(argument)
+    kind = opcode_names().get(name, '')
+    if not kind or form == 'none':
+        return [], None
+    if form == 'number':
+        return [float(argument) if kind.startswith('float') else int(argument, 0)], None
+    if kind == 'stringnl_noescape_pair':
+        module, blank, other = argument.partition(' ')
+        if not blank:
+            raise ValueError(f'{name} takes a module and a name with a blank between them')
+        return [module, other], None
+    return [argument], None
+
+
+def _last(answer: str) -> Fields:
+    """The last words of an answer of one line, and how many stand before them."""
+    words = answer.rstrip('\n').rsplit(' ', _MOST_ENTRIES)
+    first, shown = (words[0], words[1:]) if len(words) > _MOST_ENTRIES else ('', words[1:])
+    return {'words': shown, 'more': first.count(' ')}
+
+
+# What an object holds: in parentheses what it was made of, then what was put in.
+_HELD = re.compile(rb'([ (+&!=]|\[)#([0-9]+)')
+_HOW = {b'+': 'append', b'&': 'add', b'!': 'state', b'[': 'key', b'=': 'value'}
+_BROKEN = re.compile(r'^[> ]\* *([0-9]+) ', re.MULTILINE)
+
+
+def _edited(edits: List[Tuple[str, int]]) -> Set[int]:
+    """The places that edits touched, each where it is after those that came later."""
+    places: Set[int] = set()
+    for what, at in edits:
+        shift = _PLACES[what]
+        if shift > 0:
+            places = {place + 1 if place >= at else place for place in places}
+        elif shift < 0:
+            places = {place - 1 if place > at else place for place in places if place != at}
+        places.add(at)
+    return places

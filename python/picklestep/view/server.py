@@ -1,0 +1,232 @@
+"""The server of the page: on 127.0.0.1 alone, at a free port, for those who know the token in its address."""
+
+from __future__ import annotations
+
+import contextlib
+import hmac
+import json
+import secrets
+import sys
+import threading
+import time
+from http.server import BaseHTTPRequestHandler, ThreadingHTTPServer
+from pathlib import Path
+from typing import Any, Callable, Dict, Optional, Tuple
+
+from ..errors import ProgramError, Refused
+from .document import Document, Fields
+from .lines import opcode_names
+
+__all__ = ['IDLE', 'Viewer']
+
+# After so many seconds without a word from a page the server ends. (A page in the background speaks once a minute.)
+IDLE = 150.0
+_CLOSED = 8.0
+_HERE = Path(__file__).parent
+_FILES = {'': ('page.html', 'text/html'), 'style.css': ('style.css', 'text/css'), 'script.js': ('script.js', 'text/javascript'),
+          'icon.svg': ('icon.svg', 'image/svg+xml')}
+_POLICY = ("default-src 'none'; script-src 'self'; style-src 'self'; img-src 'self'; connect-src 'self'; base-uri 'none'; "
+           "form-action 'none'; frame-ancestors 'none'")
+_HEADERS = {'Content-Security-Policy': _POLICY, 'X-Content-Type-Options': 'nosniff', 'Referrer-Policy': 'same-origin',
+            'Cache-Control': 'no-store', 'Cross-Origin-Resource-Policy': 'same-origin', 'Cross-Origin-Opener-Policy': 'same-origin'}
+_MOST_WORDS = 1 << 20
+
+
+class Viewer(contextlib.AbstractContextManager['Viewer']):
+    """Serves the page of a document until it is closed, or until no page was open for a while."""
+
+    def __init__(self, document: Document, idle: float = IDLE) -> None:
+        self.document = document
+        self.token = secrets.token_urlsafe(24)
+        self._lock = threading.Lock()
+        self._idle = idle
+        self._until = time.monotonic() + idle
+        self._is_stopped = False
+        self._server = _Server(('127.0.0.1', 0), _Handler)
+        self._server.viewer = self
+        self.host = f'127.0.0.1:{self._server.server_address[1]}'
+        self.address = f'http://{self.host}/{self.token}/'
+
+    def serve(self) -> None:
+        """Serves until no page was open for a while."""
+        self._server.timeout = 0.2
+        while not self._is_stopped and time.monotonic() < self._until:
+            self._server.handle_request()
+
+    def stop(self) -> None:
+        """Ends `serve`, which may run in another thread."""
+        self._is_stopped = True
+
+    def __exit__(self, *error: object) -> None:
+        self._server.server_close()
+
+    def heard(self, seconds: Optional[float] = None) -> None:
+        """Tells that a page is open, or that it was closed."""
+        self._until = time.monotonic() + (self._idle if seconds is None else min(seconds, self._idle))
+
+    def answer(self, word: str, asked: Fields) -> Fields:
+        """Answers a question of the page. Refusals and what cannot be done are told in words."""
+        if word == 'closed':
+            self.heard(_CLOSED)
+            return {}
+        self.heard()
+        if word == 'alive':
+            return {}
+        with self._lock:
+            try:
+                return _ANSWERS[word](self.document, asked)
+            except Refused as error:
+                return {'said': f'refused: {error.text}', 'failed': True}
+            except FileExistsError:
+                return {'said': 'not saved: there is such a file', 'failed': True}
+            except (ProgramError, OSError, ValueError, TypeError, OverflowError) as error:
+                return {'said': f'not done: {error}', 'failed': True}
+
+
+class _Server(ThreadingHTTPServer):
+    """The server, whose threads do not outlive it."""
+
+    daemon_threads = True
+    block_on_close = False
+    viewer: Viewer
+
+    def handle_error(self, request: Any, client_address: Any) -> None:
+        """Says nothing of a browser that went away in the middle of a request."""
+        if not isinstance(sys.exc_info()[1], ConnectionError):
+            super().handle_error(request, client_address)
+
+
+class _Handler(BaseHTTPRequestHandler):
+    """Answers a request, where it comes from the page."""
+
+    protocol_version = 'HTTP/1.1'
+    server_version = 'picklestep'
+    sys_version = ''
+    timeout = 60
+
+    def do_GET(self) -> None:
+        """Gives a file of the page."""
+        word = self._word()
+        if word is None or self.headers.get('Origin', self._origin()) != self._origin():
+            self._send(403, 'text/plain', b'refused\n')
+        elif word not in _FILES:
+            self._send(404, 'text/plain', b'no such page\n')
+        else:
+            name, kind = _FILES[word]
+            self._viewer().heard()
+            self._send(200, f'{kind}; charset=utf-8', (_HERE / name).read_bytes())
+
+    def do_POST(self) -> None:
+        """Answers a question of the page."""
+        word = self._word()
+        length = self.headers.get('Content-Length', '')
+        if word is None or self.headers.get('Origin') != self._origin():
+            self._refuse(403, b'refused\n')
+        elif word not in _ANSWERS and word not in ('alive', 'closed'):
+            self._refuse(404, b'no such question\n')
+        elif not length.isdecimal() or int(length) > _MOST_WORDS:
+            self._refuse(413, b'too long\n')
+        else:
+            self._answer(word, self.rfile.read(int(length)))
+
+    def _answer(self, word: str, body: bytes) -> None:
+        try:
+            asked = json.loads(body or b'{}')
+        except ValueError:
+            asked = None
+        if not isinstance(asked, dict):
+            self._send(400, 'text/plain', b'no such question\n')
+            return
+        answer = self._viewer().answer(word, asked)
+        self._send(200, 'application/json', json.dumps(answer, separators=(',', ':')).encode('ascii'))
+
+    def _viewer(self) -> Viewer:
+        assert isinstance(self.server, _Server)
+        return self.server.viewer
+
+    def _origin(self) -> str:
+        return f'http://{self._viewer().host}'
+
+    def _word(self) -> Optional[str]:
+        """What is asked for, where the host and the token are ours."""
+        _, token, *rest = [*self.path.split('/', 2), '']
+        host = self.headers.get('Host', '')
+        if host != self._viewer().host or not hmac.compare_digest(token.encode(), self._viewer().token.encode()):
+            return None
+        return rest[0] if '/' in self.path[1:] else 'none'
+
+    def _refuse(self, status: int, text: bytes) -> None:
+        """Refuses a request whose body is not read."""
+        self.close_connection = True
+        self._send(status, 'text/plain', text)
+
+    def _send(self, status: int, kind: str, body: bytes) -> None:
+        self.send_response(status)
+        for name, value in {**_HEADERS, 'Content-Type': kind, 'Content-Length': str(len(body))}.items():
+            self.send_header(name, value)
+        if self.close_connection:
+            self.send_header('Connection', 'close')
+        self.end_headers()
+        self.wfile.write(body)
+
+    def log_message(self, format: str, *words: Any) -> None:
+        """Says nothing on standard error."""
+
+
+# --- The questions ---
+
+def _number(asked: Fields, name: str) -> int:
+    value = asked.get(name, 0)
+    if not isinstance(value, int) or isinstance(value, bool) or abs(value) >= 1 << 62:
+        raise ValueError(f'{name} is no number')
+    return value
+
+
+def _text(asked: Fields, name: str) -> str:
+    return str(asked.get(name, ''))
+
+
+def _after(said: str, document: Document) -> Fields:
+    return {'said': said, **document.state()}
+
+
+def _open(document: Document, asked: Fields) -> Fields:
+    return {'said': 'open', 'opcodes': opcode_names(), **document.state()}
+
+
+def _lines(document: Document, asked: Fields) -> Fields:
+    return {'version': document.version, 'lines': document.slice(_number(asked, 'start'), _number(asked, 'count'))}
+
+
+def _objects(document: Document, asked: Fields) -> Fields:
+    return {'objects': document.objects(_number(asked, 'start'), _number(asked, 'count'))}
+
+
+def _briefs(document: Document, asked: Fields) -> Fields:
+    numbers = asked.get('numbers')
+    wanted = [number for number in numbers if isinstance(number, int)] if isinstance(numbers, list) else []
+    return {'briefs': document.briefs(wanted)}
+
+
+def _move(document: Document, asked: Fields) -> Fields:
+    return _after(document.move(_text(asked, 'what'), _number(asked, 'place')), document)
+
+
+def _find(document: Document, asked: Fields) -> Fields:
+    return {'place': document.find(_text(asked, 'text'), _number(asked, 'after'))}
+
+
+def _edit(document: Document, asked: Fields) -> Fields:
+    words: Tuple[str, ...] = tuple(_text(asked, name) for name in ('name', 'form', 'argument'))
+    said = document.edit(_text(asked, 'what'), _number(asked, 'place'), words[0], words[1], words[2], _number(asked, 'count'))
+    return _after(said, document)
+
+
+_ANSWERS: Dict[str, Callable[[Document, Fields], Fields]] = {
+    'open': _open, 'lines': _lines, 'objects': _objects, 'briefs': _briefs, 'move': _move, 'find': _find, 'edit': _edit,
+    'holds': lambda document, asked: document.holds(_number(asked, 'number')),
+    'about': lambda document, asked: document.about(_number(asked, 'number')),
+    'break': lambda document, asked: _after(document.toggle_break(_number(asked, 'place')), document),
+    'undo': lambda document, asked: _after(document.undo(), document),
+    'redo': lambda document, asked: _after(document.redo(), document),
+    'save': lambda document, asked: {'said': document.save(_text(asked, 'name'), asked.get('over') is True)}}

@@ -1,0 +1,168 @@
+"""A headless Chromium, driven over the pipes of its remote-debugging protocol."""
+
+from __future__ import annotations
+
+import base64
+import json
+import os
+import shutil
+import signal
+import subprocess
+import sys
+import tempfile
+import time
+from pathlib import Path
+from select import select
+from typing import Any, Dict, List, Optional
+
+PROGRAM = next((path for path in map(shutil.which, ('chromium', 'chromium-browser', 'google-chrome')) if path), None)
+_FLAGS = ['--headless=new', '--no-sandbox', '--disable-gpu', '--disable-dev-shm-usage', '--no-first-run', '--disable-extensions',
+          '--disable-background-networking', '--disable-component-update', '--disable-sync', '--hide-scrollbars=false',
+          '--remote-debugging-pipe']
+# The browser takes its commands from descriptor 3, and answers on 4.
+_BECOME = '''import fcntl, os, sys
+ends = [fcntl.fcntl(int(word), fcntl.F_DUPFD, 100) for word in sys.argv[1:3]]
+for end, wanted in zip(ends, (3, 4)):
+    os.dup2(end, wanted)
+    os.close(end)
+os.execv(sys.argv[3], sys.argv[3:])'''
+KEYS = {'ArrowRight': 39, 'ArrowLeft': 37, 'ArrowDown': 40, 'ArrowUp': 38, 'Home': 36, 'End': 35, 'Enter': 13, ' ': 32, 'Tab': 9}
+
+
+class BrowserError(Exception):
+    """What the browser could not do."""
+
+
+class Browser:
+    """A browser with one page."""
+
+    def __init__(self, width: int = 1280, height: int = 800) -> None:
+        assert PROGRAM is not None
+        self._profile = tempfile.mkdtemp(prefix='picklestep-chromium-')
+        to_read, self._write = os.pipe()
+        self._read, to_write = os.pipe()
+        command = [sys.executable, '-c', _BECOME, str(to_read), str(to_write), PROGRAM, *_FLAGS,
+                   f'--user-data-dir={self._profile}', f'--window-size={width},{height}', 'about:blank']
+        self._process = subprocess.Popen(command, pass_fds=(to_read, to_write), stdin=subprocess.DEVNULL, stdout=subprocess.DEVNULL,
+                                         stderr=subprocess.DEVNULL, start_new_session=True)
+        os.close(to_read)
+        os.close(to_write)
+        self._left = b''
+        self._number = 0
+        self._session: Optional[str] = None
+        self.told: List[Dict[str, Any]] = []
+        self._attach()
+        self.size(width, height)
+
+    def _attach(self) -> None:
+        targets = self.call('Target.getTargets')['targetInfos']
+        page = next(target for target in targets if target['type'] == 'page')
+        self._session = str(self.call('Target.attachToTarget', targetId=page['targetId'], flatten=True)['sessionId'])
+        for domain in ('Page', 'Runtime', 'Log'):
+            self.call(f'{domain}.enable')
+
+    def call(self, method: str, **words: Any) -> Dict[str, Any]:
+        """Asks the browser, and answers what it answers."""
+        self._number += 1
+        message: Dict[str, Any] = {'id': self._number, 'method': method, 'params': words}
+        if self._session is not None:
+            message['sessionId'] = self._session
+        os.write(self._write, json.dumps(message).encode('ascii') + b'\0')
+        deadline = time.monotonic() + 60
+        while True:
+            told = self._next(deadline)
+            if told.get('id') == self._number:
+                if 'error' in told:
+                    raise BrowserError(told['error']['message'])
+                return dict(told['result'])
+            self.told.append(told)
+
+    def _next(self, deadline: float) -> Dict[str, Any]:
+        while b'\0' not in self._left:
+            if not select([self._read], [], [], max(0.0, deadline - time.monotonic()))[0]:
+                raise BrowserError('no answer')
+            block = os.read(self._read, 1 << 20)
+            if not block:
+                raise BrowserError('the browser ended')
+            self._left += block
+        message, _, self._left = self._left.partition(b'\0')
+        return dict(json.loads(message))
+
+    def size(self, width: int, height: int) -> None:
+        """Sets the size of the page."""
+        self.call('Emulation.setDeviceMetricsOverride', width=width, height=height, deviceScaleFactor=1, mobile=False)
+
+    def scheme(self, name: str) -> None:
+        """Sets 'light' or 'dark'."""
+        self.call('Emulation.setEmulatedMedia', features=[{'name': 'prefers-color-scheme', 'value': name}])
+
+    def go(self, address: str) -> None:
+        """Opens a page."""
+        self.call('Page.navigate', url=address)
+
+    def js(self, text: str) -> Any:
+        """The value of an expression on the page, which may be a promise."""
+        answer = self.call('Runtime.evaluate', expression=text, returnByValue=True, awaitPromise=True)
+        if 'exceptionDetails' in answer:
+            raise BrowserError(str(answer['exceptionDetails'].get('exception', {}).get('description', answer)))
+        return answer['result'].get('value')
+
+    def wait(self, text: str, seconds: float = 20) -> Any:
+        """Waits until an expression is true, and answers it."""
+        deadline = time.monotonic() + seconds
+        while True:
+            value = self.js(text)
+            if value:
+                return value
+            if time.monotonic() > deadline:
+                raise BrowserError(f'never true: {text}; the page says {self.js("document.body.innerText.slice(0, 400)")!r}')
+            time.sleep(0.02)
+
+    def key(self, key: str) -> None:
+        """Presses a key."""
+        code = KEYS.get(key, 0)
+        words: Dict[str, Any] = {'key': key, 'windowsVirtualKeyCode': code}
+        text = '\r' if key == 'Enter' else key if len(key) == 1 else ''
+        self.call('Input.dispatchKeyEvent', type='keyDown' if text else 'rawKeyDown', text=text, **words)
+        self.call('Input.dispatchKeyEvent', type='keyUp', **words)
+
+    def type(self, text: str) -> None:
+        """Types a text into the field that has the focus."""
+        self.call('Input.insertText', text=text)
+
+    def click(self, selector: str, count: int = 1) -> None:
+        """Clicks in the middle of an element."""
+        x, y = self.js(f'(() => {{ const r = document.querySelector({json.dumps(selector)}).getBoundingClientRect();'
+                       'return [r.left + r.width / 2, r.top + r.height / 2]; })()')
+        self.pointer(x, y)
+        for kind in ('mousePressed', 'mouseReleased'):
+            self.call('Input.dispatchMouseEvent', type=kind, x=x, y=y, button='left', clickCount=count)
+
+    def pointer(self, x: float, y: float) -> None:
+        """Moves the pointer."""
+        self.call('Input.dispatchMouseEvent', type='mouseMoved', x=x, y=y)
+
+    def screenshot(self, path: Path) -> None:
+        """Writes what the page looks like."""
+        path.write_bytes(base64.b64decode(self.call('Page.captureScreenshot', format='png')['data']))
+
+    def errors(self) -> List[str]:
+        """What the page's script or its policy complained of."""
+        texts = []
+        for told in self.told:
+            if told.get('method') == 'Runtime.exceptionThrown':
+                texts.append(str(told['params']['exceptionDetails']))
+            elif told.get('method') == 'Log.entryAdded' and told['params']['entry']['level'] == 'error':
+                texts.append(str(told['params']['entry']['text']))
+        return texts
+
+    def close(self) -> None:
+        """Ends the browser, and takes its files away."""
+        for file in (self._write, self._read):
+            os.close(file)
+        try:
+            self._process.wait(5)
+        except subprocess.TimeoutExpired:
+            os.killpg(self._process.pid, signal.SIGKILL)
+            self._process.wait()
+        shutil.rmtree(self._profile, ignore_errors=True)

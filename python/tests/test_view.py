@@ -1,0 +1,386 @@
+"""The page of a pickle: what it is told, who may ask, and how it ends. No browser is needed."""
+
+from __future__ import annotations
+
+import contextlib
+import http.client
+import io
+import json
+import pickle
+import pickletools
+import random
+import re
+import signal
+import subprocess
+import sys
+import tempfile
+import threading
+import time
+import unittest
+from pathlib import Path
+from typing import Any, Dict, Iterator, List, Optional, Tuple
+from urllib.parse import urlsplit
+
+import picklestep
+from picklestep import Refused, Session
+from picklestep.view import export, lines, main
+from picklestep.view.document import Document, argument_of
+from picklestep.view.server import Viewer
+
+PACKAGE = Path(picklestep.__file__).resolve().parent.parent
+DATA = Path(__file__).resolve().parent / 'data' / 'models'
+SYSTEM = b'cposix\nsystem\n(X\x02\x00\x00\x00idtR.'
+HOSTILE = b'c</script><img src=x onerror=alert(1)>\n<b>&\n.'
+
+
+@contextlib.contextmanager
+def opened(data: Any) -> Iterator[Document]:
+    """A document, which is closed at the end."""
+    document = Document(data, 'a pickle')
+    try:
+        yield document
+    finally:
+        document.close()
+
+
+class Documents(unittest.TestCase):
+    """What the page is told about a pickle."""
+
+    def test_lines_are_those_of_pickletools(self) -> None:
+        for path in sorted(DATA.glob('sklearn_*.pkl')):
+            data = path.read_bytes()
+            with opened(data) as document:
+                wanted = [(at, opcode.name) for opcode, _, at in pickletools.genops(data)]
+                rows = document.slice(0, 2000)
+                self.assertEqual([(row[0], row[2]) for row in rows], wanted[:2000], path)
+                self.assertEqual(len(document.lines), len(wanted))
+
+    def test_opcodes_that_make_objects(self) -> None:
+        """Each object is made by the opcode that the page names: the session has one object more behind it."""
+        for path in sorted(DATA.glob('sklearn_tree.pkl')):
+            with opened(path) as document, Session(path) as session:
+                for number, place in enumerate(document._makers):
+                    session.goto(place)
+                    self.assertEqual(len(session.objects()), number)
+                    session.step()
+                    self.assertEqual(len(session.objects()), number + 1)
+
+    def test_moves(self) -> None:
+        with opened(SYSTEM) as document:
+            self.assertEqual(document.move('step', 0), 'at 1')
+            self.assertEqual(document.move('back', 0), 'at 0')
+            self.assertEqual(document.move('next', 0), 'at 4')
+            self.assertEqual(document.move('next', 0), 'no call there')
+            self.assertEqual(document.move('run', 0), 'at 6: end, stopped')
+            self.assertEqual(document.move('previous', 0), 'at 4')
+            self.assertEqual(document.state()['imports'], [1, 1])
+            self.assertEqual(document.state()['calls'], [0, 1])
+            with self.assertRaises(Refused):
+                document.move('goto', 7)
+
+    def test_kinds(self) -> None:
+        with opened(b'(ia\nb\nPx\n\x97N(NNNe.') as document:
+            self.assertEqual([row[5] for row in document.slice(0, 5)], ['', 'call', 'other', 'other', ''])
+            self.assertEqual(document.reaches.before(100), (document.reaches.answer.imports, document.reaches.answer.calls))
+
+    def test_stack_memo_and_objects(self) -> None:
+        with opened(b'(]q\x05K\x07aK\x08.') as document:
+            document.move('goto', 5)
+            state = document.state()
+            self.assertEqual((state['stack']['words'], state['memo']['words']), (['(0', '#0'], ['5=#0']))
+            self.assertEqual(document.objects(0, 10), ['list +#1', 'int 7'])
+            self.assertEqual(document.holds(0), {'parts': [['append', 1, 'int 7']], 'more': 0})
+            about = document.about(0)
+            self.assertEqual((about['maker'], about['stack'], about['memo'], about['held']), (1, [1], [5], []))
+            self.assertEqual(document.about(1)['held'], [0])
+            document.move('goto', 3)
+            document.state()
+            self.assertEqual(document.objects(0, 10), ['list'])
+
+    def test_holders_are_not_read_out_of_texts(self) -> None:
+        with opened(pickle.dumps([('(#1 #2)', "' #1"), {'#0': 1}], 2)) as document:
+            document.move('run', 0)
+            document.state()
+            held = {number: document.about(number)['held'] for number in range(document.state()['made'])}
+            with Session(pickle.dumps([('(#1 #2)', "' #1"), {'#0': 1}], 2)) as session:
+                session.run()
+                for thing in session.objects():
+                    for part in {*thing.parts, *(change.value for change in thing.changes)}:
+                        self.assertIn(thing.number, held[part])
+                self.assertEqual(sum(map(len, held.values())), 6)
+
+    def test_finding(self) -> None:
+        with opened(SYSTEM) as document:
+            self.assertEqual([document.find(text, 0) for text in ('TUPLE', '16', "'id'", 'absent', '')], [3, 2, 2, None, None])
+            self.assertEqual(document.find('posix', 3), 0)
+
+    def test_refused_opcodes_stay_in_view(self) -> None:
+        with opened(b'N0R\x8c\x01a.') as document:
+            self.assertEqual([row[:4] for row in document.slice(0, 9)],
+                             [[0, 'N', 'NONE', ''], [1, '0', 'POP', ''], [2, 'R', 'REDUCE', ''], [3, '\\x8c', 'SHORT_BINUNICODE', "'a'"],
+                              [6, '.', 'STOP', '']])
+
+    def test_long_texts_are_cut(self) -> None:
+        with opened(pickle.dumps(['x' * 3_000_000, b'\0' * 3_000_000, 'y'], 4)) as document:
+            argument = document.slice(0, 20)[4][3]
+            self.assertTrue(argument.startswith("'xxx") and argument.endswith("bytes more'"), argument[-40:])
+            self.assertLess(len(document.lines.text), 4000)
+            document.move('run', 0)
+            document.state()
+            self.assertEqual(document.about(3)['held'], [0])
+
+
+class Cutting(unittest.TestCase):
+    """Lines that come in blocks of any size."""
+
+    def test_blocks(self) -> None:
+        rng = random.Random(37)
+        text = ''.join(f"#{at} text '{'x#' * rng.choice((1, 300, 5000))}' (#1 #2)\n" for at in range(50)).encode('ascii')
+        whole = lines.lines_of(text.decode('ascii'))
+        for _ in range(30):
+            into, at = lines.Lines(), 0
+            cutter = lines._Cutter(into)
+            while at < len(text):
+                size = rng.choice((1, 7, 400, 9000, 100_000))
+                cutter.feed(text[at:at + size])
+                at += size
+            self.assertEqual(into.text, whole.text)
+            self.assertEqual(into.starts, whole.starts)
+        self.assertTrue(all(whole.raw(at).endswith("' (#1 #2)") for at in range(50)))
+
+
+class Edits(unittest.TestCase):
+    """Edits ahead of the cursor."""
+
+    def test_edits(self) -> None:
+        with opened(SYSTEM) as document:
+            document.toggle_break(4)
+            self.assertEqual(document.edit('insert', 1, 'GLOBAL', 'text', 'os getcwd', 0), 'edited 1')
+            self.assertEqual((document.breaks, document.edited), ({5}, {1}))
+            self.assertEqual(document.session.bytes(), b'cposix\nsystem\ncos\ngetcwd\n(X\x02\x00\x00\x00idtR.')
+            self.assertEqual(document.undo(), 'undone 1')
+            self.assertEqual((document.breaks, document.edited, document.session.bytes()), ({4}, set(), SYSTEM))
+            self.assertEqual(document.redo(), 'redone 1')
+            self.assertEqual(document.edit('delete', 1, '', '', '', 0), 'edited 1')
+            self.assertEqual(document.edit('frame', 0, '', '', '', 2), 'edited 0')
+            self.assertEqual(document.edit('unframe', 0, '', '', '', 0), 'edited 0')
+            self.assertEqual(document.session.bytes(), SYSTEM)
+
+    def test_a_breakpoint_comes_back_with_its_opcode(self) -> None:
+        with opened(SYSTEM) as document:
+            document.toggle_break(3)
+            document.edit('delete', 3, '', '', '', 0)
+            self.assertEqual(document.breaks, set())
+            document.undo()
+            self.assertEqual(document.breaks, {3})
+
+    def test_refused_edits_change_nothing(self) -> None:
+        with opened(SYSTEM) as document:
+            document.move('goto', 3)
+            for what, place, name in (('replace', 0, 'NONE'), ('delete', 99, ''), ('insert', 4, 'NOTHING')):
+                with self.assertRaises(Refused):
+                    document.edit(what, place, name, 'none', '', 0)
+            self.assertEqual((document.version, document._edits, document.session.bytes()), (1, [], SYSTEM))
+
+    def test_arguments(self) -> None:
+        self.assertEqual(argument_of('BININT', 'number', '0x10'), ([16], None))
+        self.assertEqual(argument_of('BINFLOAT', 'number', '1.5'), ([1.5], None))
+        self.assertEqual(argument_of('GLOBAL', 'text', 'os a b'), (['os', 'a b'], None))
+        self.assertEqual(argument_of('BINUNICODE', 'text', 'a b'), (['a b'], None))
+        self.assertEqual(argument_of('BININT', 'hex', '01 02 03 04'), ([], b'\1\2\3\4'))
+        self.assertEqual(argument_of('NONE', 'text', ''), ([], None))
+        for words in (('BININT', 'number', 'x'), ('GLOBAL', 'text', 'os'), ('BININT', 'hex', '0')):
+            self.assertRaises(ValueError, argument_of, *words)
+
+    def test_saving(self) -> None:
+        with tempfile.TemporaryDirectory() as folder, opened(SYSTEM) as document:
+            path = Path(folder) / 'saved.pickle'
+            document.edit('insert', 0, 'NONE', 'none', '', 0)
+            document.save(str(path), False)
+            self.assertEqual(path.read_bytes(), b'N' + SYSTEM)
+            document.undo()
+            self.assertRaises(FileExistsError, document.save, str(path), False)
+            document.save(str(path), True)
+            self.assertEqual(path.read_bytes(), SYSTEM)
+            self.assertRaises(ValueError, document.save, ' ', False)
+
+
+class Asking(unittest.TestCase):
+    """Who may ask the server."""
+
+    def setUp(self) -> None:
+        self.document = Document(SYSTEM, 'a pickle')
+        self.addCleanup(self.document.close)
+        self.viewer = Viewer(self.document)
+        thread = threading.Thread(target=self.viewer.serve, daemon=True)
+        thread.start()
+        self.addCleanup(self._end, thread)
+
+    def _end(self, thread: threading.Thread) -> None:
+        self.viewer.stop()
+        thread.join()
+        self.viewer.__exit__()
+
+    def ask(self, method: str, path: str, body: bytes = b'{}', **headers: Optional[str]) -> Tuple[int, Dict[str, str], bytes]:
+        """The status, the headers and the body of an answer."""
+        host, port = self.viewer.host.split(':')
+        connection = http.client.HTTPConnection(host, int(port), timeout=20)
+        sent: Dict[str, Optional[str]] = {'Host': self.viewer.host, 'Origin': f'http://{self.viewer.host}', **headers}
+        connection.putrequest(method, path, skip_host=True)
+        for name, value in sent.items():
+            if value is not None:
+                connection.putheader(name, value)
+        if method == 'POST':
+            connection.putheader('Content-Length', str(len(body)))
+        connection.endheaders(body if method == 'POST' else None)
+        response = connection.getresponse()
+        with contextlib.closing(connection):
+            return response.status, dict(response.getheaders()), response.read()
+
+    def test_only_the_loopback_address(self) -> None:
+        self.assertEqual(self.viewer._server.server_address[0], '127.0.0.1')
+
+    def test_the_page(self) -> None:
+        for name, kind in (('', 'text/html'), ('style.css', 'text/css'), ('script.js', 'text/javascript'), ('icon.svg', 'image/svg+xml')):
+            status, headers, body = self.ask('GET', f'/{self.viewer.token}/{name}')
+            self.assertEqual((status, headers['Content-Type'].split(';')[0]), (200, kind))
+            self.assertTrue(headers['Content-Security-Policy'].startswith("default-src 'none'; script-src 'self'; style-src 'self';"))
+            self.assertNotIn('unsafe', headers['Content-Security-Policy'])
+            self.assertNotRegex(body.decode('utf-8'), 'https?://(?!www.w3.org/2000/svg)')
+        self.assertEqual(self.ask('GET', f'/{self.viewer.token}/other')[0], 404)
+
+    def test_without_the_token(self) -> None:
+        for path in ('/', '/open', '/style.css', f'/{self.viewer.token[:-1]}/', f'/{self.viewer.token}', '/x/../open', '//', '*'):
+            self.assertEqual(self.ask('GET', path)[0], 404 if path == f'/{self.viewer.token}' else 403, path)
+            if path != f'/{self.viewer.token}':
+                self.assertEqual(self.ask('POST', path)[0], 403, path)
+
+    def test_wrong_host_and_origin(self) -> None:
+        path = f'/{self.viewer.token}/open'
+        port = self.viewer.host.split(':')[1]
+        for host in ('127.0.0.1', f'localhost:{port}', 'evil.example', f'evil.example:{port}', '', None):
+            self.assertEqual(self.ask('POST', path, Host=host)[0], 403, host)
+            self.assertEqual(self.ask('GET', f'/{self.viewer.token}/', Host=host, Origin=None)[0], 403, host)
+        for origin in ('null', 'http://evil.example', f'https://{self.viewer.host}', f'http://localhost:{port}', '', None):
+            self.assertEqual(self.ask('POST', path, Origin=origin)[0], 403, origin)
+        self.assertEqual(self.ask('POST', path)[0], 200)
+
+    def test_questions_that_are_none(self) -> None:
+        path = f'/{self.viewer.token}/'
+        self.assertEqual(self.ask('POST', path + 'open', b'[]')[0], 400)
+        self.assertEqual(self.ask('POST', path + 'open', b'{')[0], 400)
+        self.assertEqual(self.ask('POST', path + 'nothing')[0], 404)
+        self.assertEqual(self.ask('PUT', path + 'open')[0], 501)
+        for word, body in (('move', b'{"place": "x"}'), ('edit', b'{"what": "burn"}'), ('move', b'{"what": "goto", "place": 9}'),
+                           ('save', b'{"name": "/nowhere/at/all"}'), ('break', b'{"place": -1}')):
+            status, _, answer = self.ask('POST', path + word, body)
+            self.assertEqual((status, json.loads(answer).get('failed')), (200, True), (word, answer))
+        self.assertEqual(json.loads(self.ask('POST', path + 'move', b'{"what": "step"}')[2])['place'], 1)
+
+    def test_many_at_a_time(self) -> None:
+        places: List[int] = []
+        path = f'/{self.viewer.token}/move'
+
+        def step() -> None:
+            for what in (b'step', b'back') * 10:
+                places.append(json.loads(self.ask('POST', path, b'{"what": "%s"}' % what)[2]).get('place', -1))
+
+        threads = [threading.Thread(target=step) for _ in range(4)]
+        for thread in threads:
+            thread.start()
+        for thread in threads:
+            thread.join()
+        self.assertEqual(len(places), 80)
+        self.assertEqual(json.loads(self.ask('POST', f'/{self.viewer.token}/open')[2])['place'], 0)
+
+
+class Running(unittest.TestCase):
+    """The command, from its start to its end."""
+
+    def setUp(self) -> None:
+        folder = tempfile.TemporaryDirectory()
+        self.addCleanup(folder.cleanup)
+        self.folder = Path(folder.name)
+        self.file = self.folder / 'a.pickle'
+        self.file.write_bytes(SYSTEM)
+
+    def start(self, *words: str) -> Tuple['subprocess.Popen[str]', str]:
+        """A running server, and its address."""
+        command = [sys.executable, '-m', 'picklestep', 'view', str(self.file), '--no-browser', *words]
+        process = subprocess.Popen(command, cwd=PACKAGE, stdout=subprocess.PIPE, stderr=subprocess.PIPE, text=True)
+        assert process.stdout is not None and process.stderr is not None
+        self.addCleanup(process.stderr.close)
+        self.addCleanup(process.stdout.close)
+        self.addCleanup(process.wait)
+        self.addCleanup(process.kill)
+        return process, process.stdout.readline().strip()
+
+    def children(self, process: int) -> List[str]:
+        """The processes below a process."""
+        return Path(f'/proc/{process}/task/{process}/children').read_text(encoding='ascii').split()
+
+    def test_nothing_is_left_after_a_signal(self) -> None:
+        for number in (signal.SIGINT, signal.SIGTERM, signal.SIGHUP):
+            with self.subTest(number):
+                self._end_by(number)
+
+    def _end_by(self, number: signal.Signals) -> None:
+        """Ends a server by a signal, and looks at what is left."""
+        process, address = self.start()
+        children = self.children(process.pid)
+        self.assertTrue(children)
+        process.send_signal(number)
+        self.assertEqual(process.wait(20), 0)
+        assert process.stderr is not None
+        self.assertEqual(process.stderr.read(), '')
+        self.assertFalse([child for child in children if Path(f'/proc/{child}').exists()])
+        with self.assertRaises(OSError):
+            http.client.HTTPConnection(urlsplit(address).netloc, timeout=5).request('GET', '/')
+
+    def test_it_ends_when_its_page_was_closed(self) -> None:
+        process, address = self.start('--idle', '1')
+        parts = urlsplit(address)
+        connection = http.client.HTTPConnection(parts.netloc, timeout=5)
+        connection.request('POST', parts.path + 'closed', b'{}', {'Origin': f'http://{parts.netloc}'})
+        self.assertEqual(connection.getresponse().status, 200)
+        connection.close()
+        begun = time.monotonic()
+        self.assertEqual(process.wait(20), 0)
+        self.assertLess(time.monotonic() - begun, 10)
+
+    def test_what_cannot_be_opened(self) -> None:
+        with contextlib.redirect_stderr(io.StringIO()) as told:
+            self.assertEqual(main([str(self.folder / 'absent'), '--no-browser']), 2)
+            self.assertEqual(main([]), 2)
+        self.assertIn('picklestep: cannot read', told.getvalue())
+
+    def test_export(self) -> None:
+        out = self.folder / 'out.html'
+        self.assertEqual(main([str(self.file), '--export', str(out)]), 0)
+        text = out.read_text(encoding='utf-8')
+        for wanted in ("&#x27;posix&#x27; &#x27;system&#x27;", '<a href="#at23">23</a>', 'REDUCE', '6 opcodes, 1 imports, 1 calls'):
+            self.assertIn(wanted, text)
+        self.assertNotRegex(text, '<script|https?:|unsafe')
+
+    def test_export_puts_texts_in_as_text(self) -> None:
+        hostile = self.folder / '<img onerror=alert(1)>.pickle'
+        hostile.write_bytes(HOSTILE)
+        out = self.folder / 'out.html'
+        self.assertEqual(main([str(hostile), '--export', str(out)]), 0)
+        text = out.read_text(encoding='utf-8')
+        self.assertNotRegex(text, '<(img|script|b>)')
+        self.assertEqual(text.count('&lt;/script&gt;&lt;img src=x onerror=alert(1)&gt;'), 3)
+
+    def test_export_says_what_it_leaves_out(self) -> None:
+        self.file.write_bytes(b'(' + b'K\x01' * 30_000 + b't.')
+        out = self.folder / 'out.html'
+        with contextlib.redirect_stderr(io.StringIO()) as told:
+            self.assertEqual(main([str(self.file), '--export', str(out)]), 0)
+        self.assertIn('the first 20,000 of 30,003 opcodes', told.getvalue())
+        text = out.read_text(encoding='utf-8')
+        self.assertIn('The first 20,000 of 30,003 are shown.', text)
+        self.assertEqual(len(re.findall('<tr id="at', text)), export.MOST)
+
+
+if __name__ == '__main__':
+    unittest.main()

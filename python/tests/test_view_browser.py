@@ -1,0 +1,266 @@
+"""The page of a pickle in a real browser: steps, breakpoints, edits, hostile texts, and a million opcodes.
+
+With PICKLESTEP_LARGE set, a pickle of 200 MB is opened too.
+"""
+
+from __future__ import annotations
+
+import json
+import os
+import pickle
+import pickletools
+import tempfile
+import threading
+import time
+import unittest
+from pathlib import Path
+from typing import Any, List
+
+from chromium import PROGRAM, Browser
+from picklestep.view import main
+from picklestep.view.command import _leading_to
+from picklestep.view.document import Document
+from picklestep.view.server import Viewer
+
+DATA = Path(__file__).resolve().parent / 'data' / 'models'
+HOSTILE_NAME = '</script><img src=x onerror="document.title=1">'
+HOSTILE = b'c' + HOSTILE_NAME.encode('ascii') + b'\n<b>&amp;\n\x8c\x1c<img src=x onerror=alert(1)>\x85R.'
+READY = "document.querySelector('#where')?.textContent.startsWith('at ')"
+
+
+@unittest.skipIf(PROGRAM is None, 'there is no chromium')
+class InBrowser(unittest.TestCase):
+    """A page in a browser, which all tests of this class use one after another."""
+
+    browser: Browser
+
+    @classmethod
+    def setUpClass(cls) -> None:
+        cls.browser = Browser()
+        cls.addClassCleanup(cls.browser.close)
+
+    def open(self, source: Any) -> Viewer:
+        """Opens the page of a pickle, and waits until it is shown."""
+        document = Document(source, 'a pickle')
+        self.addCleanup(document.close)
+        viewer = Viewer(document)
+        thread = threading.Thread(target=viewer.serve, daemon=True)
+        thread.start()
+        self.addCleanup(self._end, viewer, thread)
+        self.browser.told.clear()
+        self.browser.size(1280, 800)
+        self.browser.go(viewer.address)
+        self.browser.wait(READY)
+        self.browser.wait("document.querySelector('.row .name')?.textContent.length > 2")
+        return viewer
+
+    def _end(self, viewer: Viewer, thread: threading.Thread) -> None:
+        errors = self.browser.errors()
+        self.browser.go('about:blank')
+        viewer.stop()
+        thread.join()
+        viewer.__exit__()
+        self.assertEqual(errors, [])
+
+    def press(self, key: str, place: int) -> None:
+        """Presses a key, and waits until the cursor is at a place."""
+        self.browser.key(key)
+        self.at(place)
+
+    def at(self, place: int) -> None:
+        """Waits until the cursor is at a place."""
+        self.browser.wait(f"document.querySelector('#where').textContent.startsWith('at {place} of ')")
+
+    def said(self, text: str) -> None:
+        """Waits until the last answer begins so."""
+        self.browser.wait(f"document.querySelector('#said').textContent.startsWith({json.dumps(text)})")
+
+    def texts(self, selector: str) -> List[str]:
+        """The texts of elements."""
+        found: List[str] = self.browser.js(f'[...document.querySelectorAll({json.dumps(selector)})].map((each) => each.textContent)')
+        return found
+
+    def test_steps_on_a_real_pickle(self) -> None:
+        data = (DATA / 'sklearn_tree.pkl').read_bytes()
+        opcodes = list(pickletools.genops(data))
+        calls = [at for at, (opcode, _, _) in enumerate(opcodes) if opcode.name in ('REDUCE', 'NEWOBJ', 'BUILD')]
+        self.open(data)
+        shown = [name for name in self.texts('.row:not([hidden]) .name') if name]
+        self.assertEqual(shown[:20], [opcode.name for opcode, _, _ in opcodes[:20]])
+        self.press('ArrowRight', 1)
+        self.press('ArrowRight', 2)
+        self.press('ArrowLeft', 1)
+        self.press('n', calls[0])
+        self.press('n', calls[1])
+        self.press('p', calls[0])
+        self.press('End', len(opcodes))
+        self.press('ArrowLeft', len(opcodes) - 1)
+        self.browser.wait("document.querySelectorAll('#stack .thing').length === 1")
+        self.press('Home', 0)
+
+    def test_breakpoint_by_click_and_run(self) -> None:
+        self.open(b'cposix\nsystem\n(X\x02\x00\x00\x00idtR.')
+        self.browser.click('.row[data-place="4"] .gutter')
+        self.browser.wait("document.querySelector('.row[data-place=\"4\"]').classList.contains('broken')")
+        self.press(' ', 4)
+        self.said('at 4: breakpoint')
+        self.browser.wait("document.querySelectorAll('#stack .thing').length === 2")
+        self.assertEqual(self.texts('#stack .thing'), ['#2 tuple (#1)', "#0 global 'posix' 'system'"])
+        self.assertEqual(self.browser.js("document.querySelector('.row.call .name').textContent"), 'REDUCE')
+        self.browser.click('.row[data-place="4"] .gutter')
+        self.browser.wait("!document.querySelector('.row.broken')")
+        self.press(' ', 6)
+
+    def test_an_object_opens_and_tells_its_maker(self) -> None:
+        self.open(pickle.dumps([('a', 'b'), 7], 2))
+        self.browser.key('End')
+        self.browser.wait("document.querySelectorAll('#objects > .node').length === 5")
+        self.browser.js("document.querySelector('#objects > .node > .thing').click()")
+        self.browser.wait("document.querySelectorAll('#objects .inner .node').length === 2")
+        self.assertEqual(self.texts('#objects .inner .thing'), ['append #3 tuple (#1 #2)', 'append #4 int 7'])
+        box = self.browser.js("(() => { const r = document.querySelectorAll('#objects > .node > .thing')[1].getBoundingClientRect();"
+                              'return [r.left + 40, r.top + 5]; })()')
+        self.browser.pointer(*box)
+        self.browser.wait("document.querySelector('#about').textContent.includes('#1 was made')")
+        about = self.browser.js("document.querySelector('#about').textContent")
+        self.assertRegex(about, "BINUNICODE 'a'.*It stands in the memo under 1; in #3")
+
+    def test_edit_undo_redo_and_save(self) -> None:
+        self.open(b'cposix\nsystem\n(X\x02\x00\x00\x00idtR.')
+        self.browser.key('e')
+        self.browser.wait("document.querySelector('#edit-dialog').open && document.activeElement.id === 'edit-name'")
+        self.browser.type('GLOBAL')
+        self.browser.js("document.querySelector('#edit-argument').focus()")
+        self.browser.type('builtins')
+        self.browser.key('Enter')
+        self.browser.wait("document.querySelector('#edit-error').textContent.includes('a blank between them')")
+        self.browser.type(' len')
+        self.browser.key('Enter')
+        self.browser.wait("!document.querySelector('#edit-dialog').open")
+        self.said('edited 0')
+        self.browser.wait("document.querySelector('.row.edited .argument')?.textContent === \"'builtins' 'len'\"")
+        self.browser.key('u')
+        self.said('undone 0')
+        self.browser.wait("document.querySelector('.row .argument').textContent === \"'posix' 'system'\"")
+        self.browser.key('r')
+        self.said('redone 0')
+        with tempfile.TemporaryDirectory() as folder:
+            path = Path(folder) / 'saved.pickle'
+            self.browser.key('s')
+            self.browser.wait("document.querySelector('#save-dialog').open")
+            self.browser.type(str(path))
+            self.browser.key('Enter')
+            self.said('saved ')
+            self.assertEqual(path.read_bytes(), b'cbuiltins\nlen\n(X\x02\x00\x00\x00idtR.')
+
+    def test_edits_behind_the_cursor_are_refused_in_words(self) -> None:
+        self.open(b'NN0.')
+        self.press('End', 4)
+        self.browser.key('Home')
+        self.at(0)
+        self.press('ArrowRight', 1)
+        self.browser.key('ArrowUp')
+        self.browser.key('Delete')
+        self.said('refused: ')
+        self.assertTrue(self.browser.js("document.querySelector('#said').classList.contains('failed')"))
+
+    def test_hostile_texts_stay_text(self) -> None:
+        self.open(HOSTILE)
+        self.press('End', 5)
+        self.browser.wait("document.querySelectorAll('#objects .thing').length === 4")
+        self.assertIn(f"'{HOSTILE_NAME}' '<b>&amp;'", self.texts('.row .argument'))
+        self.assertIn(f"#0 global '{HOSTILE_NAME}' '<b>&amp;'", self.texts('#objects .thing'))
+        self.assertEqual(self.browser.js("document.querySelectorAll('img, b, script:not([src])').length"), 0)
+        self.assertEqual(self.browser.js('document.title'), 'a pickle: picklestep')
+
+    def test_the_page_that_leads_to_the_address(self) -> None:
+        viewer = self.open(b'N.')
+        self.browser.go('about:blank')
+        with _leading_to(viewer.address) as path:
+            self.assertEqual(path.parent.stat().st_mode & 0o077, 0)
+            self.browser.go(path.as_uri())
+            self.browser.wait(READY)
+            self.assertEqual(self.browser.js('location.href'), viewer.address)
+        self.assertFalse(path.parent.exists())
+
+    def test_find(self) -> None:
+        self.open((DATA / 'sklearn_tree.pkl').read_bytes())
+        self.browser.key('/')
+        self.browser.wait("document.activeElement.id === 'sought'")
+        self.browser.type('BUILD')
+        self.browser.key('Enter')
+        self.said('found at place ')
+        self.browser.wait("document.querySelector('.row.selected .name').textContent === 'BUILD'")
+
+    def test_the_keyboard_and_a_screen_reader(self) -> None:
+        self.open((DATA / 'sklearn_tree.pkl').read_bytes())
+        self.browser.key('?')
+        self.browser.wait("document.querySelector('#help-dialog').open")
+        self.browser.js("document.querySelector('#help-dialog').close()")
+        unnamed = self.browser.js('''[...document.querySelectorAll('button, input, select')].filter((each) => !each.textContent.trim() &&
+            !each.labels?.length && !each.getAttribute('aria-label') && !each.getAttribute('aria-labelledby')).map((each) => each.id)''')
+        self.assertEqual(unnamed, [])
+        self.browser.js("document.querySelector('#listing').focus()")
+        self.browser.key('ArrowDown')
+        self.browser.wait("document.querySelector('#' + document.querySelector('#listing').getAttribute('aria-activedescendant'))"
+                          ".dataset.place === '1'")
+        self.press('Enter', 1)
+        nodes = self.browser.call('Accessibility.getFullAXTree')['nodes']
+        roles = {node['role']['value']: node.get('name', {}).get('value', '') for node in nodes if not node['ignored']}
+        for role in ('listbox', 'option', 'toolbar', 'slider', 'searchbox', 'tree', 'status', 'heading', 'main'):
+            self.assertIn(role, roles)
+        self.assertEqual((roles['listbox'], roles['tree'], roles['slider']), ('Opcodes', 'Objects', 'Place in the pickle'))
+
+    def test_nothing_is_wider_than_the_page(self) -> None:
+        self.open((DATA / 'sklearn_tree.pkl').read_bytes())
+        for width in (1280, 600, 360):
+            self.browser.size(width, 900)
+            self.assertLessEqual(self.browser.js('document.documentElement.scrollWidth'), width)
+
+    def test_the_page_of_its_own(self) -> None:
+        with tempfile.TemporaryDirectory() as folder:
+            source, out = Path(folder) / 'a.pickle', Path(folder) / 'out.html'
+            source.write_bytes(HOSTILE)
+            self.assertEqual(main([str(source), '--export', str(out)]), 0)
+            self.browser.told.clear()
+            self.browser.go(out.as_uri())
+            self.browser.wait("document.querySelectorAll('#objects tbody tr').length === 4")
+            self.assertEqual(self.browser.js("document.querySelectorAll('img, b, script').length"), 0)
+            self.assertIn(f"'{HOSTILE_NAME}' '<b>&amp;'", self.texts('#listing td'))
+            self.assertNotEqual(self.browser.js("getComputedStyle(document.querySelector('tr.call')).backgroundColor"), 'rgba(0, 0, 0, 0)')
+            self.assertEqual(self.browser.errors(), [])
+
+    def test_a_million_opcodes(self) -> None:
+        self.open(b'\x80\x04](' + b'K\x01' * 1_000_000 + b'e.')
+        self.assertLess(self.browser.js("document.querySelectorAll('.row').length"), 60)
+        slowest = self.browser.js('''(async () => {
+            let slowest = 0;
+            for (let turn = 0; turn < 100; turn += 1) {
+                const begun = performance.now();
+                document.querySelector('#listing').dispatchEvent(new WheelEvent('wheel', { deltaY: 3000, cancelable: true }));
+                await new Promise(requestAnimationFrame);
+                slowest = Math.max(slowest, performance.now() - begun);
+            }
+            return slowest; })()''')
+        self.assertLess(slowest, 250)
+        self.browser.wait("Number(document.querySelector('.row').dataset.place) >= 14000")
+        self.browser.wait("![...document.querySelectorAll('.row:not([hidden]) .name')].some((each) => each.textContent === '..')")
+        self.browser.js("(() => { const rail = document.querySelector('#rail'); rail.scrollTop = rail.scrollHeight; })()")
+        self.browser.wait("[...document.querySelectorAll('.row:not([hidden]) .name')].some((each) => each.textContent === 'STOP')")
+        self.press('End', 1_000_006 - 1)
+        self.press('ArrowLeft', 1_000_004)
+
+    @unittest.skipUnless(os.environ.get('PICKLESTEP_LARGE'), 'PICKLESTEP_LARGE is not set')
+    def test_200_megabytes(self) -> None:
+        begun = time.monotonic()
+        self.open(pickle.dumps([os.urandom(100_000_000), 'x' * 100_000_000, list(range(1000))], 4))
+        print(f'the first page of 200 MB came after {time.monotonic() - begun:.1f} s')
+        begun = time.monotonic()
+        self.press('ArrowRight', 1)
+        self.press('End', 1015)
+        self.press('ArrowLeft', 1014)
+        print(f'three moves took {time.monotonic() - begun:.1f} s')
+
+
+if __name__ == '__main__':
+    unittest.main()
