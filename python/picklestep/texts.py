@@ -10,7 +10,7 @@ from .records import (Argument, Brief, Briefs, Change, End, Extension, Global, I
 
 __all__ = ['LinesError', 'OPCODE', 'memo_of', 'object_of', 'opcode_of', 'reach_of', 'stack_of', 'unquoted', 'where_of']
 
-_QUOTED = r"'(?:[^'\\]|\\.)*'"
+_QUOTED = r"'[^'\\]*(?:\\.[^'\\]*)*'"
 _NUMBER = r'-?[0-9]+|le:[0-9a-f]*|f8:[0-9a-f]{16}'
 _ESCAPE = re.compile(rb'\\(x[0-9a-f]{2}|.)')
 _ATOM = re.compile(f'({_QUOTED})|({_NUMBER})')

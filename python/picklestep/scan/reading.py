@@ -20,7 +20,7 @@ _IMPORTS = ('import', 'inst')
 _WITH_NAME = ('import', 'inst', 'call', 'new')
 
 # A line of the program, and the name in it where its first part stands in quotes.
-_QUOTED = r"'(?:[^'\\]|\\.)*'"
+_QUOTED = r"'[^'\\]*(?:\\.[^'\\]*)*'"
 _LINE = re.compile(rf"(?m)^ *([0-9]+): ((\w+)(?: ({_QUOTED} (?:{_QUOTED}|#[0-9]+)))?.*)$")
 
 # These lines alone show no pickle: many texts begin with the letters P and Q, and what a loader does with such an id is its own.
