@@ -38,9 +38,9 @@ def _export(document: Document, path: Path) -> int:
 
 def _serve(document: Document, with_browser: bool, idle: float) -> int:
     with Viewer(document, idle) as viewer:
-        print(f'{viewer.address}\nCtrl-C ends it.', flush=True)
         for number in (signal.SIGTERM, signal.SIGHUP):
             signal.signal(number, signal.default_int_handler)
+        print(f'{viewer.address}\nCtrl-C ends it.', flush=True)
         if not with_browser:
             viewer.serve()
             return 0

@@ -21,7 +21,8 @@ __all__ = ['IDLE', 'Viewer']
 
 # After so many seconds without a word from a page the server ends. (A page in the background speaks once a minute.)
 IDLE = 150.0
-_CLOSED = 8.0
+# After a page was closed it waits for others, which may speak but once a minute.
+_CLOSED = 75.0
 _HERE = Path(__file__).parent
 _FILES = {'': ('page.html', 'text/html'), 'style.css': ('style.css', 'text/css'), 'script.js': ('script.js', 'text/javascript'),
           'icon.svg': ('icon.svg', 'image/svg+xml')}
