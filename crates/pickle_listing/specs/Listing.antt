@@ -20,6 +20,7 @@ use Rattle.pickle_machine.specs.Run.{run}
 use Rattle.pickle_listing.specs.declared.note.Note.{Note}
 use Rattle.pickle_listing.specs.declared.note.Note.TheVariants as note
 use Rattle.pickle_report.specs.Line.{fault_line}
+use Rattle.pickle_report.specs.Output.{Output}
 use Rattle.pickle_listing.specs.Line.{item_line, refused_line, left_line, kept_line, protocol_line, highest_protocol}
 
 -- ---- the line of an item
@@ -86,24 +87,20 @@ refused_lines (Some r) = refused_line r
 
 -- ---- listings
 
-pub record Listing : Type 0 where
-  pub text : List ℕ
-  pub status : ℕ
-
 -- the greatest place up to n whose state is reached
 unfoldable pub reached : State → List Operation → ℕ → ℕ
 reached from ops zero = 0
 reached from ops (suc n) = if is_some (run from ops (suc n)) then suc n else reached from ops n
 
 -- the listing, k being the greatest place that is reached: after all items, or with the refused item k as the last
-abbrev pub listing_to : Contents → ℕ → Option Operation → Option State → Listing
+abbrev pub listing_to : Contents → ℕ → Option Operation → Option State → Output
 listing_to d k None (Some s) = record { text = lines d k ⧺ (end_lines d (finish_of d) ⧺ protocol_line (highest_protocol (take k (ops_of d)))); status = end_status (finish_of d) }
 listing_to d k (Some o) (Some s) =
     record { text = lines d (suc k) ⧺ (refused_lines (refusal_at o s) ⧺ protocol_line (highest_protocol (take (suc k) (ops_of d)))); status = 1 }
 listing_to d k o None = record { text = []; status = 0 }
 
-abbrev pub listing_with : Contents → ℕ → Listing
+abbrev pub listing_with : Contents → ℕ → Output
 listing_with d k = listing_to d k (item_at d k) (run (start d.many) (ops_of d) k)
 
-unfoldable pub listing : Contents → Listing
+unfoldable pub listing : Contents → Output
 listing d = listing_with d (reached (start d.many) (ops_of d) (length (ops_of d)))

@@ -5,7 +5,9 @@ mod column;
 mod line;
 mod list;
 mod note;
+mod number;
 mod put;
 
 pub use line::write_kept_line;
 pub use list::{list_bytes, list_items, write_listing};
+pub use number::write_right;

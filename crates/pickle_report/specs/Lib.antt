@@ -4,4 +4,5 @@ pub mod Show
 pub mod StackText
 pub mod MemoText
 pub mod Report
+pub mod Output
 pub mod Inside

@@ -20,8 +20,11 @@ pub use kind::{
 pub use laws::one_report;
 pub use line::{write_fault, write_fault_text, write_item_refused, write_refusal};
 pub use memo::write_memo;
-pub use object::{write_all_next, write_id, write_object, write_objects};
-pub use report::{Closing, machine_of, write_document_report, write_refused, write_report};
+pub use object::{write_all_next, write_behind, write_id, write_object, write_objects};
+pub use report::{
+    Closing, machine_of, status_of, write_closing, write_document_report, write_refused,
+    write_report,
+};
 pub use show::write_show;
 pub use stack::write_stack;
 pub use stop::TextStop;

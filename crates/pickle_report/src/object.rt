@@ -61,9 +61,9 @@ fn write_parts<S: Sink>(parts: &[ObjId], sink: &mut S) -> Result<(), Failed>
     }
 }
 
-/// Writes signs, and an object by its number.
+/// Writes signs, and an object by its number. Where the sink fails, a front of the text was written.
 #[tactic(auto, using(pickle_io::proofs::Devices::text_steps))]
-fn write_behind<S: Sink>(signs: &[u8], id: ObjId, sink: &mut S) -> Result<(), Failed>
+pub fn write_behind<S: Sink>(signs: &[u8], id: ObjId, sink: &mut S) -> Result<(), Failed>
     ensures { Writes (S.told sink.old) (S.told sink.new) result (signs.now ⧺ id_text id) }
 {
     write_all(sink, signs)?;

@@ -59,9 +59,9 @@ pub fn write_refused<S: Sink>(place: usize, refusal: Refusal, sink: &mut S) -> R
     write_all(sink, b"\n")
 }
 
-/// Writes how a run ended.
+/// Writes the line of how a run ended: none after STOP. Where the sink fails, a front of the line was written.
 #[tactic(auto, unfolding(crate::specs::Report::closing_line))]
-fn write_closing<S: Sink>(closing: Closing, sink: &mut S) -> Result<(), Failed>
+pub fn write_closing<S: Sink>(closing: Closing, sink: &mut S) -> Result<(), Failed>
     ensures { Writes (S.told sink.old) (S.told sink.new) result (closing_line closing) }
 {
     match closing {
@@ -71,8 +71,8 @@ fn write_closing<S: Sink>(closing: Closing, sink: &mut S) -> Result<(), Failed>
     }
 }
 
-/// The status of a run that ended so.
-fn status_of(closing: Closing) -> u8
+/// The status of a run that ended so: 0 after STOP, and 1 where an item is refused or the tail has a fault.
+pub fn status_of(closing: Closing) -> u8
     ensures { result ≡ closing_status closing }
 {
     match closing {
