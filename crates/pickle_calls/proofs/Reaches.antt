@@ -31,13 +31,13 @@ use Rattle.pickle_machine.proofs.Shown.{last_of_more}
 use Rattle.pickle_report.proofs.Runs.{run_after}
 use Rattle.pickle_report.proofs.Walks.{one_line}
 use Rattle.pickle_page.specs.Column.{right_aligned, newline}
-use Rattle.pickle_calls.specs.declared.reach.Reach.{Reach}
-use Rattle.pickle_calls.specs.Reach.{before_of, top_of, is_view, made, filled, reach_of}
-use Rattle.pickle_calls.specs.Line.{reach_text, reach_line}
-use Rattle.pickle_calls.specs.Calls.{Entry, entry, entry_at, calls}
+use Rattle.pickle_calls.specs.declared.event.Event.{Event}
+use Rattle.pickle_calls.specs.Event.{before_of, top_of, is_view, made_event, filled_event, event_of}
+use Rattle.pickle_calls.specs.Line.{event_text, event_line, line_of}
+use Rattle.pickle_calls.specs.Calls.{Entry, entry_at, calls}
 use Rattle.pickle_calls.specs.Laws.{OneText, IsStep, NoLineNoReach, Makes, Changes, LinesReach}
 use Rattle.pickle_calls.proofs.Walking.{entry_is}
-use Rattle.pickle_calls.proofs.Steps.{pushed_untold, pushed_told, none_made, Same, Grown, after_changes, got_changes, top_is, fills_untold, fills_told, is_there, not_there}
+use Rattle.pickle_calls.proofs.Steps.{pushed_unseen, pushed_shown, none_made, Same, Grown, after_changes, got_changes, top_is, fills_unseen, fills_shown, is_there, not_there}
 
 -- ---- one text
 
@@ -90,13 +90,13 @@ under_mark s rest e = go (nat_lt 0 (length s.marked)) e
 
 -- ---- objects went into another: from a state without them, whose top that is
 
--- nothing is told: each opaque object is as it was
-into_untold : (f : Filling) (items : List ℕ) (s u : State) → u.heap ≡ s.heap → 0 < length u.top → stack_size s - stack_size u ≡ length items
-    → filled f (before_of s) (change_top (changes_of f items) u) ≡ None
+-- no event: each opaque object is as it was
+into_unseen : (f : Filling) (items : List ℕ) (s u : State) → u.heap ≡ s.heap → 0 < length u.top → stack_size s - stack_size u ≡ length items
+    → filled_event f (before_of s) (change_top (changes_of f items) u) ≡ None
     → (id : ℕ) (o : Object) → slice_get (change_top (changes_of f items) u).heap id ≡ Some o → is_opaque o.kind ≡ true → slice_get s.heap id ≡ Some o
-into_untold f items s u same top n e id o there opaque = elim (after_changes u.heap (deep 0 u.top) (changes_of f items) id o there) [
+into_unseen f items s u same top n e id o there opaque = elim (after_changes u.heap (deep 0 u.top) (changes_of f items) id o there) [
   | Same is ↦ ap (λ (h : List Object). slice_get h id) (sym same) ∙ is
-  | Grown old at was is ↦ (elim (fills_untold f items (before_of s) (change_top (changes_of f items) u) n e) [
+  | Grown old at was is ↦ (elim (fills_unseen f items (before_of s) (change_top (changes_of f items) u) n e) [
     | inl none ↦
         let kept : o ≡ old = is ∙ ap (λ (more : List Change). record old { changes = old.changes ++ more }) none ∙ ap (λ (cs : List Change). record old { changes = cs }) (append-nil old.changes) in
         ap (λ (h : List Object). slice_get h id) (sym same) ∙ ap (slice_get u.heap) at ∙ was ∙ ap (λ (x : Object). Some x) (sym kept)
@@ -108,15 +108,15 @@ into_untold f items s u same top n e id o there opaque = elim (after_changes u.h
   ])
 ]
 
--- it is told: an opaque object got changes, or a state was set
-into_told : (f : Filling) (items : List ℕ) (s u : State) (r : Reach) → u.heap ≡ s.heap → 0 < length u.top → stack_size s - stack_size u ≡ length items
-    → filled f (before_of s) (change_top (changes_of f items) u) ≡ Some r
+-- an event: an opaque object got changes, or a state was set
+into_shown : (f : Filling) (items : List ℕ) (s u : State) (x : Event) → u.heap ≡ s.heap → 0 < length u.top → stack_size s - stack_size u ≡ length items
+    → filled_event f (before_of s) (change_top (changes_of f items) u) ≡ Some x
     → Changes s (change_top (changes_of f items) u) ⊎ (f ≡ filling.Build)
-into_told f items s u r same top n e = elim (fills_told f items (before_of s) (change_top (changes_of f items) u) r n e) [
+into_shown f items s u x same top n e = elim (fills_shown f items (before_of s) (change_top (changes_of f items) u) x n e) [
   | inr build ↦ inr build
-  | inl told ↦
+  | inl shown ↦
       let target : top_of u ≡ deep 0 u.top = top_is u top in
-      let new = is_there is_opaque (change_top (changes_of f items) u).heap (top_of u) told.1 in
+      let new = is_there is_opaque (change_top (changes_of f items) u).heap (top_of u) shown.1 in
       let here : slice_get (change_top (changes_of f items) u).heap (deep 0 u.top) ≡ Some new.0 = ap (slice_get (change_top (changes_of f items) u).heap) (sym target) ∙ new.1 in
       let old = got_changes u.heap (deep 0 u.top) (changes_of f items) new.0 here in
       inl (record {
@@ -125,8 +125,8 @@ into_told f items s u r same top n e = elim (fills_told f items (before_of s) (c
         new = new.0;
         before = ap (λ (h : List Object). slice_get h (deep 0 u.top)) (sym same) ∙ old.1;
         after = here;
-        opaque = ap (λ (x : Object). is_opaque x.kind) (sym old.2) ∙ new.2;
-        more = omega (arith, told.0, ap (λ (x : Object). length x.changes) old.2, length-append old.0.changes (changes_of f items));
+        opaque = ap (λ (y : Object). is_opaque y.kind) (sym old.2) ∙ new.2;
+        more = omega (arith, shown.0, ap (λ (y : Object). length y.changes) old.2, length-append old.0.changes (changes_of f items));
       })
 ]
 
@@ -140,92 +140,92 @@ by_either false s t u p q = q
 stays : (s t : State) → t.heap ≡ s.heap → (id : ℕ) (o : Object) → slice_get t.heap id ≡ Some o → slice_get s.heap id ≡ Some o
 stays s t e id o h = ap (λ (l : List Object). slice_get l id) (sym e) ∙ h
 
-untold_view : (b : Bool) (s u : State) (x : Object) → u.heap ≡ s.heap ++ x ∷ [] → made (cond b s u).heap (length s.heap) ≡ None
+unseen_view : (b : Bool) (s u : State) (x : Object) → u.heap ≡ s.heap ++ x ∷ [] → made_event (cond b s u).heap (length s.heap) ≡ None
     → (id : ℕ) (o : Object) → slice_get (cond b s u).heap id ≡ Some o → is_opaque o.kind ≡ true → slice_get s.heap id ≡ Some o
-untold_view true s u x e m id o h q = h
-untold_view false s u x e m id o h q =
-    pushed_untold s.heap x (ap (λ (l : List Object). made l (length s.heap)) (sym e) ∙ m) id o (ap (λ (l : List Object). slice_get l id) (sym e) ∙ h) q
+unseen_view true s u x e m id o h q = h
+unseen_view false s u x e m id o h q =
+    pushed_unseen s.heap x (ap (λ (l : List Object). made_event l (length s.heap)) (sym e) ∙ m) id o (ap (λ (l : List Object). slice_get l id) (sym e) ∙ h) q
 
-row_untold : (r : Row) (k : Kind) (place : ℕ) (s : State) → refusal_of r s ≡ None → reach_of r (before_of s) (next_of r k place s) ≡ None
+row_unseen : (r : Row) (k : Kind) (place : ℕ) (s : State) → refusal_of r s ≡ None → event_of r (before_of s) (next_of r k place s) ≡ None
     → (id : ℕ) (o : Object) → slice_get (next_of r k place s).heap id ≡ Some o → is_opaque o.kind ≡ true → slice_get s.heap id ≡ Some o
-row_untold row.Nothing k place s f m id o h q = h
-row_untold (row.Protocol n) k place s f m id o h q = h
-row_untold (row.Extension n) k place s f m id o h q = pushed_untold s.heap _ m id o h q
-row_untold row.Push k place s f m id o h q = pushed_untold s.heap _ m id o h q
-row_untold row.Buffer k place s f m id o h q = pushed_untold s.heap _ m id o h q
-row_untold row.ReadOnly k place s f m id o h q = untold_view (object_meets demand.ReadOnly s (deep 0 s.top)) s _ _ refl m id o h q
-row_untold (row.Take t) k place s f m id o h q = pushed_untold s.heap _ m id o h q
-row_untold (row.Cut c) k place s f m id o h q = pushed_untold s.heap _ m id o h q
-row_untold (row.Change g) k place s f m id o h q =
+row_unseen row.Nothing k place s f m id o h q = h
+row_unseen (row.Protocol n) k place s f m id o h q = h
+row_unseen (row.Extension n) k place s f m id o h q = pushed_unseen s.heap _ m id o h q
+row_unseen row.Push k place s f m id o h q = pushed_unseen s.heap _ m id o h q
+row_unseen row.Buffer k place s f m id o h q = pushed_unseen s.heap _ m id o h q
+row_unseen row.ReadOnly k place s f m id o h q = unseen_view (object_meets demand.ReadOnly s (deep 0 s.top)) s _ _ refl m id o h q
+row_unseen (row.Take t) k place s f m id o h q = pushed_unseen s.heap _ m id o h q
+row_unseen (row.Cut c) k place s f m id o h q = pushed_unseen s.heap _ m id o h q
+row_unseen (row.Change g) k place s f m id o h q =
     let deep : values_of g + 1 ≤ length s.top = deep_enough _ _ _ f in
-    into_untold g (last_of (values_of g) s) s (without (values_of g) s) refl (left_without (values_of g) s (omega (arith, deep))) (taken_without (values_of g) s (omega (arith, deep))) m id o h q
-row_untold (row.CutChange g) k place s f m id o h q =
+    into_unseen g (last_of (values_of g) s) s (without (values_of g) s) refl (left_without (values_of g) s (omega (arith, deep))) (taken_without (values_of g) s (omega (arith, deep))) m id o h q
+row_unseen (row.CutChange g) k place s f m id o h q =
     let there : 0 < length (under s.marked) = under_mark s _ f in
-    into_untold g s.top s (cut s) refl there (taken_cut s s.marked refl there) m id o h q
-row_untold row.Pop k place s f m id o h q = stays s (cond (nat_lt 0 (length s.top)) (without 1 s) (cut s)) (by_either (nat_lt 0 (length s.top)) s (without 1 s) (cut s) refl refl) id o h
-row_untold row.PopMark k place s f m id o h q = h
-row_untold row.Dup k place s f m id o h q = h
-row_untold row.Mark k place s f m id o h q = h
-row_untold (row.Get key) k place s f m id o h q = h
-row_untold (row.Put key) k place s f m id o h q = h
-row_untold row.Memoize k place s f m id o h q = h
-row_untold row.Stop k place s f m id o h q = h
+    into_unseen g s.top s (cut s) refl there (taken_cut s s.marked refl there) m id o h q
+row_unseen row.Pop k place s f m id o h q = stays s (cond (nat_lt 0 (length s.top)) (without 1 s) (cut s)) (by_either (nat_lt 0 (length s.top)) s (without 1 s) (cut s) refl refl) id o h
+row_unseen row.PopMark k place s f m id o h q = h
+row_unseen row.Dup k place s f m id o h q = h
+row_unseen row.Mark k place s f m id o h q = h
+row_unseen (row.Get key) k place s f m id o h q = h
+row_unseen (row.Put key) k place s f m id o h q = h
+row_unseen row.Memoize k place s f m id o h q = h
+row_unseen row.Stop k place s f m id o h q = h
 
--- what a row is told for
-abbrev IsTold : Row → State → State → Type 0
-IsTold r s t = Makes s t ⊎ (Changes s t ⊎ ((r ≡ row.Change filling.Build) ⊎ (r ≡ row.CutChange filling.Build)))
+-- what a row has an event for
+abbrev IsShown : Row → State → State → Type 0
+IsShown r s t = Makes s t ⊎ (Changes s t ⊎ ((r ≡ row.Change filling.Build) ⊎ (r ≡ row.CutChange filling.Build)))
 
-pushes : (r : Row) (s t : State) (x : Object) (reached : Reach) → t.heap ≡ s.heap ++ x ∷ [] → made t.heap (length s.heap) ≡ Some reached → IsTold r s t
-pushes r s t x reached e m =
-    let at : made (s.heap ++ x ∷ []) (length s.heap) ≡ Some reached = ap (λ (l : List Object). made l (length s.heap)) (sym e) ∙ m in
-    let told : (is_opaque x.kind ≡ true) ⊎ (is_view t.heap x ≡ true) = subst (λ (l : List Object). (is_opaque x.kind ≡ true) ⊎ (is_view l x ≡ true)) (sym e) (pushed_told s.heap x reached at) in
+pushes : (r : Row) (s t : State) (x : Object) (event : Event) → t.heap ≡ s.heap ++ x ∷ [] → made_event t.heap (length s.heap) ≡ Some event → IsShown r s t
+pushes r s t x event e m =
+    let at : made_event (s.heap ++ x ∷ []) (length s.heap) ≡ Some event = ap (λ (l : List Object). made_event l (length s.heap)) (sym e) ∙ m in
+    let shown : (is_opaque x.kind ≡ true) ⊎ (is_view t.heap x ≡ true) = subst (λ (l : List Object). (is_opaque x.kind ≡ true) ⊎ (is_view l x ≡ true)) (sym e) (pushed_shown s.heap x event at) in
     inl (record {
       id = length s.heap;
       object = x;
       there = ap (λ (l : List Object). slice_get l (length s.heap)) e ∙ last_of_more s.heap x;
       fresh = slice_get_past s.heap (length s.heap) (omega arith);
-      told = told;
+      shown = shown;
     })
 
-told_stays : (r : Row) (s t : State) (reached : Reach) → t.heap ≡ s.heap → made t.heap (length s.heap) ≡ Some reached → IsTold r s t
-told_stays r s t reached e m =
-    let no : None ≡ Some reached = sym (none_made s.heap) ∙ ap (λ (l : List Object). made l (length s.heap)) (sym e) ∙ m in
+shown_stays : (r : Row) (s t : State) (event : Event) → t.heap ≡ s.heap → made_event t.heap (length s.heap) ≡ Some event → IsShown r s t
+shown_stays r s t event e m =
+    let no : None ≡ Some event = sym (none_made s.heap) ∙ ap (λ (l : List Object). made_event l (length s.heap)) (sym e) ∙ m in
     absurd cc
 
-told_view : (r : Row) (b : Bool) (s u : State) (x : Object) (reached : Reach) → u.heap ≡ s.heap ++ x ∷ [] → made (cond b s u).heap (length s.heap) ≡ Some reached → IsTold r s (cond b s u)
-told_view r true s u x reached e m = told_stays r s s reached refl m
-told_view r false s u x reached e m = pushes r s u x reached e m
+shown_view : (r : Row) (b : Bool) (s u : State) (x : Object) (event : Event) → u.heap ≡ s.heap ++ x ∷ [] → made_event (cond b s u).heap (length s.heap) ≡ Some event → IsShown r s (cond b s u)
+shown_view r true s u x event e m = shown_stays r s s event refl m
+shown_view r false s u x event e m = pushes r s u x event e m
 
-row_told : (r : Row) (k : Kind) (place : ℕ) (s : State) (reached : Reach) → refusal_of r s ≡ None → reach_of r (before_of s) (next_of r k place s) ≡ Some reached
-    → IsTold r s (next_of r k place s)
-row_told row.Nothing k place s x f m = told_stays _ s s x refl m
-row_told (row.Protocol n) k place s x f m = told_stays _ s s x refl m
-row_told (row.Extension n) k place s x f m = pushes _ s _ _ x refl m
-row_told row.Push k place s x f m = pushes _ s _ _ x refl m
-row_told row.Buffer k place s x f m = pushes _ s _ _ x refl m
-row_told row.ReadOnly k place s x f m = told_view _ (object_meets demand.ReadOnly s (deep 0 s.top)) s _ _ x refl m
-row_told (row.Take t) k place s x f m = pushes _ s _ _ x refl m
-row_told (row.Cut c) k place s x f m = pushes _ s _ _ x refl m
-row_told (row.Change g) k place s x f m =
+row_shown : (r : Row) (k : Kind) (place : ℕ) (s : State) (event : Event) → refusal_of r s ≡ None → event_of r (before_of s) (next_of r k place s) ≡ Some event
+    → IsShown r s (next_of r k place s)
+row_shown row.Nothing k place s x f m = shown_stays _ s s x refl m
+row_shown (row.Protocol n) k place s x f m = shown_stays _ s s x refl m
+row_shown (row.Extension n) k place s x f m = pushes _ s _ _ x refl m
+row_shown row.Push k place s x f m = pushes _ s _ _ x refl m
+row_shown row.Buffer k place s x f m = pushes _ s _ _ x refl m
+row_shown row.ReadOnly k place s x f m = shown_view _ (object_meets demand.ReadOnly s (deep 0 s.top)) s _ _ x refl m
+row_shown (row.Take t) k place s x f m = pushes _ s _ _ x refl m
+row_shown (row.Cut c) k place s x f m = pushes _ s _ _ x refl m
+row_shown (row.Change g) k place s x f m =
     let deep : values_of g + 1 ≤ length s.top = deep_enough _ _ _ f in
-    elim (into_told g (last_of (values_of g) s) s (without (values_of g) s) x refl (left_without (values_of g) s (omega (arith, deep))) (taken_without (values_of g) s (omega (arith, deep))) m) [
+    elim (into_shown g (last_of (values_of g) s) s (without (values_of g) s) x refl (left_without (values_of g) s (omega (arith, deep))) (taken_without (values_of g) s (omega (arith, deep))) m) [
       | inl changes ↦ inr (inl changes)
       | inr build ↦ inr (inr (inl (ap row.Change build)))
     ]
-row_told (row.CutChange g) k place s x f m =
+row_shown (row.CutChange g) k place s x f m =
     let there : 0 < length (under s.marked) = under_mark s _ f in
-    elim (into_told g s.top s (cut s) x refl there (taken_cut s s.marked refl there) m) [
+    elim (into_shown g s.top s (cut s) x refl there (taken_cut s s.marked refl there) m) [
       | inl changes ↦ inr (inl changes)
       | inr build ↦ inr (inr (inr (ap row.CutChange build)))
     ]
-row_told row.Pop k place s x f m = told_stays _ s (cond (nat_lt 0 (length s.top)) (without 1 s) (cut s)) x (by_either (nat_lt 0 (length s.top)) s (without 1 s) (cut s) refl refl) m
-row_told row.PopMark k place s x f m = told_stays _ s _ x refl m
-row_told row.Dup k place s x f m = told_stays _ s _ x refl m
-row_told row.Mark k place s x f m = told_stays _ s _ x refl m
-row_told (row.Get key) k place s x f m = told_stays _ s _ x refl m
-row_told (row.Put key) k place s x f m = told_stays _ s _ x refl m
-row_told row.Memoize k place s x f m = told_stays _ s _ x refl m
-row_told row.Stop k place s x f m = told_stays _ s _ x refl m
+row_shown row.Pop k place s x f m = shown_stays _ s (cond (nat_lt 0 (length s.top)) (without 1 s) (cut s)) x (by_either (nat_lt 0 (length s.top)) s (without 1 s) (cut s) refl refl) m
+row_shown row.PopMark k place s x f m = shown_stays _ s _ x refl m
+row_shown row.Dup k place s x f m = shown_stays _ s _ x refl m
+row_shown row.Mark k place s x f m = shown_stays _ s _ x refl m
+row_shown (row.Get key) k place s x f m = shown_stays _ s _ x refl m
+row_shown (row.Put key) k place s x f m = shown_stays _ s _ x refl m
+row_shown row.Memoize k place s x f m = shown_stays _ s _ x refl m
+row_shown row.Stop k place s x f m = shown_stays _ s _ x refl m
 
 -- ---- opcodes
 
@@ -261,7 +261,7 @@ moves_at d k s t step =
 -- ---- a further pickle begins with the heap as it is
 
 makes_by : (b : Bool) (s t : State) → Makes (if b then begun s else s) t → Makes s t
-makes_by true s t m = record { id = m.id; object = m.object; there = m.there; fresh = m.fresh; told = m.told }
+makes_by true s t m = record { id = m.id; object = m.object; there = m.there; fresh = m.fresh; shown = m.shown }
 makes_by false s t m = m
 
 changes_by : (b : Bool) (s t : State) → Changes (if b then begun s else s) t → Changes s t
@@ -271,17 +271,17 @@ changes_by false s t c = c
 -- ---- lines
 
 -- a line ends with a newline
-long : (offset : ℕ) (heap : List Object) (r : Reach) → 0 < length (reach_line offset heap r)
-unfolding reach_line
-long offset heap r = omega (arith, one_line (right_aligned 5 (decimal offset) ⧺ codes ": " ⧺ reach_text heap r) newline)
+long : (offset : ℕ) (heap : List Object) (e : Event) → 0 < length (event_line offset heap e)
+unfolding event_line
+long offset heap e = omega (arith, one_line (right_aligned 5 (decimal offset) ⧺ codes ": " ⧺ event_text heap e) newline)
 
-no_line : (offset : ℕ) (heap : List Object) (r : Option Reach) → (entry offset heap r).line ≡ [] → r ≡ None
-no_line offset heap None e = refl
-no_line offset heap (Some r) e = absurd (omega (arith, long offset heap r, ap length e))
+no_line : (offset : ℕ) (heap : List Object) (x : Option Event) → line_of offset heap x ≡ [] → x ≡ None
+no_line offset heap None h = refl
+no_line offset heap (Some e) h = absurd (omega (arith, long offset heap e, ap length h))
 
-a_line : (offset : ℕ) (heap : List Object) (r : Option Reach) → (entry offset heap r).line ≢ [] → (x : Reach) × (r ≡ Some x)
-a_line offset heap None e = absurd (e refl)
-a_line offset heap (Some r) e = (r, refl)
+a_line : (offset : ℕ) (heap : List Object) (x : Option Event) → line_of offset heap x ≢ [] → (e : Event) × (x ≡ Some e)
+a_line offset heap None h = absurd (h refl)
+a_line offset heap (Some e) h = (e, refl)
 
 -- ---- the laws
 
@@ -289,20 +289,20 @@ pub no_line_no_reach : NoLineNoReach
 no_line_no_reach d k s t step none id o there opaque =
     let m = moves_at d k s t step in
     let from : State = fresh s in
-    let here : (entry_at d k).line ≡ (entry (offset_of d k) t.heap (reach_of (row_of m.item) (before_of from) t)).line = ap (λ (e : Entry). e.line) (entry_is d k m.item s t m.there step.before step.after) in
-    let nothing : reach_of (row_of m.item) (before_of from) t ≡ None = no_line _ _ _ (sym here ∙ none) in
-    let at : reach_of (row_of m.item) (before_of from) (next m.item k s) ≡ None = ap (λ (u : State). reach_of (row_of m.item) (before_of from) u) m.leads ∙ nothing in
+    let here : (entry_at d k).text ≡ line_of (offset_of d k) t.heap (event_of (row_of m.item) (before_of from) t) = ap (λ (e : Entry). e.text) (entry_is d k m.item s t m.there step.before step.after) in
+    let nothing : event_of (row_of m.item) (before_of from) t ≡ None = no_line _ _ _ (sym here ∙ none) in
+    let at : event_of (row_of m.item) (before_of from) (next m.item k s) ≡ None = ap (λ (u : State). event_of (row_of m.item) (before_of from) u) m.leads ∙ nothing in
     ap (λ (h : List Object). slice_get h id) (sym (fresh_heap s))
-    ∙ row_untold (row_of m.item) (kind_of m.item) k from m.accepted at id o (ap (λ (u : State). slice_get u.heap id) m.leads ∙ there) opaque
+    ∙ row_unseen (row_of m.item) (kind_of m.item) k from m.accepted at id o (ap (λ (u : State). slice_get u.heap id) m.leads ∙ there) opaque
 
 pub lines_reach : LinesReach
 lines_reach d k s t step some =
     let m = moves_at d k s t step in
     let from : State = fresh s in
-    let here : (entry_at d k).line ≡ (entry (offset_of d k) t.heap (reach_of (row_of m.item) (before_of from) t)).line = ap (λ (e : Entry). e.line) (entry_is d k m.item s t m.there step.before step.after) in
-    let told = a_line (offset_of d k) t.heap (reach_of (row_of m.item) (before_of from) t) (λ e. some (here ∙ e)) in
-    let at : reach_of (row_of m.item) (before_of from) (next m.item k s) ≡ Some told.0 = ap (λ (u : State). reach_of (row_of m.item) (before_of from) u) m.leads ∙ told.1 in
-    let all : IsTold (row_of m.item) from t = subst (λ (u : State). IsTold (row_of m.item) from u) m.leads (row_told (row_of m.item) (kind_of m.item) k from told.0 m.accepted at) in
+    let here : (entry_at d k).text ≡ line_of (offset_of d k) t.heap (event_of (row_of m.item) (before_of from) t) = ap (λ (e : Entry). e.text) (entry_is d k m.item s t m.there step.before step.after) in
+    let event = a_line (offset_of d k) t.heap (event_of (row_of m.item) (before_of from) t) (λ e. some (here ∙ e)) in
+    let at : event_of (row_of m.item) (before_of from) (next m.item k s) ≡ Some event.0 = ap (λ (u : State). event_of (row_of m.item) (before_of from) u) m.leads ∙ event.1 in
+    let all : IsShown (row_of m.item) from t = subst (λ (u : State). IsShown (row_of m.item) from u) m.leads (row_shown (row_of m.item) (kind_of m.item) k from event.0 m.accepted at) in
     elim all [
       | inl makes ↦ inl (makes_by s.stopped s t makes)
       | inr rest ↦ (elim rest [

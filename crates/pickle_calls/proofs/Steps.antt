@@ -1,4 +1,4 @@
--- What a move does to the heap, object by object, and what it reaches.
+-- What a move does to the heap, object by object, and its event.
 use Rattle.std.proofs.Common.{◌≡◌, ◌⊎◌, ℕ, zero, suc, ◌+◌, ◌-◌, ◌/◌, ◌<◌, ◌≤◌, Bool, true, false, List, [], ◌∷◌, ◌++◌, length, map, Option, Some, None, refl, sym, ap, subst, ◌∙◌, inl, inr, arith, length-append}
 use Rattle.std.specs.Prelude.{slice_get, slice_set, ◌&&◌, ◌||◌, nat_lt, if◌then◌else◌}
 use Rattle.std.specs.Option.{option_map_or, unwrap_or}
@@ -16,9 +16,9 @@ use Rattle.pickle_objects.specs.Row.{change_of}
 use Rattle.pickle_machine.specs.State.{State, stack_size, objects_below}
 use Rattle.pickle_machine.specs.Move.{changed, changes_of, pairs_of, deep}
 use Rattle.pickle_machine.proofs.Shown.{last_of_more, length-objects_below}
-use Rattle.pickle_calls.specs.declared.reach.Reach.{Reach}
-use Rattle.pickle_calls.specs.declared.reach.Before.{Before}
-use Rattle.pickle_calls.specs.Reach.{top_of, object_is, is_told, is_view, made, made_as, taken, filled}
+use Rattle.pickle_calls.specs.declared.event.Event.{Event}
+use Rattle.pickle_calls.specs.declared.event.Before.{Before}
+use Rattle.pickle_calls.specs.Event.{top_of, object_is, is_shown, is_view, made_event, made_as, taken_count, filled_count, into, filled_event}
 
 -- ---- truth values
 
@@ -27,13 +27,13 @@ some_same None a b e f = absurd cc
 some_same (Some x) a b e f = cc
 
 -- where what is asked holds, there is something
-told_none : {A : Type 0} (b : Bool) (x : A) → (if b then Some x else None) ≡ None → b ≡ false
-told_none true x e = absurd cc
-told_none false x e = refl
+shown_none : {A : Type 0} (b : Bool) (x : A) → (if b then Some x else None) ≡ None → b ≡ false
+shown_none true x e = absurd cc
+shown_none false x e = refl
 
-told_some : {A : Type 0} (b : Bool) (x y : A) → (if b then Some x else None) ≡ Some y → (b ≡ true) × (x ≡ y)
-told_some true x y e = (refl, cc)
-told_some false x y e = absurd cc
+shown_some : {A : Type 0} (b : Bool) (x y : A) → (if b then Some x else None) ≡ Some y → (b ≡ true) × (x ≡ y)
+shown_some true x y e = (refl, cc)
+shown_some false x y e = absurd cc
 
 either : (a b : Bool) → (a || b) ≡ true → (a ≡ true) ⊎ (b ≡ true)
 either true b e = inl refl
@@ -71,28 +71,28 @@ get_pushed heap x id o e = elim (cases_lt id (length heap)) [
       inr (last, some_same (slice_get (heap ++ x ∷ []) id) o x e is)
 ]
 
--- an object whose making is not told is not opaque
-pub pushed_untold : (heap : List Object) (x : Object) → made (heap ++ x ∷ []) (length heap) ≡ None
+-- an object whose making is not shown is not opaque
+pub pushed_unseen : (heap : List Object) (x : Object) → made_event (heap ++ x ∷ []) (length heap) ≡ None
     → (id : ℕ) (o : Object) → slice_get (heap ++ x ∷ []) id ≡ Some o → is_opaque o.kind ≡ true → slice_get heap id ≡ Some o
-pushed_untold heap x e id o there opaque = elim (get_pushed heap x id o there) [
+pushed_unseen heap x e id o there opaque = elim (get_pushed heap x id o there) [
   | inl old ↦ old
   | inr new ↦
       let at : made_as (heap ++ x ∷ []) (length heap) (Some x) ≡ None = ap (made_as (heap ++ x ∷ []) (length heap)) (sym (last_of_more heap x)) ∙ e in
-      let untold : is_told (heap ++ x ∷ []) x ≡ false = told_none _ _ at in
-      let plain : is_opaque x.kind ≡ false = neither (is_opaque x.kind) (is_view (heap ++ x ∷ []) x) untold in
+      let unseen : is_shown (heap ++ x ∷ []) x ≡ false = shown_none _ _ at in
+      let plain : is_opaque x.kind ≡ false = neither (is_opaque x.kind) (is_view (heap ++ x ∷ []) x) unseen in
       let no : true ≡ false = sym opaque ∙ ap (λ (y : Object). is_opaque y.kind) new.1 ∙ plain in
       absurd cc
 ]
 
--- one whose making is told is opaque, or a view of one that is
-pub pushed_told : (heap : List Object) (x : Object) (r : Reach) → made (heap ++ x ∷ []) (length heap) ≡ Some r → (is_opaque x.kind ≡ true) ⊎ (is_view (heap ++ x ∷ []) x ≡ true)
-pushed_told heap x r e =
+-- one whose making is shown is opaque, or a view of one that is
+pub pushed_shown : (heap : List Object) (x : Object) (r : Event) → made_event (heap ++ x ∷ []) (length heap) ≡ Some r → (is_opaque x.kind ≡ true) ⊎ (is_view (heap ++ x ∷ []) x ≡ true)
+pushed_shown heap x r e =
     let at : made_as (heap ++ x ∷ []) (length heap) (Some x) ≡ Some r = ap (made_as (heap ++ x ∷ []) (length heap)) (sym (last_of_more heap x)) ∙ e in
-    let told = told_some _ _ _ at in
-    either (is_opaque x.kind) (is_view (heap ++ x ∷ []) x) told.0
+    let shown = shown_some _ _ _ at in
+    either (is_opaque x.kind) (is_view (heap ++ x ∷ []) x) shown.0
 
--- where no object was made none is told
-pub none_made : (heap : List Object) → made heap (length heap) ≡ None
+-- where no object was made there is no event
+pub none_made : (heap : List Object) → made_event heap (length heap) ≡ None
 none_made heap = ap (made_as heap (length heap)) (slice_get_past heap (length heap) (omega arith))
 
 -- ---- changes
@@ -178,38 +178,46 @@ items_none : (items : List ℕ) → length items ≡ 0 → items ≡ []
 items_none [] e = refl
 items_none (x ∷ items) e = absurd cc
 
--- nothing is told: there were no changes, or they went into no opaque object
-pub fills_untold : (f : Filling) (items : List ℕ) (b : Before) (t : State) → taken b t ≡ length items → filled f b t ≡ None
-    → (changes_of f items ≡ []) ⊎ (object_is is_opaque t.heap (top_of t) ≡ false)
-fills_untold filling.Append items b t n e = elim (one_not _ _ (told_none _ _ e)) [
-  | inl none ↦ inl (ap (map (change_of filling.Append)) (items_none items (sym n ∙ not_below (taken b t) none)))
-  | inr plain ↦ inr plain
-]
-fills_untold filling.SetItem items b t n e = elim (one_not _ _ (told_none _ _ e)) [
-  | inl none ↦ inl (pairs_short items (ap (λ (k : ℕ). k / 2) (sym n) ∙ not_below (taken b t / 2) none))
-  | inr plain ↦ inr plain
-]
-fills_untold filling.Add items b t n e = elim (one_not _ _ (told_none _ _ e)) [
-  | inl none ↦ inl (ap (map (change_of filling.Add)) (items_none items (sym n ∙ not_below (taken b t) none)))
-  | inr plain ↦ inr plain
-]
-fills_untold filling.Build items b t n e = absurd cc
+no_changes : (f : Filling) (items : List ℕ) → filled_count f (length items) ≡ 0 → changes_of f items ≡ []
+no_changes filling.Append items e = ap (map (change_of filling.Append)) (items_none items e)
+no_changes filling.SetItem items e = pairs_short items e
+no_changes filling.Add items e = ap (map (change_of filling.Add)) (items_none items e)
+no_changes filling.Build items e = ap (map (change_of filling.Build)) (items_none items e)
 
--- it is told: changes went into an opaque object, or a state was set
-pub fills_told : (f : Filling) (items : List ℕ) (b : Before) (t : State) (r : Reach) → taken b t ≡ length items → filled f b t ≡ Some r
+some_changes : (f : Filling) (items : List ℕ) → 0 < filled_count f (length items) → 0 < length (changes_of f items)
+some_changes filling.Append items h = omega (arith, h, length-map items (change_of filling.Append))
+some_changes filling.SetItem items h = pairs_more items h
+some_changes filling.Add items h = omega (arith, h, length-map items (change_of filling.Add))
+some_changes filling.Build items h = omega (arith, h, length-map items (change_of filling.Build))
+
+into_none : (f : Filling) (items : List ℕ) (n : ℕ) (t : State) → n ≡ length items → into f (filled_count f n) t ≡ None
+    → (changes_of f items ≡ []) ⊎ (object_is is_opaque t.heap (top_of t) ≡ false)
+into_none f items n t same e = elim (one_not _ _ (shown_none _ _ e)) [
+  | inl none ↦ inl (no_changes f items (ap (filled_count f) (sym same) ∙ not_below (filled_count f n) none))
+  | inr plain ↦ inr plain
+]
+
+into_some : (f : Filling) (items : List ℕ) (n : ℕ) (t : State) (x : Event) → n ≡ length items → into f (filled_count f n) t ≡ Some x
+    → (0 < length (changes_of f items)) × (object_is is_opaque t.heap (top_of t) ≡ true)
+into_some f items n t x same e =
+    let shown = both _ _ (shown_some _ _ _ e).0 in
+    (some_changes f items (subst (λ (k : ℕ). 0 < filled_count f k) same (below (filled_count f n) shown.0)), shown.1)
+
+-- no event: there were no changes, or they went into no opaque object
+pub fills_unseen : (f : Filling) (items : List ℕ) (b : Before) (t : State) → taken_count b t ≡ length items → filled_event f b t ≡ None
+    → (changes_of f items ≡ []) ⊎ (object_is is_opaque t.heap (top_of t) ≡ false)
+fills_unseen filling.Append items b t n e = into_none filling.Append items (taken_count b t) t n e
+fills_unseen filling.SetItem items b t n e = into_none filling.SetItem items (taken_count b t) t n e
+fills_unseen filling.Add items b t n e = into_none filling.Add items (taken_count b t) t n e
+fills_unseen filling.Build items b t n e = absurd cc
+
+-- an event: changes went into an opaque object, or a state was set
+pub fills_shown : (f : Filling) (items : List ℕ) (b : Before) (t : State) (x : Event) → taken_count b t ≡ length items → filled_event f b t ≡ Some x
     → ((0 < length (changes_of f items)) × (object_is is_opaque t.heap (top_of t) ≡ true)) ⊎ (f ≡ filling.Build)
-fills_told filling.Append items b t r n e =
-    let told = both _ _ (told_some _ _ _ e).0 in
-    let some : 0 < taken b t = below (taken b t) told.0 in
-    inl (omega (arith, some, n, length-map items (change_of filling.Append)), told.1)
-fills_told filling.SetItem items b t r n e =
-    let told = both _ _ (told_some _ _ _ e).0 in
-    inl (pairs_more items (subst (λ (k : ℕ). 0 < k / 2) n (below (taken b t / 2) told.0)), told.1)
-fills_told filling.Add items b t r n e =
-    let told = both _ _ (told_some _ _ _ e).0 in
-    let some : 0 < taken b t = below (taken b t) told.0 in
-    inl (omega (arith, some, n, length-map items (change_of filling.Add)), told.1)
-fills_told filling.Build items b t r n e = inr refl
+fills_shown filling.Append items b t x n e = inl (into_some filling.Append items (taken_count b t) t x n e)
+fills_shown filling.SetItem items b t x n e = inl (into_some filling.SetItem items (taken_count b t) t x n e)
+fills_shown filling.Add items b t x n e = inl (into_some filling.Add items (taken_count b t) t x n e)
+fills_shown filling.Build items b t x n e = inr refl
 
 -- an object that is of such a kind is there
 pub is_there : (test : Kind → Bool) (heap : List Object) (id : ℕ) → object_is test heap id ≡ true → (o : Object) × (slice_get heap id ≡ Some o) × (test o.kind ≡ true)

@@ -1,17 +1,14 @@
--- The loop that tells items as they are stepped.
-use Rattle.std.proofs.Common.{◌≡◌, ℕ, zero, suc, ◌+◌, ◌-◌, ◌<◌, ◌≤◌, ◌==◌, ◌&&◌, Bool, true, false, List, [], ◌++◌, length, drop, Option, Some, None, Ok, refl, sym, ap, subst, ◌∙◌, add-one, append_assoc, arith}
-use Rattle.std.specs.Prelude.{⊤, take, if◌then◌else◌, Result, Err, IfOk, IfErr, IsErrAnd, MatchBool}
+-- The loop that writes a line for each step.
+use Rattle.std.proofs.Common.{◌≡◌, ℕ, zero, suc, ◌+◌, ◌-◌, ◌<◌, ◌≤◌, ◌==◌, ◌&&◌, Bool, true, false, List, [], ◌++◌, length, drop, Option, Some, None, Ok, refl, sym, ap, subst, ◌∙◌, add-one, append_assoc, arith, rules}
+use Rattle.std.specs.Prelude.{take, if◌then◌else◌, Result, Err, IfOk, IfErr, IsErrAnd, MatchBool}
 use Rattle.std.proofs.lemmas.List.{take_all, length-map, append-nil}
 use Rattle.std.proofs.lemmas.Option.{slice_get_past}
 use Rattle.pickle_io.specs.Text.{◌⧺◌}
-use Rattle.pickle_io.specs.declared.sink.Failed.{Failed}
 use Rattle.pickle_io.specs.Device.{Told, Wrote, Broke, Writes, WroteAllBut}
 use Rattle.pickle_io.proofs.Devices.{Wrote-none, Wrote-trans, Broke-after, Broke-more}
 use Rattle.pickle_ops.specs.Spelling.{Operation, size_of}
 use Rattle.pickle_doc.specs.declared.item.Item.{Item}
 use Rattle.pickle_doc.specs.declared.fault.TailFault.{TailFault}
-use Rattle.pickle_doc.specs.declared.fault.Finish.{Finish}
-use Rattle.pickle_doc.specs.declared.fault.Finish.TheVariants as finish
 use Rattle.pickle_doc.specs.DocUnit.{sizes, is_stop, ends_reading}
 use Rattle.pickle_doc.specs.Document.{Contents, items_of, document_bytes, ends_with_stop, finish_by, finish_of, ReadsAs, size_limit}
 use Rattle.pickle_doc.specs.Tail.{HasTailFault}
@@ -33,22 +30,21 @@ use Rattle.pickle_machine.specs.Move.{move, next, outcome, refusal_of, refusal_a
 use Rattle.pickle_report.proofs.Runs.{run_nothing}
 use Rattle.pickle_report.specs.declared.stop.TextStop.{TextStop}
 use Rattle.pickle_report.specs.declared.stop.TextStop.TheVariants as stop
-use Rattle.pickle_report.specs.Line.{fault_line}
-use Rattle.pickle_report.specs.Report.{refused_line}
-use Rattle.pickle_listing.specs.Line.{kept_line}
-use Rattle.pickle_listing.specs.Listing.{end_lines, end_status, reached}
+use Rattle.pickle_report.specs.declared.report.Closing.{Closing}
+use Rattle.pickle_report.specs.declared.report.Closing.TheVariants as closing
+use Rattle.pickle_report.specs.Report.{closing_status, refused_on}
+use Rattle.pickle_listing.specs.Listing.{reached}
 use Rattle.pickle_listing.proofs.Moves.{move_heap, refused_move}
 use Rattle.pickle_listing.proofs.Places.{offset_next, offset_small, run-suc, reached_here, reached_last, is_reached}
 use Rattle.pickle_listing.proofs.Listings.{within, place_within, ops_within}
 use Rattle.pickle_listing.proofs.Listed.{last_taken}
-use Rattle.pickle_calls.specs.declared.reach.Reach.{Reach}
-use Rattle.pickle_calls.specs.declared.reach.Reach.TheVariants as reach
+use Rattle.pickle_calls.specs.declared.event.Event.{Event}
+use Rattle.pickle_calls.specs.declared.event.Event.TheVariants as event
 use Rattle.pickle_calls.specs.declared.totals.Totals.{Totals}
-use Rattle.pickle_calls.specs.Reach.{before_of, reach_of, object_is}
-use Rattle.pickle_calls.specs.Line.{totals_line, one_if, is_import, is_call}
-use Rattle.pickle_calls.specs.Calls.{Entry, no_entry, entry, entry_at, entries, refused_lines, calls, calls_to}
+use Rattle.pickle_calls.specs.Event.{before_of, event_of, object_is}
+use Rattle.pickle_calls.specs.Line.{line_of, imports_of, calls_of, end_text, one_if, is_import, is_call}
+use Rattle.pickle_calls.specs.Calls.{Entry, no_entry, entry, entry_at, entries, closing_of, closing_at, kept_by, calls, calls_to}
 use Rattle.pickle_calls.specs.Written.{TellsCalls, BreaksCalls, BeginsCalls, CutsCalls}
-use Rattle.pickle_calls.specs.Inside.Answer.{IsAnswer}
 
 -- ---- what items come to
 
@@ -56,9 +52,9 @@ pub entries-zero : (d : Contents) → entries d 0 ≡ no_entry
 unfolding entries
 entries-zero d = refl
 
-line-suc : (d : Contents) (k : ℕ) → (entries d (suc k)).line ≡ (entries d k).line ++ (entry_at d k).line
+text-suc : (d : Contents) (k : ℕ) → (entries d (suc k)).text ≡ (entries d k).text ++ (entry_at d k).text
 unfolding entries ◌⧺◌
-line-suc d k = refl
+text-suc d k = refl
 
 imports-suc : (d : Contents) (k : ℕ) → (entries d (suc k)).imports ≡ (entries d k).imports + (entry_at d k).imports
 unfolding entries
@@ -70,110 +66,90 @@ calls-suc d k = refl
 
 -- item k, where it has a move
 pub entry_is : (d : Contents) (k : ℕ) (o : Operation) (s t : State) → item_at d k ≡ Some o → run (start d.many) (ops_of d) k ≡ Some s → run (start d.many) (ops_of d) (suc k) ≡ Some t
-    → entry_at d k ≡ entry (offset_of d k) t.heap (reach_of (row_of o) (before_of (fresh s)) t)
+    → entry_at d k ≡ entry (offset_of d k) t.heap (event_of (row_of o) (before_of (fresh s)) t)
 unfolding entry_at
 entry_is d k o s t e r f = rw (e, r, f) refl
 
--- the first step of a further pickle fills nothing, so that it reaches the same from the state of the pickle before
-reach_begun : (r : Row) (s t : State) → refusal_of r (begun s) ≡ None → reach_of r (before_of s) t ≡ reach_of r (before_of (begun s)) t
-reach_begun (row.Change filling.Append) s t e = absurd cc
-reach_begun (row.Change filling.SetItem) s t e = absurd cc
-reach_begun (row.Change filling.Add) s t e = absurd cc
-reach_begun (row.Change filling.Build) s t e = absurd cc
-reach_begun (row.CutChange f) s t e = absurd cc
-reach_begun _ s t e = refl
+-- the first step of a further pickle fills nothing, so that its event is the same from the state of the pickle before
+event_begun : (r : Row) (s t : State) → refusal_of r (begun s) ≡ None → event_of r (before_of s) t ≡ event_of r (before_of (begun s)) t
+event_begun (row.Change filling.Append) s t e = absurd cc
+event_begun (row.Change filling.SetItem) s t e = absurd cc
+event_begun (row.Change filling.Add) s t e = absurd cc
+event_begun (row.Change filling.Build) s t e = absurd cc
+event_begun (row.CutChange f) s t e = absurd cc
+event_begun _ s t e = refl
 
-reach_by : (b : Bool) (r : Row) (s t : State) → refusal_of r (if b then begun s else s) ≡ None → reach_of r (before_of s) t ≡ reach_of r (before_of (if b then begun s else s)) t
-reach_by true r s t e = reach_begun r s t e
-reach_by false r s t e = refl
+event_by : (b : Bool) (r : Row) (s t : State) → refusal_of r (if b then begun s else s) ≡ None → event_of r (before_of s) t ≡ event_of r (before_of (if b then begun s else s)) t
+event_by true r s t e = event_begun r s t e
+event_by false r s t e = refl
 
 accepted : (r : Option Refusal) (u t : State) → outcome r u ≡ Ok t → r ≡ None
 accepted None u t e = refl
 accepted (Some r) u t e = absurd cc
 
 -- what is looked at of the state as it stands serves as well
-reach_is : (o : Operation) (k : ℕ) (s t : State) → move o k s ≡ Ok t → reach_of (row_of o) (before_of s) t ≡ reach_of (row_of o) (before_of (fresh s)) t
-reach_is o k s t e = reach_by s.stopped (row_of o) s t (accepted (refusal_at o s) (next o k s) t e)
+event_is : (o : Operation) (k : ℕ) (s t : State) → move o k s ≡ Ok t → event_of (row_of o) (before_of s) t ≡ event_of (row_of o) (before_of (fresh s)) t
+event_is o k s t e = event_by s.stopped (row_of o) s t (accepted (refusal_at o s) (next o k s) t e)
 
 -- what is written for it
 entry_here : (d : Contents) (k offset : ℕ) (o : Operation) (s t : State) → item_at d k ≡ Some o → run (start d.many) (ops_of d) k ≡ Some s → move o k s ≡ Ok t → offset ≡ offset_of d k
-    → entry_at d k ≡ entry offset t.heap (reach_of (row_of o) (before_of s) t)
+    → entry_at d k ≡ entry offset t.heap (event_of (row_of o) (before_of s) t)
 entry_here d k offset o s t e r m f =
     let next : run (start d.many) (ops_of d) (suc k) ≡ Some t = rw (run-suc (start d.many) (ops_of d) k o s e r, m) refl in
-    entry_is d k o s t e r next ∙ ap (λ (x : Option Reach). entry (offset_of d k) t.heap x) (sym (reach_is o k s t m)) ∙ ap (λ (n : ℕ). entry n t.heap (reach_of (row_of o) (before_of s) t)) (sym f)
-
--- the counts do not look at the offset
-same_imports : (offset : ℕ) (heap : List Object) (r : Option Reach) → (entry 0 heap r).imports ≡ (entry offset heap r).imports
-same_imports offset heap None = refl
-same_imports offset heap (Some r) = refl
-
-same_calls : (offset : ℕ) (heap : List Object) (r : Option Reach) → (entry 0 heap r).calls ≡ (entry offset heap r).calls
-same_calls offset heap None = refl
-same_calls offset heap (Some r) = refl
+    entry_is d k o s t e r next ∙ ap (λ (x : Option Event). entry (offset_of d k) t.heap x) (sym (event_is o k s t m)) ∙ ap (λ (n : ℕ). entry n t.heap (event_of (row_of o) (before_of s) t)) (sym f)
 
 one_or_none : (b : _) → one_if b ≤ 1
 one_or_none true = omega arith
 one_or_none false = omega arith
 
-few_imports : (heap : List Object) (r : Option Reach) → (entry 0 heap r).imports ≤ 1
+few_imports : (heap : List Object) (e : Option Event) → imports_of heap e ≤ 1
 few_imports heap None = omega arith
-few_imports heap (Some (reach.Made id)) = one_or_none (object_is is_import heap id)
-few_imports heap (Some (reach.State value target)) = omega arith
-few_imports heap (Some (reach.Append count target)) = omega arith
-few_imports heap (Some (reach.SetItem count target)) = omega arith
-few_imports heap (Some (reach.Add count target)) = omega arith
+few_imports heap (Some (event.Made id)) = one_or_none (object_is is_import heap id)
+few_imports heap (Some (event.State value target)) = omega arith
+few_imports heap (Some (event.Filled f count target)) = omega arith
 
-few_calls : (heap : List Object) (r : Option Reach) → (entry 0 heap r).calls ≤ 1
+few_calls : (heap : List Object) (e : Option Event) → calls_of heap e ≤ 1
 few_calls heap None = omega arith
-few_calls heap (Some (reach.Made id)) = one_or_none (object_is is_call heap id)
-few_calls heap (Some (reach.State value target)) = omega arith
-few_calls heap (Some (reach.Append count target)) = omega arith
-few_calls heap (Some (reach.SetItem count target)) = omega arith
-few_calls heap (Some (reach.Add count target)) = omega arith
+few_calls heap (Some (event.Made id)) = one_or_none (object_is is_call heap id)
+few_calls heap (Some (event.State value target)) = omega arith
+few_calls heap (Some (event.Filled f count target)) = omega arith
 
-entries_more : (d : Contents) (k n : ℕ) → (rest : List ℕ) × ((entries d (k + n)).line ≡ (entries d k).line ++ rest)
-entries_more d k zero = let e : k + 0 ≡ k = omega arith in ([], rw e (sym (append-nil (entries d k).line)))
+entries_more : (d : Contents) (k n : ℕ) → (rest : List ℕ) × ((entries d (k + n)).text ≡ (entries d k).text ++ rest)
+entries_more d k zero = let e : k + 0 ≡ k = omega arith in ([], rw e (sym (append-nil (entries d k).text)))
 entries_more d k (suc n) =
     let e : k + suc n ≡ suc (k + n) = omega arith in
     let before = entries_more d k n in
-    let last : List ℕ = (entry_at d (k + n)).line in
-    (before.0 ++ last, rw e (line-suc d (k + n) ∙ ap (λ (t : List ℕ). t ++ last) before.1 ∙ append_assoc (entries d k).line before.0 last))
+    let last : List ℕ = (entry_at d (k + n)).text in
+    (before.0 ++ last, rw e (text-suc d (k + n) ∙ ap (λ (t : List ℕ). t ++ last) before.1 ∙ append_assoc (entries d k).text before.0 last))
 
 -- the first lines come first
-entries_first : (d : Contents) (k n : ℕ) → k ≤ n → (rest : List ℕ) × ((entries d n).line ≡ (entries d k).line ++ rest)
+entries_first : (d : Contents) (k n : ℕ) → k ≤ n → (rest : List ℕ) × ((entries d n).text ≡ (entries d k).text ++ rest)
 entries_first d k n h =
     let e : k + (n - k) ≡ n = omega arith in
     let more = entries_more d k (n - k) in
-    (more.0, subst (λ (m : ℕ). (entries d m).line ≡ (entries d k).line ++ more.0) e more.1)
+    (more.0, subst (λ (m : ℕ). (entries d m).text ≡ (entries d k).text ++ more.0) e more.1)
 
 -- ---- beginnings of the text
 
--- the totals and the closing lines
-abbrev totals_of : Entry → List ℕ → List ℕ
-totals_of e closing = totals_line e.imports e.calls ++ closing
-
-begins_at : (d : Contents) (k j : ℕ) (o : Option Operation) (s : State) → k ≤ j → (rest : List ℕ) × ((calls_to d j o (Some s)).text ≡ (entries d k).line ++ rest)
+begins_at : (d : Contents) (k j : ℕ) (s : State) → k ≤ j → (rest : List ℕ) × ((calls_to d j (Some s)).text ≡ (entries d k).text ++ rest)
 unfolding ◌⧺◌
-begins_at d k j (Some o) s le =
+begins_at d k j s le =
     let first = entries_first d k j le in
-    let closing : List ℕ = totals_of (entries d j) (refused_lines j (refusal_at o s)) in
-    (first.0 ++ closing, ap (λ (t : List ℕ). t ++ closing) first.1 ∙ append_assoc (entries d k).line first.0 closing)
-begins_at d k j None s le =
-    let first = entries_first d k j le in
-    let closing : List ℕ = totals_of (entries d j) (end_lines d (finish_of d)) in
-    (first.0 ++ closing, ap (λ (t : List ℕ). t ++ closing) first.1 ∙ append_assoc (entries d k).line first.0 closing)
+    let c : Closing = closing_at d j (refused_on (item_at d j) s) in
+    let last : List ℕ = end_text (entries d j).imports (entries d j).calls (kept_by d c) c in
+    (first.0 ++ last, ap (λ (t : List ℕ). t ++ last) first.1 ∙ append_assoc (entries d k).text first.0 last)
 
 -- where place k is reached, the text begins with the lines before it
-begins : (d : Contents) (k : ℕ) (s : State) → run (start d.many) (ops_of d) k ≡ Some s → k ≤ length (ops_of d) → (rest : List ℕ) × ((calls d).text ≡ (entries d k).line ++ rest)
+begins : (d : Contents) (k : ℕ) (s : State) → run (start d.many) (ops_of d) k ≡ Some s → k ≤ length (ops_of d) → (rest : List ℕ) × ((calls d).text ≡ (entries d k).text ++ rest)
 unfolding calls
 begins d k s r h =
     let far = is_reached (start d.many) (ops_of d) (length (ops_of d)) in
     let last : ℕ = reached (start d.many) (ops_of d) (length (ops_of d)) in
     let le : k ≤ last = far.most k s h r in
-    let more = begins_at d k last (item_at d last) far.state le in
-    (more.0, ap (λ (x : Option State). (calls_to d last (item_at d last) x).text) far.is ∙ more.1)
+    let more = begins_at d k last far.state le in
+    (more.0, ap (λ (x : Option State). (calls_to d last x).text) far.is ∙ more.1)
 
--- ---- the items that were told
+-- ---- the items that were stepped
 
 -- the first k items have moves; this is the state that they reach, and these are the counts of their lines
 pub record Progress (d : Contents) (k offset : ℕ) (s : State) (totals : Totals) : Type 0 where
@@ -191,7 +167,7 @@ pub record Walked (many : Bool) (bytes : List ℕ) (old new : Told) (rest : List
   pub reads : ReadsAs many bytes d
   pub stands : StandsAt d k rest left
   pub progress : Progress d k offset s totals
-  pub written : Wrote old new (entries d k).line
+  pub written : Wrote old new (entries d k).text
   pub ends : ends_with_stop (take k (items_of d)) ≡ last
 
 pub walked_none : (many : Bool) (bytes : List ℕ) (a : Told) → (some : (d : Contents) × ReadsAs many bytes d) → length bytes ≤ size_limit
@@ -215,87 +191,70 @@ walked_none many bytes a some small = record {
 
 -- ---- ends
 
--- the text is what is written so far and this text after it, with this status
-record EndsWith (d : Contents) (front text : List ℕ) (status : ℕ) : Type 0 where
-  whole : (calls d).text ≡ front ++ text
-  answers : (calls d).status ≡ status
+-- the text is what is written so far and the last lines, with these counts and this closing
+pub record EndsWith (d : Contents) (front : List ℕ) (totals : Totals) (kept : ℕ) (c : Closing) : Type 0 where
+  pub whole : (calls d).text ≡ front ++ end_text totals.imports totals.calls kept c
+  pub answers : (calls d).status ≡ closing_status c
 
 refused : (d : Contents) (k offset : ℕ) (o : Operation) (s : State) (totals : Totals) (r : Refusal) → Progress d k offset s totals → item_at d k ≡ Some o → refusal_at o s ≡ Some r
-    → EndsWith d (entries d k).line (totals_line totals.imports totals.calls ⧺ refused_line k r) 1
+    → EndsWith d (entries d k).text totals 0 (closing.Refused k r)
 unfolding calls ◌⧺◌
 refused d k offset o s totals r p e f =
     let none : run (start d.many) (ops_of d) (suc k) ≡ None = run-suc (start d.many) (ops_of d) k o s e p.reached ∙ rw (refused_move o k s r f) refl in
     let h = within (ops_of d) k o e in
     let last : reached (start d.many) (ops_of d) (length (ops_of d)) ≡ k = reached_last (start d.many) (ops_of d) k (length (ops_of d)) s p.reached none (omega arith) in
     record {
-      whole = rw (last, e, p.reached, f, p.imports, p.calls) refl;
-      answers = rw (last, e, p.reached) refl;
+      whole = rw (last, p.reached, e, f, p.imports, p.calls) refl;
+      answers = rw (last, p.reached, e, f) refl;
     }
 
-ended : (d : Contents) (k offset : ℕ) (s : State) (totals : Totals) → Progress d k offset s totals → length (ops_of d) ≡ k
-    → EndsWith d (entries d k).line (totals_line totals.imports totals.calls ⧺ end_lines d (finish_of d)) (end_status (finish_of d))
+ended : (d : Contents) (k offset : ℕ) (s : State) (totals : Totals) (c : Closing) → Progress d k offset s totals → length (ops_of d) ≡ k → closing_of d (finish_of d) ≡ c
+    → EndsWith d (entries d k).text totals (kept_by d c) c
 unfolding calls ◌⧺◌
-ended d k offset s totals p all =
+ended d k offset s totals c p all is =
     let here : run (start d.many) (ops_of d) (length (ops_of d)) ≡ Some s = subst (λ (n : ℕ). run (start d.many) (ops_of d) n ≡ Some s) (sym all) p.reached in
     let last : reached (start d.many) (ops_of d) (length (ops_of d)) ≡ length (ops_of d) = reached_here (start d.many) (ops_of d) (length (ops_of d)) s here in
     let none : item_at d (length (ops_of d)) ≡ None = slice_get_past (ops_of d) (length (ops_of d)) (omega arith) in
     record {
-      whole = rw (last, none, here, p.imports, p.calls, all) refl;
-      answers = rw (last, none, here) refl;
+      whole = rw (last, here, none, p.imports, p.calls, all, is) refl;
+      answers = rw (last, here, none, is) refl;
     }
 
--- what is left of the text is this
-pub record Closes (many : Bool) (bytes : List ℕ) (old new : Told) (text : List ℕ) (status : ℕ) : Type 0 where
+-- what is left of the text are these last lines
+pub record Closes (many : Bool) (bytes : List ℕ) (old new : Told) (totals : Totals) (kept : ℕ) (c : Closing) : Type 0 where
   pub d : Contents
   pub reads : ReadsAs many bytes d
   pub front : List ℕ
   pub written : Wrote old new front
-  pub whole : (calls d).text ≡ front ++ text
-  pub answers : (calls d).status ≡ status
+  pub ends : EndsWith d front totals kept c
 
-closed : {many : Bool} (bytes : List ℕ) (a b c : Told) (text : List ℕ) (status : ℕ) → Closes many bytes a b text status → Wrote b c text → TellsCalls many bytes a c status
-closed bytes a b c text status w q =
-    let all : Wrote a c (calls w.d).text = rw w.whole (Wrote-trans a b c w.front text w.written q) in
-    (w.d, w.reads, all, sym w.answers)
+closed : {many : Bool} (bytes : List ℕ) (a b e : Told) (totals : Totals) (kept : ℕ) (c : Closing) → Closes many bytes a b totals kept c
+    → Wrote b e (end_text totals.imports totals.calls kept c) → TellsCalls many bytes a e (closing_status c)
+closed bytes a b e totals kept c w q =
+    let all : Wrote a e (calls w.d).text = rw w.ends.whole (Wrote-trans a b e w.front (end_text totals.imports totals.calls kept c) w.written q) in
+    (w.d, w.reads, (all, sym w.ends.answers))
 
-close_breaks : {many : Bool} (bytes : List ℕ) (a b c : Told) (text : List ℕ) (status : ℕ) → Closes many bytes a b text status → Broke b c text → BreaksCalls many bytes a c
-close_breaks bytes a b c text status w q =
-    let all : Broke a c (calls w.d).text = rw w.whole (Broke-after a b c w.front text w.written q) in
+close_breaks : {many : Bool} (bytes : List ℕ) (a b e : Told) (totals : Totals) (kept : ℕ) (c : Closing) → Closes many bytes a b totals kept c
+    → Broke b e (end_text totals.imports totals.calls kept c) → BreaksCalls many bytes a e
+close_breaks bytes a b e totals kept c w q =
+    let all : Broke a e (calls w.d).text = rw w.ends.whole (Broke-after a b e w.front (end_text totals.imports totals.calls kept c) w.written q) in
     (w.d, w.reads, all)
 
-pub closes_ok : {many : Bool} (bytes : List ℕ) (a b c : Told) (text : List ℕ) (status : ℕ) (w : Result ⊤ Failed) (r : Result ℕ TextStop)
-    → Closes many bytes a b text status → Writes b c w text → IsAnswer w status r → IfOk r (TellsCalls many bytes a c)
-closes_ok bytes a b c text status (Ok x) r w q e = rw e (closed bytes a b c text status w q)
-closes_ok bytes a b c text status (Err x) r w q e = rw e tt
+pub closes_ok : {many : Bool} (bytes : List ℕ) (a b e : Told) (totals : Totals) (kept : ℕ) (c : Closing) (r : Result ℕ TextStop) → Closes many bytes a b totals kept c
+    → Writes b e r (end_text totals.imports totals.calls kept c) → IfOk r (λ x. x ≡ closing_status c) → IfOk r (TellsCalls many bytes a e)
+closes_ok bytes a b e totals kept c (Ok x) w q is = rw is (closed bytes a b e totals kept c w q)
+closes_ok bytes a b e totals kept c (Err x) w q is = tt
 
-pub closes_err : {many : Bool} (bytes : List ℕ) (a b c : Told) (text : List ℕ) (status : ℕ) (w : Result ⊤ Failed) (r : Result ℕ TextStop)
-    → Closes many bytes a b text status → Writes b c w text → IsAnswer w status r → IfErr r (CutsCalls many bytes a c)
-closes_err bytes a b c text status (Ok x) r w q e = rw e tt
-closes_err bytes a b c text status (Err x) r w q e = rw e (close_breaks bytes a b c text status w q)
+pub closes_err : {many : Bool} (bytes : List ℕ) (a b e : Told) (totals : Totals) (kept : ℕ) (c : Closing) (r : Result ℕ TextStop) → Closes many bytes a b totals kept c
+    → Writes b e r (end_text totals.imports totals.calls kept c) → IfErr r (λ x. x ≡ stop.Failed) → IfErr r (CutsCalls many bytes a e)
+closes_err bytes a b e totals kept c (Ok x) w q is = tt
+closes_err bytes a b e totals kept c (Err x) w q is = rw is (close_breaks bytes a b e totals kept c w q)
 
 pub refused_closes : {many : Bool} {last : Bool} (bytes : List ℕ) (a b : Told) (rest : List ℕ) (left k offset : ℕ) (o : Operation) (s : State) (totals : Totals) (r : Refusal)
-    → Walked many bytes a b rest left k offset s totals last → IsNextItem left rest o (size_of o) → refusal_at o s ≡ Some r
-    → Closes many bytes a b (totals_line totals.imports totals.calls ⧺ refused_line k r) 1
+    → Walked many bytes a b rest left k offset s totals last → IsNextItem left rest o (size_of o) → refusal_at o s ≡ Some r → Closes many bytes a b totals 0 (closing.Refused k r)
 refused_closes bytes a b rest left k offset o s totals r w n f =
     let g = item_is w.d k left rest o (size_of o) w.stands n in
-    let e = refused w.d k offset o s totals r w.progress g.there f in
-    record { d = w.d; reads = w.reads; front = (entries w.d k).line; written = w.written; whole = e.whole; answers = e.answers }
-
--- after k items, which are all, the bytes end so
-done_closes : {many : Bool} (bytes : List ℕ) (a b : Told) (d : Contents) (k offset : ℕ) (s : State) (totals : Totals) (f : Finish) (text : List ℕ) (status : ℕ)
-    → ReadsAs many bytes d → Progress d k offset s totals → Wrote a b (entries d k).line → length (ops_of d) ≡ k
-    → finish_of d ≡ f → end_lines d f ≡ text → end_status f ≡ status
-    → Closes many bytes a b (totals_line totals.imports totals.calls ⧺ text) status
-done_closes bytes a b d k offset s totals f text status reads p wrote all is says answers =
-    let e = ended d k offset s totals p all in
-    record {
-      d = d;
-      reads = reads;
-      front = (entries d k).line;
-      written = wrote;
-      whole = e.whole ∙ ap (λ (x : List ℕ). (entries d k).line ++ (totals_line totals.imports totals.calls ⧺ x)) (ap (λ (x : Finish). end_lines d x) is ∙ says);
-      answers = e.answers ∙ ap end_status is ∙ answers;
-    }
+    record { d = w.d; reads = w.reads; front = (entries w.d k).text; written = w.written; ends = refused w.d k offset o s totals r w.progress g.there f }
 
 sizes_all : (d : Contents) (k offset : ℕ) (s : State) (totals : Totals) → Progress d k offset s totals → length (ops_of d) ≡ k → tail_offset d ≡ offset
 sizes_all d k offset s totals p all = ap sizes (sym (take_all k (items_of d) (omega (arith, all, length-map (items_of d) (λ (i : Item). i.op))))) ∙ sym p.stands
@@ -308,49 +267,61 @@ finish_there bytes a b rest left k offset s totals f x w done is =
     let last_is = ap ends_with_stop (sym all) ∙ w.ends in
     sym (finish_at w.d f x done.ended (rw (last_is, done.tail) is))
 
-pub fault_closes : {many : Bool} {last : Bool} (bytes : List ℕ) (a b : Told) (rest : List ℕ) (left k offset : ℕ) (s : State) (totals : Totals) (f : TailFault)
-    → Walked many bytes a b rest left k offset s totals last → HasTailFault left rest f → (length rest == 0 && last) ≡ false
-    → Closes many bytes a b (totals_line totals.imports totals.calls ⧺ fault_line f offset) 1
-fault_closes bytes a b rest left k offset s totals f w h x =
-    let done = fault_is w.d k left rest f w.stands h in
-    let is : finish_of w.d ≡ finish.Fault f = finish_there bytes a b rest left k offset s totals f false w done x in
-    let at = sizes_all w.d k offset s totals w.progress done.all in
-    done_closes bytes a b w.d k offset s totals (finish.Fault f) (fault_line f offset) 1 w.reads w.progress w.written done.all is (ap (λ (n : ℕ). fault_line f n) at) refl
+is_zero : (n : ℕ) → (n == 0) ≡ true → n ≡ 0
+is_zero n e = search rules
 
--- after the last STOP of several pickles
-pub none_closes : {many : Bool} {last : Bool} (bytes : List ℕ) (a b : Told) (rest : List ℕ) (left k offset : ℕ) (s : State) (totals : Totals) (f : TailFault)
-    → Walked many bytes a b rest left k offset s totals last → HasTailFault left rest f → (length rest == 0 && last) ≡ true
-    → Closes many bytes a b (totals_line totals.imports totals.calls ⧺ kept_line (length rest)) 0
-none_closes bytes a b rest left k offset s totals f w h x =
-    let done = fault_is w.d k left rest f w.stands h in
-    let is : finish_of w.d ≡ finish.Stopped = finish_there bytes a b rest left k offset s totals f true w done x in
-    done_closes bytes a b w.d k offset s totals finish.Stopped (kept_line (length rest)) 0 w.reads w.progress w.written done.all is (ap (λ (l : List ℕ). kept_line (length l)) done.tail) refl
+first_holds : (a b : Bool) → (a && b) ≡ true → a ≡ true
+first_holds true b e = refl
+first_holds false b e = absurd cc
+
+-- how the reading ends where a fault stands next
+abbrev closing_with : Bool → TailFault → ℕ → Closing
+closing_with x f offset = if x then closing.Stopped else closing.Fault f offset
+
+tail_closes_by : {many : Bool} {last : Bool} (bytes : List ℕ) (a b : Told) (rest : List ℕ) (left k offset : ℕ) (s : State) (totals : Totals) (f : TailFault) (x : Bool)
+    → (w : Walked many bytes a b rest left k offset s totals last) → IsDone w.d k rest (Some f) → (length rest == 0 && last) ≡ x → Closes many bytes a b totals 0 (closing_with x f offset)
+tail_closes_by {last = last} bytes a b rest left k offset s totals f true w done is =
+    let ends = ended w.d k offset s totals closing.Stopped w.progress done.all (ap (closing_of w.d) (finish_there bytes a b rest left k offset s totals f true w done is)) in
+    let none : length w.d.tail ≡ 0 = ap length done.tail ∙ is_zero (length rest) (first_holds (length rest == 0) last is) in
+    record { d = w.d; reads = w.reads; front = (entries w.d k).text; written = w.written; ends = subst (λ (n : ℕ). EndsWith w.d (entries w.d k).text totals n closing.Stopped) none ends }
+tail_closes_by bytes a b rest left k offset s totals f false w done is =
+    let at = sizes_all w.d k offset s totals w.progress done.all in
+    let fault = ap (closing_of w.d) (finish_there bytes a b rest left k offset s totals f false w done is) ∙ ap (λ (n : ℕ). closing.Fault f n) at in
+    record { d = w.d; reads = w.reads; front = (entries w.d k).text; written = w.written; ends = ended w.d k offset s totals (closing.Fault f offset) w.progress done.all fault }
+
+-- after all items of the bytes, n of which are left
+pub tail_closes : {many : Bool} {last : Bool} (bytes : List ℕ) (a b : Told) (rest : List ℕ) (left k offset : ℕ) (s : State) (totals : Totals) (f : TailFault) (n : ℕ) (c : Closing)
+    → Walked many bytes a b rest left k offset s totals last → HasTailFault left rest f → n ≡ length rest → c ≡ (if n == 0 && last then closing.Stopped else closing.Fault f offset)
+    → Closes many bytes a b totals 0 c
+tail_closes {many = many} {last = last} bytes a b rest left k offset s totals f n c w h same is =
+    let by : (length rest == 0 && last) ≡ (n == 0 && last) = ap (λ (m : ℕ). m == 0 && last) (sym same) in
+    subst (λ (y : Closing). Closes many bytes a b totals 0 y) (sym is) (tail_closes_by bytes a b rest left k offset s totals f (n == 0 && last) w (fault_is w.d k left rest f w.stands h) by)
 
 -- ---- item k
 
 -- the line is cut short
 pub line_breaks : {many : Bool} {last : Bool} (bytes : List ℕ) (a b c : Told) (rest : List ℕ) (left k offset : ℕ) (o : Operation) (s t : State) (totals : Totals)
-    → Walked many bytes a b rest left k offset s totals last → IsNextItem left rest o (size_of o) → move o k s ≡ Ok t → Broke b c (entry offset t.heap (reach_of (row_of o) (before_of s) t)).line
+    → Walked many bytes a b rest left k offset s totals last → IsNextItem left rest o (size_of o) → move o k s ≡ Ok t → Broke b c (line_of offset t.heap (event_of (row_of o) (before_of s) t))
     → BreaksCalls many bytes a c
 line_breaks bytes a b c rest left k offset o s t totals w n m q =
     let g = item_is w.d k left rest o (size_of o) w.stands n in
     let next : run (start w.d.many) (ops_of w.d) (suc k) ≡ Some t = rw (run-suc (start w.d.many) (ops_of w.d) k o s g.there w.progress.reached, m) refl in
-    let here : (entry_at w.d k).line ≡ (entry offset t.heap (reach_of (row_of o) (before_of s) t)).line =
-    ap (λ (e : Entry). e.line) (entry_here w.d k offset o s t g.there w.progress.reached m w.progress.stands) in
-    let line : (entries w.d (suc k)).line ≡ (entries w.d k).line ++ (entry offset t.heap (reach_of (row_of o) (before_of s) t)).line =
-    line-suc w.d k ∙ ap (λ (l : List ℕ). (entries w.d k).line ++ l) here in
-    let front : Broke a c (entries w.d (suc k)).line = rw line (Broke-after a b c (entries w.d k).line (entry offset t.heap (reach_of (row_of o) (before_of s) t)).line w.written q) in
+    let here : (entry_at w.d k).text ≡ line_of offset t.heap (event_of (row_of o) (before_of s) t) =
+    ap (λ (e : Entry). e.text) (entry_here w.d k offset o s t g.there w.progress.reached m w.progress.stands) in
+    let line : (entries w.d (suc k)).text ≡ (entries w.d k).text ++ line_of offset t.heap (event_of (row_of o) (before_of s) t) =
+    text-suc w.d k ∙ ap (λ (l : List ℕ). (entries w.d k).text ++ l) here in
+    let front : Broke a c (entries w.d (suc k)).text = rw line (Broke-after a b c (entries w.d k).text (line_of offset t.heap (event_of (row_of o) (before_of s) t)) w.written q) in
     let text = begins w.d (suc k) t next (omega (arith, within (ops_of w.d) k o g.there)) in
-    let all : Broke a c (calls w.d).text = rw text.1 (Broke-more a c (entries w.d (suc k)).line text.0 front) in
+    let all : Broke a c (calls w.d).text = rw text.1 (Broke-more a c (entries w.d (suc k)).text text.0 front) in
     (w.d, w.reads, all)
 
--- memory is wanting
+-- memory runs out
 pub memory_stops : {many : Bool} {last : Bool} (bytes : List ℕ) (a b : Told) (rest : List ℕ) (left k offset : ℕ) (o : Operation) (s : State) (totals : Totals)
     → Walked many bytes a b rest left k offset s totals last → IsNextItem left rest o (size_of o) → BeginsCalls many bytes a b
 memory_stops bytes a b rest left k offset o s totals w n =
     let g = item_is w.d k left rest o (size_of o) w.stands n in
     let text = begins w.d k s w.progress.reached (omega (arith, within (ops_of w.d) k o g.there)) in
-    let front : WroteAllBut a b (calls w.d).text text.0 = record { front = (entries w.d k).line; parts = text.1; wrote = w.written } in
+    let front : WroteAllBut a b (calls w.d).text text.0 = record { front = (entries w.d k).text; parts = text.1; wrote = w.written } in
     (w.d, w.reads, (text.0, front))
 
 -- item k was stepped and its line written: what is read now stands after it
@@ -360,24 +331,24 @@ pub record Moved (many : Bool) (bytes : List ℕ) (old new : Told) (rest : List 
   pub there : item_at d k ≡ Some o
   pub goes : MatchBool (ends_reading many o.opcode) (IsDone d (k + 1) rest None) (StandsAt d (k + 1) rest left)
   pub progress : Progress d (k + 1) offset s totals
-  pub written : Wrote old new (entries d (k + 1)).line
+  pub written : Wrote old new (entries d (k + 1)).text
 
 pub moved : {many : Bool} {last : Bool} (bytes : List ℕ) (a b c : Told) (rest : List ℕ) (left k offset : ℕ) (o : Operation) (s t : State) (totals next : Totals)
     → Walked many bytes a b rest left k offset s totals last → IsNextItem left rest o (size_of o) → move o k s ≡ Ok t
-    → Wrote b c (entry offset t.heap (reach_of (row_of o) (before_of s) t)).line
-    → next.imports ≡ totals.imports + (entry 0 t.heap (reach_of (row_of o) (before_of s) t)).imports
-    → next.calls ≡ totals.calls + (entry 0 t.heap (reach_of (row_of o) (before_of s) t)).calls
+    → Wrote b c (line_of offset t.heap (event_of (row_of o) (before_of s) t))
+    → next.imports ≡ totals.imports + imports_of t.heap (event_of (row_of o) (before_of s) t)
+    → next.calls ≡ totals.calls + calls_of t.heap (event_of (row_of o) (before_of s) t)
     → Moved many bytes a c (drop (size_of o) rest) (left_behind left o) k (offset + size_of o) o t next
 moved bytes a b c rest left k offset o s t totals next w n m q i j =
     let g = item_is w.d k left rest o (size_of o) w.stands n in
-    let r : Option Reach = reach_of (row_of o) (before_of s) t in
+    let r : Option Event = event_of (row_of o) (before_of s) t in
     let after : run (start w.d.many) (ops_of w.d) (suc k) ≡ Some t = rw (run-suc (start w.d.many) (ops_of w.d) k o s g.there w.progress.reached, m) refl in
     let here : entry_at w.d k ≡ entry offset t.heap r = entry_here w.d k offset o s t g.there w.progress.reached m w.progress.stands in
-    let line : (entries w.d (suc k)).line ≡ (entries w.d k).line ++ (entry offset t.heap r).line =
-    line-suc w.d k ∙ ap (λ (e : Entry). (entries w.d k).line ++ e.line) here in
-    let imports : (entries w.d (suc k)).imports ≡ (entries w.d k).imports + (entry offset t.heap r).imports =
+    let line : (entries w.d (suc k)).text ≡ (entries w.d k).text ++ line_of offset t.heap r =
+    text-suc w.d k ∙ ap (λ (e : Entry). (entries w.d k).text ++ e.text) here in
+    let imports : (entries w.d (suc k)).imports ≡ (entries w.d k).imports + imports_of t.heap r =
     imports-suc w.d k ∙ ap (λ (e : Entry). (entries w.d k).imports + e.imports) here in
-    let calls : (entries w.d (suc k)).calls ≡ (entries w.d k).calls + (entry offset t.heap r).calls =
+    let calls : (entries w.d (suc k)).calls ≡ (entries w.d k).calls + calls_of t.heap r =
     calls-suc w.d k ∙ ap (λ (e : Entry). (entries w.d k).calls + e.calls) here in
     record {
       d = w.d;
@@ -387,27 +358,32 @@ moved bytes a b c rest left k offset o s t totals next w n m q i j =
       progress = record {
         reached = rw (add-one k) after;
         stands = rw w.progress.stands (sym (offset_next w.d k o g.there));
-        imports = rw (add-one k) (omega (arith, imports, i, w.progress.imports, same_imports offset t.heap r));
-        calls = rw (add-one k) (omega (arith, calls, j, w.progress.calls, same_calls offset t.heap r));
+        imports = rw (add-one k) (omega (arith, imports, i, w.progress.imports));
+        calls = rw (add-one k) (omega (arith, calls, j, w.progress.calls));
         heap = omega (arith, move_heap o k s t m, w.progress.heap);
         few_imports = omega (arith, i, w.progress.few_imports, few_imports t.heap r);
         few_calls = omega (arith, j, w.progress.few_calls, few_calls t.heap r);
       };
-      written = rw (add-one k, line) (Wrote-trans a b c (entries w.d k).line (entry offset t.heap r).line w.written q);
+      written = rw (add-one k, line) (Wrote-trans a b c (entries w.d k).text (line_of offset t.heap r) w.written q);
     }
 
+and_true : (b : Bool) → (b && true) ≡ b
+and_true true = refl
+and_true false = refl
+
 pub goes_on : {many : Bool} (bytes : List ℕ) (a b : Told) (rest : List ℕ) (left k offset : ℕ) (o : Operation) (s : State) (totals : Totals)
-    → Moved many bytes a b rest left k offset o s totals → ends_reading many o.opcode ≡ false → Walked many bytes a b rest left (k + 1) offset s totals (is_stop o.opcode)
+    → Moved many bytes a b rest left k offset o s totals → ends_reading many o.opcode ≡ false → Walked many bytes a b rest left (k + 1) offset s totals (ends_reading false o.opcode)
 goes_on bytes a b rest left k offset o s totals w miss =
     let stands : StandsAt w.d (k + 1) rest left = rw miss at w.goes in
-    record { d = w.d; reads = w.reads; stands = stands; progress = w.progress; written = w.written; ends = last_taken (items_of w.d) k o w.there }
+    record { d = w.d; reads = w.reads; stands = stands; progress = w.progress; written = w.written; ends = last_taken (items_of w.d) k o w.there ∙ sym (and_true (is_stop o.opcode)) }
 
-pub stop_closes : {many : Bool} (bytes : List ℕ) (a b : Told) (rest : List ℕ) (left k offset : ℕ) (o : Operation) (s : State) (totals : Totals)
-    → Moved many bytes a b rest left k offset o s totals → ends_reading many o.opcode ≡ true → Closes many bytes a b (totals_line totals.imports totals.calls ⧺ kept_line (length rest)) 0
-stop_closes bytes a b rest left k offset o s totals w hit =
+pub stop_closes : {many : Bool} (bytes : List ℕ) (a b : Told) (rest : List ℕ) (left k offset : ℕ) (o : Operation) (s : State) (totals : Totals) (n : ℕ)
+    → Moved many bytes a b rest left k offset o s totals → ends_reading many o.opcode ≡ true → n ≡ length rest → Closes many bytes a b totals n closing.Stopped
+stop_closes bytes a b rest left k offset o s totals n w hit same =
     let done : IsDone w.d (k + 1) rest None = rw hit at w.goes in
-    done_closes bytes a b w.d (k + 1) offset s totals finish.Stopped (kept_line (length rest)) 0 w.reads w.progress w.written done.all (sym (finish_stopped w.d done.ended))
-    (ap (λ (l : List ℕ). kept_line (length l)) done.tail) refl
+    let ends = ended w.d (k + 1) offset s totals closing.Stopped w.progress done.all (ap (closing_of w.d) (sym (finish_stopped w.d done.ended))) in
+    let kept : length w.d.tail ≡ n = ap length done.tail ∙ sym same in
+    record { d = w.d; reads = w.reads; front = (entries w.d (k + 1)).text; written = w.written; ends = subst (λ (m : ℕ). EndsWith w.d (entries w.d (k + 1)).text totals m closing.Stopped) kept ends }
 
 -- ---- errors
 

@@ -1,7 +1,8 @@
 -- Objects in brief: what is named by its names, plain values by what they are, and all else by its number. An object is never
 -- looked into but for the two names of what is imported.
 -- Source: own.
-use Rattle.std.specs.Prelude.{ℕ, ◌-◌, ◌==◌, if◌then◌else◌, List, [], ◌∷◌, length, take, slice_get, codes, decimal, Option, Some, None}
+use Rattle.std.specs.Prelude.{ℕ, ◌-◌, ◌==◌, if◌then◌else◌, List, [], ◌∷◌, length, take, slice_get, codes, decimal}
+use Rattle.std.specs.Option.{option_map_or}
 use Rattle.pickle_io.specs.Text.{◌⧺◌, quoted}
 use Rattle.pickle_io.specs.Device.{each}
 use Rattle.pickle_ops.specs.Text.{long_text}
@@ -9,46 +10,42 @@ use Rattle.pickle_objects.specs.declared.kind.Kind.{Kind}
 use Rattle.pickle_objects.specs.declared.kind.Kind.TheVariants as kind
 use Rattle.pickle_objects.specs.Object.{Object}
 use Rattle.pickle_report.specs.ObjectText.{id_text, kind_text}
-use Rattle.pickle_calls.specs.Reach.{part}
+use Rattle.pickle_calls.specs.Event.{part}
+
+-- the text of an object by its kind and its parts; its number where there is no such object
+abbrev pub of_object : (Kind → List ℕ → List ℕ) → List Object → ℕ → List ℕ
+of_object text heap id = option_map_or (λ (o : Object). text o.kind o.parts) (slice_get heap id) (id_text id)
 
 -- ---- names
 
--- a name that is a text is shown by its bytes, any other object by its number
-unfoldable pub kind_word : ℕ → Kind → List ℕ
-kind_word id (kind.Text q) = quoted q
-kind_word id (kind.TextLine q) = quoted q
-kind_word id (kind.LegacyString q) = quoted q
-kind_word id (kind.LegacyLine q) = quoted q
-kind_word id _ = id_text id
+-- the name of a module or of a member: a text is shown by its bytes, any other object by its number
+unfoldable pub kind_part_name : ℕ → Kind → List ℕ
+kind_part_name id (kind.Text q) = quoted q
+kind_part_name id (kind.TextLine q) = quoted q
+kind_part_name id (kind.LegacyString q) = quoted q
+kind_part_name id (kind.LegacyLine q) = quoted q
+kind_part_name id _ = id_text id
 
-abbrev pub word_of : ℕ → Option Object → List ℕ
-word_of id (Some o) = kind_word id o.kind
-word_of id None = id_text id
-
-unfoldable pub word_text : List Object → ℕ → List ℕ
-word_text heap id = word_of id (slice_get heap id)
+unfoldable pub part_name : List Object → ℕ → List ℕ
+part_name heap id = of_object (λ (k : Kind) (parts : List ℕ). kind_part_name id k) heap id
 
 -- two names in quotes, and a blank between them
 unfoldable pub names_text : List ℕ → List ℕ → List ℕ
 names_text first second = quoted first ⧺ codes " " ⧺ quoted second
 
--- the same of two objects
-unfoldable pub words_text : List Object → List ℕ → List ℕ
-words_text heap parts = word_text heap (part 0 parts) ⧺ codes " " ⧺ word_text heap (part 1 parts)
+-- the same of the first two parts
+unfoldable pub part_names_text : List Object → List ℕ → List ℕ
+part_names_text heap parts = part_name heap (part 0 parts) ⧺ codes " " ⧺ part_name heap (part 1 parts)
 
 -- what is imported is named by its module and its name, or by its code; any other object by its number
 unfoldable pub kind_name : List Object → ℕ → Kind → List ℕ → List ℕ
 kind_name heap id (kind.Global names) parts = names_text names.first names.second
-kind_name heap id kind.StackGlobal parts = words_text heap parts
+kind_name heap id kind.StackGlobal parts = part_names_text heap parts
 kind_name heap id (kind.Ext n) parts = kind_text (kind.Ext n)
 kind_name heap id _ parts = id_text id
 
-abbrev pub name_of : List Object → ℕ → Option Object → List ℕ
-name_of heap id (Some o) = kind_name heap id o.kind o.parts
-name_of heap id None = id_text id
-
 unfoldable pub name_text : List Object → ℕ → List ℕ
-name_text heap id = name_of heap id (slice_get heap id)
+name_text heap id = of_object (kind_name heap id) heap id
 
 -- ---- texts that are cut
 
@@ -67,9 +64,9 @@ over_text n = if n == 0 then [] else codes "+" ⧺ decimal n
 unfoldable pub cut_quoted : List ℕ → List ℕ
 cut_quoted q = quoted (take most_bytes q) ⧺ over_text (length q - most_bytes)
 
--- the same after a word
+-- the same after a keyword
 unfoldable pub cut_after : List ℕ → List ℕ → List ℕ
-cut_after word q = word ⧺ cut_quoted q
+cut_after keyword q = keyword ⧺ cut_quoted q
 
 -- the number of the first bytes, or these bytes, and how many more there are
 unfoldable pub cut_long : List ℕ → List ℕ
@@ -77,7 +74,7 @@ cut_long bytes = codes "int " ⧺ long_text (take most_bytes bytes) ⧺ over_tex
 
 -- ---- objects in brief
 
--- most are told as in the line of an object; a text stands alone
+-- most as in the line of an object; a text stands alone
 unfoldable pub kind_brief : List Object → ℕ → Kind → List ℕ → List ℕ
 kind_brief heap id kind.None parts = kind_text kind.None
 kind_brief heap id kind.True parts = kind_text kind.True
@@ -95,17 +92,13 @@ kind_brief heap id (kind.TextLine q) parts = cut_quoted q
 kind_brief heap id (kind.Bytes q) parts = cut_after (codes "bytes ") q
 kind_brief heap id (kind.ByteArray q) parts = cut_after (codes "bytearray ") q
 kind_brief heap id (kind.Global names) parts = kind_text (kind.Global names)
-kind_brief heap id kind.StackGlobal parts = codes "global " ⧺ words_text heap parts
+kind_brief heap id kind.StackGlobal parts = codes "global " ⧺ part_names_text heap parts
 kind_brief heap id (kind.Ext n) parts = kind_text (kind.Ext n)
 kind_brief heap id _ parts = id_text id
 
-abbrev pub brief_of : List Object → ℕ → Option Object → List ℕ
-brief_of heap id (Some o) = kind_brief heap id o.kind o.parts
-brief_of heap id None = id_text id
-
 -- an object in brief
 unfoldable pub brief_text : List Object → ℕ → List ℕ
-brief_text heap id = brief_of heap id (slice_get heap id)
+brief_text heap id = of_object (kind_brief heap id) heap id
 
 -- ---- objects in a row
 
@@ -131,9 +124,5 @@ unfoldable pub kind_value : List Object → ℕ → Kind → List ℕ → List �
 kind_value heap id kind.Tuple parts = briefs_text heap parts
 kind_value heap id k parts = kind_brief heap id k parts
 
-abbrev pub value_of : List Object → ℕ → Option Object → List ℕ
-value_of heap id (Some o) = kind_value heap id o.kind o.parts
-value_of heap id None = id_text id
-
 unfoldable pub value_text : List Object → ℕ → List ℕ
-value_text heap id = value_of heap id (slice_get heap id)
+value_text heap id = of_object (kind_value heap id) heap id

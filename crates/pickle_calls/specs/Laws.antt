@@ -8,19 +8,20 @@ use Rattle.pickle_objects.specs.Kind.{is_opaque}
 use Rattle.pickle_objects.specs.Object.{Object}
 use Rattle.pickle_machine.specs.State.{State, start}
 use Rattle.pickle_machine.specs.Run.{run}
-use Rattle.pickle_calls.specs.Reach.{is_view}
-use Rattle.pickle_calls.specs.Calls.{Calls, calls, entry_at}
+use Rattle.pickle_report.specs.Output.{Output}
+use Rattle.pickle_calls.specs.Event.{is_view}
+use Rattle.pickle_calls.specs.Calls.{calls, entry_at}
 
 -- ---- one text
 
 -- the text of the document that the bytes read as, as several pickles or as one
-abbrev pub IsCallsOf : Bool → List ℕ → Calls → Type 0
+abbrev pub IsCallsOf : Bool → List ℕ → Output → Type 0
 IsCallsOf many bytes c = (d : Contents) × ReadsAs many bytes d × (c ≡ calls d)
 
 -- in each mode a byte string has one text with one status, and no other
 abbrev pub OneText : Type 0
 OneText = (many : Bool) (bytes : List ℕ) → AreBytes bytes → length bytes < 2 ^ 64
-    → (c : Calls) × IsCallsOf many bytes c × ((e : Contents) → ReadsAs many bytes e → c ≡ calls e)
+    → (c : Output) × IsCallsOf many bytes c × ((e : Contents) → ReadsAs many bytes e → c ≡ calls e)
 
 -- ---- no line, no reach
 
@@ -31,7 +32,7 @@ pub record IsStep (d : Contents) (k : ℕ) (s t : State) : Type 0 where
 
 -- an accepted item without a line makes no opaque object and leaves every one as it was
 abbrev pub NoLineNoReach : Type 0
-NoLineNoReach = (d : Contents) (k : ℕ) (s t : State) → IsStep d k s t → (entry_at d k).line ≡ []
+NoLineNoReach = (d : Contents) (k : ℕ) (s t : State) → IsStep d k s t → (entry_at d k).text ≡ []
     → (id : ℕ) (o : Object) → slice_get t.heap id ≡ Some o → is_opaque o.kind ≡ true → slice_get s.heap id ≡ Some o
 
 -- ---- no reach, no line
@@ -42,7 +43,7 @@ pub record Makes (s t : State) : Type 0 where
   pub object : Object
   pub there : slice_get t.heap id ≡ Some object
   pub fresh : slice_get s.heap id ≡ None
-  pub told : (is_opaque object.kind ≡ true) ⊎ (is_view t.heap object ≡ true)
+  pub shown : (is_opaque object.kind ≡ true) ⊎ (is_view t.heap object ≡ true)
 
 -- an opaque object got changes
 pub record Changes (s t : State) : Type 0 where
@@ -56,5 +57,5 @@ pub record Changes (s t : State) : Type 0 where
 
 -- a line stands only where an opaque object, or a view of one, is made, where an opaque object gets changes, or at BUILD
 abbrev pub LinesReach : Type 0
-LinesReach = (d : Contents) (k : ℕ) (s t : State) → IsStep d k s t → (entry_at d k).line ≢ []
+LinesReach = (d : Contents) (k : ℕ) (s t : State) → IsStep d k s t → (entry_at d k).text ≢ []
     → Makes s t ⊎ (Changes s t ⊎ ((o : Operation) × (item_at d k ≡ Some o) × (o.opcode ≡ op.Build)))

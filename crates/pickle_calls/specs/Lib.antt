@@ -1,8 +1,7 @@
 -- The definitions that contracts cite.
-pub mod Reach
+pub mod Event
 pub mod Brief
 pub mod Line
 pub mod Calls
 pub mod Written
 pub mod Laws
-pub mod Inside

@@ -4,8 +4,8 @@ ghost use Rattle.pickle_io.specs.Text.{◌⧺◌};
 ghost use Rattle.pickle_io.specs.Device.{Writes, each};
 ghost use Rattle.pickle_calls.specs.Brief.{over_text, cut_quoted, cut_after, cut_long, kind_brief, brief_text, next_brief, joined, more_text, briefs_text, kind_value, value_text};
 
-use crate::front::{first_bytes, first_ids};
-use crate::name::write_words_after;
+use crate::front::front;
+use crate::name::write_part_names_after;
 use pickle_objects::{Kind, ObjId, Object};
 use pickle_ops::{Failed, Sink, write_all, write_long, write_quoted};
 use pickle_report::{write_id, write_kind, write_with_number};
@@ -33,16 +33,16 @@ fn write_over<S: Sink>(count: usize, sink: &mut S) -> Result<(), Failed>
 fn write_cut<S: Sink>(text: &[u8], sink: &mut S) -> Result<(), Failed>
     ensures { Writes (S.told sink.old) (S.told sink.new) result (cut_quoted text.now) }
 {
-    write_quoted(first_bytes(text, MOST_BYTES), sink)?;
+    write_quoted(front(text, MOST_BYTES), sink)?;
     write_over(text.len().saturating_sub(MOST_BYTES), sink)
 }
 
-/// Writes a word, and the first bytes of a payload in quotes with how many more there are.
+/// Writes a keyword, and the first bytes of a payload in quotes with how many more there are.
 #[tactic(auto, using(pickle_io::proofs::Devices::text_steps), unfolding(crate::specs::Brief::cut_after))]
-fn write_cut_after<S: Sink>(word: &[u8], text: &[u8], sink: &mut S) -> Result<(), Failed>
-    ensures { Writes (S.told sink.old) (S.told sink.new) result (cut_after word.now text.now) }
+fn write_cut_after<S: Sink>(keyword: &[u8], text: &[u8], sink: &mut S) -> Result<(), Failed>
+    ensures { Writes (S.told sink.old) (S.told sink.new) result (cut_after keyword.now text.now) }
 {
-    write_all(sink, word)?;
+    write_all(sink, keyword)?;
     write_cut(text, sink)
 }
 
@@ -52,7 +52,7 @@ fn write_cut_long<S: Sink>(bytes: &[u8], sink: &mut S) -> Result<(), Failed>
     ensures { Writes (S.told sink.old) (S.told sink.new) result (cut_long bytes.now) }
 {
     write_all(sink, b"int ")?;
-    write_long(first_bytes(bytes, MOST_BYTES), sink)?;
+    write_long(front(bytes, MOST_BYTES), sink)?;
     write_over(bytes.len().saturating_sub(MOST_BYTES), sink)
 }
 
@@ -60,7 +60,7 @@ fn write_cut_long<S: Sink>(bytes: &[u8], sink: &mut S) -> Result<(), Failed>
 #[tactic(auto, unfolding(crate::specs::Brief::kind_brief))]
 fn write_kind_brief<S: Sink>(
     heap: &[Object],
-    id: usize,
+    id: ObjId,
     kind: &Kind,
     parts: &[ObjId],
     sink: &mut S,
@@ -84,26 +84,26 @@ fn write_kind_brief<S: Sink>(
         Kind::Bytes(bytes) => write_cut_after(b"bytes ", bytes.as_slice(), sink),
         Kind::ByteArray(bytes) => write_cut_after(b"bytearray ", bytes.as_slice(), sink),
         Kind::Global(_) => write_kind(kind, sink),
-        Kind::StackGlobal => write_words_after(b"global ", heap, parts, sink),
+        Kind::StackGlobal => write_part_names_after(b"global ", heap, parts, sink),
         Kind::Ext(_) => write_kind(kind, sink),
-        _ => write_id(id as u64, sink),
+        _ => write_id(u64::from(id), sink),
     }
 }
 
 /// Writes the object of this number in brief.
 #[tactic(auto, unfolding(crate::specs::Brief::brief_text))]
-fn write_brief<S: Sink>(heap: &[Object], id: usize, sink: &mut S) -> Result<(), Failed>
+fn write_brief<S: Sink>(heap: &[Object], id: ObjId, sink: &mut S) -> Result<(), Failed>
     ensures { Writes (S.told sink.old) (S.told sink.new) result (brief_text heap.now id) }
 {
-    match heap.get(id) {
+    match heap.get(id as usize) {
         Some(object) => write_kind_brief(heap, id, object.kind(), object.parts(), sink),
-        None => write_id(id as u64, sink),
+        None => write_id(u64::from(id), sink),
     }
 }
 
 /// Writes one object more in brief, after a comma.
 #[tactic(auto, using(pickle_io::proofs::Devices::text_steps), unfolding(crate::specs::Brief::next_brief))]
-fn write_next<S: Sink>(heap: &[Object], id: usize, sink: &mut S) -> Result<(), Failed>
+fn write_next<S: Sink>(heap: &[Object], id: ObjId, sink: &mut S) -> Result<(), Failed>
     ensures { Writes (S.told sink.old) (S.told sink.new) result (next_brief heap.now id) }
 {
     write_all(sink, b", ")?;
@@ -116,7 +116,7 @@ fn write_all_next<S: Sink>(heap: &[Object], ids: &[ObjId], sink: &mut S) -> Resu
     ensures { Writes (S.told sink.old) (S.told sink.new) result (each (next_brief heap.now) ids.now) }
 {
     for id in ids {
-        write_next(heap, *id as usize, sink)?;
+        write_next(heap, *id, sink)?;
     }
     Ok(())
 }
@@ -125,7 +125,7 @@ fn write_all_next<S: Sink>(heap: &[Object], ids: &[ObjId], sink: &mut S) -> Resu
 #[tactic(auto, using(pickle_io::proofs::Devices::text_steps))]
 fn write_some<S: Sink>(
     heap: &[Object],
-    first: usize,
+    first: ObjId,
     rest: &[ObjId],
     sink: &mut S,
 ) -> Result<(), Failed>
@@ -142,7 +142,7 @@ fn write_joined<S: Sink>(heap: &[Object], ids: &[ObjId], sink: &mut S) -> Result
 {
     match ids.split_first() {
         None => Ok(()),
-        Some((first, rest)) => write_some(heap, *first as usize, rest, sink),
+        Some((first, rest)) => write_some(heap, *first, rest, sink),
     }
 }
 
@@ -164,7 +164,7 @@ pub fn write_briefs<S: Sink>(heap: &[Object], ids: &[ObjId], sink: &mut S) -> Re
     ensures { Writes (S.told sink.old) (S.told sink.new) result (briefs_text heap.now ids.now) }
 {
     write_all(sink, b"(")?;
-    write_joined(heap, first_ids(ids, MOST_OBJECTS), sink)?;
+    write_joined(heap, front(ids, MOST_OBJECTS), sink)?;
     write_more(ids.len().saturating_sub(MOST_OBJECTS), sink)?;
     write_all(sink, b")")
 }
@@ -173,7 +173,7 @@ pub fn write_briefs<S: Sink>(heap: &[Object], ids: &[ObjId], sink: &mut S) -> Re
 #[tactic(auto, unfolding(crate::specs::Brief::kind_value))]
 fn write_kind_value<S: Sink>(
     heap: &[Object],
-    id: usize,
+    id: ObjId,
     kind: &Kind,
     parts: &[ObjId],
     sink: &mut S,
@@ -188,11 +188,11 @@ fn write_kind_value<S: Sink>(
 
 /// Writes the object of this number as a value: the parts of a tuple, or what it is in brief.
 #[tactic(auto, unfolding(crate::specs::Brief::value_text))]
-pub fn write_value<S: Sink>(heap: &[Object], id: usize, sink: &mut S) -> Result<(), Failed>
+pub fn write_value<S: Sink>(heap: &[Object], id: ObjId, sink: &mut S) -> Result<(), Failed>
     ensures { Writes (S.told sink.old) (S.told sink.new) result (value_text heap.now id) }
 {
-    match heap.get(id) {
+    match heap.get(id as usize) {
         Some(object) => write_kind_value(heap, id, object.kind(), object.parts(), sink),
-        None => write_id(id as u64, sink),
+        None => write_id(u64::from(id), sink),
     }
 }

@@ -1,25 +1,23 @@
 //! What items would import and call, one after another.
 
-ghost use Rattle.std.specs.Prelude.{◌≡◌, ◌≢◌, ◌≤◌, ◌<◌, ◌-◌, ◌^◌, ◌==◌, ◌&&◌, length, Ok, Some, OnOk, IfOk, IfErr};
-ghost use Rattle.pickle_doc.specs.DocUnit.{is_stop};
+ghost use Rattle.std.specs.Prelude.{◌≡◌, ◌≢◌, ◌≤◌, ◌<◌, ◌-◌, ◌^◌, length, Ok, Some, OnOk, IfOk, IfErr};
 ghost use Rattle.pickle_doc.specs.Document.{Contents, ReadsAs, size_limit};
 ghost use Rattle.pickle_machine.specs.Move.{move, refusal_at};
-ghost use Rattle.pickle_calls.specs.Inside.Answer.{IsAnswer};
 ghost use Rattle.pickle_calls.specs.Written.{TellsCalls, CutsCalls};
 
-use crate::close::{write_fault_end, write_refused_end, write_stopped_end};
-use crate::line::write_entry;
-use crate::reach::{Before, reach_of};
+use crate::end::{closing_at, write_end};
+use crate::event::{Before, event_of};
+use crate::line::write_line;
 use crate::totals::Totals;
 use pickle_doc::{ItemSource, Items, NextRef, ends_reading};
 use pickle_machine::{Machine, Refusal};
 use pickle_objects::Row;
-use pickle_ops::{Failed, OpRef, Opcode, Sink};
-use pickle_report::{TextStop, machine_of};
+use pickle_ops::{OpRef, Sink};
+use pickle_report::{Closing, TextStop, machine_of};
 use std::alloc::Global;
 
-/// Steps a machine over an item, and keeps no record. `Refusal::Memory` comes for want of memory too where the item's argument is
-/// copied.
+/// Steps a machine over an item, and keeps no record. `Refusal::Memory` where memory runs out, also where the copy of the item's
+/// argument fails.
 fn step_over(
     alloc: Global,
     op: &OpRef<'_>,
@@ -37,33 +35,11 @@ fn step_over(
     Ok(())
 }
 
-/// Whether an opcode is STOP.
-fn is_stop(opcode: Opcode) -> bool
-    ensures { result ≡ is_stop opcode }
-{
-    matches!(opcode, Opcode::Stop)
-}
-
-/// Whether items that end in STOP, or do not, are all that there is, where so many bytes are left.
-fn is_last(stop: bool, left: u64) -> bool
-    ensures { result ≡ (left == 0 && stop) }
-{
-    left == 0 && stop
-}
-
-/// The answer with this status where the last lines were written, or where the sink failed.
-fn answer(closed: Result<(), Failed>, status: u8) -> Result<u8, TextStop>
-    ensures { IsAnswer closed status result }
-{
-    closed?;
-    Ok(status)
-}
-
 /// Writes what the items that a source gives from the first on would import and call, as several pickles or as one, and answers the
 /// status: 1 where an item is refused or the bytes have a fault, else 0. A machine of its own runs the items; each line is written
 /// when its item was stepped, and no item, no step and no line is kept. The source is to give a document that is not too large.
 ///
-/// `Memory` (M) comes for want of memory, `Failed` from the sink; what was written then is a beginning of the text.
+/// `Memory` (M) where memory runs out, `Failed` where the sink fails; what was written then is a beginning of the text.
 pub fn calls_of_items<'a, I: ItemSource<'a>, S: Sink>(
     alloc: Global,
     many: bool,
@@ -78,18 +54,15 @@ pub fn calls_of_items<'a, I: ItemSource<'a>, S: Sink>(
 {
     let mut reader = source;
     let mut machine = machine_of(alloc, many);
-    let mut totals = Totals::none();
+    let mut totals = Totals::new();
     let mut offset = 0;
     let mut place = 0;
     let mut stop = false;
     'items: loop {
         match reader.next() {
             NextRef::Tail(fault) => {
-                let kept = reader.unread_len();
-                if is_last(stop, kept) {
-                    return answer(write_stopped_end(totals, kept, sink), 0);
-                }
-                return answer(write_fault_end(totals, fault, offset, sink), 1);
+                let closing = closing_at(stop, reader.unread_len(), fault, offset);
+                return write_end(totals, 0, closing, sink);
             }
             NextRef::Item(op) => {
                 let row = Row::of_ref(&op);
@@ -98,25 +71,25 @@ pub fn calls_of_items<'a, I: ItemSource<'a>, S: Sink>(
                     if refusal == Refusal::Memory {
                         return Err(TextStop::Memory);
                     }
-                    return answer(write_refused_end(totals, place, refusal, sink), 1);
+                    return write_end(totals, 0, Closing::Refused(place, refusal), sink);
                 }
-                let reach = reach_of(row, before, &machine);
-                write_entry(offset, machine.heap(), reach, sink)?;
-                totals = totals.with(machine.heap(), reach);
+                let event = event_of(row, before, &machine);
+                write_line(offset, machine.heap(), event, sink)?;
+                totals = totals.with(machine.heap(), event);
                 offset += op.size() as u64;
                 place += 1;
                 if ends_reading(many, op.opcode()) {
-                    let kept = reader.unread_len();
-                    return answer(write_stopped_end(totals, kept, sink), 0);
+                    return write_end(totals, reader.unread_len(), Closing::Stopped, sink);
                 }
-                stop = is_stop(op.opcode());
+                // STOP is what ends the reading of one pickle.
+                stop = ends_reading(false, op.opcode());
             }
         }
     }
 }
 
-/// Writes what the pickle that the bytes are, or the several pickles, would import and call, and answers the status, as
-/// `calls_of_items` does. There are to be no more bytes than the limit.
+/// Writes what a pickle, or several pickles, would import and call, and answers the status, as `calls_of_items` does. There are to
+/// be no more bytes than the limit.
 pub fn calls_of_bytes<S: Sink>(
     alloc: Global,
     many: bool,

@@ -5,13 +5,12 @@
 
 mod brief;
 mod calls;
-mod close;
-mod column;
+mod end;
+mod event;
 mod front;
 mod laws;
 mod line;
 mod name;
-mod reach;
 mod totals;
 
 pub use calls::{calls_of_bytes, calls_of_items};

@@ -1,22 +1,20 @@
-//! The lines.
+//! The lines, one for each event.
 
 ghost use Rattle.pickle_io.specs.Text.{◌⧺◌};
-ghost use Rattle.std.specs.Prelude.{◌≡◌, drop, slice_get};
+ghost use Rattle.std.specs.Prelude.{◌≡◌, drop};
 ghost use Rattle.pickle_io.specs.Device.{Writes};
-ghost use Rattle.pickle_report.specs.ObjectText.{id_text};
 ghost use Rattle.pickle_calls.specs.Brief.{value_text};
-ghost use Rattle.pickle_calls.specs.Reach.{part};
-ghost use Rattle.pickle_calls.specs.Line.{inst_text, call_text, call_with_text, obj_text, made_words, made_text, made_of, state_text, filled_text, reach_text, reach_line};
-ghost use Rattle.pickle_calls.specs.Calls.{entry};
+ghost use Rattle.pickle_calls.specs.Event.{part};
+ghost use Rattle.pickle_calls.specs.Line.{inst_text, call_text, call_with_text, obj_text, made_words, made_text, made_at, state_text, fill_keyword, fill_link, filled_text, event_text, event_line, line_of};
 
 use crate::brief::{write_briefs, write_value};
-use crate::column::write_right;
-use crate::name::{write_name, write_words_after};
-use crate::reach::{Reach, part};
-use pickle_objects::{Kind, ObjId, Object};
-use pickle_ops::{Failed, Sink, write_all, write_decimal};
+use crate::event::{Event, part};
+use crate::name::{write_name, write_part_names_after};
+use pickle_listing::write_right;
+use pickle_objects::{Filling, Kind, ObjId, Object};
+use pickle_ops::{Failed, Sink, write_all};
 use pickle_report::{
-    write_id, write_with_number, write_with_signed, write_with_text, write_with_texts,
+    write_behind, write_id, write_with_number, write_with_signed, write_with_text, write_with_texts,
 };
 
 /// Writes that a member of a module is imported and called.
@@ -35,18 +33,18 @@ fn write_inst<S: Sink>(
     write_briefs(heap, parts, sink)
 }
 
-/// Writes a call, or a new instance, after a word.
+/// Writes a call, or a new instance, after a keyword.
 #[tactic(auto, using(pickle_io::proofs::Devices::text_steps), unfolding(crate::specs::Line::call_text))]
 fn write_call<S: Sink>(
-    word: &[u8],
+    keyword: &[u8],
     heap: &[Object],
     parts: &[ObjId],
     sink: &mut S,
 ) -> Result<(), Failed>
-    ensures { Writes (S.told sink.old) (S.told sink.new) result (call_text word.now heap.now parts.now) }
+    ensures { Writes (S.told sink.old) (S.told sink.new) result (call_text keyword.now heap.now parts.now) }
 {
     let called = part(0, parts);
-    write_all(sink, word)?;
+    write_all(sink, keyword)?;
     write_name(heap, called, sink)?;
     write_all(sink, b" ")?;
     write_value(heap, part(1, parts), sink)
@@ -83,27 +81,18 @@ fn write_obj<S: Sink>(heap: &[Object], parts: &[ObjId], sink: &mut S) -> Result<
     write_briefs(heap, after_first(parts), sink)
 }
 
-/// Writes a word and an object as a value.
+/// Writes a keyword and an object as a value.
 #[tactic(auto, using(pickle_io::proofs::Devices::text_steps))]
 fn write_value_after<S: Sink>(
-    word: &[u8],
+    keyword: &[u8],
     heap: &[Object],
-    id: usize,
+    id: ObjId,
     sink: &mut S,
 ) -> Result<(), Failed>
-    ensures { Writes (S.told sink.old) (S.told sink.new) result (word.now ⧺ value_text heap.now id) }
+    ensures { Writes (S.told sink.old) (S.told sink.new) result (keyword.now ⧺ value_text heap.now id) }
 {
-    write_all(sink, word)?;
+    write_all(sink, keyword)?;
     write_value(heap, id, sink)
-}
-
-/// Writes a word and an object by its number.
-#[tactic(auto, using(pickle_io::proofs::Devices::text_steps))]
-fn write_id_after<S: Sink>(word: &[u8], id: usize, sink: &mut S) -> Result<(), Failed>
-    ensures { Writes (S.told sink.old) (S.told sink.new) result (word.now ⧺ id_text id) }
-{
-    write_all(sink, word)?;
-    write_id(id as u64, sink)
 }
 
 /// Writes what made an object of this kind with these parts.
@@ -118,7 +107,7 @@ fn write_made_words<S: Sink>(
 {
     match kind {
         Kind::Global(names) => write_with_texts(b"import ", names.first(), names.second(), sink),
-        Kind::StackGlobal => write_words_after(b"import ", heap, parts, sink),
+        Kind::StackGlobal => write_part_names_after(b"import ", heap, parts, sink),
         Kind::Ext(code) => write_with_signed(b"import ext ", *code, sink),
         Kind::Inst(names) => write_inst(heap, names.first(), names.second(), parts, sink),
         Kind::Call => write_call(b"call ", heap, parts, sink),
@@ -128,7 +117,7 @@ fn write_made_words<S: Sink>(
         Kind::PersistentLine(text) => write_with_text(b"persistent ", text.as_slice(), sink),
         Kind::Persistent => write_value_after(b"persistent ", heap, part(0, parts), sink),
         Kind::Buffer(number) => write_with_number(b"buffer ", *number, sink),
-        Kind::ReadOnly => write_id_after(b"readonly ", part(0, parts), sink),
+        Kind::ReadOnly => write_behind(b"readonly ", part(0, parts), sink),
         _ => Ok(()),
     }
 }
@@ -137,7 +126,7 @@ fn write_made_words<S: Sink>(
 #[tactic(auto, using(pickle_io::proofs::Devices::text_steps), unfolding(crate::specs::Line::made_text))]
 fn write_made_object<S: Sink>(
     heap: &[Object],
-    id: usize,
+    id: ObjId,
     object: &Object,
     sink: &mut S,
 ) -> Result<(), Failed>
@@ -145,15 +134,15 @@ fn write_made_object<S: Sink>(
 {
     write_made_words(heap, object.kind(), object.parts(), sink)?;
     write_all(sink, b" as ")?;
-    write_id(id as u64, sink)
+    write_id(u64::from(id), sink)
 }
 
 /// Writes what made the object of this number.
 #[tactic(auto, using(pickle_io::proofs::Devices::text_steps))]
-fn write_made<S: Sink>(heap: &[Object], id: usize, sink: &mut S) -> Result<(), Failed>
-    ensures { Writes (S.told sink.old) (S.told sink.new) result (made_of heap.now id (slice_get heap.now id)) }
+fn write_made<S: Sink>(heap: &[Object], id: ObjId, sink: &mut S) -> Result<(), Failed>
+    ensures { Writes (S.told sink.old) (S.told sink.new) result (made_at heap.now id) }
 {
-    match heap.get(id) {
+    match heap.get(id as usize) {
         Some(object) => write_made_object(heap, id, object, sink),
         None => Ok(()),
     }
@@ -163,81 +152,98 @@ fn write_made<S: Sink>(heap: &[Object], id: usize, sink: &mut S) -> Result<(), F
 #[tactic(auto, using(pickle_io::proofs::Devices::text_steps), unfolding(crate::specs::Line::state_text))]
 fn write_state<S: Sink>(
     heap: &[Object],
-    value: usize,
-    target: usize,
+    value: ObjId,
+    target: ObjId,
     sink: &mut S,
 ) -> Result<(), Failed>
     ensures { Writes (S.told sink.old) (S.told sink.new) result (state_text heap.now value target) }
 {
-    write_all(sink, b"state ")?;
-    write_value(heap, value, sink)?;
+    write_value_after(b"state ", heap, value, sink)?;
     write_all(sink, b" to ")?;
-    write_id(target as u64, sink)
+    write_id(u64::from(target), sink)
+}
+
+/// The keyword of what goes into an object.
+#[tactic(auto, unfolding(crate::specs::Line::fill_keyword))]
+fn fill_keyword(filling: Filling) -> &'static str
+    ensures { result.now ≡ fill_keyword filling }
+{
+    match filling {
+        Filling::Append => "append ",
+        Filling::SetItem => "set ",
+        Filling::Add => "add ",
+        Filling::Build => "",
+    }
+}
+
+/// The word before the object that something goes into.
+#[tactic(auto, unfolding(crate::specs::Line::fill_link))]
+fn fill_link(filling: Filling) -> &'static str
+    ensures { result.now ≡ fill_link filling }
+{
+    match filling {
+        Filling::Append => " to ",
+        Filling::SetItem => " in ",
+        Filling::Add => " to ",
+        Filling::Build => "",
+    }
 }
 
 /// Writes how many go into which object.
 #[tactic(auto, using(pickle_io::proofs::Devices::text_steps), unfolding(crate::specs::Line::filled_text))]
 fn write_filled<S: Sink>(
-    word: &[u8],
+    filling: Filling,
     count: usize,
-    link: &[u8],
-    target: usize,
+    target: ObjId,
     sink: &mut S,
 ) -> Result<(), Failed>
-    ensures { Writes (S.told sink.old) (S.told sink.new) result (filled_text word.now count link.now target) }
+    ensures { Writes (S.told sink.old) (S.told sink.new) result (filled_text filling count target) }
 {
-    write_all(sink, word)?;
-    write_decimal(count as u64, sink)?;
-    write_all(sink, link)?;
-    write_id(target as u64, sink)
+    write_with_number(fill_keyword(filling).as_bytes(), count as u64, sink)?;
+    write_all(sink, fill_link(filling).as_bytes())?;
+    write_id(u64::from(target), sink)
 }
 
-/// Writes what a step reaches, by the objects after it.
-#[tactic(auto, unfolding(crate::specs::Line::reach_text))]
-fn write_reach<S: Sink>(heap: &[Object], reach: Reach, sink: &mut S) -> Result<(), Failed>
-    ensures { Writes (S.told sink.old) (S.told sink.new) result (reach_text heap.now reach) }
+/// Writes an event, by the objects after the step.
+#[tactic(auto, unfolding(crate::specs::Line::event_text))]
+fn write_event<S: Sink>(heap: &[Object], event: Event, sink: &mut S) -> Result<(), Failed>
+    ensures { Writes (S.told sink.old) (S.told sink.new) result (event_text heap.now event) }
 {
-    match reach {
-        Reach::Made(id) => write_made(heap, id, sink),
-        Reach::State(value, target) => write_state(heap, value as usize, target as usize, sink),
-        Reach::Append(count, target) => {
-            write_filled(b"append ", count, b" to ", target as usize, sink)
-        }
-        Reach::SetItem(count, target) => {
-            write_filled(b"set ", count, b" in ", target as usize, sink)
-        }
-        Reach::Add(count, target) => write_filled(b"add ", count, b" to ", target as usize, sink),
+    match event {
+        Event::Made(id) => write_made(heap, id, sink),
+        Event::State(value, target) => write_state(heap, value, target, sink),
+        Event::Filled(filling, count, target) => write_filled(filling, count, target, sink),
     }
 }
 
-/// Writes the line of a step whose item stands at this offset.
-#[tactic(auto, using(pickle_io::proofs::Devices::text_steps), unfolding(crate::specs::Line::reach_line))]
-fn write_line<S: Sink>(
+/// Writes the line of an event whose item stands at this offset.
+#[tactic(auto, using(pickle_io::proofs::Devices::text_steps), unfolding(crate::specs::Line::event_line))]
+fn write_event_line<S: Sink>(
     offset: u64,
     heap: &[Object],
-    reach: Reach,
+    event: Event,
     sink: &mut S,
 ) -> Result<(), Failed>
-    ensures { Writes (S.told sink.old) (S.told sink.new) result (reach_line offset heap.now reach) }
+    ensures { Writes (S.told sink.old) (S.told sink.new) result (event_line offset heap.now event) }
 {
     write_right(offset, sink)?;
     write_all(sink, b": ")?;
-    write_reach(heap, reach, sink)?;
+    write_event(heap, event, sink)?;
     write_all(sink, b"\n")
 }
 
-/// Writes the line of a step, if it reaches something.
+/// Writes the line of a step, if it has an event.
 #[tactic(auto, using(pickle_io::proofs::Devices::text_steps))]
-pub fn write_entry<S: Sink>(
+pub fn write_line<S: Sink>(
     offset: u64,
     heap: &[Object],
-    reach: Option<Reach>,
+    event: Option<Event>,
     sink: &mut S,
 ) -> Result<(), Failed>
-    ensures { Writes (S.told sink.old) (S.told sink.new) result (entry offset heap.now reach).line }
+    ensures { Writes (S.told sink.old) (S.told sink.new) result (line_of offset heap.now event) }
 {
-    match reach {
-        Some(reach) => write_line(offset, heap, reach, sink),
+    match event {
+        Some(event) => write_event_line(offset, heap, event, sink),
         None => Ok(()),
     }
 }

@@ -1,12 +1,11 @@
 //! How many imports and calls the lines are.
 
 ghost use Rattle.std.specs.Prelude.{◌≡◌};
-ghost use Rattle.pickle_calls.specs.Line.{is_import, is_call};
-ghost use Rattle.pickle_calls.specs.Reach.{object_is};
-ghost use Rattle.pickle_calls.specs.Calls.{entry};
+ghost use Rattle.pickle_calls.specs.Line.{is_import, is_call, imports_of, calls_of};
+ghost use Rattle.pickle_calls.specs.Event.{object_is};
 
-use crate::reach::Reach;
-use pickle_objects::{Kind, Object};
+use crate::event::Event;
+use pickle_objects::{Kind, ObjId, Object};
 
 /// How many imports and calls the lines are that were written.
 #[derive(Clone, Copy)]
@@ -45,52 +44,52 @@ fn is_call(kind: &Kind) -> bool
 }
 
 /// Whether the object of this number is there and is imported.
-fn is_import_at(heap: &[Object], id: usize) -> bool
+fn is_import_at(heap: &[Object], id: ObjId) -> bool
     ensures { result ≡ object_is is_import heap.now id }
 {
-    match heap.get(id) {
+    match heap.get(id as usize) {
         Some(object) => is_import(object.kind()),
         None => false,
     }
 }
 
 /// Whether the object of this number is there and a call makes it.
-fn is_call_at(heap: &[Object], id: usize) -> bool
+fn is_call_at(heap: &[Object], id: ObjId) -> bool
     ensures { result ≡ object_is is_call heap.now id }
 {
-    match heap.get(id) {
+    match heap.get(id as usize) {
         Some(object) => is_call(object.kind()),
         None => false,
     }
 }
 
-/// How many imports the line of a step is, if it has one.
-fn imports_of(heap: &[Object], reach: Option<Reach>) -> u64
-    ensures { result ≡ (entry 0 heap.now reach).imports }
+/// How many imports a step is.
+fn imports_of(heap: &[Object], event: Option<Event>) -> u64
+    ensures { result ≡ imports_of heap.now event }
 {
-    match reach {
-        Some(Reach::Made(id)) => u64::from(is_import_at(heap, id)),
+    match event {
+        Some(Event::Made(id)) => u64::from(is_import_at(heap, id)),
         _ => 0,
     }
 }
 
-/// How many calls the line of a step is, if it has one.
-fn calls_of(heap: &[Object], reach: Option<Reach>) -> u64
-    ensures { result ≡ (entry 0 heap.now reach).calls }
+/// How many calls a step is.
+fn calls_of(heap: &[Object], event: Option<Event>) -> u64
+    ensures { result ≡ calls_of heap.now event }
 {
-    match reach {
+    match event {
         None => 0,
-        Some(Reach::Made(id)) => u64::from(is_call_at(heap, id)),
+        Some(Event::Made(id)) => u64::from(is_call_at(heap, id)),
         Some(_) => 1,
     }
 }
 
 impl Totals {
     ghost use Rattle.std.specs.Prelude.{◌≡◌, ◌+◌, ◌<◌, ◌≤◌, ◌-◌, ◌^◌};
-    ghost use Rattle.pickle_calls.specs.Calls.{entry};
+    ghost use Rattle.pickle_calls.specs.Line.{imports_of, calls_of};
 
     /// No line was written.
-    pub fn none() -> Totals
+    pub fn new() -> Totals
         ensures { result ≡ record { imports = 0; calls = 0 } }
     {
         Totals {
@@ -99,16 +98,16 @@ impl Totals {
         }
     }
 
-    /// The line of one step more, if it has one.
-    pub fn with(self, heap: &[Object], reach: Option<Reach>) -> Totals
+    /// With the line of one step more, if it has one.
+    pub fn with(self, heap: &[Object], event: Option<Event>) -> Totals
         requires imports { self.imports < 2 ^ 32 }
         requires calls { self.calls < 2 ^ 32 }
-        ensures imports { result.imports ≡ self.imports + (entry 0 heap.now reach).imports }
-        ensures calls { result.calls ≡ self.calls + (entry 0 heap.now reach).calls }
+        ensures imports { result.imports ≡ self.imports + imports_of heap.now event }
+        ensures calls { result.calls ≡ self.calls + calls_of heap.now event }
     {
         Totals {
-            imports: self.imports + imports_of(heap, reach),
-            calls: self.calls + calls_of(heap, reach),
+            imports: self.imports + imports_of(heap, event),
+            calls: self.calls + calls_of(heap, event),
         }
     }
 }

@@ -4,5 +4,4 @@ pub mod Places
 pub mod Cuts
 pub mod Feeding
 pub mod Endings
-pub mod Listings
-pub mod Callings
+pub mod Outputs

@@ -1,7 +1,6 @@
 pub mod Stop
-pub mod List
+pub mod Output
 pub mod Objects
-pub mod Calls
 pub mod Script
 pub mod Query
 pub mod Transcript

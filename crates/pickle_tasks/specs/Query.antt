@@ -27,7 +27,7 @@ query_text query.Memo s t = memo_text t.memo
 query_text (query.Show n) s t = shown t.heap n
 query_text query.Where s t = where_text s t
 
--- whether memory may be wanting: only to show an object that is there
+-- whether memory may run out: only to show an object that is there
 abbrev pub asks_memory : Query → State → Bool
 asks_memory query.Items t = false
 asks_memory query.Objects t = false
@@ -36,6 +36,6 @@ asks_memory query.Memo t = false
 asks_memory (query.Show n) t = nat_lt n (length t.heap)
 asks_memory query.Where t = false
 
--- the texts that are allowed: what is told, or want of memory
+-- the texts that are allowed: what is told, or that memory runs out
 abbrev pub IsTold : Query → Session → State → List ℕ → Type 0
 IsTold query s t text = (text ≡ query_text query s t) ⊎ ((asks_memory query t ≡ true) × (text ≡ syntax_line syntax.Memory))

@@ -1,5 +1,5 @@
 -- What the lines of a script may be answered.
--- Source: own. It is a relation, since a line may also be answered by want of memory.
+-- Source: own. It is a relation, since a line may also be answered by running out of memory.
 use Rattle.std.specs.Prelude.{◌≡◌, ◌≢◌, ℕ, List, [], ◌∷◌, codes, eqb, Bool, true, false, if◌then◌else◌, MatchOption, Option, Some, Result, Ok, Err}
 use Rattle.std.specs.List.{starts_with, list_any}
 use Rattle.pickle_doc.specs.Place.{IsPlaceAt, end_of}
@@ -62,7 +62,7 @@ GivesBy (Ok (line.Query query)) p text q = Shows query p text q
 GivesBy (Ok line.Quit) p text q = Tells p [] text q
 GivesBy (Err f) p text q = Tells p (syntax_line f) text q
 
--- what a line may be read as: what it says, or its first fault, or want of memory for the operation that it names
+-- what a line may be read as: what it says, or its first fault, or running out of memory for the operation that it names
 abbrev pub IsRead : List ℕ → Result Line Syntax → Type 0
 IsRead bytes says = grammar.Answers (grammar.line_says bytes) says
 

@@ -3,7 +3,7 @@
 ghost use Rattle.std.specs.Prelude.{◌≡◌, ◌<◌, ◌↔◌, true, false, length, IfOk, IfErr, Err};
 ghost use Rattle.pickle_doc.specs.Document.{size_limit};
 ghost use Rattle.pickle_calls.specs.Written.{TellsCalls};
-ghost use Rattle.pickle_tasks.specs.Calls.{StopsCalls};
+ghost use Rattle.pickle_tasks.specs.Output.{StopsCalls};
 
 use crate::stop::Stop;
 use pickle_calls::calls_of_bytes;
@@ -11,10 +11,10 @@ use pickle_doc::LIMIT;
 use pickle_ops::Sink;
 use std::alloc::Global;
 
-/// Writes what the pickle that the bytes are would import and call, a line for each step that does so, and how many imports and
-/// calls these are; answers the status: 1 where an item is refused or the bytes have a fault, else 0.
-/// `Stop::TooLarge` comes where there are more bytes than `LIMIT`, `Stop::Memory` for want of memory, and `Stop::Write` from
-/// the sink; what was written then is a beginning of the text.
+/// Writes what the pickle would import and call, a line for each step that does so, and how many imports and calls these are;
+/// answers the status: 1 where an item is refused or the bytes have a fault, else 0.
+/// `Stop::TooLarge` where there are more bytes than `LIMIT`, `Stop::Memory` where memory runs out, `Stop::Write` where the sink
+/// fails; what was written then is a beginning of the text.
 pub fn calls<S: Sink>(alloc: Global, bytes: &[u8], sink: &mut S) -> Result<u8, Stop>
     ensures told { IfOk result (TellsCalls false bytes.now (S.told sink.old) (S.told sink.new)) }
 
@@ -28,8 +28,8 @@ pub fn calls<S: Sink>(alloc: Global, bytes: &[u8], sink: &mut S) -> Result<u8, S
     calls_as(alloc, false, bytes, sink)
 }
 
-/// Writes what the several pickles that the bytes are, which follow one another, would import and call: the lines of all of them,
-/// and the counts once. Otherwise this is as `calls`.
+/// Writes what several pickles, one after another, would import and call: the lines of all of them, and the counts once. Otherwise
+/// this is as `calls`.
 pub fn calls_many<S: Sink>(alloc: Global, bytes: &[u8], sink: &mut S) -> Result<u8, Stop>
     ensures told { IfOk result (TellsCalls true bytes.now (S.told sink.old) (S.told sink.new)) }
     ensures stopped { IfErr result (StopsCalls true bytes.now (S.told sink.old) (S.told sink.new)) }
@@ -39,8 +39,8 @@ pub fn calls_many<S: Sink>(alloc: Global, bytes: &[u8], sink: &mut S) -> Result<
     calls_as(alloc, true, bytes, sink)
 }
 
-/// Writes what the bytes would import and call, as several pickles or as one.
-fn calls_as<S: Sink>(alloc: Global, many: bool, bytes: &[u8], sink: &mut S) -> Result<u8, Stop>
+/// `calls_many` where `many` holds, else `calls`.
+pub fn calls_as<S: Sink>(alloc: Global, many: bool, bytes: &[u8], sink: &mut S) -> Result<u8, Stop>
     ensures told { IfOk result (TellsCalls many bytes.now (S.told sink.old) (S.told sink.new)) }
     ensures stopped { IfErr result (StopsCalls many bytes.now (S.told sink.old) (S.told sink.new)) }
     ensures too_large { (result ≡ Err Stop.TooLarge) ↔ (size_limit < length bytes.now) }

@@ -3,7 +3,7 @@
 ghost use Rattle.std.specs.Prelude.{◌≡◌, ◌<◌, ◌↔◌, true, false, length, IfOk, IfErr, Err};
 ghost use Rattle.pickle_doc.specs.Document.{size_limit};
 ghost use Rattle.pickle_listing.specs.Written.{IsListed};
-ghost use Rattle.pickle_tasks.specs.List.{StopsListing};
+ghost use Rattle.pickle_tasks.specs.Output.{StopsListing};
 
 use crate::stop::Stop;
 use pickle_doc::LIMIT;
@@ -11,9 +11,9 @@ use pickle_listing::list_bytes;
 use pickle_ops::Sink;
 use std::alloc::Global;
 
-/// Writes the listing of the pickle that the bytes are, and answers its status: 1 where an item is refused or the
-/// bytes have a fault, else 0. `Stop::TooLarge` comes where there are more bytes than `LIMIT`, `Stop::Memory` for
-/// want of memory, and `Stop::Write` from the sink; what was written then is a beginning of the listing.
+/// Writes the listing of the pickle, and answers its status: 1 where an item is refused or the bytes have a fault, else 0.
+/// `Stop::TooLarge` where there are more bytes than `LIMIT`, `Stop::Memory` where memory runs out, `Stop::Write` where the sink
+/// fails; what was written then is a beginning of the listing.
 pub fn list<S: Sink>(alloc: Global, bytes: &[u8], sink: &mut S) -> Result<u8, Stop>
     ensures listed { IfOk result (IsListed false bytes.now (S.told sink.old) (S.told sink.new)) }
 
@@ -27,7 +27,7 @@ pub fn list<S: Sink>(alloc: Global, bytes: &[u8], sink: &mut S) -> Result<u8, St
     list_as(alloc, false, bytes, sink)
 }
 
-/// Writes the listing of the several pickles that the bytes are, which follow one another. Otherwise this is as `list`.
+/// Writes the listing of several pickles, one after another. Otherwise this is as `list`.
 pub fn list_many<S: Sink>(alloc: Global, bytes: &[u8], sink: &mut S) -> Result<u8, Stop>
     ensures listed { IfOk result (IsListed true bytes.now (S.told sink.old) (S.told sink.new)) }
     ensures stopped { IfErr result (StopsListing true bytes.now (S.told sink.old) (S.told sink.new)) }
@@ -37,8 +37,8 @@ pub fn list_many<S: Sink>(alloc: Global, bytes: &[u8], sink: &mut S) -> Result<u
     list_as(alloc, true, bytes, sink)
 }
 
-/// Writes the listing of the bytes, as several pickles or as one.
-fn list_as<S: Sink>(alloc: Global, many: bool, bytes: &[u8], sink: &mut S) -> Result<u8, Stop>
+/// `list_many` where `many` holds, else `list`.
+pub fn list_as<S: Sink>(alloc: Global, many: bool, bytes: &[u8], sink: &mut S) -> Result<u8, Stop>
     ensures listed { IfOk result (IsListed many bytes.now (S.told sink.old) (S.told sink.new)) }
     ensures stopped { IfErr result (StopsListing many bytes.now (S.told sink.old) (S.told sink.new)) }
     ensures too_large { (result ≡ Err Stop.TooLarge) ↔ (size_limit < length bytes.now) }

@@ -30,7 +30,7 @@ impl Pending {
     ghost use Rattle.pickle_tasks.specs.Inside.Progress.{longer, is_refused};
 
     /// No byte of a line, and no line refused. All the room that is ever needed is made here; it fails
-    /// only for want of memory.
+    /// only where memory runs out.
     pub fn new(alloc: Global) -> Result<Pending, AllocError>
         ensures { IfOk result (λ p. p ≡ record { line = []; refused = false }) }
     {

@@ -40,7 +40,7 @@ fn write_missing<P: Past, K: Sink>(
     Ok(Outcome::Refused)
 }
 
-/// Writes an object with all that it contains, or that memory is wanting for it.
+/// Writes an object with all that it contains, or that memory runs out for it.
 #[tactic(auto, using(crate::proofs::Queries::told_steps))]
 fn write_object_of<P: Past, K: Sink>(
     alloc: Global,

@@ -1,7 +1,7 @@
--- Columns, names, and the offsets that are carried along from item to item.
+-- Names, and the offsets that are carried along from item to item.
 use Rattle.std.proofs.Common.{◌≡◌, ℕ, zero, suc, ◌+◌, ◌≤◌, ◌<◌, ◌^◌, true, false, List, [], ◌∷◌, length, take, drop, slice_get, codes, Option, None, Some, refl, ap, arith}
-use Rattle.std.specs.Prelude.{is_some, unwrap_or, replicate}
-use Rattle.std.proofs.lemmas.List.{take-append-drop, take-replicate}
+use Rattle.std.specs.Prelude.{is_some, unwrap_or}
+use Rattle.std.proofs.lemmas.List.{take-append-drop}
 use Rattle.pickle_ops.specs.Spelling.{Operation, size_of}
 use Rattle.pickle_io.specs.Text.{◌⧺◌}
 use Rattle.pickle_doc.specs.declared.item.Item.{Item}
@@ -9,13 +9,7 @@ use Rattle.pickle_doc.specs.DocUnit.{sizes, operations}
 use Rattle.pickle_doc.specs.Document.{Contents, items_of, document_bytes, size_limit}
 use Rattle.pickle_doc.specs.Place.{item_at, offset_of}
 use Rattle.pickle_doc.proofs.Units.{sizes-append, length_document}
-use Rattle.pickle_page.specs.Column.{blanks}
 use Rattle.pickle_text.specs.PlaceText.{behind_name}
-
--- ---- columns
-
-pub blanks_cut : (count : ℕ) → count ≤ 5 → take count (replicate 5 32) ≡ blanks count
-blanks_cut count h = take-replicate {X = ℕ} count 5 32 h
 
 -- ---- names
 

@@ -235,7 +235,7 @@ abbrev pub IsSpelledOp : Option Operation → Type 0
 IsSpelledOp None = ⊤
 IsSpelledOp (Some o) = IsSpelled o
 
--- the faults of an operation; for want of memory there is an answer of its own
+-- the faults of an operation; running out of memory has an answer of its own
 abbrev pub OpFails : Option Operation → Syntax → Type 0
 OpFails (Some o) (syntax.BadOp f) = (f ≢ fault.Memory) × FailsAsArg o.opcode o.arg f
 OpFails (Some o) syntax.Memory = ⊤

@@ -127,7 +127,7 @@ fn is_hex(word: &[u8]) -> bool
 }
 
 /// The digits of the whole argument, none where it is empty; nothing may stand after them. It takes no memory, so that
-/// want of memory hides no fault of a word.
+/// running out of memory hides no fault of a word.
 fn hex_last(rest: &[u8]) -> Result<&[u8], Syntax>
     ensures { MatchResult result (λ text. (bytes : List ℕ) × (arg_last (words_of rest.now) ≡ Ok bytes) × (decode_of text.now ≡ Ok bytes)) (λ f. arg_last (words_of rest.now) ≡ Err f) }
 {

@@ -2,7 +2,6 @@
 //! from here too.
 #![tactic(auto)]
 
-mod column;
 mod fault_text;
 mod grammar;
 mod items;

@@ -1,0 +1,67 @@
+//! The last lines.
+
+ghost use Rattle.std.specs.Prelude.{◌≡◌, ◌==◌, ◌&&◌, if◌then◌else◌, IfOk, IfErr};
+ghost use Rattle.pickle_io.specs.Device.{Writes};
+ghost use Rattle.pickle_report.specs.Report.{closing_status};
+ghost use Rattle.pickle_calls.specs.Line.{totals_line, end_text};
+
+use crate::totals::Totals;
+use pickle_doc::TailFault;
+use pickle_listing::write_kept_line;
+use pickle_ops::{Failed, Sink, write_all, write_decimal};
+use pickle_report::{Closing, TextStop, status_of, write_closing};
+
+/// How the reading ends where no further item stands: `stop` says that the last one is STOP, and `left` bytes are left, which begin
+/// at `offset` and have this fault. STOP and no byte after it are the end of several pickles.
+pub fn closing_at(stop: bool, left: u64, fault: TailFault, offset: u64) -> Closing
+    ensures { result ≡ (if left == 0 && stop then Closing.Stopped else Closing.Fault fault offset) }
+{
+    if left == 0 && stop {
+        Closing::Stopped
+    } else {
+        Closing::Fault(fault, offset)
+    }
+}
+
+/// Writes how many imports and calls the lines are.
+#[tactic(auto, using(pickle_io::proofs::Devices::text_steps), unfolding(crate::specs::Line::totals_line))]
+fn write_totals<S: Sink>(totals: Totals, sink: &mut S) -> Result<(), Failed>
+    ensures { Writes (S.told sink.old) (S.told sink.new) result (totals_line totals.imports totals.calls) }
+{
+    write_decimal(totals.imports, sink)?;
+    write_all(sink, b" imports, ")?;
+    write_decimal(totals.calls, sink)?;
+    write_all(sink, b" calls")?;
+    write_all(sink, b"\n")
+}
+
+/// Writes the last lines.
+#[tactic(auto, using(pickle_io::proofs::Devices::text_steps), unfolding(crate::specs::Line::end_text))]
+fn write_last_lines<S: Sink>(
+    totals: Totals,
+    kept: u64,
+    closing: Closing,
+    sink: &mut S,
+) -> Result<(), Failed>
+    ensures { Writes (S.told sink.old) (S.told sink.new) result (end_text totals.imports totals.calls kept closing) }
+{
+    write_totals(totals, sink)?;
+    write_kept_line(kept, sink)?;
+    write_closing(closing, sink)
+}
+
+/// Writes the last lines: how many imports and calls there are, how many bytes STOP left, and how the reading ended. Answers the
+/// status.
+pub fn write_end<S: Sink>(
+    totals: Totals,
+    kept: u64,
+    closing: Closing,
+    sink: &mut S,
+) -> Result<u8, TextStop>
+    ensures text { Writes (S.told sink.old) (S.told sink.new) result (end_text totals.imports totals.calls kept closing) }
+    ensures status { IfOk result (λ status. status ≡ closing_status closing) }
+    ensures failed { IfErr result (λ e. e ≡ TextStop.Failed) }
+{
+    write_last_lines(totals, kept, closing, sink)?;
+    Ok(status_of(closing))
+}
