@@ -1,4 +1,4 @@
-use Rattle.std.proofs.Common.{◌≡◌, ◌==◌, ◌&&◌, ℕ, drop, length, true, false, sym, ap, ◌∙◌, arith, rules}
+use Rattle.std.proofs.Common.{◌≡◌, drop, length, true, false, sym, ap, ◌∙◌, arith, rules}
 use Rattle.pickle_ops.specs.Spelling.{size_of}
 use Rattle.pickle_doc.specs.Tail.{HasTailFault}
 use Rattle.pickle_doc.specs.Fitting.{left_behind}
