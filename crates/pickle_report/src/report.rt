@@ -59,9 +59,10 @@ pub fn write_refused<S: Sink>(place: usize, refusal: Refusal, sink: &mut S) -> R
     write_all(sink, b"\n")
 }
 
-/// Writes how a run ended.
+/// Writes how a run ended: nothing where it stopped, else the line of the refused item or of the fault. It takes no memory.
+/// `Failed` where the sink fails; a front of the line was written then.
 #[tactic(auto, unfolding(crate::specs::Report::closing_line))]
-fn write_closing<S: Sink>(closing: Closing, sink: &mut S) -> Result<(), Failed>
+pub fn write_closing<S: Sink>(closing: Closing, sink: &mut S) -> Result<(), Failed>
     ensures { Writes (S.told sink.old) (S.told sink.new) result (closing_line closing) }
 {
     match closing {
@@ -71,8 +72,8 @@ fn write_closing<S: Sink>(closing: Closing, sink: &mut S) -> Result<(), Failed>
     }
 }
 
-/// The status of a run that ended so.
-fn status_of(closing: Closing) -> u8
+/// The status of a run that ended so: 0 where it stopped, 1 where an item is refused or the tail has a fault.
+pub fn status_of(closing: Closing) -> u8
     ensures { result ≡ closing_status closing }
 {
     match closing {
