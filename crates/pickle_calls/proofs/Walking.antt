@@ -27,23 +27,22 @@ use Rattle.pickle_machine.specs.declared.refusal.Refusal.{Refusal}
 use Rattle.pickle_machine.specs.State.{State, start}
 use Rattle.pickle_machine.specs.Run.{run}
 use Rattle.pickle_machine.specs.Move.{move, next, outcome, refusal_of, refusal_at, begun, fresh}
-use Rattle.pickle_report.proofs.Runs.{run_nothing}
+use Rattle.pickle_report.proofs.Runs.{run_nothing, last_taken}
 use Rattle.pickle_report.specs.declared.stop.TextStop.{TextStop}
 use Rattle.pickle_report.specs.declared.stop.TextStop.TheVariants as stop
 use Rattle.pickle_report.specs.declared.report.Closing.{Closing}
 use Rattle.pickle_report.specs.declared.report.Closing.TheVariants as closing
-use Rattle.pickle_report.specs.Report.{closing_status, refused_on}
+use Rattle.pickle_report.specs.Report.{closing_status, closing_at, refused_on}
 use Rattle.pickle_listing.specs.Listing.{reached}
 use Rattle.pickle_listing.proofs.Moves.{move_heap, refused_move}
 use Rattle.pickle_listing.proofs.Places.{offset_next, offset_small, run-suc, reached_here, reached_last, is_reached}
 use Rattle.pickle_listing.proofs.Listings.{within, place_within, ops_within}
-use Rattle.pickle_listing.proofs.Listed.{last_taken}
 use Rattle.pickle_calls.specs.declared.event.Event.{Event}
 use Rattle.pickle_calls.specs.declared.event.Event.TheVariants as event
 use Rattle.pickle_calls.specs.declared.totals.Totals.{Totals}
 use Rattle.pickle_calls.specs.Event.{before_of, event_of, object_is}
 use Rattle.pickle_calls.specs.Line.{line_of, imports_of, calls_of, end_text, one_if, is_import, is_call}
-use Rattle.pickle_calls.specs.Calls.{Entry, no_entry, entry, entry_at, entries, closing_of, closing_at, kept_by, calls, calls_to}
+use Rattle.pickle_calls.specs.Calls.{Entry, no_entry, entry, entry_at, entries, closing_of, closing_to, kept_by, calls, calls_to}
 use Rattle.pickle_calls.specs.Written.{TellsCalls, BreaksCalls, BeginsCalls, CutsCalls}
 
 -- ---- what items come to
@@ -135,7 +134,7 @@ begins_at : (d : Contents) (k j : ℕ) (s : State) → k ≤ j → (rest : List 
 unfolding ◌⧺◌
 begins_at d k j s le =
     let first = entries_first d k j le in
-    let c : Closing = closing_at d j (refused_on (item_at d j) s) in
+    let c : Closing = closing_to d j (refused_on (item_at d j) s) in
     let last : List ℕ = end_text (entries d j).imports (entries d j).calls (kept_by d c) c in
     (first.0 ++ last, ap (λ (t : List ℕ). t ++ last) first.1 ∙ append_assoc (entries d k).text first.0 last)
 
@@ -274,12 +273,8 @@ first_holds : (a b : Bool) → (a && b) ≡ true → a ≡ true
 first_holds true b e = refl
 first_holds false b e = absurd cc
 
--- how the reading ends where a fault stands next
-abbrev closing_with : Bool → TailFault → ℕ → Closing
-closing_with x f offset = if x then closing.Stopped else closing.Fault f offset
-
 tail_closes_by : {many : Bool} {last : Bool} (bytes : List ℕ) (a b : Told) (rest : List ℕ) (left k offset : ℕ) (s : State) (totals : Totals) (f : TailFault) (x : Bool)
-    → (w : Walked many bytes a b rest left k offset s totals last) → IsDone w.d k rest (Some f) → (length rest == 0 && last) ≡ x → Closes many bytes a b totals 0 (closing_with x f offset)
+    → (w : Walked many bytes a b rest left k offset s totals last) → IsDone w.d k rest (Some f) → (length rest == 0 && last) ≡ x → Closes many bytes a b totals 0 (closing_at x f offset)
 tail_closes_by {last = last} bytes a b rest left k offset s totals f true w done is =
     let ends = ended w.d k offset s totals closing.Stopped w.progress done.all (ap (closing_of w.d) (finish_there bytes a b rest left k offset s totals f true w done is)) in
     let none : length w.d.tail ≡ 0 = ap length done.tail ∙ is_zero (length rest) (first_holds (length rest == 0) last is) in
@@ -291,7 +286,7 @@ tail_closes_by bytes a b rest left k offset s totals f false w done is =
 
 -- after all items of the bytes, n of which are left
 pub tail_closes : {many : Bool} {last : Bool} (bytes : List ℕ) (a b : Told) (rest : List ℕ) (left k offset : ℕ) (s : State) (totals : Totals) (f : TailFault) (n : ℕ) (c : Closing)
-    → Walked many bytes a b rest left k offset s totals last → HasTailFault left rest f → n ≡ length rest → c ≡ (if n == 0 && last then closing.Stopped else closing.Fault f offset)
+    → Walked many bytes a b rest left k offset s totals last → HasTailFault left rest f → n ≡ length rest → c ≡ closing_at (n == 0 && last) f offset
     → Closes many bytes a b totals 0 c
 tail_closes {many = many} {last = last} bytes a b rest left k offset s totals f n c w h same is =
     let by : (length rest == 0 && last) ≡ (n == 0 && last) = ap (λ (m : ℕ). m == 0 && last) (sym same) in
@@ -367,15 +362,11 @@ moved bytes a b c rest left k offset o s t totals next w n m q i j =
       written = rw (add-one k, line) (Wrote-trans a b c (entries w.d k).text (line_of offset t.heap r) w.written q);
     }
 
-and_true : (b : Bool) → (b && true) ≡ b
-and_true true = refl
-and_true false = refl
-
 pub goes_on : {many : Bool} (bytes : List ℕ) (a b : Told) (rest : List ℕ) (left k offset : ℕ) (o : Operation) (s : State) (totals : Totals)
-    → Moved many bytes a b rest left k offset o s totals → ends_reading many o.opcode ≡ false → Walked many bytes a b rest left (k + 1) offset s totals (ends_reading false o.opcode)
+    → Moved many bytes a b rest left k offset o s totals → ends_reading many o.opcode ≡ false → Walked many bytes a b rest left (k + 1) offset s totals (is_stop o.opcode)
 goes_on bytes a b rest left k offset o s totals w miss =
     let stands : StandsAt w.d (k + 1) rest left = rw miss at w.goes in
-    record { d = w.d; reads = w.reads; stands = stands; progress = w.progress; written = w.written; ends = last_taken (items_of w.d) k o w.there ∙ sym (and_true (is_stop o.opcode)) }
+    record { d = w.d; reads = w.reads; stands = stands; progress = w.progress; written = w.written; ends = last_taken (items_of w.d) k o w.there }
 
 pub stop_closes : {many : Bool} (bytes : List ℕ) (a b : Told) (rest : List ℕ) (left k offset : ℕ) (o : Operation) (s : State) (totals : Totals) (n : ℕ)
     → Moved many bytes a b rest left k offset o s totals → ends_reading many o.opcode ≡ true → n ≡ length rest → Closes many bytes a b totals n closing.Stopped

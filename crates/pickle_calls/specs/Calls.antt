@@ -62,9 +62,9 @@ closing_of d finish.Stopped = closing.Stopped
 closing_of d (finish.Fault f) = closing.Fault f (tail_offset d)
 
 -- how it ends at the greatest place that is reached: at item k, which is refused, or after all items
-abbrev pub closing_at : Contents → ℕ → Option Refusal → Closing
-closing_at d k (Some r) = closing.Refused k r
-closing_at d k None = closing_of d (finish_of d)
+abbrev pub closing_to : Contents → ℕ → Option Refusal → Closing
+closing_to d k (Some r) = closing.Refused k r
+closing_to d k None = closing_of d (finish_of d)
 
 -- how many bytes STOP left
 abbrev pub kept_by : Contents → Closing → ℕ
@@ -78,7 +78,7 @@ with_end d e c = record { text = e.text ⧺ end_text e.imports e.calls (kept_by 
 
 -- k being the greatest place that is reached
 abbrev pub calls_to : Contents → ℕ → Option State → Output
-calls_to d k (Some s) = with_end d (entries d k) (closing_at d k (refused_on (item_at d k) s))
+calls_to d k (Some s) = with_end d (entries d k) (closing_to d k (refused_on (item_at d k) s))
 calls_to d k None = record { text = []; status = 0 }
 
 abbrev pub calls_with : Contents → ℕ → Output

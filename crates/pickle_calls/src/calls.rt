@@ -1,39 +1,19 @@
 //! What items would import and call, one after another.
 
-ghost use Rattle.std.specs.Prelude.{◌≡◌, ◌≢◌, ◌≤◌, ◌<◌, ◌-◌, ◌^◌, length, Ok, Some, OnOk, IfOk, IfErr};
+ghost use Rattle.std.specs.Prelude.{◌≡◌, ◌≤◌, length, IfOk, IfErr};
 ghost use Rattle.pickle_doc.specs.Document.{Contents, ReadsAs, size_limit};
-ghost use Rattle.pickle_machine.specs.Move.{move, refusal_at};
 ghost use Rattle.pickle_calls.specs.Written.{TellsCalls, CutsCalls};
 
-use crate::end::{closing_at, write_end};
+use crate::end::write_end;
 use crate::event::{Before, event_of};
 use crate::line::write_line;
 use crate::totals::Totals;
 use pickle_doc::{ItemSource, Items, NextRef, ends_reading};
-use pickle_machine::{Machine, Refusal};
+use pickle_machine::Refusal;
 use pickle_objects::Row;
-use pickle_ops::{OpRef, Sink};
-use pickle_report::{Closing, TextStop, machine_of};
+use pickle_ops::Sink;
+use pickle_report::{Closing, TextStop, closing_at, is_stop, machine_of, step_over};
 use std::alloc::Global;
-
-/// Steps a machine over an item, and keeps no record. `Refusal::Memory` where memory runs out, also where the copy of the item's
-/// argument fails.
-fn step_over(
-    alloc: Global,
-    op: &OpRef<'_>,
-    place: usize,
-    machine: &mut Machine,
-) -> Result<(), Refusal>
-    requires { length machine.old.state.heap < 2 ^ 32 - 1 }
-    ensures ok { OnOk result (move op.now place machine.old.state ≡ Ok machine.new.state) }
-    ensures refused { IfErr result (λ e. e ≢ Refusal.Memory → refusal_at op.now machine.old.state ≡ Some e) }
-{
-    let Ok(op) = op.copied(alloc) else {
-        return Err(Refusal::Memory);
-    };
-    machine.step(alloc, &op, place)?;
-    Ok(())
-}
 
 /// Writes what the items that a source gives from the first on would import and call, as several pickles or as one, and answers the
 /// status: 1 where an item is refused or the bytes have a fault, else 0. A machine of its own runs the items; each line is written
@@ -81,8 +61,7 @@ pub fn calls_of_items<'a, I: ItemSource<'a>, S: Sink>(
                 if ends_reading(many, op.opcode()) {
                     return write_end(totals, reader.unread_len(), Closing::Stopped, sink);
                 }
-                // STOP is what ends the reading of one pickle.
-                stop = ends_reading(false, op.opcode());
+                stop = is_stop(op.opcode());
             }
         }
     }

@@ -1,27 +1,14 @@
 //! The last lines.
 
-ghost use Rattle.std.specs.Prelude.{◌≡◌, ◌==◌, ◌&&◌, if◌then◌else◌, IfOk, IfErr};
+ghost use Rattle.std.specs.Prelude.{◌≡◌, IfOk, IfErr};
 ghost use Rattle.pickle_io.specs.Device.{Writes};
 ghost use Rattle.pickle_report.specs.Report.{closing_status};
 ghost use Rattle.pickle_calls.specs.Line.{totals_line, end_text};
 
 use crate::totals::Totals;
-use pickle_doc::TailFault;
 use pickle_listing::write_kept_line;
 use pickle_ops::{Failed, Sink, write_all, write_decimal};
 use pickle_report::{Closing, TextStop, status_of, write_closing};
-
-/// How the reading ends where no further item stands: `stop` says that the last one is STOP, and `left` bytes are left, which begin
-/// at `offset` and have this fault. STOP and no byte after it are the end of several pickles.
-pub fn closing_at(stop: bool, left: u64, fault: TailFault, offset: u64) -> Closing
-    ensures { result ≡ (if left == 0 && stop then Closing.Stopped else Closing.Fault fault offset) }
-{
-    if left == 0 && stop {
-        Closing::Stopped
-    } else {
-        Closing::Fault(fault, offset)
-    }
-}
 
 /// Writes how many imports and calls the lines are.
 #[tactic(auto, using(pickle_io::proofs::Devices::text_steps), unfolding(crate::specs::Line::totals_line))]

@@ -14,7 +14,7 @@ use pickle_listing::write_right;
 use pickle_objects::{Filling, Kind, ObjId, Object};
 use pickle_ops::{Failed, Sink, write_all};
 use pickle_report::{
-    write_behind, write_id, write_with_number, write_with_signed, write_with_text, write_with_texts,
+    write_id, write_with_id, write_with_number, write_with_signed, write_with_text, write_with_texts,
 };
 
 /// Writes that a member of a module is imported and called.
@@ -117,7 +117,7 @@ fn write_made_words<S: Sink>(
         Kind::PersistentLine(text) => write_with_text(b"persistent ", text.as_slice(), sink),
         Kind::Persistent => write_value_after(b"persistent ", heap, part(0, parts), sink),
         Kind::Buffer(number) => write_with_number(b"buffer ", *number, sink),
-        Kind::ReadOnly => write_behind(b"readonly ", part(0, parts), sink),
+        Kind::ReadOnly => write_with_id(b"readonly ", u64::from(part(0, parts)), sink),
         _ => Ok(()),
     }
 }

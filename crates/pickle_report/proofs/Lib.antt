@@ -5,3 +5,5 @@ pub mod Walks
 pub mod Stacks
 pub mod Runs
 pub mod Reports
+pub mod Stepping
+pub mod Rereading

@@ -1,10 +1,11 @@
 -- The report of a document: the objects that its items make, and how their run ended.
 -- Source: own.
-use Rattle.std.specs.Prelude.{◌≡◌, ℕ, List, [], length, codes, Option, Some, None}
+use Rattle.std.specs.Prelude.{◌≡◌, ℕ, Bool, true, false, List, [], length, codes, Option, Some, None}
 use Rattle.pickle_ops.specs.Spelling.{Operation}
 use Rattle.pickle_io.specs.Text.{◌⧺◌}
 use Rattle.pickle_doc.specs.declared.fault.End.TheVariants as end
-use Rattle.pickle_doc.specs.Document.{Contents, items_of}
+use Rattle.pickle_doc.specs.declared.fault.TailFault.{TailFault}
+use Rattle.pickle_doc.specs.Document.{Contents, items_of, ReadsAs}
 use Rattle.pickle_doc.specs.Place.{ops_of, item_at, end_of}
 use Rattle.pickle_objects.specs.Object.{Object}
 use Rattle.pickle_machine.specs.declared.refusal.Refusal.{Refusal}
@@ -41,7 +42,16 @@ closing_status (closing.Fault f offset) = 1
 unfoldable pub report_text : List Object → List ℕ → Closing → List ℕ
 report_text heap results c = objects_text heap ⧺ each result_line results ⧺ closing_line c
 
+-- how a run ends that went over all items: by STOP, or by the fault of the tail at this offset
+abbrev pub closing_at : Bool → TailFault → ℕ → Closing
+closing_at true f offset = closing.Stopped
+closing_at false f offset = closing.Fault f offset
+
 -- ---- the report of a document
+
+-- the state that the first n items reach from nothing, if each of them has a move
+abbrev pub state_at : Contents → ℕ → Option State
+state_at d n = run (start d.many) (ops_of d) n
 
 -- why the machine refuses an item, if it is there and is refused
 abbrev pub refused_on : Option Operation → State → Option Refusal
@@ -61,7 +71,7 @@ pub record IsReport (d : Contents) (text : List ℕ) (status : ℕ) : Type 0 whe
   pub place : ℕ
   pub state : State
   pub closing : Closing
-  pub reached : run (start d.many) (ops_of d) place ≡ Some state
+  pub reached : state_at d place ≡ Some state
   pub closes : Closes d place state closing
   pub lines : text ≡ report_text state.heap state.results closing
   pub answers : status ≡ closing_status closing
@@ -73,6 +83,16 @@ WroteReport d old new status = (text : List ℕ) × IsReport d text status × Wr
 -- a front of it was written, and then a failure came
 abbrev pub BrokeReport : Contents → Told → Told → Type 0
 BrokeReport d old new = (text : List ℕ) × (status : ℕ) × IsReport d text status × Broke old new text
+
+-- ---- of bytes: the report of the document that they read as, as several pickles or as one
+
+-- the report was written, and this is its status
+abbrev pub IsReported : Bool → List ℕ → Told → Told → ℕ → Type 0
+IsReported many bytes old new status = (d : Contents) × ReadsAs many bytes d × WroteReport d old new status
+
+-- a front of it was written, and then a failure came
+abbrev pub BreaksReport : Bool → List ℕ → Told → Told → Type 0
+BreaksReport many bytes old new = (d : Contents) × ReadsAs many bytes d × BrokeReport d old new
 
 -- ---- laws
 

@@ -3,7 +3,7 @@
 ghost use Rattle.pickle_io.specs.Device.{Writes, each};
 ghost use Rattle.pickle_report.specs.MemoText.{entry_text, memo_text};
 
-use crate::object::write_id;
+use crate::words::write_id;
 use pickle_machine::Machine;
 use pickle_objects::ObjId;
 use pickle_ops::{Failed, Sink, write_all, write_decimal};

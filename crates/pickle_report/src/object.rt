@@ -1,23 +1,14 @@
 //! The text of an object, and the lines of all objects.
 
 ghost use Rattle.std.specs.Prelude.{◌≡◌};
-ghost use Rattle.pickle_io.specs.Text.{◌⧺◌};
 ghost use Rattle.pickle_io.specs.Device.{Writes, each};
-ghost use Rattle.pickle_report.specs.ObjectText.{id_text, next_text, some_parts, parts_text, set_text, change_text, object_text, object_line, objects_text};
+ghost use Rattle.pickle_report.specs.ObjectText.{next_text, some_parts, parts_text, set_text, change_text, object_text, object_line, objects_text};
 
 use crate::kind::write_kind;
+use crate::words::{write_id, write_with_id};
 use pickle_machine::Machine;
 use pickle_objects::{Change, ObjId, Object};
-use pickle_ops::{Failed, Sink, write_all, write_decimal};
-
-/// Writes an object by its number.
-#[tactic(auto, using(pickle_io::proofs::Devices::text_steps), unfolding(crate::specs::ObjectText::id_text))]
-pub fn write_id<S: Sink>(id: u64, sink: &mut S) -> Result<(), Failed>
-    ensures { Writes (S.told sink.old) (S.told sink.new) result (id_text id) }
-{
-    write_all(sink, b"#")?;
-    write_decimal(id, sink)
-}
+use pickle_ops::{Failed, Sink, write_all};
 
 /// Writes one object more, by its number after a blank.
 #[tactic(auto, using(pickle_io::proofs::Devices::text_steps), unfolding(crate::specs::ObjectText::next_text))]
@@ -61,15 +52,6 @@ fn write_parts<S: Sink>(parts: &[ObjId], sink: &mut S) -> Result<(), Failed>
     }
 }
 
-/// Writes signs, and an object by its number. Where the sink fails, a front of the text was written.
-#[tactic(auto, using(pickle_io::proofs::Devices::text_steps))]
-pub fn write_behind<S: Sink>(signs: &[u8], id: ObjId, sink: &mut S) -> Result<(), Failed>
-    ensures { Writes (S.told sink.old) (S.told sink.new) result (signs.now ⧺ id_text id) }
-{
-    write_all(sink, signs)?;
-    write_id(u64::from(id), sink)
-}
-
 /// Writes that a key was mapped to a value.
 #[tactic(auto, using(pickle_io::proofs::Devices::text_steps), unfolding(crate::specs::ObjectText::set_text))]
 fn write_set<S: Sink>(key: ObjId, value: ObjId, sink: &mut S) -> Result<(), Failed>
@@ -87,10 +69,10 @@ fn write_change<S: Sink>(change: Change, sink: &mut S) -> Result<(), Failed>
     ensures { Writes (S.told sink.old) (S.told sink.new) result (change_text change) }
 {
     match change {
-        Change::Append(id) => write_behind(b" +", id, sink),
+        Change::Append(id) => write_with_id(b" +", u64::from(id), sink),
         Change::SetItem(key, value) => write_set(key, value, sink),
-        Change::Add(id) => write_behind(b" &", id, sink),
-        Change::Build(id) => write_behind(b" !", id, sink),
+        Change::Add(id) => write_with_id(b" &", u64::from(id), sink),
+        Change::Build(id) => write_with_id(b" !", u64::from(id), sink),
     }
 }
 

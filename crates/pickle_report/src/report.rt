@@ -1,20 +1,21 @@
 //! The report of a document.
 
-ghost use Rattle.std.specs.Prelude.{◌≡◌, ◌≢◌, ℕ, ◌+◌, ◌-◌, ◌^◌, ◌<◌, ◌≤◌, length, OnOk, OnErr, IfOk, IfErr, Some, Err};
-ghost use Rattle.pickle_doc.specs.Document.{items_of};
-ghost use Rattle.pickle_doc.specs.Place.{ops_of, item_at};
-ghost use Rattle.pickle_machine.specs.State.{State, start};
-ghost use Rattle.pickle_machine.specs.Run.{run};
+ghost use Rattle.std.specs.Prelude.{◌≡◌, ◌≢◌, ◌+◌, ◌-◌, ◌^◌, ◌<◌, ◌≤◌, ◌==◌, ◌&&◌, length, Ok, Err, OnOk, OnErr, IfOk, IfErr};
+ghost use Rattle.pickle_doc.specs.DocUnit.{is_stop};
+ghost use Rattle.pickle_doc.specs.Document.{Contents, ReadsAs, size_limit};
+ghost use Rattle.pickle_machine.specs.State.{start};
+ghost use Rattle.pickle_machine.specs.Move.{move, refusal_at};
 ghost use Rattle.pickle_io.specs.Device.{Writes, each};
-ghost use Rattle.pickle_report.specs.Report.{result_line, refused_line, closing_line, closing_status, report_text, refused_on, Closes, WroteReport, BrokeReport};
+ghost use Rattle.pickle_report.specs.Report.{result_line, refused_line, closing_line, closing_status, closing_at, report_text, WroteReport, BrokeReport, IsReported, BreaksReport};
+ghost use Rattle.pickle_report.specs.Inside.Ending.{EndsIn};
 
 use crate::line::{write_fault, write_item_refused};
 use crate::object::{write_next, write_objects};
 use crate::stop::TextStop;
-use pickle_doc::{Document, End, TailFault};
+use pickle_doc::{Document, DocumentItems, ItemSource, Items, NextRef, TailFault, ends_reading};
 use pickle_machine::{Machine, Refusal};
 use pickle_objects::ObjId;
-use pickle_ops::{Failed, Sink, write_all};
+use pickle_ops::{Failed, OpRef, Opcode, Sink, write_all};
 use std::alloc::Global;
 
 /// How a run over the items of a document ended.
@@ -59,7 +60,8 @@ pub fn write_refused<S: Sink>(place: usize, refusal: Refusal, sink: &mut S) -> R
     write_all(sink, b"\n")
 }
 
-/// Writes the line of how a run ended: none after STOP. Where the sink fails, a front of the line was written.
+/// Writes how a run ended: nothing where it stopped, else the line of the refused item or of the fault. It takes no memory.
+/// `Failed` where the sink fails; a front of the line was written then.
 #[tactic(auto, unfolding(crate::specs::Report::closing_line))]
 pub fn write_closing<S: Sink>(closing: Closing, sink: &mut S) -> Result<(), Failed>
     ensures { Writes (S.told sink.old) (S.told sink.new) result (closing_line closing) }
@@ -71,7 +73,7 @@ pub fn write_closing<S: Sink>(closing: Closing, sink: &mut S) -> Result<(), Fail
     }
 }
 
-/// The status of a run that ended so: 0 after STOP, and 1 where an item is refused or the tail has a fault.
+/// The status of a run that ended so: 0 where it stopped, 1 where an item is refused or the tail has a fault.
 pub fn status_of(closing: Closing) -> u8
     ensures { result ≡ closing_status closing }
 {
@@ -106,55 +108,86 @@ pub fn write_report<S: Sink>(
     Ok(status_of(closing))
 }
 
-/// How a run ends that went over all items.
-fn close(document: &Document) -> Closing
-    ensures { (s : State) → Closes document.now.contents (length (items_of document.now.contents)) s result }
-{
-    match document.end() {
-        End::Stopped => Closing::Stopped,
-        End::Fault(fault, offset) => Closing::Fault(fault, offset),
-    }
-}
-
-/// Steps over the item at a place, where the machine stands, and keeps no record. Refused, it changes nothing.
-fn step_over(
+/// Steps a machine over an item, and keeps no record. Refused, it changes nothing. `Refusal::Memory` comes also where there is no
+/// memory for a copy of the item's argument.
+pub fn step_over(
     alloc: Global,
-    document: &Document,
+    op: &OpRef<'_>,
     place: usize,
     machine: &mut Machine,
 ) -> Result<(), Refusal>
-    requires few { length machine.old.state.heap < 2 ^ 32 - 1 }
-    requires there { place < length (items_of document.now.contents) }
-    requires reached { run (start document.now.contents.many) (ops_of document.now.contents) place ≡ Some machine.old.state }
-    ensures ok { OnOk result (run (start document.now.contents.many) (ops_of document.now.contents) (place + 1) ≡ Some machine.new.state) }
+    requires { length machine.old.state.heap < 2 ^ 32 - 1 }
+    ensures ok { OnOk result (move op.now place machine.old.state ≡ Ok machine.new.state) }
     ensures objects { length machine.new.state.heap ≤ length machine.old.state.heap + 1 }
     ensures err { OnErr result (machine.new.state ≡ machine.old.state) }
-
-    // The run ends here, unless memory is wanting.
-    ensures refused { IfErr result (λ e. e ≢ Refusal.Memory → refused_on (item_at document.now.contents place) machine.old.state ≡ Some e) }
+    ensures refused { IfErr result (λ e. e ≢ Refusal.Memory → refusal_at op.now machine.old.state ≡ Some e) }
 {
-    let op = document.item(place).unwrap();
-    machine.step(alloc, op, place)?;
+    let Ok(op) = op.copied(alloc) else {
+        return Err(Refusal::Memory);
+    };
+    machine.step(alloc, &op, place)?;
     Ok(())
 }
 
-/// Steps a machine that has done nothing over the items of a document, as far as they have moves, and says how the run ended.
-/// An error where memory is wanting for a step.
-fn run_items(alloc: Global, document: &Document, machine: &mut Machine) -> Result<Closing, TextStop>
-    requires start { machine.old.state ≡ start document.now.contents.many }
-    requires few { length (items_of document.now.contents) < 2 ^ 32 }
-    ensures closes { IfOk result (λ c. (place : ℕ) × (run (start document.now.contents.many) (ops_of document.now.contents) place ≡ Some machine.new.state) × Closes document.now.contents place machine.new.state c) }
+/// Whether an opcode is STOP.
+pub fn is_stop(opcode: Opcode) -> bool
+    ensures { result ≡ is_stop opcode }
+{
+    matches!(opcode, Opcode::Stop)
+}
+
+/// How a run ends that went over all items: `stop` says whether the last of them is STOP, and the tail has `left` bytes, this fault
+/// and this offset.
+pub fn closing_at(stop: bool, left: u64, fault: TailFault, offset: u64) -> Closing
+    ensures { result ≡ closing_at (left == 0 && stop) fault offset }
+{
+    if left == 0 && stop {
+        Closing::Stopped
+    } else {
+        Closing::Fault(fault, offset)
+    }
+}
+
+/// Steps a machine that has done nothing over the items that a source gives from the first on, as far as they have moves, and says
+/// how the run ended. `Memory` where there is no memory for a step.
+fn run_items<'a, I: ItemSource<'a>>(
+    alloc: Global,
+    many: bool,
+    source: I,
+    machine: &mut Machine,
+) -> Result<Closing, TextStop>
+    requires start { machine.old.state ≡ start many }
+    requires first { (I.unread source).left ≡ 0 }
+    requires small { length (I.unread source).rest ≤ size_limit }
+    requires document { (d : Contents) × ReadsAs many (I.unread source).rest d }
+    ensures closes { IfOk result (EndsIn many (I.unread source).rest machine.new.state) }
     ensures memory { IfErr result (λ e. e ≡ TextStop.Memory) }
 {
-    for place in 0..document.len() {
-        if let Err(refusal) = step_over(alloc, document, place, machine) {
-            if refusal == Refusal::Memory {
-                return Err(TextStop::Memory);
+    let mut reader = source;
+    let total = reader.unread_len();
+    let mut place = 0;
+    let mut stop = false;
+    'items: loop {
+        match reader.next() {
+            NextRef::Tail(fault) => {
+                let left = reader.unread_len();
+                return Ok(closing_at(stop, left, fault, total - left));
             }
-            return Ok(Closing::Refused(place, refusal));
+            NextRef::Item(op) => {
+                if let Err(refusal) = step_over(alloc, &op, place, machine) {
+                    if refusal == Refusal::Memory {
+                        return Err(TextStop::Memory);
+                    }
+                    return Ok(Closing::Refused(place, refusal));
+                }
+                place += 1;
+                if ends_reading(many, op.opcode()) {
+                    return Ok(Closing::Stopped);
+                }
+                stop = is_stop(op.opcode());
+            }
         }
     }
-    Ok(close(document))
 }
 
 /// A machine that has done nothing, for several pickles or for one.
@@ -168,13 +201,53 @@ pub fn machine_of(alloc: Global, many: bool) -> Machine
     }
 }
 
-/// Writes the report of a document, and answers its status. A machine of its own runs the items from nothing, to the end or to
-/// the first that is refused; then come the lines of all objects that they made, a line `result #n` for each result, and where an
-/// item is refused or the tail has a fault one line more: `refused: item K: ` and why, or `fault: ` and why with the offset of the
-/// tail. The status is 1 with such a line, else 0.
+/// Writes the report of the items that a source gives from the first on, as several pickles or as one, and answers its status. A
+/// machine of its own runs the items from nothing, to the end or to the first that is refused; no item and no step is kept. Then
+/// come the lines of all objects that they made, a line `result #n` for each result, and where an item is refused or the tail has a
+/// fault one line more: `refused: item K: ` and why, or `fault: ` and why with the offset of the tail. The status is 1 with such a
+/// line, else 0. The source is to give a document that is not too large.
 ///
-/// Nothing is written before the run has ended, and no step is kept. `Memory` where memory is wanting for a step, and then nothing
-/// was written. `Failed` where the sink fails; a front of the report was written then.
+/// `Memory` where there is no memory for a step, and then nothing was written. `Failed` where the sink fails; a front of the report
+/// was written then.
+pub fn report_of_items<'a, I: ItemSource<'a>, S: Sink>(
+    alloc: Global,
+    many: bool,
+    source: I,
+    sink: &mut S,
+) -> Result<u8, TextStop>
+    requires first { (I.unread source).left ≡ 0 }
+    requires small { length (I.unread source).rest ≤ size_limit }
+    requires document { (d : Contents) × ReadsAs many (I.unread source).rest d }
+    ensures ok { IfOk result (IsReported many (I.unread source).rest (S.told sink.old) (S.told sink.new)) }
+    ensures failed { result ≡ Err TextStop.Failed → BreaksReport many (I.unread source).rest (S.told sink.old) (S.told sink.new) }
+    ensures memory { result ≡ Err TextStop.Memory → sink.new ≡ sink.old }
+{
+    let mut machine = machine_of(alloc, many);
+    let closing = run_items(alloc, many, source, &mut machine)?;
+    let status = write_report(&machine, closing, sink)?;
+    Ok(status)
+}
+
+/// Writes the report of the pickle that the bytes are, or of the several pickles, and answers its status, as `report_of_items` does.
+/// There are to be no more bytes than the limit.
+pub fn report_of_bytes<S: Sink>(
+    alloc: Global,
+    many: bool,
+    bytes: &[u8],
+    sink: &mut S,
+) -> Result<u8, TextStop>
+    requires { length bytes.now ≤ size_limit }
+    ensures ok { IfOk result (IsReported many bytes.now (S.told sink.old) (S.told sink.new)) }
+    ensures failed { result ≡ Err TextStop.Failed → BreaksReport many bytes.now (S.told sink.old) (S.told sink.new) }
+    ensures memory { result ≡ Err TextStop.Memory → sink.new ≡ sink.old }
+{
+    report_of_items(alloc, many, Items::new(bytes), sink)
+}
+
+/// Writes the report of a document, in its mode, and answers its status, as `report_of_items` does.
+///
+/// `Memory` where there is no memory for a step, and then nothing was written. `Failed` where the sink fails; a front of the report
+/// was written then.
 pub fn write_document_report<S: Sink>(
     alloc: Global,
     document: &Document,
@@ -185,8 +258,6 @@ pub fn write_document_report<S: Sink>(
     ensures memory { result ≡ Err TextStop.Memory → sink.new ≡ sink.old }
 {
     let _total = document.total();
-    let mut machine = machine_of(alloc, document.is_many());
-    let closing = run_items(alloc, document, &mut machine)?;
-    let status = write_report(&machine, closing, sink)?;
-    Ok(status)
+    let items = DocumentItems::new(document);
+    report_of_items(alloc, document.is_many(), items, sink)
 }

@@ -16,6 +16,6 @@ mod talk;
 pub use calling::{calls, calls_as, calls_many};
 pub use laws::one_cut;
 pub use listing::{list, list_as, list_many};
-pub use report::{objects, objects_many};
+pub use report::{objects, objects_as, objects_many};
 pub use stop::{Stop, line_of};
 pub use talk::converse;

@@ -2,7 +2,7 @@ use Rattle.std.proofs.Common.{◌≡◌, drop, length, true, false, sym, ap, ◌
 use Rattle.pickle_ops.specs.Spelling.{size_of}
 use Rattle.pickle_doc.specs.Tail.{HasTailFault}
 use Rattle.pickle_doc.specs.Fitting.{left_behind}
-use Rattle.pickle_doc.specs.DocUnit.{ends_reading}
+use Rattle.pickle_doc.specs.DocUnit.{is_stop, ends_reading}
 use Rattle.pickle_doc.specs.Unread.{IsNextItem, Unread}
 use Rattle.pickle_calls.proofs.Walking.{walked_none, closes_ok, closes_err, refused_closes, tail_closes, line_breaks, memory_stops, moved, goes_on, stop_closes, cut_failed, bounds}
 use Rattle.pickle_calls.proofs.calls.calls_of_items.Goals as goal
@@ -121,6 +121,6 @@ items-preserved g c =
     let imports = rw (c.heap-in-Item.ensures, c.event_of-event.ensures, c.of_ref-row.ensures, c.of-before.ensures) at c.with-totals.ensures.imports in
     let calls = rw (c.heap-in-Item.ensures, c.event_of-event.ensures, c.of_ref-row.ensures, c.of-before.ensures) at c.with-totals.ensures.calls in
     let m = moved _ _ _ _ _ _ _ _ c.in-Item.op _ _ _ c.with-totals.result c.items.invariant n.0 c.in_default.ensures.ok line imports calls in
-    let stop : c.ends_reading-stop.result ≡ ends_reading false c.in-Item.op.opcode = c.ends_reading-stop.ensures ∙ ap (ends_reading false) c.opcode-in-Item.ensures in
+    let stop : c.is_stop-stop.result ≡ is_stop c.in-Item.op.opcode = c.is_stop-stop.ensures ∙ ap is_stop c.opcode-in-Item.ensures in
     let miss : ends_reading c.args.many c.in-Item.op.opcode ≡ false = sym (rw c.opcode.ensures at c.ends_reading.ensures) ∙ c.if-ends_reading.false in
     rw (n.1, c.size.ensures, stop) (goes_on _ _ _ _ _ _ _ c.in-Item.op _ _ m miss)

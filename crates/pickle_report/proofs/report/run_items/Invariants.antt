@@ -1,13 +1,10 @@
 -- What the loop over the items keeps.
-use Rattle.std.proofs.Common.{◌≡◌, ◌≤◌, length, Some}
-use Rattle.pickle_doc.specs.Place.{ops_of}
-use Rattle.pickle_machine.specs.State.{start}
-use Rattle.pickle_machine.specs.Run.{run}
+use Rattle.std.proofs.Common.{length}
+use Rattle.pickle_report.proofs.Stepping.{Walked}
 use Rattle.pickle_report.proofs.report.run_items.Given as goal
 
--- the machine stands at the place, and has made no more objects than steps
-abbrev pub invariant-loop-place : goal.invariant-loop-place
-invariant-loop-place l = record {
-  reached : run (start l.document.contents.many) (ops_of l.document.contents) l.place ≡ Some l.machine.state;
-  objects : length l.machine.state.heap ≤ l.place;
-}
+abbrev pub invariant-items : goal.invariant-items
+invariant-items g l = Walked l.fn.many (g.I.ItemSource.unread l.fn.source).rest (g.I.ItemSource.unread l.reader).rest (g.I.ItemSource.unread l.reader).left l.place l.machine.state l.stop
+
+abbrev pub decreases-items : goal.decreases-items
+decreases-items g l = length (g.I.ItemSource.unread l.reader).rest

@@ -1,13 +1,15 @@
--- The report is that of the run that was made.
-use Rattle.std.proofs.Common.{arith}
-use Rattle.pickle_report.proofs.Runs.{few_items, wrote_report, broke_report}
+-- The bytes of the document read as one with the same report.
+use Rattle.std.proofs.Common.{refl}
+use Rattle.pickle_report.proofs.Rereading.{wrote_document, broke_document}
 use Rattle.pickle_report.proofs.report.write_document_report.Goals as goal
 
-pub run_items-requires-clause-few : goal.run_items-requires-clause-few
-run_items-requires-clause-few g c = omega (arith, few_items c.args.document.now.contents, c.total-total.ensures.value, c.total-total.ensures.within)
+pub report_of_items-requires : goal.report_of_items-requires
+report_of_items-requires g c κs =
+    let again = c.new-items.ensures.again in
+    ((refl, tt), rw (c.new-items.ensures.value, c.is_many.ensures) (refl, (c.new-items.ensures.small, (again.read, again.reads))))
 
 pub returns-clause-ok : goal.returns-clause-ok
-returns-clause-ok g c = wrote_report _ _ _ _ _ _ c.in_ok-closing.ensures.closes c.in_ok-status.ensures.status c.in_ok-status.ensures.text
+returns-clause-ok g c = wrote_document c.args.document.now.contents _ _ _ c.total-total.ensures.document c.new-items.ensures.small (rw (c.new-items.ensures.value, c.is_many.ensures) at c.report_of_items.ensures.ok)
 
-pub returns-in_err-status-clause-failed : goal.returns-in_err-status-clause-failed
-returns-in_err-status-clause-failed g c _ = broke_report _ _ _ _ _ c.in_ok-closing.ensures.closes c.in_err-status.ensures.text
+pub returns-clause-failed : goal.returns-clause-failed
+returns-clause-failed g c e = broke_document c.args.document.now.contents _ _ c.total-total.ensures.document c.new-items.ensures.small (rw (c.new-items.ensures.value, c.is_many.ensures) at c.report_of_items.ensures.failed e)
