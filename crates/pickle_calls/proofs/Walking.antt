@@ -30,7 +30,7 @@ use Rattle.pickle_machine.specs.declared.refusal.Refusal.{Refusal}
 use Rattle.pickle_machine.specs.State.{State, start}
 use Rattle.pickle_machine.specs.Run.{run}
 use Rattle.pickle_machine.specs.Move.{move, next, outcome, refusal_of, refusal_at, begun, fresh}
-use Rattle.pickle_report.proofs.Runs.{run_nothing}
+use Rattle.pickle_report.proofs.Runs.{run_nothing, last_taken}
 use Rattle.pickle_report.specs.declared.stop.TextStop.{TextStop}
 use Rattle.pickle_report.specs.declared.stop.TextStop.TheVariants as stop
 use Rattle.pickle_report.specs.Line.{fault_line}
@@ -40,7 +40,6 @@ use Rattle.pickle_listing.specs.Listing.{end_lines, end_status, reached}
 use Rattle.pickle_listing.proofs.Moves.{move_heap, refused_move}
 use Rattle.pickle_listing.proofs.Places.{offset_next, offset_small, run-suc, reached_here, reached_last, is_reached}
 use Rattle.pickle_listing.proofs.Listings.{within, place_within, ops_within}
-use Rattle.pickle_listing.proofs.Listed.{last_taken}
 use Rattle.pickle_calls.specs.declared.reach.Reach.{Reach}
 use Rattle.pickle_calls.specs.declared.reach.Reach.TheVariants as reach
 use Rattle.pickle_calls.specs.declared.totals.Totals.{Totals}

@@ -39,6 +39,7 @@ use Rattle.pickle_doc.proofs.Streams.{stands_first, item_is, fault_is}
 use Rattle.pickle_page.proofs.Puts.{then_put, then_broken}
 use Rattle.pickle_listing.specs.declared.note.Note.{Note}
 use Rattle.pickle_listing.specs.declared.note.Note.TheVariants as note
+use Rattle.pickle_report.proofs.Runs.{last_taken}
 use Rattle.pickle_report.specs.declared.stop.TextStop.{TextStop}
 use Rattle.pickle_report.specs.Line.{fault_line}
 use Rattle.pickle_listing.specs.Line.{item_line, refused_line, left_line, kept_line, protocol_line, raised}
@@ -58,16 +59,6 @@ ends_stop many o h = go (is_stop o) (not many) h
     go : (a b : Bool) → (a && b) ≡ true → a ≡ true
     go true b h = refl
     go false b h = cc
-
--- whether item k is STOP is whether the items up to it end in STOP
-pub last_taken : (items : List Item) (k : ℕ) (o : Operation) → slice_get (operations items) k ≡ Some o → ends_with_stop (take (k + 1) items) ≡ is_stop o.opcode
-last_taken items k o e = rw (add-one k) (go items k e)
-  where
-    go : (items : List Item) (k : ℕ) → slice_get (operations items) k ≡ Some o → ends_with_stop (take (suc k) items) ≡ is_stop o.opcode
-    go [] k e = cc
-    go (i ∷ items) zero e = let same : i.op ≡ o = cc in ap (λ (p : Operation). is_stop p.opcode) same
-    go (i ∷ []) (suc k) e = cc
-    go (i ∷ j ∷ items) (suc k) e = go (j ∷ items) k e
 
 -- ---- what is listed so far
 
