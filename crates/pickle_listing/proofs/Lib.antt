@@ -4,6 +4,7 @@ pub mod Moves
 pub mod Places
 pub mod Listings
 pub mod PageLines
+pub mod Stops
 pub mod Listed
 pub mod Apart
 pub mod Cuts

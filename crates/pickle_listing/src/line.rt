@@ -75,20 +75,6 @@ pub fn write_kept_line<S: Sink>(count: u64, sink: &mut S) -> Result<(), Failed>
     }
 }
 
-/// Writes what is left where reading ended by STOP: on the stack, and after STOP.
-#[tactic(auto, using(pickle_io::proofs::Devices::text_steps))]
-pub fn write_stopped<S: Sink>(
-    objects: usize,
-    marks: usize,
-    kept: u64,
-    sink: &mut S,
-) -> Result<(), Failed>
-    ensures { Writes (S.told sink.old) (S.told sink.new) result (left_line objects marks ⧺ kept_line kept) }
-{
-    write_left_line(objects, marks, sink)?;
-    write_kept_line(kept, sink)
-}
-
 /// Words of a line.
 #[tactic(auto, unfolding(crate::specs::Line::protocol_words))]
 fn words_of_protocol() -> &'static str
