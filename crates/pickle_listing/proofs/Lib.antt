@@ -5,6 +5,7 @@ pub mod Places
 pub mod Listings
 pub mod PageLines
 pub mod Stops
+pub mod Protocols
 pub mod Listed
 pub mod Apart
 pub mod Cuts

@@ -12,12 +12,13 @@ ghost use Rattle.pickle_outline.specs.Class.{sample};
 ghost use Rattle.pickle_outline.specs.Outline.{outline};
 ghost use Rattle.pickle_report.specs.Line.{fault_line};
 ghost use Rattle.pickle_page.specs.Page.{Puts};
-ghost use Rattle.pickle_listing.specs.Line.{raised, item_line, refused_line, left_line, kept_line, protocol_line};
+ghost use Rattle.pickle_listing.specs.Line.{item_line, refused_line, left_line, kept_line, protocol_line};
 ghost use Rattle.pickle_listing.specs.Listing.{note_with};
 ghost use Rattle.pickle_listing.specs.Inside.Marks.{last_of, followed};
 ghost use Rattle.pickle_listing.specs.Inside.Answer.{IsAnswer};
 ghost use Rattle.pickle_listing.specs.Written.{WroteListing, CutListing, IsListed, CutsListing};
 
+use crate::highest::Highest;
 use crate::line::{write_kept_line, write_left_line, write_protocol, write_refused};
 use crate::note::Note;
 use crate::put::put_item;
@@ -29,16 +30,6 @@ use pickle_outline::{Class, Lean};
 use pickle_page::{Offset, Page};
 use pickle_report::{TextStop, write_fault};
 use std::alloc::{AllocError, Global};
-
-/// The greatest protocol so far, with one more.
-fn raise(highest: Option<u8>, protocol: u8) -> Option<u8>
-    ensures { result ≡ raised highest protocol }
-{
-    match highest {
-        None => Some(protocol),
-        Some(most) => Some(most.max(protocol)),
-    }
-}
 
 /// The note of an operation that is not refused; `opened` has the offsets of the open marks, the topmost last.
 #[inline(always)]
@@ -64,7 +55,7 @@ fn write_fault_end<S: Sink>(
     page: &mut Page,
     fault: TailFault,
     offset: u64,
-    highest: Option<u8>,
+    highest: Option<u32>,
     sink: &mut S,
 ) -> Result<(), Failed>
     ensures { Writes (S.told sink.old) (S.told sink.new) result (page.old ⧺ fault_line fault offset ⧺ protocol_line highest) }
@@ -79,7 +70,7 @@ fn write_fault_end<S: Sink>(
 fn write_last_end<S: Sink>(
     page: &mut Page,
     kept: u64,
-    highest: Option<u8>,
+    highest: Option<u32>,
     sink: &mut S,
 ) -> Result<(), Failed>
     ensures { Writes (S.told sink.old) (S.told sink.new) result (page.old ⧺ kept_line kept ⧺ protocol_line highest) }
@@ -124,7 +115,7 @@ fn put_left_line<S: Sink>(
 fn write_refused_end<S: Sink>(
     page: &mut Page,
     refusal: Refusal,
-    highest: Option<u8>,
+    highest: Option<u32>,
     sink: &mut S,
 ) -> Result<(), Failed>
     ensures { Writes (S.told sink.old) (S.told sink.new) result (page.old ⧺ refused_line refusal ⧺ protocol_line highest) }
@@ -142,7 +133,7 @@ fn write_refused_item<S: Sink>(
     offset: &Offset,
     marks: usize,
     refusal: Refusal,
-    highest: Option<u8>,
+    highest: Option<u32>,
     sink: &mut S,
 ) -> Result<(), Failed>
     requires { marks < 2 ^ 32 }
@@ -247,24 +238,26 @@ pub fn list_items<'a, I: ItemSource<'a>, S: Sink>(
     let mut lean = Lean::new(alloc, many);
     let mut opened = Vec::new(alloc);
     let mut page = Page::new();
-    let mut highest = None;
+    let mut highest = Highest::none();
     let mut offset = Offset::at(0);
     let mut place = 0;
     'items: loop {
         match reader.next() {
             NextRef::Tail(fault) => {
+                let at = offset.number();
                 return answer(
-                    write_fault_end(&mut page, fault, offset.number(), highest, sink),
+                    write_fault_end(&mut page, fault, at, highest.get(), sink),
                     1,
                 );
             }
             NextRef::Item(op) => {
                 let row = Row::of_ref(&op);
                 let marks = lean.marks_len();
-                highest = raise(highest, op.opcode().protocol());
+                highest.raise(op.opcode().protocol());
                 if let Some(refusal) = lean.refusal(row) {
+                    let most = highest.get();
                     return answer(
-                        write_refused_item(&mut page, &op, &offset, marks, refusal, highest, sink),
+                        write_refused_item(&mut page, &op, &offset, marks, refusal, most, sink),
                         1,
                     );
                 }
@@ -280,7 +273,7 @@ pub fn list_items<'a, I: ItemSource<'a>, S: Sink>(
                 end_pickle(&mut page, &mut lean, &mut opened, sink)?;
                 let kept = reader.unread_len();
                 if is_last(many, kept) {
-                    return answer(write_last_end(&mut page, kept, highest, sink), 0);
+                    return answer(write_last_end(&mut page, kept, highest.get(), sink), 0);
                 }
             }
         }
