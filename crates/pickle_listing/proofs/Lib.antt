@@ -4,6 +4,8 @@ pub mod Moves
 pub mod Places
 pub mod Listings
 pub mod PageLines
+pub mod Stops
+pub mod Protocols
 pub mod Listed
 pub mod Apart
 pub mod Cuts

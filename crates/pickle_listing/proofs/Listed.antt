@@ -1,22 +1,23 @@
 -- The loop that lists items as they are read.
-use Rattle.std.proofs.Common.{◌≡◌, ℕ, zero, suc, ◌∷◌, ◌+◌, ◌<◌, ◌≤◌, ◌==◌, ◌&&◌, Bool, true, false, List, [], ◌++◌, length, drop, Option, Some, None, Ok, refl, sym, ap, ◌∙◌, add-one, append_assoc, subst, arith}
-use Rattle.std.specs.Prelude.{not, slice_get, take, ⊤, Result, Err, IfOk, IfErr, MatchBool, if◌then◌else◌}
+use Rattle.std.proofs.Common.{◌≡◌, ℕ, suc, ◌+◌, ◌<◌, ◌≤◌, ◌==◌, ◌&&◌, ◌||◌, Bool, true, false, List, [], ◌++◌, length, drop, Option, Some, None, Ok, refl, sym, ap, ◌∙◌, add-one, append_assoc, subst, arith}
+use Rattle.std.specs.Prelude.{not, take, ⊤, Result, Err, IfOk, IfErr, MatchBool, if◌then◌else◌}
 use Rattle.std.specs.Option.{option_map}
-use Rattle.std.proofs.lemmas.List.{take_all, length-map}
+use Rattle.std.proofs.lemmas.List.{take_all, append-nil, length-map}
 use Rattle.pickle_ops.specs.declared.opcode.Opcode.{Opcode}
 use Rattle.pickle_ops.specs.declared.opcode.Opcode.TheVariants as op
 use Rattle.pickle_io.specs.Text.{◌⧺◌}
 use Rattle.pickle_io.specs.declared.sink.Failed.{Failed}
 use Rattle.pickle_io.specs.Device.{Told, Wrote, Broke, Writes, WroteAllBut}
 use Rattle.pickle_ops.specs.Table.{protocol_of}
-use Rattle.pickle_ops.specs.Spelling.{Operation, size_of}
+use Rattle.pickle_ops.specs.Spelling.{Operation, size_of, Ended}
 use Rattle.pickle_io.proofs.Devices.{WroteAllBut-none}
 use Rattle.pickle_doc.specs.declared.item.Item.{Item}
 use Rattle.pickle_doc.specs.declared.fault.TailFault.{TailFault}
+use Rattle.pickle_doc.specs.declared.fault.TailFault.TheVariants as tails
 use Rattle.pickle_doc.specs.declared.fault.Finish.{Finish}
 use Rattle.pickle_doc.specs.declared.fault.Finish.TheVariants as finish
-use Rattle.pickle_doc.specs.DocUnit.{sizes, is_stop, ends_reading, operations}
-use Rattle.pickle_doc.specs.Document.{Contents, items_of, document_bytes, ReadsAs, size_limit, ends_with_stop, finish_by, finish_of}
+use Rattle.pickle_doc.specs.DocUnit.{sizes, is_stop, ends_reading}
+use Rattle.pickle_doc.specs.Document.{Contents, items_of, document_bytes, ReadsAs, size_limit, ends_with_stop, finish_of}
 use Rattle.pickle_doc.specs.Tail.{HasTailFault}
 use Rattle.pickle_doc.specs.Fitting.{left_behind}
 use Rattle.pickle_doc.specs.Unread.{IsNextItem}
@@ -47,24 +48,15 @@ use Rattle.pickle_listing.specs.Listing.{note_with, note_unless, key_note, line_
 use Rattle.pickle_listing.specs.Inside.Marks.{last_of, followed}
 use Rattle.pickle_listing.specs.Inside.Answer.{IsAnswer}
 use Rattle.pickle_listing.specs.Written.{IsListed, BreaksListing, BeginsListing, CutsListing}
-use Rattle.pickle_listing.proofs.Listings.{Progress, Progress-none, Progress-more, Progress-fresh, line_is, begun_so_far, broken_so_far, broken_lines, EndsWith, refused, ended, ended_left, end_breaks, end_written, behind_page, within, place_within, offset_within, ops_within}
+use Rattle.pickle_listing.proofs.Listings.{Progress, Progress-none, Progress-more, Progress-fresh, line_is, begun_so_far, broken_so_far, broken_lines, EndsWith, line_first, refused, ended, end_breaks, end_written, behind_page, within, place_within, offset_within, ops_within}
 use Rattle.pickle_listing.proofs.Places.{lines_with, lines-zero, lines-suc}
-
--- ---- STOP
-
--- only after STOP reading ends
-ends_stop : (many : Bool) (o : Opcode) → ends_reading many o ≡ true → is_stop o ≡ true
-ends_stop many o h = go (is_stop o) (not many) h
-  where
-    go : (a b : Bool) → (a && b) ≡ true → a ≡ true
-    go true b h = refl
-    go false b h = cc
+use Rattle.pickle_listing.proofs.Stops.{none_last, neither, no_bytes, stays_fresh, last_of_all}
 
 -- ---- what is listed so far
 
 -- of the document that the bytes are, k items were read, and have moves; this is the outline of the state that they
 -- reach, as the next move is taken on it, and of their lines the device took all but the page
-pub record Listed (many : Bool) (bytes : List ℕ) (old new : Told) (page rest : List ℕ) (left k offset : ℕ) (outlined : State) (opened : List ℕ) (highest : Option ℕ) (last : Bool) : Type 0 where
+pub record Listed (many : Bool) (bytes : List ℕ) (old new : Told) (page rest : List ℕ) (left k offset : ℕ) (outlined : State) (opened : List ℕ) (highest : Option ℕ) : Type 0 where
   pub d : Contents
   pub reads : ReadsAs many bytes d
   pub stands : StandsAt d k rest left
@@ -72,9 +64,10 @@ pub record Listed (many : Bool) (bytes : List ℕ) (old new : Told) (page rest :
   pub outlines : outline (fresh s) ≡ outlined
   pub progress : Progress d k offset s (fresh s).marked opened highest
   pub written : WroteAllBut old new (lines d k) page
-  pub ends : ends_with_stop (take k (items_of d)) ≡ last
+  -- STOP ends the listing where nothing stands behind it
+  pub goes : (length rest == 0 && ends_with_stop (take k (items_of d))) ≡ false
 
-pub listed_none : (many : Bool) (bytes : List ℕ) (a : Told) → (some : (d : Contents) × ReadsAs many bytes d) → length bytes ≤ size_limit → Listed many bytes a a [] bytes 0 0 0 (start many) [] None false
+pub listed_none : (many : Bool) (bytes : List ℕ) (a : Told) → (some : (d : Contents) × ReadsAs many bytes d) → length bytes ≤ size_limit → Listed many bytes a a [] bytes 0 0 0 (start many) [] None
 listed_none many bytes a some small = record {
   d = some.0;
   reads = some.1;
@@ -83,7 +76,7 @@ listed_none many bytes a some small = record {
   outlines = ap start some.1.mode;
   progress = Progress-none some.0;
   written = rw (lines-zero some.0) (WroteAllBut-none a []);
-  ends = refl;
+  goes = none_last (length bytes == 0);
 }
 
 -- ---- item k
@@ -91,6 +84,11 @@ listed_none many bytes a some small = record {
 -- the line of an item, by the outline
 abbrev pub line_of : Operation → ℕ → State → List ℕ → List ℕ
 line_of o offset t opened = item_line o offset (length t.marked) (note_unless (refusal_of (row_of o) t) (note_with o t (last_of opened)))
+
+-- by its refusal
+line_by : (o : Operation) (offset : ℕ) (t : State) (opened : List ℕ) (r : Option Refusal) → refusal_of (row_of o) t ≡ r
+    → line_of o offset t opened ≡ item_line o offset (length t.marked) (note_unless r (note_with o t (last_of opened)))
+line_by o offset t opened r e = ap (λ (x : Option Refusal). item_line o offset (length t.marked) (note_unless x (note_with o t (last_of opened)))) e
 
 takes_outlined : (r : Row) (s : State) → takes_mark r (outline s) ≡ takes_mark r s
 takes_outlined (row.Cut c) s = refl
@@ -119,8 +117,8 @@ record There (d : Contents) (k offset : ℕ) (o : Operation) (t : State) (opened
   pub at : item_at d k ≡ Some o
   pub line : line_at d k ≡ line_of o offset t opened
 
-there : {many : Bool} {last : Bool} (bytes : List ℕ) (a b : Told) (page rest : List ℕ) (left k offset : ℕ) (t : State) (opened : List ℕ) (highest : Option ℕ) (o : Operation)
-    → (w : Listed many bytes a b page rest left k offset t opened highest last) → IsNextItem left rest o (size_of o) → There w.d k offset o t opened
+there : {many : Bool} (bytes : List ℕ) (a b : Told) (page rest : List ℕ) (left k offset : ℕ) (t : State) (opened : List ℕ) (highest : Option ℕ) (o : Operation)
+    → (w : Listed many bytes a b page rest left k offset t opened highest) → IsNextItem left rest o (size_of o) → There w.d k offset o t opened
 there bytes a b page rest left k offset t opened highest o w n =
     let g = item_is w.d k left rest o (size_of o) w.stands n in
     record {
@@ -139,12 +137,13 @@ pub record WithLine (many : Bool) (bytes : List ℕ) (old new : Told) (page rest
   pub progress : Progress d k offset s (fresh s).marked opened highest
   pub written : WroteAllBut old new (lines_with d k) page
 
-pub with_line : {many : Bool} {last : Bool} (bytes : List ℕ) (a b c : Told) (page next rest : List ℕ) (left k offset : ℕ) (o : Operation) (t : State) (opened : List ℕ) (highest : Option ℕ)
-    → Listed many bytes a b page rest left k offset t opened highest last → IsNextItem left rest o (size_of o) → WroteAllBut b c (page ++ line_of o offset t opened) next
-    → WithLine many bytes a c next rest left k offset o t opened highest
-with_line bytes a b c page next rest left k offset o t opened highest w n q =
+pub with_line : {many : Bool} (bytes : List ℕ) (a b c : Told) (page next rest : List ℕ) (left k offset : ℕ) (o : Operation) (t : State) (opened : List ℕ) (highest : Option ℕ)
+    → Listed many bytes a b page rest left k offset t opened highest → IsNextItem left rest o (size_of o) → refusal_of (row_of o) t ≡ None
+    → WroteAllBut b c (page ++ item_line o offset (length t.marked) (note_with o t (last_of opened))) next → WithLine many bytes a c next rest left k offset o t opened highest
+with_line bytes a b c page next rest left k offset o t opened highest w n none q =
     let here = there bytes a b page rest left k offset t opened highest o w n in
-    let whole : lines_with w.d k ≡ lines w.d k ++ line_of o offset t opened = ap (λ (l : List ℕ). lines w.d k ++ l) here.line in
+    let line : List ℕ = item_line o offset (length t.marked) (note_with o t (last_of opened)) in
+    let whole : lines_with w.d k ≡ lines w.d k ++ line = ap (λ (l : List ℕ). lines w.d k ++ l) (here.line ∙ line_by o offset t opened None none) in
     record {
       d = w.d;
       reads = w.reads;
@@ -152,15 +151,17 @@ with_line bytes a b c page next rest left k offset o t opened highest w n q =
       s = w.s;
       outlines = w.outlines;
       progress = w.progress;
-      written = rw whole (then_put a b c (lines w.d k) page next (line_of o offset t opened) q w.written);
+      written = rw whole (then_put a b c (lines w.d k) page next line q w.written);
     }
 
-pub line_breaks : {many : Bool} {last : Bool} (bytes : List ℕ) (a b c : Told) (page rest : List ℕ) (left k offset : ℕ) (o : Operation) (t : State) (opened : List ℕ) (highest : Option ℕ)
-    → Listed many bytes a b page rest left k offset t opened highest last → IsNextItem left rest o (size_of o) → Broke b c (page ++ line_of o offset t opened) → BreaksListing many bytes a c
-line_breaks bytes a b c page rest left k offset o t opened highest w n q =
+pub line_breaks : {many : Bool} (bytes : List ℕ) (a b c : Told) (page rest : List ℕ) (left k offset : ℕ) (o : Operation) (t : State) (opened : List ℕ) (highest : Option ℕ)
+    → Listed many bytes a b page rest left k offset t opened highest → IsNextItem left rest o (size_of o) → refusal_of (row_of o) t ≡ None
+    → Broke b c (page ++ item_line o offset (length t.marked) (note_with o t (last_of opened))) → BreaksListing many bytes a c
+line_breaks bytes a b c page rest left k offset o t opened highest w n none q =
     let here = there bytes a b page rest left k offset t opened highest o w n in
-    let whole : lines_with w.d k ≡ lines w.d k ++ line_of o offset t opened = ap (λ (l : List ℕ). lines w.d k ++ l) here.line in
-    let front : Broke a c (lines_with w.d k) = rw whole (then_broken a b c (lines w.d k) page (line_of o offset t opened) q w.written) in
+    let line : List ℕ = item_line o offset (length t.marked) (note_with o t (last_of opened)) in
+    let whole : lines_with w.d k ≡ lines w.d k ++ line = ap (λ (l : List ℕ). lines w.d k ++ l) (here.line ∙ line_by o offset t opened None none) in
+    let front : Broke a c (lines_with w.d k) = rw whole (then_broken a b c (lines w.d k) page line q w.written) in
     (w.d, w.reads, broken_so_far a c w.d k w.s w.progress.reached (within (ops_of w.d) k o here.at) front)
 
 -- where the page is dropped
@@ -199,35 +200,31 @@ refusal_is : (o : Operation) (s t : State) (r : Option Refusal) → outline (fre
 refusal_is o s t r e f = sym (refusals_read_outlines (row_of o) (fresh s)) ∙ ap (λ (u : State). refusal_of (row_of o) u) e ∙ f
 
 pub refused_closes : {many : Bool} (bytes : List ℕ) (a b : Told) (page rest : List ℕ) (left k offset : ℕ) (o : Operation) (t : State) (opened : List ℕ) (highest : Option ℕ) (r : Refusal)
-    → WithLine many bytes a b page rest left k offset o t opened highest → refusal_of (row_of o) t ≡ Some r
-    → Closes many bytes a b (page ⧺ refused_line r ⧺ protocol_line (raised highest (protocol_of o.opcode))) 1
-refused_closes bytes a b page rest left k offset o t opened highest r w f = record {
-  d = w.d;
-  reads = w.reads;
-  front = w.written.front;
-  written = w.written.wrote;
-  ends = behind_page a b w.d (lines_with w.d k) page (refused_line r) (protocol_line (raised highest (protocol_of o.opcode))) 1 w.written
-      (refused w.d k offset o w.s (fresh w.s).marked opened r highest w.progress w.gives.there (refusal_is o w.s t (Some r) w.outlines f));
-}
+    → Listed many bytes a b page rest left k offset t opened highest → IsNextItem left rest o (size_of o) → refusal_of (row_of o) t ≡ Some r
+    → Closes many bytes a b (page ⧺ item_line o offset (length t.marked) None ⧺ (refused_line r ⧺ protocol_line (raised highest (protocol_of o.opcode)))) 1
+refused_closes bytes a b page rest left k offset o t opened highest r w n f =
+    let here = there bytes a b page rest left k offset t opened highest o w n in
+    let line : List ℕ = item_line o offset (length t.marked) None in
+    let text : List ℕ = refused_line r ⧺ protocol_line (raised highest (protocol_of o.opcode)) in
+    record {
+      d = w.d;
+      reads = w.reads;
+      front = w.written.front;
+      written = w.written.wrote;
+      ends = behind_page a b w.d (lines w.d k) page line text 1 w.written
+          (line_first w.d k line text 1 (here.line ∙ line_by o offset t opened (Some r) f)
+          (refused w.d k offset o w.s (fresh w.s).marked opened r highest w.progress here.at (refusal_is o w.s t (Some r) w.outlines f)));
+    }
 
 sizes_all : (d : Contents) (k offset : ℕ) (s : State) (ms : List Marked) (opened : List ℕ) (highest : Option ℕ) → Progress d k offset s ms opened highest → length (ops_of d) ≡ k → tail_offset d ≡ offset
 sizes_all d k offset s ms opened highest p all =
     ap sizes (sym (take_all k (items_of d) (omega (arith, all, length-map (items_of d) (λ (i : Item). i.op))))) ∙ sym p.stands
 
--- how the document ends whose tail has this fault, where its last item is STOP or not
-finish_there : {many : Bool} {last : Bool} (bytes : List ℕ) (a b : Told) (page rest : List ℕ) (left k offset : ℕ) (t : State) (opened : List ℕ) (highest : Option ℕ) (f : TailFault) (x : Bool)
-    → (w : Listed many bytes a b page rest left k offset t opened highest last) → IsDone w.d k rest (Some f) → (length rest == 0 && last) ≡ x → finish_by x (Some f) ≡ finish_of w.d
-finish_there bytes a b page rest left k offset t opened highest f x w done is =
-    let all : take k (items_of w.d) ≡ items_of w.d = take_all k (items_of w.d) (omega (arith, done.all, length-map (items_of w.d) (λ (i : Item). i.op))) in
-    let last_is = ap ends_with_stop (sym all) ∙ w.ends in
-    finish_at w.d f x done.ended (rw (last_is, done.tail) is)
-
-pub fault_closes : {many : Bool} {last : Bool} (bytes : List ℕ) (a b : Told) (page rest : List ℕ) (left k offset : ℕ) (t : State) (opened : List ℕ) (highest : Option ℕ) (f : TailFault)
-    → Listed many bytes a b page rest left k offset t opened highest last → HasTailFault left rest f → (length rest == 0 && last) ≡ false
-    → Closes many bytes a b (page ⧺ fault_line f offset ⧺ protocol_line highest) 1
-fault_closes bytes a b page rest left k offset t opened highest f w h x =
+pub fault_closes : {many : Bool} (bytes : List ℕ) (a b : Told) (page rest : List ℕ) (left k offset : ℕ) (t : State) (opened : List ℕ) (highest : Option ℕ) (f : TailFault)
+    → Listed many bytes a b page rest left k offset t opened highest → HasTailFault left rest f → Closes many bytes a b (page ⧺ fault_line f offset ⧺ protocol_line highest) 1
+fault_closes bytes a b page rest left k offset t opened highest f w h =
     let done = fault_is w.d k left rest f w.stands h in
-    let finish : finish_of w.d ≡ finish.Fault f = sym (finish_there bytes a b page rest left k offset t opened highest f false w done x) in
+    let finish : finish_of w.d ≡ finish.Fault f = sym (finish_at w.d f false done.ended (last_of_all w.d k rest false done.all done.tail w.goes)) in
     let e = ended w.d k offset w.s (fresh w.s).marked opened highest w.progress done.all in
     let at = sizes_all w.d k offset w.s (fresh w.s).marked opened highest w.progress done.all in
     record {
@@ -242,26 +239,6 @@ fault_closes bytes a b page rest left k offset t opened highest f w h x =
       });
     }
 
--- after the last STOP of many pickles
-pub none_closes : {many : Bool} {last : Bool} (bytes : List ℕ) (a b : Told) (page rest : List ℕ) (left k offset : ℕ) (t : State) (opened : List ℕ) (highest : Option ℕ) (f : TailFault)
-    → Listed many bytes a b page rest left k offset t opened highest last → HasTailFault left rest f → (length rest == 0 && last) ≡ true
-    → Closes many bytes a b (page ⧺ kept_line (length rest) ⧺ protocol_line highest) 0
-none_closes bytes a b page rest left k offset t opened highest f w h x =
-    let done = fault_is w.d k left rest f w.stands h in
-    let finish : finish_of w.d ≡ finish.Stopped = sym (finish_there bytes a b page rest left k offset t opened highest f true w done x) in
-    let e = ended w.d k offset w.s (fresh w.s).marked opened highest w.progress done.all in
-    record {
-      d = w.d;
-      reads = w.reads;
-      front = w.written.front;
-      written = w.written.wrote;
-      ends = behind_page a b w.d (lines w.d k) page (kept_line (length rest)) (protocol_line highest) 0 w.written (record {
-        whole = e.whole ∙ ap (λ (y : List ℕ). lines w.d k ++ y)
-            (ap (λ (y : Finish). end_lines w.d y ⧺ protocol_line highest) finish ∙ ap (λ (y : List ℕ). kept_line (length y) ⧺ protocol_line highest) done.tail);
-        answers = e.answers ∙ ap end_status finish;
-      });
-    }
-
 -- ---- a step
 
 -- item k has moved: what is read now stands after it
@@ -272,6 +249,7 @@ pub record Moved (many : Bool) (bytes : List ℕ) (old new : Told) (page rest : 
   pub goes : MatchBool (ends_reading many o.opcode) (IsDone d (k + 1) rest None) (StandsAt d (k + 1) rest left)
   pub s : State
   pub outlines : outline s ≡ outlined
+  pub stays : is_stop o.opcode ≡ false → fresh s ≡ s
   pub progress : Progress d (k + 1) offset s s.marked opened highest
   pub written : WroteAllBut old new (lines_with d k) page
 
@@ -297,6 +275,7 @@ moved bytes a b page rest left k offset o t u kind opened next highest w f is e 
       goes = subst (λ (m : Bool). MatchBool (ends_reading m o.opcode) (IsDone w.d (k + 1) (drop (size_of o) rest) None) (StandsAt w.d (k + 1) (drop (size_of o) rest) (left_behind left o))) w.reads.mode w.gives.goes;
       s = after;
       outlines = sym same;
+      stays = stays_fresh o (kind_of o) k w.s;
       progress = Progress-more w.d k offset o w.s after opened next highest w.progress w.gives.there (moved_by o k w.s good) follows;
       written = w.written;
     }
@@ -316,70 +295,103 @@ left_there bytes a b page rest left k offset o t opened highest w =
     let some : left_by (item_at w.d k) (run (start w.d.many) (ops_of w.d) (suc k)) ≡ left_text_of o t = left_is w.d k o w.s w.there w.progress.reached ∙ ap (left_text_of o) w.outlines in
     rw (add-one k) (lines-suc w.d k ∙ ap (λ (l : List ℕ). lines_with w.d k ++ l) some)
 
--- and is put on the page, before all is made ready for the next move
-pub goes_on : {many : Bool} (bytes : List ℕ) (a b c : Told) (page next rest : List ℕ) (left k offset : ℕ) (o : Operation) (t u : State) (opened after : List ℕ) (highest : Option ℕ)
-    → Moved many bytes a b page rest left k offset o t opened highest → ends_reading many o.opcode ≡ false → WroteAllBut b c (page ++ left_text_of o t) next
-    → u ≡ outline (fresh t) → after ≡ (if t.stopped then [] else opened)
-    → Listed many bytes a c next rest left (k + 1) offset u after highest (is_stop o.opcode)
-goes_on bytes a b c page next rest left k offset o t u opened after highest w miss q e m =
+-- where it is not STOP, that is nothing
+pub goes_on : {many : Bool} (bytes : List ℕ) (a b : Told) (page rest : List ℕ) (left k offset : ℕ) (o : Operation) (t : State) (opened : List ℕ) (highest : Option ℕ)
+    → Moved many bytes a b page rest left k offset o t opened highest → is_stop o.opcode ≡ false → Listed many bytes a b page rest left (k + 1) offset t opened highest
+goes_on {many} bytes a b page rest left k offset o t opened highest w miss =
+    let on : ends_reading many o.opcode ≡ false = ap (λ (x : Bool). x && not many) miss in
+    let none : left_text_of o t ≡ [] = ap (λ (x : Bool). if x then left_line (stack_size t) (length t.marked) else []) miss in
+    let all : lines w.d (k + 1) ≡ lines_with w.d k = left_there bytes a b page rest left k offset o t opened highest w ∙ ap (λ (l : List ℕ). lines_with w.d k ++ l) none ∙ append-nil (lines_with w.d k) in
+    record {
+      d = w.d;
+      reads = w.reads;
+      stands = rw on at w.goes;
+      s = w.s;
+      outlines = ap outline (w.stays miss) ∙ w.outlines;
+      progress = subst (λ (s : State). Progress w.d (k + 1) offset w.s s.marked opened highest) (sym (w.stays miss)) w.progress;
+      written = rw all w.written;
+      goes = ap (λ (x : Bool). length rest == 0 && x) (last_taken (items_of w.d) k o w.there ∙ miss) ∙ none_last (length rest == 0);
+    }
+
+-- what STOP left
+stop_there : {many : Bool} (bytes : List ℕ) (a b : Told) (page rest : List ℕ) (left k offset : ℕ) (o : Operation) (t : State) (opened : List ℕ) (highest : Option ℕ)
+    → (w : Moved many bytes a b page rest left k offset o t opened highest) → is_stop o.opcode ≡ true → lines w.d (k + 1) ≡ lines_with w.d k ++ left_line (stack_size t) (length t.marked)
+stop_there bytes a b page rest left k offset o t opened highest w hit =
+    left_there bytes a b page rest left k offset o t opened highest w
+    ∙ ap (λ (x : Bool). lines_with w.d k ++ (if x then left_line (stack_size t) (length t.marked) else [])) hit
+
+stop_put : {many : Bool} (bytes : List ℕ) (a b c : Told) (page next rest : List ℕ) (left k offset : ℕ) (o : Operation) (t : State) (opened : List ℕ) (highest : Option ℕ)
+    → (w : Moved many bytes a b page rest left k offset o t opened highest) → is_stop o.opcode ≡ true → WroteAllBut b c (page ++ left_line (stack_size t) (length t.marked)) next
+    → WroteAllBut a c (lines w.d (k + 1)) next
+stop_put bytes a b c page next rest left k offset o t opened highest w hit q =
+    rw (stop_there bytes a b page rest left k offset o t opened highest w hit) (then_put a b c (lines_with w.d k) page next (left_line (stack_size t) (length t.marked)) q w.written)
+
+pub stop_breaks : {many : Bool} (bytes : List ℕ) (a b c : Told) (page rest : List ℕ) (left k offset : ℕ) (o : Operation) (t : State) (opened : List ℕ) (highest : Option ℕ)
+    → Moved many bytes a b page rest left k offset o t opened highest → is_stop o.opcode ≡ true → Broke b c (page ++ left_line (stack_size t) (length t.marked)) → BreaksListing many bytes a c
+stop_breaks bytes a b c page rest left k offset o t opened highest w hit q =
+    let all = stop_there bytes a b page rest left k offset o t opened highest w hit in
+    let front : Broke a c (lines w.d (k + 1)) = rw all (then_broken a b c (lines_with w.d k) page (left_line (stack_size t) (length t.marked)) q w.written) in
+    (w.d, w.reads, broken_lines a c w.d (k + 1) w.s w.progress.reached (omega (arith, within (ops_of w.d) k o w.there)) front)
+
+-- after STOP the next pickle begins
+pub next_pickle : {many : Bool} (bytes : List ℕ) (a b c : Told) (page next rest : List ℕ) (left k offset : ℕ) (o : Operation) (t u : State) (opened after : List ℕ) (highest : Option ℕ)
+    → Moved many bytes a b page rest left k offset o t opened highest → is_stop o.opcode ≡ true → (not many || length rest == 0) ≡ false
+    → WroteAllBut b c (page ++ left_line (stack_size t) (length t.marked)) next → u ≡ outline (fresh t) → after ≡ (if t.stopped then [] else opened)
+    → Listed many bytes a c next rest left (k + 1) offset u after highest
+next_pickle {many} bytes a b c page next rest left k offset o t u opened after highest w hit more q e m =
+    let some = neither (not many) (length rest == 0) more in
+    let on : ends_reading many o.opcode ≡ false = ap (λ (x : Bool). x && not many) hit ∙ some.0 in
     let outlines : outline (fresh w.s) ≡ u = sym (fresh_reads_outlines w.s) ∙ ap (λ (x : State). outline (fresh x)) w.outlines ∙ sym e in
     let follows : (if w.s.stopped then [] else opened) ≡ after = ap (λ (x : State). if x.stopped then [] else opened) w.outlines ∙ sym m in
     let progress : Progress w.d (k + 1) offset w.s (fresh w.s).marked after highest =
     subst (λ (l : List ℕ). Progress w.d (k + 1) offset w.s (fresh w.s).marked l highest) follows (Progress-fresh w.d (k + 1) offset w.s opened highest w.progress) in
-    let stands : StandsAt w.d (k + 1) rest left = rw miss at w.goes in
-    let all = left_there bytes a b page rest left k offset o t opened highest w in
     record {
       d = w.d;
       reads = w.reads;
-      stands = stands;
+      stands = rw on at w.goes;
       s = w.s;
       outlines = outlines;
       progress = progress;
-      written = rw all (then_put a b c (lines_with w.d k) page next (left_text_of o t) q w.written);
-      ends = last_taken (items_of w.d) k o w.there;
+      written = stop_put bytes a b c page next rest left k offset o t opened highest w hit q;
+      goes = ap (λ (x : Bool). x && ends_with_stop (take (k + 1) (items_of w.d))) some.1;
     }
 
-pub left_breaks : {many : Bool} (bytes : List ℕ) (a b c : Told) (page rest : List ℕ) (left k offset : ℕ) (o : Operation) (t : State) (opened : List ℕ) (highest : Option ℕ)
-    → Moved many bytes a b page rest left k offset o t opened highest → Broke b c (page ++ left_text_of o t) → BreaksListing many bytes a c
-left_breaks bytes a b c page rest left k offset o t opened highest w q =
-    let all = left_there bytes a b page rest left k offset o t opened highest w in
-    let front : Broke a c (lines w.d (k + 1)) = rw all (then_broken a b c (lines_with w.d k) page (left_text_of o t) q w.written) in
-    (w.d, w.reads, broken_lines a c w.d (k + 1) w.s w.progress.reached (omega (arith, within (ops_of w.d) k o w.there)) front)
+-- no item stands behind this one, these bytes do, and STOP is the end
+record Last (d : Contents) (k : ℕ) (rest : List ℕ) : Type 0 where
+  pub all : length (ops_of d) ≡ k
+  pub tail : d.tail ≡ rest
+  pub finish : finish_of d ≡ finish.Stopped
 
--- what STOP left, and then the closing lines
-stop_ends : {many : Bool} (bytes : List ℕ) (a b : Told) (page rest : List ℕ) (left k offset : ℕ) (o : Operation) (t : State) (opened : List ℕ) (highest : Option ℕ)
-    → (w : Moved many bytes a b page rest left k offset o t opened highest) → ends_reading many o.opcode ≡ true
-    → EndsWith w.d (lines_with w.d k) (left_line (stack_size t) (length t.marked) ⧺ kept_line (length rest) ⧺ protocol_line highest) 0
-unfolding ◌⧺◌
-stop_ends {many} bytes a b page rest left k offset o t opened highest w hit =
+stop_last : (many : Bool) (bytes : List ℕ) (a b : Told) (page rest : List ℕ) (left k offset : ℕ) (o : Operation) (t : State) (opened : List ℕ) (highest : Option ℕ)
+    → (w : Moved many bytes a b page rest left k offset o t opened highest) → is_stop o.opcode ≡ true → (not many || length rest == 0) ≡ true → Last w.d (k + 1) rest
+stop_last false bytes a b page rest left k offset o t opened highest w hit last =
     let done : IsDone w.d (k + 1) rest None = rw hit at w.goes in
-    let finish : finish_of w.d ≡ finish.Stopped = sym (finish_stopped w.d done.ended) in
-    let text : List ℕ = kept_line (length rest) ++ protocol_line highest in
-    let e = ended w.d (k + 1) offset w.s w.s.marked opened highest w.progress done.all in
-    let closing : EndsWith w.d (lines w.d (suc k)) text 0 = rw (← add-one k) (record {
-      whole = e.whole ∙ ap (λ (x : List ℕ). lines w.d (k + 1) ++ x)
-          (ap (λ (x : Finish). end_lines w.d x ++ protocol_line highest) finish ∙ ap (λ (x : List ℕ). kept_line (length x) ++ protocol_line highest) done.tail);
-      answers = e.answers ∙ ap end_status finish;
-    }) in
-    let some : left_by (item_at w.d k) (run (start w.d.many) (ops_of w.d) (suc k)) ≡ left_line (stack_size t) (length t.marked) = left_is w.d k o w.s w.there w.progress.reached
-    ∙ rw (ends_stop many o.opcode hit) (ap (λ (x : State). left_line (stack_size x) (length x.marked)) w.outlines) in
-    let last = ended_left w.d k (left_line (stack_size t) (length t.marked)) text 0 some closing in
-    record {
-      whole = last.whole ∙ ap (λ (x : List ℕ). lines_with w.d k ++ x) (sym (append_assoc (left_line (stack_size t) (length t.marked)) (kept_line (length rest)) (protocol_line highest)));
-      answers = last.answers;
-    }
+    record { all = done.all; tail = done.tail; finish = sym (finish_stopped w.d done.ended) }
+stop_last true bytes a b page rest left k offset o t opened highest w hit last =
+    let stands : StandsAt w.d (k + 1) rest left = rw hit at w.goes in
+    let done = fault_is w.d (k + 1) left rest tails.Ended stands (Ended, no_bytes rest last, refl) in
+    let stop : (length rest == 0 && ends_with_stop (take (k + 1) (items_of w.d))) ≡ true = rw last (last_taken (items_of w.d) k o w.there ∙ hit) in
+    record { all = done.all; tail = done.tail; finish = sym (finish_at w.d tails.Ended true done.ended (last_of_all w.d (k + 1) rest true done.all done.tail stop)) }
 
-pub stop_closes : {many : Bool} (bytes : List ℕ) (a b : Told) (page rest : List ℕ) (left k offset : ℕ) (o : Operation) (t : State) (opened : List ℕ) (highest : Option ℕ)
-    → Moved many bytes a b page rest left k offset o t opened highest → ends_reading many o.opcode ≡ true
-    → Closes many bytes a b (page ⧺ (left_line (stack_size t) (length t.marked) ⧺ kept_line (length rest)) ⧺ protocol_line highest) 0
-stop_closes bytes a b page rest left k offset o t opened highest w hit = record {
-  d = w.d;
-  reads = w.reads;
-  front = w.written.front;
-  written = w.written.wrote;
-  ends = behind_page a b w.d (lines_with w.d k) page (left_line (stack_size t) (length t.marked) ⧺ kept_line (length rest)) (protocol_line highest) 0 w.written
-      (stop_ends bytes a b page rest left k offset o t opened highest w hit);
-}
+-- after STOP, where none begins
+pub stop_closes : {many : Bool} (bytes : List ℕ) (a b c : Told) (page next rest : List ℕ) (left k offset : ℕ) (o : Operation) (t : State) (opened : List ℕ) (highest : Option ℕ)
+    → Moved many bytes a b page rest left k offset o t opened highest → is_stop o.opcode ≡ true → (not many || length rest == 0) ≡ true
+    → WroteAllBut b c (page ++ left_line (stack_size t) (length t.marked)) next → Closes many bytes a c (next ⧺ kept_line (length rest) ⧺ protocol_line highest) 0
+stop_closes {many} bytes a b c page next rest left k offset o t opened highest w hit last q =
+    let end = stop_last many bytes a b page rest left k offset o t opened highest w hit last in
+    let written = stop_put bytes a b c page next rest left k offset o t opened highest w hit q in
+    let e = ended w.d (k + 1) offset w.s w.s.marked opened highest w.progress end.all in
+    record {
+      d = w.d;
+      reads = w.reads;
+      front = written.front;
+      written = written.wrote;
+      ends = behind_page a c w.d (lines w.d (k + 1)) next (kept_line (length rest)) (protocol_line highest) 0 written (record {
+        whole = e.whole ∙ ap (λ (x : List ℕ). lines w.d (k + 1) ++ x)
+            (ap (λ (x : Finish). end_lines w.d x ⧺ protocol_line highest) end.finish ∙ ap (λ (x : List ℕ). kept_line (length x) ⧺ protocol_line highest) end.tail);
+        answers = e.answers ∙ ap end_status end.finish;
+      });
+    }
 
 -- ---- bounds
 
@@ -389,8 +401,8 @@ pub record Bounds (bytes : List ℕ) (k offset : ℕ) (o : Operation) (t : State
   pub marks : length t.marked ≤ k
   pub heap : length t.heap ≤ k
 
-pub bounds : {many : Bool} {last : Bool} (bytes : List ℕ) (a b : Told) (page rest : List ℕ) (left k offset : ℕ) (o : Operation) (t : State) (opened : List ℕ) (highest : Option ℕ)
-    → Listed many bytes a b page rest left k offset t opened highest last → IsNextItem left rest o (size_of o) → Bounds bytes k offset o t
+pub bounds : {many : Bool} (bytes : List ℕ) (a b : Told) (page rest : List ℕ) (left k offset : ℕ) (o : Operation) (t : State) (opened : List ℕ) (highest : Option ℕ)
+    → Listed many bytes a b page rest left k offset t opened highest → IsNextItem left rest o (size_of o) → Bounds bytes k offset o t
 bounds bytes a b page rest left k offset o t opened highest w n =
     let g = item_is w.d k left rest o (size_of o) w.stands n in
     let size : length (document_bytes w.d) ≡ length bytes = ap length w.reads.whole in

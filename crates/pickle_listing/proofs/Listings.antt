@@ -213,11 +213,11 @@ ended d k offset s ms opened highest p all =
       answers = rw (last, none, here) refl;
     }
 
--- what an item left is the first that stands after its line
-pub ended_left : (d : Contents) (k : ℕ) (left text : List ℕ) (status : ℕ) → left_by (item_at d k) (run (start d.many) (ops_of d) (suc k)) ≡ left
-    → EndsWith d (lines d (suc k)) text status → EndsWith d (lines_with d k) (left ++ text) status
-ended_left d k left text status e w = record {
-  whole = w.whole ∙ ap (λ (t : List ℕ). t ++ text) (lines-suc d k ∙ ap (λ (t : List ℕ). lines_with d k ++ t) e) ∙ append_assoc (lines_with d k) left text;
+-- the line of item k comes first
+pub line_first : (d : Contents) (k : ℕ) (line text : List ℕ) (status : ℕ) → line_at d k ≡ line → EndsWith d (lines_with d k) text status → EndsWith d (lines d k) (line ⧺ text) status
+unfolding ◌⧺◌
+line_first d k line text status e w = record {
+  whole = w.whole ∙ ap (λ (l : List ℕ). (lines d k ++ l) ++ text) e ∙ append_assoc (lines d k) line text;
   answers = w.answers;
 }
 

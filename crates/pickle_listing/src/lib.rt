@@ -2,6 +2,7 @@
 #![tactic(auto)]
 
 mod column;
+mod highest;
 mod line;
 mod list;
 mod note;

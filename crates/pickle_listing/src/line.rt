@@ -75,20 +75,6 @@ pub fn write_kept_line<S: Sink>(count: u64, sink: &mut S) -> Result<(), Failed>
     }
 }
 
-/// Writes what is left where reading ended by STOP: on the stack, and after STOP.
-#[tactic(auto, using(pickle_io::proofs::Devices::text_steps))]
-pub fn write_stopped<S: Sink>(
-    objects: usize,
-    marks: usize,
-    kept: u64,
-    sink: &mut S,
-) -> Result<(), Failed>
-    ensures { Writes (S.told sink.old) (S.told sink.new) result (left_line objects marks ⧺ kept_line kept) }
-{
-    write_left_line(objects, marks, sink)?;
-    write_kept_line(kept, sink)
-}
-
 /// Words of a line.
 #[tactic(auto, unfolding(crate::specs::Line::protocol_words))]
 fn words_of_protocol() -> &'static str
@@ -99,7 +85,7 @@ fn words_of_protocol() -> &'static str
 
 /// Writes the line of a protocol.
 #[tactic(auto, using(pickle_io::proofs::Devices::text_steps), unfolding(crate::specs::Line::protocol_text))]
-fn write_protocol_text<S: Sink>(protocol: u8, sink: &mut S) -> Result<(), Failed>
+fn write_protocol_text<S: Sink>(protocol: u32, sink: &mut S) -> Result<(), Failed>
     ensures { Writes (S.told sink.old) (S.told sink.new) result (protocol_text protocol) }
 {
     write_all(sink, words_of_protocol().as_bytes())?;
@@ -109,7 +95,7 @@ fn write_protocol_text<S: Sink>(protocol: u8, sink: &mut S) -> Result<(), Failed
 
 /// Writes the greatest protocol of the items that were listed, if any was.
 #[tactic(auto, using(pickle_io::proofs::Devices::text_steps), unfolding(crate::specs::Line::protocol_line))]
-pub fn write_protocol<S: Sink>(highest: Option<u8>, sink: &mut S) -> Result<(), Failed>
+pub fn write_protocol<S: Sink>(highest: Option<u32>, sink: &mut S) -> Result<(), Failed>
     ensures { Writes (S.told sink.old) (S.told sink.new) result (protocol_line highest) }
 {
     match highest {

@@ -1,6 +1,6 @@
 //! The listing of items, one after another.
 
-ghost use Rattle.std.specs.Prelude.{◌≡◌, ◌≤◌, ◌<◌, ◌-◌, ◌^◌, ◌==◌, ◌&&◌, [], if◌then◌else◌, length, None, OnOk, IfOk, IfErr};
+ghost use Rattle.std.specs.Prelude.{◌≡◌, ◌≤◌, ◌<◌, ◌-◌, ◌^◌, ◌==◌, ◌||◌, [], if◌then◌else◌, length, not, None, OnOk, IfOk, IfErr};
 ghost use Rattle.pickle_io.specs.Device.{Writes};
 ghost use Rattle.pickle_io.specs.Text.{◌⧺◌};
 ghost use Rattle.pickle_doc.specs.DocUnit.{is_stop};
@@ -12,16 +12,17 @@ ghost use Rattle.pickle_outline.specs.Class.{sample};
 ghost use Rattle.pickle_outline.specs.Outline.{outline};
 ghost use Rattle.pickle_report.specs.Line.{fault_line};
 ghost use Rattle.pickle_page.specs.Page.{Puts};
-ghost use Rattle.pickle_listing.specs.Line.{raised, refused_line, left_line, kept_line, protocol_line};
-ghost use Rattle.pickle_listing.specs.Listing.{note_with, note_unless};
+ghost use Rattle.pickle_listing.specs.Line.{item_line, refused_line, left_line, kept_line, protocol_line};
+ghost use Rattle.pickle_listing.specs.Listing.{note_with};
 ghost use Rattle.pickle_listing.specs.Inside.Marks.{last_of, followed};
 ghost use Rattle.pickle_listing.specs.Inside.Answer.{IsAnswer};
 ghost use Rattle.pickle_listing.specs.Written.{WroteListing, CutListing, IsListed, CutsListing};
 
-use crate::line::{write_kept_line, write_left_line, write_protocol, write_refused, write_stopped};
+use crate::highest::Highest;
+use crate::line::{write_kept_line, write_left_line, write_protocol, write_refused};
 use crate::note::Note;
 use crate::put::put_item;
-use pickle_doc::{Document, DocumentItems, ItemSource, Items, NextRef, TailFault, ends_reading};
+use pickle_doc::{Document, DocumentItems, ItemSource, Items, NextRef, TailFault};
 use pickle_machine::Refusal;
 use pickle_objects::Row;
 use pickle_ops::{Failed, OpRef, Opcode, Sink};
@@ -30,34 +31,8 @@ use pickle_page::{Offset, Page};
 use pickle_report::{TextStop, write_fault};
 use std::alloc::{AllocError, Global};
 
-/// The greatest protocol so far, with one more.
-fn raise(highest: Option<u8>, protocol: u8) -> Option<u8>
-    ensures { result ≡ raised highest protocol }
-{
-    match highest {
-        None => Some(protocol),
-        Some(most) => Some(most.max(protocol)),
-    }
-}
-
-/// The note of an operation with this refusal, if any; `opened` has the offsets of the open marks, the topmost last.
-fn note_unless_refused(
-    refusal: Option<Refusal>,
-    op: &OpRef<'_>,
-    row: Row,
-    lean: &Lean,
-    opened: &[u64],
-) -> Option<Note>
-    requires { row ≡ row_of op.now }
-    ensures { result ≡ note_unless refusal (note_with op.now lean.now (last_of opened.now)) }
-{
-    match refusal {
-        None => note_of(op, row, lean, opened),
-        Some(_) => None,
-    }
-}
-
-/// The note of an operation that is not refused.
+/// The note of an operation that is not refused; `opened` has the offsets of the open marks, the topmost last.
+#[inline(always)]
 fn note_of(op: &OpRef<'_>, row: Row, lean: &Lean, opened: &[u64]) -> Option<Note>
     requires { row ≡ row_of op.now }
     ensures { result ≡ note_with op.now lean.now (last_of opened.now) }
@@ -80,7 +55,7 @@ fn write_fault_end<S: Sink>(
     page: &mut Page,
     fault: TailFault,
     offset: u64,
-    highest: Option<u8>,
+    highest: Option<u32>,
     sink: &mut S,
 ) -> Result<(), Failed>
     ensures { Writes (S.told sink.old) (S.told sink.new) result (page.old ⧺ fault_line fault offset ⧺ protocol_line highest) }
@@ -90,12 +65,12 @@ fn write_fault_end<S: Sink>(
     write_protocol(highest, sink)
 }
 
-/// Writes out the page, and the lines after the last STOP of many pickles.
+/// Writes out the page, and the lines after the last STOP, behind which there are `kept` bytes.
 #[tactic(auto, using(pickle_io::proofs::Devices::text_steps))]
 fn write_last_end<S: Sink>(
     page: &mut Page,
     kept: u64,
-    highest: Option<u8>,
+    highest: Option<u32>,
     sink: &mut S,
 ) -> Result<(), Failed>
     ensures { Writes (S.told sink.old) (S.told sink.new) result (page.old ⧺ kept_line kept ⧺ protocol_line highest) }
@@ -112,11 +87,11 @@ fn is_stop(opcode: Opcode) -> bool
     matches!(opcode, Opcode::Stop)
 }
 
-/// Whether items that end in STOP, or do not, end the listing where so many bytes are left.
-fn is_last(stop: bool, left: u64) -> bool
-    ensures { result ≡ (left == 0 && stop) }
+/// Whether a STOP ends the listing, with this many bytes behind it.
+fn is_last(many: bool, kept: u64) -> bool
+    ensures { result ≡ (not many || kept == 0) }
 {
-    left == 0 && stop
+    !many || kept == 0
 }
 
 /// Puts what STOP left on the stack on the page, if anything.
@@ -135,23 +110,12 @@ fn put_left_line<S: Sink>(
     write_left_line(objects, marks, sink)
 }
 
-/// The same after STOP, and nothing after any other opcode.
-fn put_left<S: Sink>(page: &mut Page, stop: bool, lean: &Lean, sink: &mut S) -> Result<(), Failed>
-    ensures { Puts (S.told sink.old) (S.told sink.new) page.old page.new result (if stop then left_line (stack_size lean.now) (length lean.now.marked) else []) }
-{
-    if stop {
-        put_left_line(page, lean.stack_len(), lean.marks_len(), sink)
-    } else {
-        Ok(())
-    }
-}
-
-/// Writes out the page, and the lines after an item that is refused.
+/// Writes out the page, and the lines after the line of an item that is refused.
 #[tactic(auto, using(pickle_io::proofs::Devices::text_steps))]
 fn write_refused_end<S: Sink>(
     page: &mut Page,
     refusal: Refusal,
-    highest: Option<u8>,
+    highest: Option<u32>,
     sink: &mut S,
 ) -> Result<(), Failed>
     ensures { Writes (S.told sink.old) (S.told sink.new) result (page.old ⧺ refused_line refusal ⧺ protocol_line highest) }
@@ -161,20 +125,22 @@ fn write_refused_end<S: Sink>(
     write_protocol(highest, sink)
 }
 
-/// Writes out the page, and the lines after STOP.
-#[tactic(auto, using(pickle_io::proofs::Devices::text_steps))]
-fn write_stopped_end<S: Sink>(
+/// Puts the line of an item that is refused, writes out the page, and the lines after it. An item that is refused has no note.
+#[inline(never)]
+fn write_refused_item<S: Sink>(
     page: &mut Page,
-    lean: &Lean,
-    kept: u64,
-    highest: Option<u8>,
+    op: &OpRef<'_>,
+    offset: &Offset,
+    marks: usize,
+    refusal: Refusal,
+    highest: Option<u32>,
     sink: &mut S,
 ) -> Result<(), Failed>
-    ensures { Writes (S.told sink.old) (S.told sink.new) result (page.old ⧺ (left_line (stack_size lean.now) (length lean.now.marked) ⧺ kept_line kept) ⧺ protocol_line highest) }
+    requires { marks < 2 ^ 32 }
+    ensures { Writes (S.told sink.old) (S.told sink.new) result (page.old ⧺ item_line op.now offset.now marks None ⧺ (refused_line refusal ⧺ protocol_line highest)) }
 {
-    page.flush(sink)?;
-    write_stopped(lean.stack_len(), lean.marks_len(), kept, sink)?;
-    write_protocol(highest, sink)
+    put_item(page, op, offset, marks, None, sink)?;
+    write_refused_end(page, refusal, highest, sink)
 }
 
 /// The answer of a listing with this status whose last lines were written, or where the sink failed.
@@ -185,7 +151,8 @@ fn answer(closed: Result<(), Failed>, status: u8) -> Result<u8, TextStop>
     Ok(status)
 }
 
-/// What becomes of the offsets of the open marks when a step left so many.
+/// What becomes of the offsets of the open marks when a step changes how many there are.
+#[inline(always)]
 fn follow_marks(
     opened: &mut Vec<u64>,
     before: usize,
@@ -203,6 +170,7 @@ fn follow_marks(
 }
 
 /// Moves the outline by an item that is not refused, and follows its marks.
+#[inline(always)]
 fn perform(
     lean: &mut Lean,
     opened: &mut Vec<u64>,
@@ -232,11 +200,28 @@ fn refresh(lean: &mut Lean, opened: &mut Vec<u64>)
     lean.refresh();
 }
 
+/// Puts what STOP left on the page. Where several pickles are listed, the next one begins, and no mark is open.
+#[inline(never)]
+fn end_pickle<S: Sink>(
+    page: &mut Page,
+    lean: &mut Lean,
+    opened: &mut Vec<u64>,
+    sink: &mut S,
+) -> Result<(), Failed>
+    ensures puts { Puts (S.told sink.old) (S.told sink.new) page.old page.new result (left_line (stack_size lean.old) (length lean.old.marked)) }
+    ensures fresh { OnOk result (lean.new ≡ outline (fresh lean.old)) }
+    ensures marks { OnOk result (opened.new.items ≡ (if lean.old.stopped then [] else opened.old.items)) }
+{
+    put_left_line(page, lean.stack_len(), lean.marks_len(), sink)?;
+    refresh(lean, opened);
+    Ok(())
+}
+
 /// Writes the listing of the items that a source gives from the first on, as many pickles or as one, and answers its status: 1 where an
 /// item is refused or the bytes have a fault, else 0. Lines stand on a page before they are written. The source is to give a document
 /// that is not too large.
 ///
-/// `Memory` (M) comes for want of memory, `Failed` from the sink; what was written then is a beginning of the listing.
+/// `Memory` (M) comes when memory runs out, `Failed` from the sink; what was written then is a beginning of the listing.
 pub fn list_items<'a, I: ItemSource<'a>, S: Sink>(
     alloc: Global,
     many: bool,
@@ -253,42 +238,43 @@ pub fn list_items<'a, I: ItemSource<'a>, S: Sink>(
     let mut lean = Lean::new(alloc, many);
     let mut opened = Vec::new(alloc);
     let mut page = Page::new();
-    let mut highest = None;
+    let mut highest = Highest::none();
     let mut offset = Offset::at(0);
     let mut place = 0;
-    let mut stop = false;
     'items: loop {
         match reader.next() {
             NextRef::Tail(fault) => {
-                let kept = reader.unread_len();
-                if is_last(stop, kept) {
-                    return answer(write_last_end(&mut page, kept, highest, sink), 0);
-                }
+                let at = offset.number();
                 return answer(
-                    write_fault_end(&mut page, fault, offset.number(), highest, sink),
+                    write_fault_end(&mut page, fault, at, highest.get(), sink),
                     1,
                 );
             }
             NextRef::Item(op) => {
                 let row = Row::of_ref(&op);
-                let refusal = lean.refusal(row);
-                let note = note_unless_refused(refusal, &op, row, &lean, opened.as_slice());
-                put_item(&mut page, &op, &offset, lean.marks_len(), note, sink)?;
-                highest = raise(highest, op.opcode().protocol());
-                if let Some(refusal) = refusal {
-                    return answer(write_refused_end(&mut page, refusal, highest, sink), 1);
+                let marks = lean.marks_len();
+                highest.raise(op.opcode().protocol());
+                if let Some(refusal) = lean.refusal(row) {
+                    let most = highest.get();
+                    return answer(
+                        write_refused_item(&mut page, &op, &offset, marks, refusal, most, sink),
+                        1,
+                    );
                 }
+                let note = note_of(&op, row, &lean, opened.as_slice());
+                put_item(&mut page, &op, &offset, marks, note, sink)?;
                 let class = Class::of(op.opcode());
                 perform(&mut lean, &mut opened, row, class, place, offset.number())?;
                 offset.advance(op.size() as u64);
                 place += 1;
-                if ends_reading(many, op.opcode()) {
-                    let kept = reader.unread_len();
-                    return answer(write_stopped_end(&mut page, &lean, kept, highest, sink), 0);
+                if !is_stop(op.opcode()) {
+                    continue;
                 }
-                stop = is_stop(op.opcode());
-                put_left(&mut page, stop, &lean, sink)?;
-                refresh(&mut lean, &mut opened);
+                end_pickle(&mut page, &mut lean, &mut opened, sink)?;
+                let kept = reader.unread_len();
+                if is_last(many, kept) {
+                    return answer(write_last_end(&mut page, kept, highest.get(), sink), 0);
+                }
             }
         }
     }
@@ -312,7 +298,7 @@ pub fn list_bytes<S: Sink>(
 /// Writes the listing of a document, in its mode, and answers its status: 1 where an item is refused or the tail has a fault, else 0.
 /// The machine that it asks is its own.
 ///
-/// `Memory` (M) comes for want of memory, `Failed` from the sink; what was written then is a beginning of the listing.
+/// `Memory` (M) comes when memory runs out, `Failed` from the sink; what was written then is a beginning of the listing.
 pub fn write_listing<S: Sink>(
     alloc: Global,
     document: &Document,
