@@ -3,8 +3,8 @@
 mod rows;
 
 use crate::tests::rows::{
-    APPENDED_BY_MEMO, BREAKPOINTS, ENTRY_OF_THE_FIRST, MANY, MARK_LEFT_BEHIND, REPORTS, SCRIPTS,
-    Script,
+    APPENDED_BY_MEMO, BREAKPOINTS, EDITS_IN_BOTH, END_BY_EDIT, ENTRY_OF_THE_FIRST, MANY,
+    MARK_LEFT_BEHIND, REPORTS, SCRIPTS, Script,
 };
 use pickle_doc::DocFault;
 use pickle_ops::{Drip, FromRead, Sip, ToWrite};
@@ -98,11 +98,13 @@ fn calls_for(len: usize, most: usize) -> u64 {
 }
 
 /// The scripts whose devices fail at each of their calls.
-const DEVICES: [Script; 4] = [
+const DEVICES: [Script; 6] = [
     BREAKPOINTS,
     APPENDED_BY_MEMO,
     ENTRY_OF_THE_FIRST,
     MARK_LEFT_BEHIND,
+    END_BY_EDIT,
+    EDITS_IN_BOTH,
 ];
 
 #[test]
@@ -186,7 +188,7 @@ fn failing_sinks(rt: HostRuntime) -> Result<(), Fail> {
     for script in &DEVICES {
         for most in [1, 2, 7] {
             let mut is_done = false;
-            for calls in 0..200 {
+            for calls in 0..400 {
                 let found = is_written_to_its_end(rt.alloc(), script, most, calls)?;
                 assert!(rt; found.is_some(), "{calls} calls of {most}");
                 is_done = found == Some(true);

@@ -167,52 +167,56 @@ pub const MARK_LEFT_BEHIND: Script = Script {
     ],
 };
 
+/// An edit makes the end another, and its undo too.
+pub const END_BY_EDIT: Script = Script {
+    many: true,
+    bytes: b"N.N",
+    lines: &[
+        ("delete 2\n", "edited 2\n"),
+        (
+            "where\n",
+            "at 0 of 2, offset 0, buffers 0, result none, end stopped\n",
+        ),
+        ("undo\n", "undone 2\n"),
+        (
+            "where\n",
+            "at 0 of 3, offset 0, buffers 0, result none, end F1 ended at 3\n",
+        ),
+    ],
+};
+
+/// Edits in the second pickle and in the first.
+pub const EDITS_IN_BOTH: Script = Script {
+    many: true,
+    bytes: b"N.K\x01.",
+    lines: &[
+        ("goto 3\n", "at 3\n"),
+        ("insert 3 NONE\n", "edited 3\n"),
+        ("run\n", "at 5: end, stopped\n"),
+        (
+            "where\n",
+            "at 5 of 5, offset 6, buffers 0, result #0 #2, end stopped\n",
+        ),
+        ("goto 1\n", "at 1\n"),
+        ("replace 2 BININT2 0100\n", "edited 2\n"),
+        ("insert 1 EMPTY_LIST\n", "edited 1\n"),
+        ("run\n", "at 6: end, stopped\n"),
+        ("objects\n", "#0 none\n#1 list\n#2 int 1\n#3 none\n"),
+        ("undo\n", "refused: C8 edit at 1 behind the cursor\n"),
+        ("goto 0\n", "at 0\n"),
+        ("undo\n", "undone 1\n"),
+        ("undo\n", "undone 2\n"),
+        ("undo\n", "undone 3\n"),
+        ("redo\n", "redone 3\n"),
+    ],
+};
+
 /// The scripts over several pickles.
 pub const MANY: [Script; 5] = [
     ENTRY_OF_THE_FIRST,
     MARK_LEFT_BEHIND,
-    // an edit makes the end another, and its undo too
-    Script {
-        many: true,
-        bytes: b"N.N",
-        lines: &[
-            ("delete 2\n", "edited 2\n"),
-            (
-                "where\n",
-                "at 0 of 2, offset 0, buffers 0, result none, end stopped\n",
-            ),
-            ("undo\n", "undone 2\n"),
-            (
-                "where\n",
-                "at 0 of 3, offset 0, buffers 0, result none, end F1 ended at 3\n",
-            ),
-        ],
-    },
-    // edits in the second pickle and in the first
-    Script {
-        many: true,
-        bytes: b"N.K\x01.",
-        lines: &[
-            ("goto 3\n", "at 3\n"),
-            ("insert 3 NONE\n", "edited 3\n"),
-            ("run\n", "at 5: end, stopped\n"),
-            (
-                "where\n",
-                "at 5 of 5, offset 6, buffers 0, result #0 #2, end stopped\n",
-            ),
-            ("goto 1\n", "at 1\n"),
-            ("replace 2 BININT2 0100\n", "edited 2\n"),
-            ("insert 1 EMPTY_LIST\n", "edited 1\n"),
-            ("run\n", "at 6: end, stopped\n"),
-            ("objects\n", "#0 none\n#1 list\n#2 int 1\n#3 none\n"),
-            ("undo\n", "refused: C8 edit at 1 behind the cursor\n"),
-            ("goto 0\n", "at 0\n"),
-            ("undo\n", "undone 1\n"),
-            ("undo\n", "undone 2\n"),
-            ("undo\n", "undone 3\n"),
-            ("redo\n", "redone 3\n"),
-        ],
-    },
+    END_BY_EDIT,
+    EDITS_IN_BOTH,
     // an object of the second pickle, and all results
     Script {
         many: true,
