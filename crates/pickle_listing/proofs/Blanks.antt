@@ -1,5 +1,5 @@
 -- Blanks, and a code in its column.
-use Rattle.std.proofs.Common.{◌≡◌, ℕ, ◌≤◌, Bool, true, false, ◌&&◌, nat_lt, List, ◌++◌, take, replicate, refl, ap, ◌∙◌}
+use Rattle.std.proofs.Common.{◌≡◌, ℕ, ◌≤◌, Bool, true, false, ◌&&◌, nat_lt, take, replicate, refl}
 use Rattle.std.proofs.lemmas.List.{take-replicate}
 use Rattle.pickle_ops.specs.declared.opcode.Opcode.{Opcode}
 use Rattle.pickle_ops.specs.Table.{code_of}
@@ -12,12 +12,10 @@ use Rattle.pickle_listing.specs.Line.{code_column}
 pub blanks_cut : (count : ℕ) → count ≤ 5 → take count (replicate 5 32) ≡ blanks count
 blanks_cut count h = take-replicate {X = ℕ} count 5 32 h
 
-cells_taken : (o : Opcode) (visible : Bool) → (nat_lt 32 (code_of o) && nat_lt (code_of o) 127) ≡ visible → take 7 (code_cells (code_of o)) ≡ code_column o
+cells_by : (o : Opcode) (visible : Bool) → (nat_lt 32 (code_of o) && nat_lt (code_of o) 127) ≡ visible → take 7 (code_cells (code_of o)) ≡ code_column o
 unfolding code_column left_aligned ◌⧺◌ encode_with
-cells_taken o true h = rw h refl
-cells_taken o false h = rw h refl
+cells_by o true h = rw h refl
+cells_by o false h = rw h refl
 
-pub column_there : (o : Opcode) (text next : List ℕ) → next ≡ text ++ take 7 (code_cells (code_of o)) → next ≡ text ++ code_column o
-column_there o text next e = e ∙ ap (λ (l : List ℕ). text ++ l) (cells_taken o (nat_lt 32 (code_of o) && nat_lt (code_of o) 127) refl)
-
-pub ruleset column_steps = (column_there)
+pub cells_taken : (o : Opcode) → take 7 (code_cells (code_of o)) ≡ code_column o
+cells_taken o = cells_by o (nat_lt 32 (code_of o) && nat_lt (code_of o) 127) refl

@@ -1,21 +1,25 @@
 -- The line of an item on a page.
-use Rattle.std.proofs.Common.{◌≡◌, ℕ, ◌+◌, ◌-◌, ◌*◌, ◌≤◌, List, [], ◌∷◌, ◌++◌, length, take, Option, sym, ap, ◌∙◌, arith, inl, inr, length-append, append_assoc}
+use Rattle.std.proofs.Common.{◌≡◌, ℕ, ◌+◌, ◌-◌, ◌*◌, ◌≤◌, List, [], ◌∷◌, ◌++◌, length, take, Option, Result, sym, ap, subst, ◌∙◌, arith, inl, inr, length-append, append_assoc}
 use Rattle.std.specs.Prelude.{decimal, codes, max}
 use Rattle.std.proofs.lemmas.Bool.{cases_lt}
 use Rattle.std.proofs.lemmas.List.{take-append-le, take_at, replicate-append-replicate, append-nil}
 use lib.ListN.{length-replicate}
 use Rattle.std.proofs.Math.Seq.{take-length}
 use Rattle.pickle_io.specs.Device.{Told, Broke, WroteAllBut}
+use Rattle.pickle_ops.specs.declared.opcode.Opcode.{Opcode}
 use Rattle.pickle_ops.specs.Spelling.{Operation}
 use Rattle.pickle_io.specs.Text.{◌⧺◌}
-use Rattle.pickle_page.proofs.Puts.{page_more, then_put_next, then_broken_next, puts_last, puts_broken, puts_no_room, puts_pushed}
+use Rattle.pickle_page.specs.Page.{Puts}
+use Rattle.pickle_page.proofs.Puts.{then_put_next, then_broken_next, puts_next, puts_last, puts_broken, puts_pushed}
 use Rattle.pickle_listing.specs.declared.note.Note.{Note}
 use Rattle.pickle_page.specs.Column.{blanks, left_aligned, right_aligned, newline}
 use Rattle.pickle_listing.specs.Line.{offset_column, code_column, item_line, named, mark_text, as_text}
 
-pub head_behind : (t code : List ℕ) (offset : ℕ) → (t ++ right_aligned 5 (decimal offset)) ++ code ≡ t ++ (offset_column offset ⧺ code)
+-- the head of a line: where the item stands, and its code
+pub head_there : (o : Opcode) (text next block : List ℕ) (offset : ℕ) → take 7 block ≡ code_column o → next ≡ text ++ (right_aligned 5 (decimal offset) ++ take 7 block)
+    → next ≡ text ++ (offset_column offset ⧺ code_column o)
 unfolding offset_column ◌⧺◌
-head_behind t code offset = append_assoc t (right_aligned 5 (decimal offset)) code
+head_there o text next block offset code e = e ∙ ap (λ (x : List ℕ). text ++ (right_aligned 5 (decimal offset) ++ x)) code
 
 -- a name that was filled with blanks
 pub name_there : (text name next : List ℕ) → next ≡ text ++ take (length name) (name ++ blanks (16 - length name)) → next ≡ text ++ name
@@ -36,9 +40,9 @@ take_filled name h = elim (cases_lt (length name) 10) [
       take_at name (blanks (16 - length name)) (max (length name) 10) (omega (arith, high)) ∙ sym (append-nil name) ∙ ap (λ (l : List ℕ). name ++ l) (sym none)
 ]
 
-pub filled_there : (text name next : List ℕ) → length name ≤ 16 → next ≡ (text ++ take (max (length name) 10) (name ++ blanks (16 - length name))) ++ 32 ∷ [] → next ≡ text ++ (left_aligned 10 name ⧺ codes " ")
+pub filled_there : (text name next : List ℕ) → length name ≤ 16 → next ≡ text ++ (take (max (length name) 10) (name ++ blanks (16 - length name)) ++ 32 ∷ []) → next ≡ text ++ (left_aligned 10 name ⧺ codes " ")
 unfolding left_aligned ◌⧺◌
-filled_there text name next h e = e ∙ append_assoc text (take (max (length name) 10) (name ++ blanks (16 - length name))) (32 ∷ []) ∙ ap (λ (l : List ℕ). text ++ (l ++ 32 ∷ [])) (take_filled name h)
+filled_there text name next h e = e ∙ ap (λ (l : List ℕ). text ++ (l ++ 32 ∷ [])) (take_filled name h)
 
 pub mark_behind : (t : List ℕ) (n : ℕ) → ((t ++ codes "(MARK at ") ++ decimal n) ++ codes ")" ≡ t ++ mark_text n
 unfolding mark_text ◌⧺◌
@@ -65,29 +69,19 @@ noted_broken a b p q name arg note e w =
 
 -- ---- the line
 
-abbrev head : Operation → ℕ → List ℕ
-head o offset = offset_column offset ⧺ code_column o.opcode
+-- what stands before the name
+abbrev head : Opcode → ℕ → ℕ → List ℕ
+head o offset marks = offset_column offset ⧺ code_column o ⧺ blanks (4 * marks)
 
-pub line_put : (a b c e : Told) (p q r s t u : List ℕ) (o : Operation) (offset marks : ℕ) (n : Option Note)
-    → WroteAllBut a b p q → r ≡ q ++ head o offset → WroteAllBut b c (r ++ blanks (4 * marks)) s → WroteAllBut c e (s ++ named o n) t → u ≡ t ++ 10 ∷ [] → WroteAllBut a e (p ++ item_line o offset marks n) u
-unfolding item_line
-line_put a b c e p q r s t u o offset marks n w h x y end =
-    puts_last a e p t u (head o offset ⧺ blanks (4 * marks) ⧺ named o n) newline end
-    (then_put_next a c e p s t (head o offset ⧺ blanks (4 * marks)) (named o n) y (then_put_next a b c p r s (head o offset) (blanks (4 * marks)) x (page_more a b p q r (head o offset) h w)))
+joined : (o : Operation) (offset marks : ℕ) (n : Option Note) → head o.opcode offset marks ⧺ (named o n ⧺ newline) ≡ item_line o offset marks n
+unfolding item_line ◌⧺◌
+joined o offset marks n = sym (append_assoc ((offset_column offset ++ code_column o.opcode) ++ blanks (4 * marks)) (named o n) newline)
 
-pub line_broken_first : (a b : Told) (p t : List ℕ) → Broke a b p → Broke a b (p ++ t)
-line_broken_first = puts_no_room
+pub line_behind : {A E : Type 0} (a b c : Told) (p q r : List ℕ) (x : Result A E) (o : Operation) (offset marks : ℕ) (n : Option Note)
+    → Puts b c q r x (named o n ⧺ newline) → WroteAllBut a b (p ++ head o.opcode offset marks) q → Puts a c p r x (item_line o offset marks n)
+line_behind a b c p q r x o offset marks n w v =
+    subst (λ (t : List ℕ). Puts a c p r x t) (joined o offset marks n) (puts_next a b c p q r x (head o.opcode offset marks) (named o n ⧺ newline) w v)
 
-pub line_broken_blanks : (a b c : Told) (p q r : List ℕ) (o : Operation) (offset marks : ℕ) (n : Option Note)
-    → WroteAllBut a b p q → r ≡ q ++ head o offset → Broke b c (r ++ blanks (4 * marks)) → Broke a c (p ++ item_line o offset marks n)
-unfolding item_line
-line_broken_blanks a b c p q r o offset marks n w h x =
-    puts_broken a c p (head o offset ⧺ blanks (4 * marks) ⧺ named o n) newline
-    (puts_broken a c p (head o offset ⧺ blanks (4 * marks)) (named o n) (then_broken_next a b c p r (head o offset) (blanks (4 * marks)) x (page_more a b p q r (head o offset) h w)))
-
-pub line_broken_named : (a b c e : Told) (p q r s : List ℕ) (o : Operation) (offset marks : ℕ) (n : Option Note)
-    → WroteAllBut a b p q → r ≡ q ++ head o offset → WroteAllBut b c (r ++ blanks (4 * marks)) s → Broke c e (s ++ named o n) → Broke a e (p ++ item_line o offset marks n)
-unfolding item_line
-line_broken_named a b c e p q r s o offset marks n w h x y =
-    puts_broken a e p (head o offset ⧺ blanks (4 * marks) ⧺ named o n) newline
-    (then_broken_next a c e p s (head o offset ⧺ blanks (4 * marks)) (named o n) y (then_put_next a b c p r s (head o offset) (blanks (4 * marks)) x (page_more a b p q r (head o offset) h w)))
+pub line_broken : (a b : Told) (p : List ℕ) (o : Operation) (offset marks : ℕ) (n : Option Note) → Broke a b (p ++ head o.opcode offset marks) → Broke a b (p ++ item_line o offset marks n)
+line_broken a b p o offset marks n w =
+    subst (λ (t : List ℕ). Broke a b (p ++ t)) (joined o offset marks n) (puts_broken a b p (head o.opcode offset marks) (named o n ⧺ newline) w)

@@ -5,7 +5,6 @@ ghost use Rattle.pickle_io.specs.Device.{Writes};
 ghost use Rattle.pickle_io.specs.Text.{◌⧺◌};
 ghost use Rattle.pickle_doc.specs.DocUnit.{is_stop};
 ghost use Rattle.pickle_doc.specs.Document.{Contents, ReadsAs, size_limit};
-ghost use Rattle.pickle_objects.specs.Row.{row_of};
 ghost use Rattle.pickle_machine.specs.State.{stack_size};
 ghost use Rattle.pickle_machine.specs.Move.{next_of, refusal_of, fresh};
 ghost use Rattle.pickle_outline.specs.Class.{sample};
@@ -13,15 +12,13 @@ ghost use Rattle.pickle_outline.specs.Outline.{outline};
 ghost use Rattle.pickle_report.specs.Line.{fault_line};
 ghost use Rattle.pickle_page.specs.Page.{Puts};
 ghost use Rattle.pickle_listing.specs.Line.{item_line, refused_line, left_line, kept_line, protocol_line};
-ghost use Rattle.pickle_listing.specs.Listing.{note_with};
-ghost use Rattle.pickle_listing.specs.Inside.Marks.{last_of, followed};
+ghost use Rattle.pickle_listing.specs.Inside.Marks.{followed};
 ghost use Rattle.pickle_listing.specs.Inside.Answer.{IsAnswer};
 ghost use Rattle.pickle_listing.specs.Written.{WroteListing, CutListing, IsListed, CutsListing};
 
 use crate::highest::Highest;
 use crate::line::{write_kept_line, write_left_line, write_protocol, write_refused};
-use crate::note::Note;
-use crate::put::put_item;
+use crate::put::{put_item, put_refused};
 use pickle_doc::{Document, DocumentItems, ItemSource, Items, NextRef, TailFault};
 use pickle_machine::Refusal;
 use pickle_objects::Row;
@@ -30,24 +27,6 @@ use pickle_outline::{Class, Lean};
 use pickle_page::{Offset, Page};
 use pickle_report::{TextStop, write_fault};
 use std::alloc::{AllocError, Global};
-
-/// The note of an operation that is not refused; `opened` has the offsets of the open marks, the topmost last.
-#[inline(always)]
-fn note_of(op: &OpRef<'_>, row: Row, lean: &Lean, opened: &[u64]) -> Option<Note>
-    requires { row ≡ row_of op.now }
-    ensures { result ≡ note_with op.now lean.now (last_of opened.now) }
-{
-    if lean.takes_mark(row) {
-        match opened.last() {
-            Some(offset) => Some(Note::MarkAt(*offset)),
-            None => None,
-        }
-    } else if matches!(op.opcode(), Opcode::Memoize) {
-        Some(Note::As(lean.memo_len() as u64))
-    } else {
-        None
-    }
-}
 
 /// Writes out the page, and the lines after all items where bytes are left that are no further item.
 #[tactic(auto, using(pickle_io::proofs::Devices::text_steps))]
@@ -139,7 +118,7 @@ fn write_refused_item<S: Sink>(
     requires { marks < 2 ^ 32 }
     ensures { Writes (S.told sink.old) (S.told sink.new) result (page.old ⧺ item_line op.now offset.now marks None ⧺ (refused_line refusal ⧺ protocol_line highest)) }
 {
-    put_item(page, op, offset, marks, None, sink)?;
+    put_refused(page, op, offset, marks, sink)?;
     write_refused_end(page, refusal, highest, sink)
 }
 
@@ -157,12 +136,12 @@ fn follow_marks(
     opened: &mut Vec<u64>,
     before: usize,
     after: usize,
-    offset: u64,
+    offset: &Offset,
 ) -> Result<(), AllocError>
-    ensures ok { OnOk result (opened.new.items ≡ followed opened.old.items before after offset) }
+    ensures ok { OnOk result (opened.new.items ≡ followed opened.old.items before after offset.now) }
 {
     if before < after {
-        opened.push(offset)?;
+        opened.push(offset.number())?;
     } else if after < before {
         opened.pop();
     }
@@ -177,12 +156,12 @@ fn perform(
     row: Row,
     class: Class,
     place: usize,
-    offset: u64,
+    offset: &Offset,
 ) -> Result<(), AllocError>
     requires heap { length lean.old.heap < 2 ^ 32 - 1 }
     requires good { refusal_of row lean.old ≡ None }
     ensures moved { OnOk result (lean.new ≡ outline (next_of row (sample class) place lean.old)) }
-    ensures marks { OnOk result (opened.new.items ≡ followed opened.old.items (length lean.old.marked) (length lean.new.marked) offset) }
+    ensures marks { OnOk result (opened.new.items ≡ followed opened.old.items (length lean.old.marked) (length lean.new.marked) offset.now) }
 {
     let marks = lean.marks_len();
     lean.perform(row, class, place)?;
@@ -252,19 +231,19 @@ pub fn list_items<'a, I: ItemSource<'a>, S: Sink>(
             }
             NextRef::Item(op) => {
                 let row = Row::of_ref(&op);
-                let marks = lean.marks_len();
                 highest.raise(op.opcode().protocol());
                 if let Some(refusal) = lean.refusal(row) {
+                    let marks = lean.marks_len();
                     let most = highest.get();
                     return answer(
                         write_refused_item(&mut page, &op, &offset, marks, refusal, most, sink),
                         1,
                     );
                 }
-                let note = note_of(&op, row, &lean, opened.as_slice());
-                put_item(&mut page, &op, &offset, marks, note, sink)?;
+                let marks = opened.as_slice();
+                put_item(&mut page, &op, &offset, row, &lean, marks, sink)?;
                 let class = Class::of(op.opcode());
-                perform(&mut lean, &mut opened, row, class, place, offset.number())?;
+                perform(&mut lean, &mut opened, row, class, place, &offset)?;
                 offset.advance(op.size() as u64);
                 place += 1;
                 if !is_stop(op.opcode()) {

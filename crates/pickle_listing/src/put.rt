@@ -5,35 +5,35 @@ ghost use Rattle.pickle_ops.specs.Table.{name_of};
 ghost use Rattle.pickle_io.specs.Text.{◌⧺◌};
 ghost use Rattle.pickle_ops.specs.Text.{arg_text};
 ghost use Rattle.pickle_page.specs.Page.{Puts};
-ghost use Rattle.pickle_page.specs.Column.{blanks, left_aligned};
+ghost use Rattle.pickle_objects.specs.Row.{row_of};
+ghost use Rattle.pickle_page.specs.Column.{blanks, left_aligned, newline};
 ghost use Rattle.pickle_listing.specs.Line.{offset_column, code_column, note_text, described, named, item_line};
+ghost use Rattle.pickle_listing.specs.Listing.{note_with};
+ghost use Rattle.pickle_listing.specs.Inside.Marks.{last_of};
 
 use crate::column::code_block;
-use crate::note::Note;
+use crate::note::{Note, note_of};
+use pickle_objects::Row;
 use pickle_ops::{Failed, OpRef, Opcode, Sink};
+use pickle_outline::Lean;
 use pickle_page::{Offset, Page};
 
-/// Puts a colon and the code of an opcode after the text.
-#[tactic(auto, using(crate::proofs::Blanks::column_steps))]
+/// Puts where an item stands, a colon, the code of its opcode and four blanks for each open mark.
 #[inline(always)]
-fn push_code(page: &mut Page, opcode: Opcode)
-    requires { length page.old + 8 ≤ 4096 }
-    ensures text { page.new ≡ page.old ++ code_column opcode }
-    ensures len { length page.new ≡ length page.old + 7 }
+fn put_head<S: Sink>(
+    page: &mut Page,
+    opcode: Opcode,
+    offset: &Offset,
+    marks: usize,
+    sink: &mut S,
+) -> Result<(), Failed>
+    requires { marks < 2 ^ 32 }
+    ensures puts { Puts (S.told sink.old) (S.told sink.new) page.old page.new result (offset_column offset.now ⧺ code_column opcode ⧺ blanks (4 * marks)) }
+    ensures room { OnOk result (length page.new + 160 ≤ 4096) }
 {
-    page.push_block(code_block(opcode), 7);
-}
-
-/// Puts where an item stands, a colon and the code of its opcode after the text.
-#[tactic(auto, using(crate::proofs::PageLines::head_behind))]
-#[inline(always)]
-fn push_head(page: &mut Page, op: &OpRef<'_>, offset: &Offset)
-    requires { length page.old + 48 ≤ 4096 }
-    ensures text { page.new ≡ page.old ++ (offset_column offset.now ⧺ code_column op.now.opcode) }
-    ensures len { length page.new ≤ length page.old + 32 }
-{
-    page.push_offset(offset);
-    push_code(page, op.opcode());
+    page.make_room(sink)?;
+    page.push_offset(offset, code_block(opcode), 7);
+    page.put_blanks(4 * marks, sink)
 }
 
 /// Puts the name of an opcode after the text.
@@ -44,7 +44,7 @@ fn push_name(page: &mut Page, opcode: Opcode)
     ensures text { page.new ≡ page.old ++ name_of opcode }
     ensures len { length page.new ≤ length page.old + 16 }
 {
-    page.push_piece(filled_name(opcode), name_len(opcode));
+    page.push_front(filled_name(opcode), name_len(opcode));
 }
 
 /// Puts the name of an opcode, filled to ten places, and a blank after the text.
@@ -55,8 +55,7 @@ fn push_filled(page: &mut Page, opcode: Opcode)
     ensures text { page.new ≡ page.old ++ (left_aligned 10 (name_of opcode) ⧺ codes " ") }
     ensures len { length page.new ≤ length page.old + 17 }
 {
-    page.push_piece(filled_name(opcode), name_len(opcode).max(10));
-    page.push(b' ');
+    page.push_two(filled_name(opcode), name_len(opcode).max(10), b" ", 1);
 }
 
 /// Puts a note after the text.
@@ -170,25 +169,58 @@ fn put_named<S: Sink>(
     }
 }
 
-/// Puts the line of an item at this offset, before which so many marks are open, with its note.
+/// Puts the name of an operation, its argument where that has a text, and a note where there is one, and ends the line.
+#[tactic(auto, using(pickle_page::proofs::Puts::put_steps))]
+#[inline(always)]
+fn put_rest<S: Sink>(
+    page: &mut Page,
+    op: &OpRef<'_>,
+    note: Option<Note>,
+    sink: &mut S,
+) -> Result<(), Failed>
+    requires { length page.old + 160 ≤ 4096 }
+    ensures { Puts (S.told sink.old) (S.told sink.new) page.old page.new result (named op.now note ⧺ newline) }
+{
+    put_named(page, op, note, sink)?;
+    page.push(b'\n');
+    Ok(())
+}
+
+/// Puts the line of an item at this offset, with its note. This is the outline of the state before it; `opened` has the offsets of the
+/// open marks, the topmost last.
 #[inline(always)]
 pub fn put_item<S: Sink>(
     page: &mut Page,
     op: &OpRef<'_>,
     offset: &Offset,
+    row: Row,
+    lean: &Lean,
+    opened: &[u64],
+    sink: &mut S,
+) -> Result<(), Failed>
+    requires row { row ≡ row_of op.now }
+    requires marks { length lean.now.marked < 2 ^ 32 }
+    ensures { Puts (S.told sink.old) (S.told sink.new) page.old page.new result (item_line op.now offset.now (length lean.now.marked) (note_with op.now lean.now (last_of opened.now))) }
+{
+    put_head(page, op.opcode(), offset, lean.marks_len(), sink)?;
+    // No earlier: it is used at once, and takes no room while the head is put.
+    let note = note_of(op, row, lean, opened);
+    put_rest(page, op, note, sink)
+}
+
+/// Puts the line of an item that is refused, at this offset, before which `marks` marks are open. It has no note.
+pub fn put_refused<S: Sink>(
+    page: &mut Page,
+    op: &OpRef<'_>,
+    offset: &Offset,
     marks: usize,
-    note: Option<Note>,
     sink: &mut S,
 ) -> Result<(), Failed>
     requires { marks < 2 ^ 32 }
-    ensures { Puts (S.told sink.old) (S.told sink.new) page.old page.new result (item_line op.now offset.now marks note) }
+    ensures { Puts (S.told sink.old) (S.told sink.new) page.old page.new result (item_line op.now offset.now marks None) }
 {
-    page.make_room(sink)?;
-    push_head(page, op, offset);
-    page.put_blanks(4 * marks, sink)?;
-    put_named(page, op, note, sink)?;
-    page.push(b'\n');
-    Ok(())
+    put_head(page, op.opcode(), offset, marks, sink)?;
+    put_rest(page, op, None, sink)
 }
 
 /// The name of an opcode, filled to sixteen places.

@@ -84,15 +84,19 @@ hundreds_copied n start front m text piece tail is short small behind before who
 
 -- ---- the offset on a page
 
-pub low_there : (h r : ℕ) (text next : List ℕ) → h ≡ 0 → next ≡ text ++ (replicate (5 - length (decimal r)) 32 ++ decimal r) → next ≡ text ++ right_aligned 5 (decimal (h * 100 + r))
+pub low_there : (h r : ℕ) (text a more next : List ℕ) → h ≡ 0 → a ≡ text ++ (replicate (5 - length (decimal r)) 32 ++ decimal r) → next ≡ a ++ more
+    → next ≡ text ++ (right_aligned 5 (decimal (h * 100 + r)) ++ more)
 unfolding right_aligned ◌⧺◌
-low_there h r text next none e = let same : h * 100 + r ≡ r = omega (arith, none) in rw same e
+low_there h r text a more next none e g =
+    let same : h * 100 + r ≡ r = omega (arith, none) in
+    rw same (g ∙ ap (λ (x : List ℕ). x ++ more) e ∙ append_assoc text (replicate (5 - length (decimal r)) 32 ++ decimal r) more)
 
-pub high_there : (h r n : ℕ) (t text a next : List ℕ) → (h ≡ 0 → ⊥) → h < 2 ^ 40 → r < 100 → take n t ≡ right_aligned 3 (decimal h)
-    → a ≡ text ++ take n t → next ≡ a ++ pair r → next ≡ text ++ right_aligned 5 (decimal (h * 100 + r))
-high_there h r n t text a next some small low front e g =
-    g ∙ ap (λ (x : List ℕ). x ++ pair r) (e ∙ ap (λ (x : List ℕ). text ++ x) front)
-    ∙ append_assoc text (right_aligned 3 (decimal h)) (pair r)
-    ∙ ap (λ (x : List ℕ). text ++ x) (sym (pair_behind h r (omega (arith, some)) small low))
+pub high_there : (h r n : ℕ) (t text p more next : List ℕ) → (h ≡ 0 → ⊥) → h < 2 ^ 40 → r < 100 → take n t ≡ right_aligned 3 (decimal h) → p ≡ pair r
+    → next ≡ text ++ (take n t ++ (p ++ more)) → next ≡ text ++ (right_aligned 5 (decimal (h * 100 + r)) ++ more)
+high_there h r n t text p more next some small low front two e =
+    e ∙ ap (λ (x : List ℕ). text ++ (x ++ (p ++ more))) front
+    ∙ ap (λ (x : List ℕ). text ++ (right_aligned 3 (decimal h) ++ (x ++ more))) two
+    ∙ ap (λ (x : List ℕ). text ++ x) (sym (append_assoc (right_aligned 3 (decimal h)) (pair r) more))
+    ∙ ap (λ (x : List ℕ). text ++ (x ++ more)) (sym (pair_behind h r (omega (arith, some)) small low))
 
 pub ruleset offset_steps = (same_number, pair_at)

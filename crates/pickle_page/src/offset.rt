@@ -1,6 +1,6 @@
 //! Where a line stands.
 
-ghost use Rattle.std.specs.Prelude.{◌≡◌, ◌≤◌, ◌<◌, ◌^◌, ◌+◌, ◌/◌, ◌%◌, ◌∷◌, [], ◌++◌, length, decimal};
+ghost use Rattle.std.specs.Prelude.{◌≡◌, ◌≤◌, ◌<◌, ◌^◌, ◌+◌, ◌/◌, ◌%◌, ◌∷◌, [], ◌++◌, length, take, decimal};
 ghost use Rattle.pickle_page.specs.Column.{right_aligned};
 
 use crate::page::Page;
@@ -96,19 +96,20 @@ impl Offset {
 }
 
 impl Page {
-    /// Puts an offset at the right of five places after the text.
+    /// Puts an offset at the right of five places after the text, and then the first n bytes of a part.
     #[tactic(auto, using(crate::proofs::Offsets::offset_steps))]
     #[inline(always)]
-    pub fn push_offset(&mut self, offset: &Offset)
-        requires { length self.old + 36 ≤ 4096 }
-        ensures text { self.new ≡ self.old ++ right_aligned 5 (decimal offset.now) }
-        ensures len { length self.new ≤ length self.old + 25 }
+    pub fn push_offset(&mut self, offset: &Offset, part: &[u8], n: usize)
+        requires room { length self.old + length part.now + 36 ≤ 4096 }
+        requires within { n ≤ length part.now }
+        ensures text { self.new ≡ self.old ++ (right_aligned 5 (decimal offset.now) ++ take n part.now) }
+        ensures len { length self.new ≤ length self.old + 25 + n }
     {
         if offset.hundreds == 0 {
             self.push_right(offset.rest);
+            self.push_front(part, n);
         } else {
-            self.push_piece(&offset.text, offset.len);
-            self.push_pair(&pair_of(offset.rest));
+            self.push_three(&offset.text, offset.len, &pair_of(offset.rest), part, n);
         }
     }
 }

@@ -47,19 +47,19 @@ returns-in-Some-clause-err g c =
     let some : refusal_of (row_of c.in-Item.op) c.items.lean ≡ Some c.in-Some.refusal = rw c.of_ref-row.ensures at (sym c.in-Some.ensures.first) in
     closes_err _ _ _ _ _ _ _ _ (refused_closes _ _ _ _ _ _ _ _ c.in-Item.op _ _ _ c.in-Some.refusal c.items.invariant n.0 some) (rw (c.marks_len-marks.ensures, c.get-most.ensures, c.raise.ensures, c.protocol.ensures, c.opcode.ensures) at c.write_refused_item.ensures) c.answer-in-Some.ensures
 
-pub put_item-requires : goal.put_item-requires
-put_item-requires g c =
+pub put_item-requires-clause-marks : goal.put_item-requires-clause-marks
+put_item-requires-clause-marks g c =
     let n : IsNextItem (g.I.ItemSource.unread c.items.reader).left (g.I.ItemSource.unread c.items.reader).rest c.in-Item.op (size_of c.in-Item.op)
     × (g.I.ItemSource.unread c.next.new.self ≡ record { rest = drop (size_of c.in-Item.op) (g.I.ItemSource.unread c.items.reader).rest; left = left_behind (g.I.ItemSource.unread c.items.reader).left c.in-Item.op }) = rw c.in-Item.is at c.next.ensures in
     let b = bounds _ _ _ _ _ _ _ _ c.in-Item.op _ _ _ c.items.invariant n.0 in
-    omega (arith, c.marks_len-marks.ensures, b.marks, b.place, c.requires.small)
+    omega (arith, b.marks, b.place, c.requires.small)
 
 pub returns-in_err-put_item-in-Item-clause-err : goal.returns-in_err-put_item-in-Item-clause-err
 returns-in_err-put_item-in-Item-clause-err g c =
     let n : IsNextItem (g.I.ItemSource.unread c.items.reader).left (g.I.ItemSource.unread c.items.reader).rest c.in-Item.op (size_of c.in-Item.op)
     × (g.I.ItemSource.unread c.next.new.self ≡ record { rest = drop (size_of c.in-Item.op) (g.I.ItemSource.unread c.items.reader).rest; left = left_behind (g.I.ItemSource.unread c.items.reader).left c.in-Item.op }) = rw c.in-Item.is at c.next.ensures in
     let none : refusal_of (row_of c.in-Item.op) c.items.lean ≡ None = rw c.of_ref-row.ensures at (sym c.in_default.ensures.first) in
-    cut_failed _ _ _ _ c.from_residual.ensures.1 (line_breaks _ _ _ _ _ _ _ _ _ c.in-Item.op _ _ _ c.items.invariant n.0 none (rw (c.marks_len-marks.ensures, c.note_of-note.ensures, c.as_slice.ensures.value) at c.in_err-put_item-in-Item.ensures))
+    cut_failed _ _ _ _ c.from_residual.ensures.1 (line_breaks _ _ _ _ _ _ _ _ _ c.in-Item.op _ _ _ c.items.invariant n.0 none (rw c.as_slice-marks.ensures.value at c.in_err-put_item-in-Item.ensures))
 
 pub perform-requires-clause-heap : goal.perform-requires-clause-heap
 perform-requires-clause-heap g c =
@@ -73,7 +73,7 @@ returns-in_err-perform-in-Item-clause-err g c =
     let n : IsNextItem (g.I.ItemSource.unread c.items.reader).left (g.I.ItemSource.unread c.items.reader).rest c.in-Item.op (size_of c.in-Item.op)
     × (g.I.ItemSource.unread c.next.new.self ≡ record { rest = drop (size_of c.in-Item.op) (g.I.ItemSource.unread c.items.reader).rest; left = left_behind (g.I.ItemSource.unread c.items.reader).left c.in-Item.op }) = rw c.in-Item.is at c.next.ensures in
     let none : refusal_of (row_of c.in-Item.op) c.items.lean ≡ None = rw c.of_ref-row.ensures at (sym c.in_default.ensures.first) in
-    let w = with_line _ _ _ _ _ _ _ _ _ _ c.in-Item.op _ _ _ c.items.invariant n.0 none (rw (c.marks_len-marks.ensures, c.note_of-note.ensures, c.as_slice.ensures.value) at c.in_ok-put_item-in-Item.ensures) in
+    let w = with_line _ _ _ _ _ _ _ _ _ _ c.in-Item.op _ _ _ c.items.invariant n.0 none (rw c.as_slice-marks.ensures.value at c.in_ok-put_item-in-Item.ensures) in
     cut_memory _ _ _ _ c.from_residual-in_err-perform-in-Item.ensures.1 (line_stops _ _ _ _ _ _ _ _ c.in-Item.op _ _ _ w)
 
 pub advance-requires : goal.advance-requires
@@ -95,10 +95,10 @@ items-preserved-then-not-is_stop g c =
     let n : IsNextItem (g.I.ItemSource.unread c.items.reader).left (g.I.ItemSource.unread c.items.reader).rest c.in-Item.op (size_of c.in-Item.op)
     × (g.I.ItemSource.unread c.next.new.self ≡ record { rest = drop (size_of c.in-Item.op) (g.I.ItemSource.unread c.items.reader).rest; left = left_behind (g.I.ItemSource.unread c.items.reader).left c.in-Item.op }) = rw c.in-Item.is at c.next.ensures in
     let none : refusal_of (row_of c.in-Item.op) c.items.lean ≡ None = rw c.of_ref-row.ensures at (sym c.in_default.ensures.first) in
-    let w = with_line _ _ _ _ _ _ _ _ _ _ c.in-Item.op _ _ _ c.items.invariant n.0 none (rw (c.marks_len-marks.ensures, c.note_of-note.ensures, c.as_slice.ensures.value) at c.in_ok-put_item-in-Item.ensures) in
+    let w = with_line _ _ _ _ _ _ _ _ _ _ c.in-Item.op _ _ _ c.items.invariant n.0 none (rw c.as_slice-marks.ensures.value at c.in_ok-put_item-in-Item.ensures) in
     let kind : sample c.of-class.result ≡ plain (kind_of c.in-Item.op) = rw c.opcode-in-Item.ensures at (c.of-class.ensures c.in-Item.op.arg) in
     let next = rw c.of_ref-row.ensures at c.in_ok-perform-in-Item.ensures.moved in
-    let m = moved _ _ _ _ _ _ _ _ c.in-Item.op _ _ _ _ _ _ w none kind next (rw c.number.ensures.value at c.in_ok-perform-in-Item.ensures.marks) in
+    let m = moved _ _ _ _ _ _ _ _ c.in-Item.op _ _ _ _ _ _ w none kind next c.in_ok-perform-in-Item.ensures.marks in
     let stop : is_stop c.in-Item.op.opcode ≡ c.is_stop.result = sym (c.is_stop.ensures ∙ ap is_stop c.opcode-in-Item-2.ensures) in
     let miss = stop ∙ c.if-not-is_stop.true in
     rw (n.1, c.advance.ensures, c.size.ensures, c.raise.ensures, c.protocol.ensures, c.opcode.ensures) (goes_on _ _ _ _ _ _ _ _ c.in-Item.op _ _ _ m miss)
@@ -108,10 +108,10 @@ returns-in_err-end_pickle-in-Item-clause-err g c =
     let n : IsNextItem (g.I.ItemSource.unread c.items.reader).left (g.I.ItemSource.unread c.items.reader).rest c.in-Item.op (size_of c.in-Item.op)
     × (g.I.ItemSource.unread c.next.new.self ≡ record { rest = drop (size_of c.in-Item.op) (g.I.ItemSource.unread c.items.reader).rest; left = left_behind (g.I.ItemSource.unread c.items.reader).left c.in-Item.op }) = rw c.in-Item.is at c.next.ensures in
     let none : refusal_of (row_of c.in-Item.op) c.items.lean ≡ None = rw c.of_ref-row.ensures at (sym c.in_default.ensures.first) in
-    let w = with_line _ _ _ _ _ _ _ _ _ _ c.in-Item.op _ _ _ c.items.invariant n.0 none (rw (c.marks_len-marks.ensures, c.note_of-note.ensures, c.as_slice.ensures.value) at c.in_ok-put_item-in-Item.ensures) in
+    let w = with_line _ _ _ _ _ _ _ _ _ _ c.in-Item.op _ _ _ c.items.invariant n.0 none (rw c.as_slice-marks.ensures.value at c.in_ok-put_item-in-Item.ensures) in
     let kind : sample c.of-class.result ≡ plain (kind_of c.in-Item.op) = rw c.opcode-in-Item.ensures at (c.of-class.ensures c.in-Item.op.arg) in
     let next = rw c.of_ref-row.ensures at c.in_ok-perform-in-Item.ensures.moved in
-    let m = moved _ _ _ _ _ _ _ _ c.in-Item.op _ _ _ _ _ _ w none kind next (rw c.number.ensures.value at c.in_ok-perform-in-Item.ensures.marks) in
+    let m = moved _ _ _ _ _ _ _ _ c.in-Item.op _ _ _ _ _ _ w none kind next c.in_ok-perform-in-Item.ensures.marks in
     let stop : is_stop c.in-Item.op.opcode ≡ c.is_stop.result = sym (c.is_stop.ensures ∙ ap is_stop c.opcode-in-Item-2.ensures) in
     let hit = stop ∙ c.if-not-is_stop.false in
     cut_failed _ _ _ _ c.from_residual-in_err-end_pickle-in-Item.ensures.1 (stop_breaks _ _ _ _ _ _ _ _ _ c.in-Item.op _ _ _ m hit c.in_err-end_pickle-in-Item.ensures.puts)
@@ -121,10 +121,10 @@ returns-then-is_last-clause-ok g c =
     let n : IsNextItem (g.I.ItemSource.unread c.items.reader).left (g.I.ItemSource.unread c.items.reader).rest c.in-Item.op (size_of c.in-Item.op)
     × (g.I.ItemSource.unread c.next.new.self ≡ record { rest = drop (size_of c.in-Item.op) (g.I.ItemSource.unread c.items.reader).rest; left = left_behind (g.I.ItemSource.unread c.items.reader).left c.in-Item.op }) = rw c.in-Item.is at c.next.ensures in
     let none : refusal_of (row_of c.in-Item.op) c.items.lean ≡ None = rw c.of_ref-row.ensures at (sym c.in_default.ensures.first) in
-    let w = with_line _ _ _ _ _ _ _ _ _ _ c.in-Item.op _ _ _ c.items.invariant n.0 none (rw (c.marks_len-marks.ensures, c.note_of-note.ensures, c.as_slice.ensures.value) at c.in_ok-put_item-in-Item.ensures) in
+    let w = with_line _ _ _ _ _ _ _ _ _ _ c.in-Item.op _ _ _ c.items.invariant n.0 none (rw c.as_slice-marks.ensures.value at c.in_ok-put_item-in-Item.ensures) in
     let kind : sample c.of-class.result ≡ plain (kind_of c.in-Item.op) = rw c.opcode-in-Item.ensures at (c.of-class.ensures c.in-Item.op.arg) in
     let next = rw c.of_ref-row.ensures at c.in_ok-perform-in-Item.ensures.moved in
-    let m = moved _ _ _ _ _ _ _ _ c.in-Item.op _ _ _ _ _ _ w none kind next (rw c.number.ensures.value at c.in_ok-perform-in-Item.ensures.marks) in
+    let m = moved _ _ _ _ _ _ _ _ c.in-Item.op _ _ _ _ _ _ w none kind next c.in_ok-perform-in-Item.ensures.marks in
     let stop : is_stop c.in-Item.op.opcode ≡ c.is_stop.result = sym (c.is_stop.ensures ∙ ap is_stop c.opcode-in-Item-2.ensures) in
     let hit = stop ∙ c.if-not-is_stop.false in
     let kept : c.unread_len-kept.result ≡ length (drop (size_of c.in-Item.op) (g.I.ItemSource.unread c.items.reader).rest) = c.unread_len-kept.ensures ∙ ap (λ (u : Unread). length u.rest) n.1 in
@@ -136,10 +136,10 @@ returns-then-is_last-clause-err g c =
     let n : IsNextItem (g.I.ItemSource.unread c.items.reader).left (g.I.ItemSource.unread c.items.reader).rest c.in-Item.op (size_of c.in-Item.op)
     × (g.I.ItemSource.unread c.next.new.self ≡ record { rest = drop (size_of c.in-Item.op) (g.I.ItemSource.unread c.items.reader).rest; left = left_behind (g.I.ItemSource.unread c.items.reader).left c.in-Item.op }) = rw c.in-Item.is at c.next.ensures in
     let none : refusal_of (row_of c.in-Item.op) c.items.lean ≡ None = rw c.of_ref-row.ensures at (sym c.in_default.ensures.first) in
-    let w = with_line _ _ _ _ _ _ _ _ _ _ c.in-Item.op _ _ _ c.items.invariant n.0 none (rw (c.marks_len-marks.ensures, c.note_of-note.ensures, c.as_slice.ensures.value) at c.in_ok-put_item-in-Item.ensures) in
+    let w = with_line _ _ _ _ _ _ _ _ _ _ c.in-Item.op _ _ _ c.items.invariant n.0 none (rw c.as_slice-marks.ensures.value at c.in_ok-put_item-in-Item.ensures) in
     let kind : sample c.of-class.result ≡ plain (kind_of c.in-Item.op) = rw c.opcode-in-Item.ensures at (c.of-class.ensures c.in-Item.op.arg) in
     let next = rw c.of_ref-row.ensures at c.in_ok-perform-in-Item.ensures.moved in
-    let m = moved _ _ _ _ _ _ _ _ c.in-Item.op _ _ _ _ _ _ w none kind next (rw c.number.ensures.value at c.in_ok-perform-in-Item.ensures.marks) in
+    let m = moved _ _ _ _ _ _ _ _ c.in-Item.op _ _ _ _ _ _ w none kind next c.in_ok-perform-in-Item.ensures.marks in
     let stop : is_stop c.in-Item.op.opcode ≡ c.is_stop.result = sym (c.is_stop.ensures ∙ ap is_stop c.opcode-in-Item-2.ensures) in
     let hit = stop ∙ c.if-not-is_stop.false in
     let kept : c.unread_len-kept.result ≡ length (drop (size_of c.in-Item.op) (g.I.ItemSource.unread c.items.reader).rest) = c.unread_len-kept.ensures ∙ ap (λ (u : Unread). length u.rest) n.1 in
@@ -151,10 +151,10 @@ items-preserved g c =
     let n : IsNextItem (g.I.ItemSource.unread c.items.reader).left (g.I.ItemSource.unread c.items.reader).rest c.in-Item.op (size_of c.in-Item.op)
     × (g.I.ItemSource.unread c.next.new.self ≡ record { rest = drop (size_of c.in-Item.op) (g.I.ItemSource.unread c.items.reader).rest; left = left_behind (g.I.ItemSource.unread c.items.reader).left c.in-Item.op }) = rw c.in-Item.is at c.next.ensures in
     let none : refusal_of (row_of c.in-Item.op) c.items.lean ≡ None = rw c.of_ref-row.ensures at (sym c.in_default.ensures.first) in
-    let w = with_line _ _ _ _ _ _ _ _ _ _ c.in-Item.op _ _ _ c.items.invariant n.0 none (rw (c.marks_len-marks.ensures, c.note_of-note.ensures, c.as_slice.ensures.value) at c.in_ok-put_item-in-Item.ensures) in
+    let w = with_line _ _ _ _ _ _ _ _ _ _ c.in-Item.op _ _ _ c.items.invariant n.0 none (rw c.as_slice-marks.ensures.value at c.in_ok-put_item-in-Item.ensures) in
     let kind : sample c.of-class.result ≡ plain (kind_of c.in-Item.op) = rw c.opcode-in-Item.ensures at (c.of-class.ensures c.in-Item.op.arg) in
     let next = rw c.of_ref-row.ensures at c.in_ok-perform-in-Item.ensures.moved in
-    let m = moved _ _ _ _ _ _ _ _ c.in-Item.op _ _ _ _ _ _ w none kind next (rw c.number.ensures.value at c.in_ok-perform-in-Item.ensures.marks) in
+    let m = moved _ _ _ _ _ _ _ _ c.in-Item.op _ _ _ _ _ _ w none kind next c.in_ok-perform-in-Item.ensures.marks in
     let stop : is_stop c.in-Item.op.opcode ≡ c.is_stop.result = sym (c.is_stop.ensures ∙ ap is_stop c.opcode-in-Item-2.ensures) in
     let hit = stop ∙ c.if-not-is_stop.false in
     let kept : c.unread_len-kept.result ≡ length (drop (size_of c.in-Item.op) (g.I.ItemSource.unread c.items.reader).rest) = c.unread_len-kept.ensures ∙ ap (λ (u : Unread). length u.rest) n.1 in

@@ -23,8 +23,8 @@ unfolding ◌⧺◌
 breaks a b page line text (Ok u) e q = cc
 breaks a b page line text (Err u) e q = Broke-more a b (page ++ line) text q
 
-pub returns-in_err-put_item : goal.returns-in_err-put_item
-returns-in_err-put_item g c = breaks _ _ c.args.page.now _ _ c.from_residual.result c.from_residual.ensures.0 c.in_err-put_item.ensures
+pub returns-in_err-put_refused : goal.returns-in_err-put_refused
+returns-in_err-put_refused g c = breaks _ _ c.args.page.now _ _ c.from_residual.result c.from_residual.ensures.0 c.in_err-put_refused.ensures
 
 pub returns : goal.returns
-returns g c = behind _ _ _ c.args.page.now _ c.put_item.new.page _ _ c.write_refused_end.result c.in_ok-put_item.ensures c.write_refused_end.ensures
+returns g c = behind _ _ _ c.args.page.now _ c.put_refused.new.page _ _ c.write_refused_end.result c.in_ok-put_refused.ensures c.write_refused_end.ensures
