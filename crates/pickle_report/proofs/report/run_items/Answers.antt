@@ -21,7 +21,7 @@ pub returns-in-Tail-clause-closes : goal.returns-in-Tail-clause-closes
 returns-in-Tail-clause-closes g c =
     let f : HasTailFault (g.I.ItemSource.unread c.items.reader).left (g.I.ItemSource.unread c.items.reader).rest c.in-Tail.fault × (g.I.ItemSource.unread c.next.new.self ≡ g.I.ItemSource.unread c.items.reader) = rw c.in-Tail.is at c.next.ensures in
     let left : c.unread_len-left.result ≡ length (g.I.ItemSource.unread c.items.reader).rest = c.unread_len-left.ensures ∙ ap (λ (u : Unread). length u.rest) f.1 in
-    rw (c.close.ensures, left, c.unread_len-total.ensures) (tail_ends _ _ _ _ _ _ _ c.in-Tail.fault c.items.invariant f.0)
+    rw (c.closing_at.ensures, left, c.unread_len-total.ensures) (tail_ends _ _ _ _ _ _ _ c.in-Tail.fault c.items.invariant f.0)
 
 pub step_over-requires : goal.step_over-requires
 step_over-requires g c =
