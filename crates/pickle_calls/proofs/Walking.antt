@@ -40,7 +40,7 @@ use Rattle.pickle_listing.specs.Listing.{end_lines, end_status, reached}
 use Rattle.pickle_listing.proofs.Moves.{move_heap, refused_move}
 use Rattle.pickle_listing.proofs.Places.{offset_next, offset_small, run-suc, reached_here, reached_last, is_reached}
 use Rattle.pickle_listing.proofs.Listings.{within, place_within, ops_within}
-use Rattle.pickle_listing.proofs.Listed.{last_taken}
+use Rattle.pickle_listing.proofs.Stops.{last_taken}
 use Rattle.pickle_calls.specs.declared.reach.Reach.{Reach}
 use Rattle.pickle_calls.specs.declared.reach.Reach.TheVariants as reach
 use Rattle.pickle_calls.specs.declared.totals.Totals.{Totals}
