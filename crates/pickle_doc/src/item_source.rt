@@ -23,7 +23,8 @@ pub trait ItemSource<'a>: Drop {
 impl<'a> ItemSource<'a> for Items<'a> {
     ghost unread = { λ i. i };
 
-    #[inline]
+    // More than one loop goes over bytes, so that the compiler would leave this a call.
+    #[inline(always)]
     fn next(&mut self) -> NextRef<'a> {
         self.read_next()
     }
