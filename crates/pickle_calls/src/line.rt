@@ -14,7 +14,8 @@ use pickle_listing::write_right;
 use pickle_objects::{Filling, Kind, ObjId, Object};
 use pickle_ops::{Failed, Sink, write_all};
 use pickle_report::{
-    write_id, write_with_id, write_with_number, write_with_signed, write_with_text, write_with_texts,
+    write_id, write_with_id, write_with_number, write_with_signed, write_with_text,
+    write_with_texts,
 };
 
 /// Writes that a member of a module is imported and called.

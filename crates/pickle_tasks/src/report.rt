@@ -40,7 +40,12 @@ pub fn objects_many<S: Sink>(alloc: Global, bytes: &[u8], sink: &mut S) -> Resul
 }
 
 /// `objects_many` where `many` holds, else `objects`.
-pub fn objects_as<S: Sink>(alloc: Global, many: bool, bytes: &[u8], sink: &mut S) -> Result<u8, Stop>
+pub fn objects_as<S: Sink>(
+    alloc: Global,
+    many: bool,
+    bytes: &[u8],
+    sink: &mut S,
+) -> Result<u8, Stop>
     ensures reported { IfOk result (IsReported many bytes.now (S.told sink.old) (S.told sink.new)) }
     ensures stopped { IfErr result (StopsReport many bytes.now (S.told sink.old) (S.told sink.new)) }
     ensures too_large { (result ≡ Err Stop.TooLarge) ↔ (size_limit < length bytes.now) }
