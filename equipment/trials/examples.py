@@ -10,7 +10,7 @@ from pathlib import Path
 
 import conversations
 
-from .room import Room, run
+from .room import Room, Word, run
 from .trial import Trial
 
 COMMAND = "    $ "
@@ -56,8 +56,9 @@ class Readme:
             self.fault(self.done)
         self.done = number + 1
         command, wanted = self.examples[number]
-        places = {"PYTHONPATH": self.room.root / "python", "PICKLESTEP_PROGRAM": self.room.program}
-        words = ["env", *(f"{name}={place}" for name, place in places.items()), "bash", "-c", command]
+        sources, binary = self.room.root / "python", self.room.program
+        settings = [f"PYTHONPATH={sources}", f"PICKLESTEP_PROGRAM={binary}", "PYTHONDONTWRITEBYTECODE=1"]
+        words: list[Word] = ["env", *settings, "bash", "-c", command]
         return run(words, self.folder).difference(0, wanted, "")
 
 
