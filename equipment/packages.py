@@ -158,8 +158,8 @@ class Package:
 
     def names(self) -> List[str]:
         words = [sys.executable, str(Path(__file__).resolve()), '--names']
-        done = subprocess.run(words, env={**own_environment(), **from_sources(self.program)}, stdin=subprocess.DEVNULL, capture_output=True,
-                              text=True, timeout=MOST_SECONDS, check=True)
+        done = subprocess.run(words, env={**own_environment(), **from_sources(self.program)}, stdin=subprocess.DEVNULL,
+                              stdout=subprocess.PIPE, text=True, timeout=MOST_SECONDS, check=True)
         return [WHEEL, *done.stdout.splitlines(), TYPES]
 
     def verdicts(self, wanted: Optional[Set[str]]) -> Iterator[Verdict]:
