@@ -98,7 +98,7 @@ def builder() -> Optional[str]:
     """An interpreter that can build and install a wheel."""
     for python in (sys.executable, '/usr/bin/python3'):
         if subprocess.run([python, '-c', 'import setuptools, wheel, venv, pip'], stdout=subprocess.DEVNULL, stderr=subprocess.DEVNULL,
-                          check=False).returncode == 0:
+                          env=own_environment(), check=False).returncode == 0:
             return python
     return None
 
