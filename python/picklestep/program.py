@@ -13,16 +13,19 @@ from __future__ import annotations
 import contextlib
 import fcntl
 import os
+import select
 import signal
 import subprocess
+import time
 from pathlib import Path
-from typing import IO, Iterable, List, NoReturn, Optional, Sequence
+from typing import IO, Iterable, Iterator, List, NoReturn, Optional, Sequence
 
 from .errors import OutOfMemory, ProgramError, TimedOut, TooLarge
 
 __all__ = ['Process', 'find_program', 'run_program']
 
 _HERE = Path(__file__).resolve().parent
+_BLOCK = 1 << 20
 _LIMITED = ['/bin/sh', '-c', 'ulimit -v "$1" && shift && exec "$@"', 'sh']
 
 
@@ -102,6 +105,24 @@ class Process:
         if self._popen.returncode not in (0, 1):
             _raise_failure(self._popen.returncode, errors)
         return bytes(output)
+
+    def blocks(self, timeout: Optional[float] = None) -> Iterator[bytes]:
+        """The program's output as it comes. The program has ended after the last block, also after an exception."""
+        deadline = None if timeout is None else time.monotonic() + timeout
+        poll = select.poll()
+        poll.register(self.stdout, select.POLLIN)
+        try:
+            while poll.poll(None if deadline is None else max(0.0, deadline - time.monotonic()) * 1000):
+                block = os.read(self.stdout, _BLOCK)
+                if not block:
+                    break
+                yield block
+            else:
+                raise TimedOut(f'no answer within {timeout} seconds')
+            if self._popen.wait() not in (0, 1):
+                self.fail()
+        finally:
+            self.close()
 
     def fail(self) -> NoReturn:
         """Raises why the program gave no answer, which ends it where it runs."""

@@ -20,8 +20,9 @@ class End:
     """How reading ended.
 
     `how` is 'stopped' (STOP was read), 'refused' (the machine refused an opcode) or 'fault' (the bytes cannot be read on).
-    `code` is the code of the refusal or fault ('S2', 'F1'), and `text` the program's words for it. `offset` tells where in the bytes,
-    and `item` which opcode was refused, where the answer says so.
+    `code` is the code of the refusal or fault ('S2', 'F1'), and `text` the program's words for it. `offset` tells where in the bytes:
+    of the opcode that was refused, or of the fault. `item` is the place of the opcode that was refused. Of what a session's `where`
+    tells, both may be None.
 
     >>> import picklestep
     >>> picklestep.listing(b'N').end
@@ -36,7 +37,12 @@ class End:
 
     @property
     def is_stopped(self) -> bool:
-        """Whether the pickle was read to its STOP."""
+        """Whether the pickle was read to its STOP.
+
+        >>> import picklestep
+        >>> picklestep.calls(b'N.').end.is_stopped, picklestep.calls(b'N').end.is_stopped
+        (True, False)
+        """
         return self.how == 'stopped'
 
 
