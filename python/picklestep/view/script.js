@@ -57,8 +57,10 @@ async function show(state) {
   by('name').textContent = state.name;
   document.title = state.name + ': picklestep';
   by('where').textContent = `at ${state.place} of ${state.places}, offset ${state.offset}, end ${state.end}` +
-    (state.results.length ? ', result ' + state.results.map((number) => '#' + number).join(' ') : '');
+    (state.results.length ? ', result ' + state.results.map((number) => '#' + number).join(' ') : '') +
+    (state.results_before ? ` after ${state.results_before} others` : '');
   by('reached').textContent = `imports ${state.imports[0]} of ${state.imports[1]}, calls ${state.calls[0]} of ${state.calls[1]}`;
+  by('closing').textContent = state.closing.map((line) => line + (line.startsWith('kept: ') ? ' (view --many reads on)' : '')).join('; ');
   by('bar').max = state.places;
   by('bar').value = state.place;
   by('bar').setAttribute('aria-valuetext', `opcode ${state.place} of ${state.places}`);
