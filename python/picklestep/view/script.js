@@ -332,13 +332,14 @@ async function sendSave(event) {
 function openSave() {
   by('save-error').textContent = '';
   by('save-dialog').showModal();
+  by('save-name').select();
 }
 
 // --- Keys ---
 
 const KEYS = {
   ArrowRight: () => move('step'), ArrowLeft: () => move('back'), Home: () => go(0), End: () => go(view.state.places), ' ': () => move('run'),
-  n: () => move('next'), p: () => move('previous'), '/': () => by('sought').focus(), u: () => command('undo'), r: () => command('redo'),
+  n: () => move('next'), p: () => move('previous'), '/': () => by('sought').select(), u: () => command('undo'), r: () => command('redo'),
   '?': () => by('help-dialog').showModal(), b: () => toggle(view.selected), e: () => openEdit('replace'), s: openSave,
   Delete: () => command('edit', { what: 'delete', place: view.selected }),
 };
