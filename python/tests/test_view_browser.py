@@ -364,9 +364,16 @@ class InBrowser(unittest.TestCase):
         self.said('undone 0')
         self.browser.wait("!document.querySelector('.row.edited')")
 
+    def page_seconds(self) -> float:
+        """How long the page kept a processor busy until now."""
+        metrics = self.browser.call('Performance.getMetrics')['metrics']
+        return float(next(metric['value'] for metric in metrics if metric['name'] == 'ThreadTime'))
+
     def test_a_million_opcodes(self) -> None:
         self.open(b'\x80\x04](' + b'K\x01' * 1_000_000 + b'e.')
         self.assertLess(self.browser.js("document.querySelectorAll('.row').length"), 60)
+        self.browser.call('Performance.enable', timeDomain='threadTicks')
+        before = self.page_seconds()
         # (the middle one of a hundred frames: other work on the machine makes single ones slow, and much work all of them)
         middle = self.browser.js('''(async () => {
             const times = [];
@@ -378,6 +385,7 @@ class InBrowser(unittest.TestCase):
             }
             return times.sort((left, right) => left - right)[50]; })()''')
         self.assertLess(middle, 50 if os.getloadavg()[0] < (os.cpu_count() or 1) / 2 else 250)
+        self.assertLess((self.page_seconds() - before) / 100, 0.03)
         self.browser.wait("Number(document.querySelector('.row').dataset.place) >= 14000")
         self.browser.wait("![...document.querySelectorAll('.row:not([hidden]) .name')].some((each) => each.textContent === '..')")
         self.browser.js("(() => { const rail = document.querySelector('#rail'); rail.scrollTop = rail.scrollHeight; })()")
