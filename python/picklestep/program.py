@@ -60,7 +60,8 @@ class Process:
         command = _command(words, memory)
         self._is_open = False
         near, self._lifeline = os.pipe()
-        # (an interrupt that came while the program starts would leave it without anybody who ends it)
+        # (An interrupt that came while the program starts would leave it without anybody who ends it. The program keeps the mask: a Ctrl-C
+        # of the terminal interrupts the interpreter alone, and that ends the program.)
         masked = signal.pthread_sigmask(signal.SIG_BLOCK, {signal.SIGINT})
         try:
             self._popen = subprocess.Popen(command, stdin=subprocess.PIPE if stdin else subprocess.DEVNULL, stdout=subprocess.PIPE,

@@ -26,6 +26,7 @@ from urllib.parse import urlsplit
 
 import picklestep
 from picklestep import Refused, Session
+from pickles import real_pickles
 from picklestep.view import export, lines, main
 from picklestep.view.document import Document, argument_of
 from picklestep.view.server import Viewer
@@ -67,6 +68,16 @@ class Documents(unittest.TestCase):
                     self.assertEqual(len(session.objects()), number)
                     session.step()
                     self.assertEqual(len(session.objects()), number + 1)
+
+    def test_opcodes_that_make_none(self) -> None:
+        """Each real pickle makes as many objects as it has opcodes that make one."""
+        seen = set()
+        for name, data in real_pickles().items():
+            listing = picklestep.listing(data)
+            names = [opcode.name.encode('ascii') for opcode in listing][:listing.end.item]
+            seen |= {*names}
+            self.assertEqual(sum(name not in lines.MAKE_NONE for name in names), len(picklestep.objects(data)), name)
+        self.assertEqual(seen, {*map(str.encode, lines.opcode_names())})
 
     def test_moves(self) -> None:
         with opened(SYSTEM) as document:

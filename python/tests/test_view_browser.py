@@ -89,7 +89,7 @@ class InBrowser(unittest.TestCase):
 
     def said(self, text: str) -> None:
         """Waits until the last answer begins so."""
-        self.browser.wait(f"document.querySelector('#said').textContent.startsWith({json.dumps(text)})")
+        self.browser.wait(f"document.querySelector('#said').textContent.startsWith({json.dumps(text)})", 100)
 
     def texts(self, selector: str) -> List[str]:
         """The texts of elements."""
@@ -392,7 +392,11 @@ class InBrowser(unittest.TestCase):
         self.browser.wait("[...document.querySelectorAll('.row:not([hidden]) .name')].some((each) => each.textContent === 'STOP')")
         self.press('End', 1_000_006 - 1)
         self.press('ArrowLeft', 1_000_004)
+        self.browser.js("""(() => { window.told = []; const said = document.querySelector('#said');
+            new MutationObserver(() => window.told.push(said.textContent)).observe(said, { childList: true }); })()""")
         self.edit_and_undo()
+        told = self.browser.js('window.told')
+        self.assertEqual([text for text in told if text.startswith(('working', 'edited', 'undone'))], ['working ..', 'edited 0', 'working ..', 'undone 0'])
 
     @unittest.skipUnless(os.environ.get('PICKLESTEP_LARGE'), 'PICKLESTEP_LARGE is not set')
     def test_200_megabytes(self) -> None:

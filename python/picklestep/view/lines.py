@@ -15,7 +15,7 @@ from ..errors import ProgramError
 from ..program import Process
 from ..sources import Input
 
-__all__ = ['CUT', 'Line', 'Lines', 'Listing', 'add_items', 'makers_of', 'opcode_names', 'read_listing', 'read_objects']
+__all__ = ['CUT', 'Line', 'Lines', 'OpcodeLines', 'add_items', 'makers_of', 'opcode_names', 'read_listing', 'read_objects']
 
 # The most bytes that are kept of a text.
 CUT = 500
@@ -78,7 +78,7 @@ class Lines:
         return bisect_right(self.starts, position) - 1
 
 
-class Listing(Lines):
+class OpcodeLines(Lines):
     """The lines of opcodes, by their places. `closing` has the lines after them."""
 
     def __init__(self) -> None:
@@ -171,23 +171,23 @@ def _read(into: Lines, words: Sequence[str], given: Input, script: bytes = b'') 
         process.close()
 
 
-def read_listing(given: Input, options: Sequence[str] = ()) -> Listing:
+def read_listing(given: Input, options: Sequence[str] = ()) -> OpcodeLines:
     """The lines of `list`."""
-    listing = Listing()
+    listing = OpcodeLines()
     _read(listing, ['list', *options], given)
     while len(listing) and not _LISTED_BEGIN.match(listing.text, listing.starts[-2]):
         listing.closing.insert(0, listing.drop_last())
     if not listing.closing:
         raise ProgramError('the program gave no whole listing')
     if b'\nleft: ' in listing.text:  # (what a STOP left stands behind it, also where another pickle follows)
-        whole = Listing()
+        whole = OpcodeLines()
         whole.add([line for line in listing.text.split(b'\n')[:-1] if not line.startswith(b'left: ')])
         whole.whole, whole.closing = listing.whole, listing.closing
         return whole
     return listing
 
 
-def add_items(listing: Listing, given: Input, options: Sequence[str] = ()) -> None:
+def add_items(listing: OpcodeLines, given: Input, options: Sequence[str] = ()) -> None:
     """Adds the opcodes that a listing has not, since it ends where an opcode is refused."""
     items = Lines()
     _read(items, ['debug', *options], given, b'items\nquit\n')
@@ -233,7 +233,7 @@ MAKE_NONE = frozenset(
 _NO_MAKERS = frozenset(map(_CODES.__getitem__, MAKE_NONE))
 
 
-def makers_of(listing: Listing) -> 'array[int]':
+def makers_of(listing: OpcodeLines) -> 'array[int]':
     """The places of the opcodes that make the objects, in the order of these."""
     return array('Q', (place for place, code in enumerate(_CODE.findall(listing.text)) if code not in _NO_MAKERS))
 

@@ -5,6 +5,7 @@ const HEIGHT = 20;
 const CHUNK = 200;
 const RAIL = 4000000;
 const PAGE = 200;
+const SLOW = 300; // milliseconds, after which the page says that it waits
 
 const by = (id) => document.getElementById(id);
 const view = { state: null, top: 0, selected: 0, chunks: new Map(), waiting: new Set(), objects: 0, busy: Promise.resolve(), rows: [] };
@@ -25,7 +26,9 @@ async function ask(word, asked) {
 // Commands go one after another, in the order in which they were given.
 function command(word, asked) {
   const done = view.busy.then(async () => {
+    const slow = setTimeout(say, SLOW, 'working ..');
     const answer = await ask(word, asked);
+    clearTimeout(slow);
     if (answer.said !== undefined) say(answer.said, answer.failed);
     if (answer.version !== undefined) await show(answer);
     return answer;
