@@ -119,7 +119,7 @@ class Process:
                     break
                 yield block
             else:
-                raise TimedOut(f'no answer within {timeout} seconds')
+                raise TimedOut(f'no answer within {timeout:.3g} seconds')
             if self._popen.wait() not in (0, 1):
                 self.fail()
         finally:

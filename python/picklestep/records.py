@@ -20,9 +20,8 @@ class End:
     """How reading ended.
 
     `how` is 'stopped' (STOP was read), 'refused' (the machine refused an opcode) or 'fault' (the bytes cannot be read on).
-    `code` is the code of the refusal or fault ('S2', 'F1'), and `text` the program's words for it. `offset` tells where in the bytes:
-    of the opcode that was refused, or of the fault. `item` is the place of the opcode that was refused. Of what a session's `where`
-    tells, both may be None.
+    `code` is the code of the refusal or fault ('S2', 'F1'), and `text` the program's words for it. `offset` is where the
+    refused opcode or the fault is in the bytes, and `item` the place of the refused opcode. (`picklestep.scan` tells its place alone.)
 
     >>> import picklestep
     >>> picklestep.listing(b'N').end

@@ -139,8 +139,8 @@ class Documents(unittest.TestCase):
         with opened(data) as document:
             self.assertIn(f'kept: {len(data) - 5} bytes after STOP', document.state()['closing'])
         with opened(data, many=True) as document, Session(data, many=True) as session:
-            self.assertEqual([row[:2] for row in document.slice(0, 99)],
-                             [[opcode.offset, lines._shown(opcode.code.decode('latin-1')).decode('ascii')] for opcode in picklestep.listing(data, many=True)])
+            listed = picklestep.listing(data, many=True)
+            self.assertEqual([(row[0], row[2], row[4]) for row in document.slice(0, 99)], [(line.offset, line.name, line.marks) for line in listed])
             session.run()
             self.assertEqual(document.move('run', 0), f'at {session.where().places}: end, stopped')
             self.assertEqual((document.state()['results'], document.state()['results_before']), (list(session.where().results[-5:]), 6))
@@ -293,10 +293,9 @@ class Asking(unittest.TestCase):
                  for path in ('/', '/x/', f'/{token}/', f'/{token}/other', f'/{token}/open', f'/{token}')]
         answers = [(f'{method} {path}', self.ask(method, path)) for method, path in asked]
         host = f'\r\nHost: {self.viewer.host}\r\n\r\n'.encode('ascii')
-        for line in (b'burn', b'GET', f'GET /{token}/'.encode('ascii'), b'GET / HTTP/9.9', b'GET / HTTP/x', b'POST / HTTP/1.1 x', b'\xff\0', b'', b'PUT /',
-                     b'GET /' + b'x' * 70_000, b'GET / HTTP/1.1\r\n' + b'a: b\r\n' * 200, b'GET / HTTP/1.1\r\na: ' + b'b' * 70_000):
-            if line:
-                answers.append((repr(line[:40]), self.raw(line + host)))
+        for line in (b'burn', b'GET', b'GET /%s/' % token.encode('ascii'), b'PUT /', b'GET / HTTP/9.9', b'GET / HTTP/x', b'POST / HTTP/1.1 x',
+                     b'\xff\0', b'GET /' + b'x' * 70_000, b'GET / HTTP/1.1' + b'\r\na: b' * 200, b'GET / HTTP/1.1\r\na: ' + b'b' * 70_000):
+            answers.append((repr(line[:40]), self.raw(line + host)))
         for name, (status, headers, body) in answers:
             with self.subTest(name):
                 self.assertTrue(headers['Content-Security-Policy'].startswith("default-src 'none';"))

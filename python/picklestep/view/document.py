@@ -140,7 +140,8 @@ class Document:
         imports, calls_before = self.reaches.before(where.offset)
         return {
             'version': self.version, 'name': self.name, 'place': where.place, 'places': where.places, 'offset': where.offset,
-            'results': list(where.results[-_MOST_RESULTS:]), 'results_before': max(0, len(where.results) - _MOST_RESULTS), 'end': where.end.text, 'imports': [imports, self.reaches.answer.imports],
+            'results': list(where.results[-_MOST_RESULTS:]), 'results_before': max(0, len(where.results) - _MOST_RESULTS),
+            'end': where.end.text, 'imports': [imports, self.reaches.answer.imports],
             'calls': [calls_before, self.reaches.answer.calls], 'stack': _last(self.session.ask('stack')),
             'memo': _last(self.session.ask('memo')), 'made': self._made(), 'exact': self._is_exact(), 'edits': len(self._edits),
             'undone': len(self._undone), 'breaks': len(self.breaks), 'closing': self.lines.closing}
