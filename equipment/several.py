@@ -1,15 +1,21 @@
 """Gives the program real pickles one after another in one input, with --many, and goes there and back.
 
 Every pickle stands twice in a row, and three at random stand in a row. What is listed follows from the stored listings, which come from
-Python's pickletools: each with its offsets moved, up to the first refusal or fault. One with a frame that goes on after its STOP is left
-out. A conversation goes to the end of each pickle, and back over the same places, where the same has to be shown.
+Python's pickletools: each up to its STOP with its offsets moved, up to the first refusal or fault.
+Of some files twice in a row no stored listing says what is listed: those that are cut, so that the first goes on in the second, those with
+bytes after STOP, and one with a frame that goes on after its STOP. They stand twice in a row as they are. Their items are those of Python's
+pickletools, and the conversation ends as the listing does. The cut ones stand behind a whole one, too.
+A conversation goes to the end of each pickle, and back over the same places, where the same has to be shown.
 """
 
 from __future__ import annotations
 
+import contextlib
 import dataclasses
 import functools
+import io
 import pathlib
+import pickletools
 import random
 import re
 import subprocess
@@ -20,6 +26,7 @@ from trials.trial import Trial
 
 TRIPLES = 200
 ITEM = re.compile(r" *(\d+)(: .*)")
+NAME = re.compile(r": \S+ +([A-Z0-9_]+)")
 MARK = re.compile(r"\(MARK at (\d+)\)$")
 # Faults that further bytes cannot change.
 LASTING = ("F2", "F4", "F5", "F6", "F8")
@@ -71,6 +78,16 @@ def read_pickle(path: pathlib.Path, listings: pathlib.Path) -> Pickle | None:
         broken=broken[0] if broken else None,
         protocol=max(highest, default=-1),
     )
+
+
+def known_items(data: bytes) -> list[tuple[int | None, str]]:
+    """The items of all pickles in a row as pickletools reads them, up to where it cannot read on."""
+    stream, items = io.BytesIO(data), []
+    with contextlib.suppress(ValueError):
+        while stream.tell() < len(data):
+            for opcode, _, offset in pickletools.genops(stream):
+                items.append((offset, opcode.name))
+    return items
 
 
 def moved_number(line: str, base: int) -> str:
@@ -207,6 +224,35 @@ class Inputs:
             or self.save_fault(file)
         )
 
+    def listed(self, file: pathlib.Path) -> tuple[Expected, list[tuple[int, str]]]:
+        """What a conversation shows of an input, by what is listed of it; and the items."""
+        text, status = self.answer(["list", "--many", str(file)])
+        lines = text.splitlines()
+        found = [item for item in map(ITEM.match, lines) if item is not None]
+        items = [(int(item[1]), name[1]) for item in found if (name := NAME.match(item[2])) is not None]
+        broken = next((line for line in lines if line.startswith(("refused: ", "fault: "))), None)
+        place = len(items) - int(broken is not None and broken.startswith("refused: "))
+        ends = [(at + 1, offset + 1) for at, (offset, name) in enumerate(items[:place]) if name == "STOP"]
+        return Expected(text, status, place, reply_to_run(place, broken), ends), items
+
+    def whole_fault(self, data: bytes) -> str:
+        """A file twice in a row, as it is."""
+        self.folder.mkdir(exist_ok=True)
+        self.count += 1
+        file = self.folder / "whole.pickle"
+        file.write_bytes(data + data)
+        expected, items = self.listed(file)
+        known = known_items(data + data)
+        both = min(len(items), len(known))
+        if items[:both] != known[:both] or expected.status != int("end, stopped" not in expected.reply):
+            return f"the listing has {len(items)} items and status {expected.status}"
+        return (
+            self.report_fault(file, expected)
+            or self.journey_fault(file, expected, [])
+            or self.journey_fault(file, expected, ["--window=100"])
+            or self.save_fault(file)
+        )
+
     def save_fault(self, file: pathlib.Path) -> str:
         saved = self.folder / "saved.pickle"
         self.answer(["debug", "--many", str(file), "--save", str(saved)])
@@ -231,6 +277,14 @@ def inputs_of(pickles: Sequence[Pickle]) -> list[tuple[str, list[Pickle]]]:
 
 
 def trials(inputs: Inputs, data: pathlib.Path, listings: pathlib.Path) -> list[Trial]:
-    found = [read_pickle(path, listings) for path in sorted(data.glob("*.pickle"))]
+    paths = sorted(data.glob("*.pickle"))
+    found = [read_pickle(path, listings) for path in paths]
     pickles = [pickle for pickle in found if pickle is not None]
-    return [Trial(name, functools.partial(inputs.fault, three)) for name, three in inputs_of(pickles)]
+    stand = {pickle.name: pickle.data for pickle in pickles if pickle.ends()}
+    files = {path.stem: path.read_bytes() for path in paths}
+    made = [Trial(name, functools.partial(inputs.fault, three)) for name, three in inputs_of(pickles)]
+    return made + [
+        Trial(f"{name} twice, as it is", functools.partial(inputs.whole_fault, content))
+        for name, content in files.items()
+        if stand.get(name) != content
+    ]

@@ -33,6 +33,7 @@ def take(browser: Browser, source: Path, keys: Sequence[str], shots: Sequence[Se
     thread = threading.Thread(target=viewer.serve)
     thread.start()
     try:
+        browser.size(int(str(shots[0][2])), int(str(shots[0][3])))
         browser.go(viewer.address)
         browser.wait("document.querySelector('#where')?.textContent.startsWith('at ')")
         for key in keys:

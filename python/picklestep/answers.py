@@ -33,8 +33,9 @@ class Answer(Sequence[Line]):
     _line: ClassVar[Pattern[str]]
     _what: ClassVar[str] = 'lines'
 
-    def __init__(self, text: str) -> None:
+    def __init__(self, text: str, refused_at: Optional[int] = None) -> None:
         self.text = text
+        self._refused_at = refused_at  # the offset of a refused opcode, where the text does not tell it
 
     def _read(self, match: 're.Match[str]') -> Line:
         """What a line of the text tells."""
@@ -103,7 +104,12 @@ class Listing(Answer[Opcode]):
 
     @cached_property
     def end(self) -> End:
-        """How reading ended."""
+        """How reading ended.
+
+        >>> import picklestep
+        >>> picklestep.listing(b'N0.').end
+        End(how='refused', code='S2', text='S2 stack underflow', offset=2, item=2)
+        """
         if 'refused' in self._closing:
             code = self._closing['refused']
             return End('refused', code.partition(' ')[0], code, self[-1].offset, len(self) - 1)
@@ -111,18 +117,33 @@ class Listing(Answer[Opcode]):
 
     @property
     def protocol(self) -> Optional[int]:
-        """The highest protocol among the opcodes, where there are any."""
+        """The highest protocol among the opcodes, where there are any.
+
+        >>> import picklestep
+        >>> picklestep.listing(b']K\\x01a.').protocol, picklestep.listing(b'').protocol
+        (1, None)
+        """
         text = self._closing.get('highest protocol among opcodes')
         return None if text is None else int(text)
 
     @property
     def kept(self) -> int:
-        """How many bytes stand after STOP."""
+        """How many bytes stand after STOP. With `many` there are none.
+
+        >>> import picklestep
+        >>> picklestep.listing(b'N.N.').kept, picklestep.listing(b'N.N.', many=True).kept
+        (2, 0)
+        """
         return _first_number(self._closing.get('kept', '0'))
 
     @property
     def left(self) -> List[Tuple[int, int]]:
-        """How many objects and marks each STOP left on the stack, of those that left any."""
+        """How many objects and marks each STOP left on the stack, of those that left any.
+
+        >>> import picklestep
+        >>> picklestep.listing(b'NN(N.').left
+        [(2, 1)]
+        """
         return [(int(match[1]), int(match[2])) for match in _LEFT.finditer(self.text)]
 
     def _summary(self) -> str:
@@ -156,12 +177,22 @@ class Objects(Heap):
 
     @cached_property
     def end(self) -> End:
-        """How reading ended."""
-        return _end_of_item(_closing_lines(self.text))
+        """How reading ended.
+
+        >>> import picklestep
+        >>> picklestep.objects(b'N0.').end
+        End(how='refused', code='S2', text='S2 stack underflow', offset=2, item=2)
+        """
+        return _end_of_item(_closing_lines(self.text), self._refused_at)
 
     @cached_property
     def results(self) -> Tuple[int, ...]:
-        """The numbers of the objects that STOP took, one for each pickle."""
+        """The numbers of the objects that STOP took, one for each pickle.
+
+        >>> import picklestep
+        >>> picklestep.objects(b'NN\\x86.]K\\x07a.', many=True).results
+        (2, 3)
+        """
         after = self.text.rfind('\n#') + 1
         return tuple(int(match[1]) for match in _RESULT.finditer(self.text, after))
 
@@ -192,23 +223,43 @@ class Calls(Answer[Reach]):
 
     @property
     def imports(self) -> int:
-        """How many imports there are."""
+        """How many imports there are. An INST is one, and a call too.
+
+        >>> import picklestep
+        >>> picklestep.calls(b'(ios\\ngetcwd\\n.').imports
+        1
+        """
         return self._totals[0]
 
     @property
     def calls(self) -> int:
-        """How many calls there are."""
+        """How many calls there are.
+
+        >>> import picklestep
+        >>> picklestep.calls(b'cos\\ngetcwd\\n)R.').calls
+        1
+        """
         return self._totals[1]
 
     @property
     def kept(self) -> int:
-        """How many bytes stand after STOP."""
+        """How many bytes stand after STOP. With `many` there are none.
+
+        >>> import picklestep
+        >>> picklestep.calls(b'N.cos\\ngetcwd\\n.').kept
+        12
+        """
         return _first_number(_closing_lines(self.text).get('kept', '0'))
 
     @cached_property
     def end(self) -> End:
-        """How reading ended."""
-        return _end_of_item(_closing_lines(self.text))
+        """How reading ended.
+
+        >>> import picklestep
+        >>> picklestep.calls(b'cos\\ngetcwd\\nR.').end
+        End(how='refused', code='S2', text='S2 stack underflow', offset=11, item=1)
+        """
+        return _end_of_item(_closing_lines(self.text), self._refused_at)
 
     def _summary(self) -> str:
         return f'{self.imports} imports, {self.calls} calls, {self.end.text}'
@@ -265,11 +316,11 @@ def _closing_lines(text: str) -> Dict[str, str]:
     return closing
 
 
-def _end_of_item(closing: Dict[str, str]) -> End:
+def _end_of_item(closing: Dict[str, str], refused_at: Optional[int]) -> End:
     """How reading ended, by a closing line that names the item that was refused."""
     if 'refused' in closing:
         item, _, text = closing['refused'].partition(': ')
-        return texts.end_of(text, int(item.rpartition(' ')[2]))
+        return End('refused', text.partition(' ')[0], text, refused_at, int(item.rpartition(' ')[2]))
     return texts.end_of(closing.get('fault', 'stopped'))
 
 

@@ -13,16 +13,19 @@ from __future__ import annotations
 import contextlib
 import fcntl
 import os
+import select
 import signal
 import subprocess
+import time
 from pathlib import Path
-from typing import IO, Iterable, List, NoReturn, Optional, Sequence
+from typing import IO, Iterable, Iterator, List, NoReturn, Optional, Sequence
 
 from .errors import OutOfMemory, ProgramError, TimedOut, TooLarge
 
 __all__ = ['Process', 'find_program', 'run_program']
 
 _HERE = Path(__file__).resolve().parent
+_BLOCK = 1 << 20
 _LIMITED = ['/bin/sh', '-c', 'ulimit -v "$1" && shift && exec "$@"', 'sh']
 
 
@@ -57,7 +60,8 @@ class Process:
         command = _command(words, memory)
         self._is_open = False
         near, self._lifeline = os.pipe()
-        # (an interrupt that came while the program starts would leave it without anybody who ends it)
+        # (An interrupt that came while the program starts would leave it without anybody who ends it. The program keeps the mask: a Ctrl-C
+        # of the terminal interrupts the interpreter alone, and that ends the program.)
         masked = signal.pthread_sigmask(signal.SIG_BLOCK, {signal.SIGINT})
         try:
             self._popen = subprocess.Popen(command, stdin=subprocess.PIPE if stdin else subprocess.DEVNULL, stdout=subprocess.PIPE,
@@ -102,6 +106,24 @@ class Process:
         if self._popen.returncode not in (0, 1):
             _raise_failure(self._popen.returncode, errors)
         return bytes(output)
+
+    def blocks(self, timeout: Optional[float] = None) -> Iterator[bytes]:
+        """The program's output as it comes. The program has ended after the last block, also after an exception."""
+        deadline = None if timeout is None else time.monotonic() + timeout
+        poll = select.poll()
+        poll.register(self.stdout, select.POLLIN)
+        try:
+            while poll.poll(None if deadline is None else max(0.0, deadline - time.monotonic()) * 1000):
+                block = os.read(self.stdout, _BLOCK)
+                if not block:
+                    break
+                yield block
+            else:
+                raise TimedOut(f'no answer within {timeout:.3g} seconds')
+            if self._popen.wait() not in (0, 1):
+                self.fail()
+        finally:
+            self.close()
 
     def fail(self) -> NoReturn:
         """Raises why the program gave no answer, which ends it where it runs."""

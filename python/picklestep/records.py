@@ -20,8 +20,8 @@ class End:
     """How reading ended.
 
     `how` is 'stopped' (STOP was read), 'refused' (the machine refused an opcode) or 'fault' (the bytes cannot be read on).
-    `code` is the code of the refusal or fault ('S2', 'F1'), and `text` the program's words for it. `offset` tells where in the bytes,
-    and `item` which opcode was refused, where the answer says so.
+    `code` is the code of the refusal or fault ('S2', 'F1'), and `text` the program's words for it. `offset` is where the
+    refused opcode or the fault is in the bytes, and `item` the place of the refused opcode. (`picklestep.scan` tells its place alone.)
 
     >>> import picklestep
     >>> picklestep.listing(b'N').end
@@ -36,7 +36,12 @@ class End:
 
     @property
     def is_stopped(self) -> bool:
-        """Whether the pickle was read to its STOP."""
+        """Whether the pickle was read to its STOP.
+
+        >>> import picklestep
+        >>> picklestep.calls(b'N.').end.is_stopped, picklestep.calls(b'N').end.is_stopped
+        (True, False)
+        """
         return self.how == 'stopped'
 
 

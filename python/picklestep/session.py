@@ -39,7 +39,7 @@ class _Talk:
         self._lock = threading.Lock()
         self._stdin, self._stdout = process.stdin, process.stdout
         self._is_open = True
-        self.edits: List[bytes] = []
+        self._edits: List[bytes] = []
         self._undone: List[bytes] = []
         os.set_blocking(self._stdin, False)
 
@@ -60,6 +60,11 @@ class _Talk:
         if text.startswith('refused: '):
             raise Refused(text[9:-1])
         return text
+
+    def edits(self) -> List[bytes]:
+        """The lines of the edits that stand now. Other threads may go on with the session."""
+        with self._lock:
+            return list(self._edits)
 
     def _exchange(self, line: bytes, last: bytes, after: bytes = b'') -> bytes:
         """Sends a line, and reads up to the end of a line that begins so."""
@@ -84,12 +89,12 @@ class _Talk:
         if word == 'edited':
             words = line.split()
             words[1] = place.encode('ascii')
-            self.edits.append(b' '.join(words) + b'\n')
+            self._edits.append(b' '.join(words) + b'\n')
             self._undone.clear()
         elif word == 'undone':
-            self._undone.append(self.edits.pop())
+            self._undone.append(self._edits.pop())
         elif word == 'redone':
-            self.edits.append(self._undone.pop())
+            self._edits.append(self._undone.pop())
 
     def _send(self, data: bytes, deadline: Optional[float]) -> None:
         while True:
@@ -169,7 +174,14 @@ class Session(contextlib.AbstractContextManager['Session']):
             raise
 
     def close(self) -> None:
-        """Ends the session. Closing it twice does no harm."""
+        """Ends the session. Closing it twice does no harm.
+
+        >>> session = Session(b'N.')
+        >>> session.step(), session.close()
+        (1, None)
+        >>> session
+        <Session: closed>
+        """
         self._finalizer()
 
     def __exit__(self, *error: object) -> None:
@@ -409,19 +421,27 @@ class Session(contextlib.AbstractContextManager['Session']):
             return saved.read()
 
     def save(self, path: Union[str, 'os.PathLike[str]']) -> None:
-        """Writes the pickle with the edits that stand into a file, which may be the one that was opened."""
+        """Writes the pickle with the edits that stand into a file, which may be the one that was opened.
+
+        >>> import pathlib, tempfile
+        >>> with tempfile.TemporaryDirectory() as folder, Session(b'N.') as session:
+        ...     path = pathlib.Path(folder, 'saved.pickle')
+        ...     session.replace(0, 'BININT1', 5), session.save(path), path.read_bytes()
+        (0, None, b'K\\x05.')
+        """
         name = os.path.join(os.getcwd(), os.fsdecode(path))
         if is_word(name):
             self._save(name, [])
         else:
+            content = self.bytes()
             with open(name, 'wb') as file:
-                file.write(self.bytes())
+                file.write(content)
 
     def _save(self, path: str, files: List[int]) -> None:
         """Makes the edits in a second run of the program, so that this one goes on."""
         if not self._finalizer.alive:
             raise ValueError('the session is closed')
-        edits = self._talk.edits
+        edits = self._talk.edits()
         answer = run_program([*self._words, '--save', path], [*self._input.files, *files], b''.join(edits), *self._limits)
         if answer.count(b'edited ') != len(edits):
             raise ProgramError(f'an edit was not made again: {answer.decode("ascii")[-_SHOWN:]}')

@@ -2,14 +2,19 @@
 
 from __future__ import annotations
 
-from typing import Optional
+import re
+import time
+from collections import deque
+from typing import List, Optional, Type, TypeVar
 
 from .answers import Calls, Listing, Objects
 from .errors import ProgramError
-from .program import run_program
+from .program import Process, run_program
 from .sources import Input, Source
 
 __all__ = ['calls', 'listing', 'objects']
+
+_Report = TypeVar('_Report', Objects, Calls)
 
 
 def listing(source: Source, *, many: bool = False, timeout: Optional[float] = None, memory: Optional[int] = None) -> Listing:
@@ -24,7 +29,8 @@ def listing(source: Source, *, many: bool = False, timeout: Optional[float] = No
     4 TUPLE2 None
     5 STOP None
     """
-    return Listing(_answer('list', source, many, timeout, memory))
+    with Input(source) as given:
+        return Listing(_answer('list', given, many, timeout, memory))
 
 
 def objects(source: Source, *, many: bool = False, timeout: Optional[float] = None, memory: Optional[int] = None) -> Objects:
@@ -34,7 +40,7 @@ def objects(source: Source, *, many: bool = False, timeout: Optional[float] = No
     >>> answer[2].kind, answer[2].parts, answer.results
     ('tuple', (0, 1), (2,))
     """
-    return Objects(_answer('objects', source, many, timeout, memory))
+    return _report(Objects, 'objects', source, many, timeout, memory)
 
 
 def calls(source: Source, *, many: bool = False, timeout: Optional[float] = None, memory: Optional[int] = None) -> Calls:
@@ -45,14 +51,44 @@ def calls(source: Source, *, many: bool = False, timeout: Optional[float] = None
     0 import 'posix' 'system' as #0
     23 call 'posix' 'system' ('id') as #3
     """
-    return Calls(_answer('calls', source, many, timeout, memory))
+    return _report(Calls, 'calls', source, many, timeout, memory)
 
 
-def _answer(word: str, source: Source, many: bool, timeout: Optional[float], memory: Optional[int]) -> str:
-    """What the program writes about an input."""
+def _report(kind: Type[_Report], word: str, source: Source, many: bool, timeout: Optional[float], memory: Optional[int]) -> _Report:
+    """An answer that counts opcodes and not bytes. Where one was refused, a listing tells its offset."""
     with Input(source) as given:
-        words = [word, given.path, *(['--many'] if many else [])]
-        answer = run_program(words, given.files, timeout=timeout, memory=memory)
+        begun = time.monotonic()
+        answer = kind(_answer(word, given, many, timeout, memory))
+        if answer.end.how != 'refused':
+            return answer
+        left = None if timeout is None else max(0.0, timeout - (time.monotonic() - begun))
+        return kind(answer.text, _last_offset(given, many, left, memory))
+
+
+def _words(word: str, given: Input, many: bool) -> List[str]:
+    return [word, given.path, *(['--many'] if many else [])]
+
+
+def _answer(word: str, given: Input, many: bool, timeout: Optional[float], memory: Optional[int]) -> str:
+    """What the program writes about an input."""
+    answer = run_program(_words(word, given, many), given.files, timeout=timeout, memory=memory)
     if not answer.endswith(b'\n'):
         raise ProgramError('the program gave no whole answer')
     return answer.decode('ascii')
+
+
+def _last_offset(given: Input, many: bool, timeout: Optional[float], memory: Optional[int]) -> Optional[int]:
+    """The offset of the last opcode that is listed. Of the listing only the beginning of its last line is kept."""
+    offset, line = None, b''
+    for block in Process(_words('list', given, many), given.files, memory).blocks(timeout):
+        block = line + block
+        for match in deque(_OFFSET.finditer(block), 1):
+            offset = int(match[1])
+        at = block.rfind(b'\n') + 1
+        line = block[at:at + _MOST_OFFSET]
+    return offset
+
+
+# The beginning of an opcode's line. (Its closing colon may come with the next block.)
+_OFFSET = re.compile(rb'^ *([0-9]+): ', re.MULTILINE)
+_MOST_OFFSET = 20

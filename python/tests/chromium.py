@@ -26,7 +26,7 @@ for end, wanted in zip(ends, (3, 4)):
     os.dup2(end, wanted)
     os.close(end)
 os.execv(sys.argv[3], sys.argv[3:])'''
-KEYS = {'ArrowRight': 39, 'ArrowLeft': 37, 'ArrowDown': 40, 'ArrowUp': 38, 'Home': 36, 'End': 35, 'Enter': 13, ' ': 32, 'Tab': 9}
+KEYS = {'ArrowRight': 39, 'ArrowLeft': 37, 'ArrowDown': 40, 'ArrowUp': 38, 'Home': 36, 'End': 35, 'Enter': 13, ' ': 32, 'Tab': 9, 'Escape': 27}
 
 
 class BrowserError(Exception):
@@ -136,7 +136,11 @@ class Browser:
                        'return [r.left + r.width / 2, r.top + r.height / 2]; })()')
         self.pointer(x, y)
         for kind in ('mousePressed', 'mouseReleased'):
-            self.call('Input.dispatchMouseEvent', type=kind, x=x, y=y, button='left', clickCount=count)
+            self.mouse(kind, x, y, count)
+
+    def mouse(self, kind: str, x: float, y: float, count: int = 1) -> None:
+        """Presses, moves or releases the left button."""
+        self.call('Input.dispatchMouseEvent', type=kind, x=x, y=y, button='left', buttons=0 if kind == 'mouseReleased' else 1, clickCount=count)
 
     def pointer(self, x: float, y: float) -> None:
         """Moves the pointer."""

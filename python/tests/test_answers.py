@@ -95,7 +95,7 @@ class RealPickles(unittest.TestCase):
             with self.subTest(name):
                 answer = picklestep.calls(data)
                 objects = picklestep.objects(data)
-                self.assertEqual((answer.end.how, answer.end.code), (objects.end.how, objects.end.code))
+                self.assertEqual((answer.end, objects.end), (picklestep.listing(data).end,) * 2)
                 known = known_opcodes(data)
                 if answer.end.is_stopped and is_whole(known):
                     self.assertEqual(answer.imports, sum(opcode.name in _IMPORTS for opcode in known))
@@ -204,7 +204,7 @@ class ObjectLines(unittest.TestCase):
 
     def test_ends(self) -> None:
         self.assertEqual(picklestep.objects(b'N').end, End('fault', 'F1', 'F1 ended at 1', 1))
-        self.assertEqual(picklestep.objects(b'N0.').end, End('refused', 'S2', 'S2 stack underflow', None, 2))
+        self.assertEqual(picklestep.objects(b'N0.').end, End('refused', 'S2', 'S2 stack underflow', 2, 2))
 
     def test_many(self) -> None:
         answer = picklestep.objects(b'N.K\x01.', many=True)
@@ -314,10 +314,18 @@ class CallLines(unittest.TestCase):
         self.check(data, Reach(0, 'import', '', name, number=0), Reach(len(data) - 2, 'call', '', name, Briefs(()), number=2))
 
     def test_ends(self) -> None:
-        for data, end, kept in ((b'N', End('fault', 'F1', 'F1 ended at 1', 1), 0), (b'0.', End('refused', 'S2', 'S2 stack underflow', None, 0), 0),
+        for data, end, kept in ((b'N', End('fault', 'F1', 'F1 ended at 1', 1), 0), (b'0.', End('refused', 'S2', 'S2 stack underflow', 0, 0), 0),
                                 (b'N.xyz', End('stopped'), 3)):
             answer = picklestep.calls(data)
             self.assertEqual((len(answer), answer.imports, answer.calls, answer.end, answer.kept), (0, 0, 0, end, kept))
+
+    def test_the_offset_of_a_refused_opcode(self) -> None:
+        long = b'X\0\0\x30\0' + b'x' * 0x300000
+        for data, many in ((b'N' * 300_000 + b'K\x01' * 300_000 + b'}R.', False), (long + b'0i' + b'a' * 3_000_000 + b'\nb\n.', False),
+                           (b'NN.' * 1000 + b'0.', True), (b'R', False)):
+            for ask in (picklestep.calls, picklestep.objects):
+                with self.subTest(ask.__name__, data=data[-3:]):
+                    self.assertEqual(ask(data, many=many, timeout=60).end, picklestep.listing(data, many=many).end)
 
     def test_two_pickles(self) -> None:
         answer = picklestep.calls(HOSTILE + HOSTILE, many=True)

@@ -9,6 +9,8 @@ import os
 import pkgutil
 import tempfile
 import unittest
+from functools import cached_property
+from types import FunctionType
 
 import picklestep
 from pickles import ROOT
@@ -49,10 +51,17 @@ class Examples(unittest.TestCase):
                 continue  # (the name of a type)
             with self.subTest(name):
                 self.assertIn('>>>', found.__doc__ or '')
-        for name, method in inspect.getmembers(picklestep.Session, inspect.isfunction):
-            if not name.startswith('_') and name not in ('close', 'save'):
-                with self.subTest(name):
-                    self.assertIn('>>>', method.__doc__ or '')
+
+    def test_each_method_and_property_has_an_example(self) -> None:
+        kinds = [found for found in map(picklestep.__dict__.__getitem__, picklestep.__all__) if inspect.isclass(found)]
+        asked = 0
+        for kind in kinds:
+            for name, member in vars(kind).items():
+                if not name.startswith('_') and isinstance(member, (FunctionType, property, cached_property)):
+                    with self.subTest(f'{kind.__name__}.{name}'):
+                        self.assertIn('>>>', member.__doc__ or '')
+                    asked += 1
+        self.assertGreater(asked, 30)
 
 
 if __name__ == '__main__':

@@ -220,6 +220,14 @@ class Errors(LeavesNothing):
                 Session(b'N.', timeout=0.2)
             self.assertLess(time.monotonic() - start, 5)
 
+    def test_a_listing_that_does_not_end(self) -> None:
+        """The offset of a refused opcode is looked for within the time that is left."""
+        with program('case $1 in list) exec sleep 60;; esac\necho "0 imports, 0 calls"\necho "refused: item 0: S2 stack underflow"\nexit 1\n'):
+            start = time.monotonic()
+            with self.assertRaises(TimedOut):
+                picklestep.calls(b'0.', timeout=0.3)
+            self.assertLess(time.monotonic() - start, 5)
+
     def test_a_closed_session(self) -> None:
         session = Session(LIST)
         session.close()

@@ -290,6 +290,25 @@ class Threads(unittest.TestCase):
                 thread.join()
             self.assertEqual(session.where().place, 1000)
 
+    def test_bytes_beside_edits_of_another_thread(self) -> None:
+        done = threading.Event()
+        with Session(b'N.') as session:
+            def edit() -> None:
+                while not done.is_set():
+                    session.insert(0, 'MARK')
+                    session.insert(0, 'POP')
+                    session.undo()
+                    session.undo()
+
+            thread = threading.Thread(target=edit)
+            thread.start()
+            try:
+                saved = {session.bytes() for _ in range(30)}
+            finally:
+                done.set()
+                thread.join()
+        self.assertLessEqual(saved, {b'N.', b'(N.', b'0(N.'})
+
     def test_a_session_outlives_its_thread(self) -> None:
         opened: List[Session] = []
         thread = threading.Thread(target=lambda: opened.append(Session(b'N.')))

@@ -6,11 +6,13 @@ import contextlib
 import http.client
 import io
 import json
+import os
 import pickle
 import pickletools
 import random
 import re
 import signal
+import socket
 import subprocess
 import sys
 import tempfile
@@ -19,10 +21,12 @@ import time
 import unittest
 from pathlib import Path
 from typing import Any, Dict, Iterator, List, Optional, Tuple
+from unittest import mock
 from urllib.parse import urlsplit
 
 import picklestep
 from picklestep import Refused, Session
+from pickles import real_pickles
 from picklestep.view import export, lines, main
 from picklestep.view.document import Document, argument_of
 from picklestep.view.server import Viewer
@@ -34,9 +38,9 @@ HOSTILE = b'c</script><img src=x onerror=alert(1)>\n<b>&\n.'
 
 
 @contextlib.contextmanager
-def opened(data: Any) -> Iterator[Document]:
+def opened(data: Any, many: bool = False) -> Iterator[Document]:
     """A document, which is closed at the end."""
-    document = Document(data, 'a pickle')
+    document = Document(data, 'a pickle', many)
     try:
         yield document
     finally:
@@ -64,6 +68,16 @@ class Documents(unittest.TestCase):
                     self.assertEqual(len(session.objects()), number)
                     session.step()
                     self.assertEqual(len(session.objects()), number + 1)
+
+    def test_opcodes_that_make_none(self) -> None:
+        """Each real pickle makes as many objects as it has opcodes that make one."""
+        seen = set()
+        for name, data in real_pickles().items():
+            listing = picklestep.listing(data)
+            names = [opcode.name.encode('ascii') for opcode in listing][:listing.end.item]
+            seen |= {*names}
+            self.assertEqual(sum(name not in lines.MAKE_NONE for name in names), len(picklestep.objects(data)), name)
+        self.assertEqual(seen, {*map(str.encode, lines.opcode_names())})
 
     def test_moves(self) -> None:
         with opened(SYSTEM) as document:
@@ -119,6 +133,21 @@ class Documents(unittest.TestCase):
             self.assertEqual([row[:4] for row in document.slice(0, 9)],
                              [[0, 'N', 'NONE', ''], [1, '0', 'POP', ''], [2, 'R', 'REDUCE', ''], [3, '\\x8c', 'SHORT_BINUNICODE', "'a'"],
                               [6, '.', 'STOP', '']])
+
+    def test_several_pickles(self) -> None:
+        data = b'NN(N.' + SYSTEM + b'(N.' + b']K\x01a.' * 8
+        with opened(data) as document:
+            self.assertIn(f'kept: {len(data) - 5} bytes after STOP', document.state()['closing'])
+        with opened(data, many=True) as document, Session(data, many=True) as session:
+            listed = picklestep.listing(data, many=True)
+            self.assertEqual([(row[0], row[2], row[4]) for row in document.slice(0, 99)], [(line.offset, line.name, line.marks) for line in listed])
+            session.run()
+            self.assertEqual(document.move('run', 0), f'at {session.where().places}: end, stopped')
+            self.assertEqual((document.state()['results'], document.state()['results_before']), (list(session.where().results[-5:]), 6))
+            self.assertEqual(document.state()['made'], len(session.objects()))
+            self.assertEqual(document.move('previous', 0), 'at 9')
+            self.assertEqual(document.edit('delete', 9, '', '', '', 0), 'edited 9')
+            self.assertEqual((document.session.bytes(), len(document.lines)), (data.replace(b'tR', b't'), session.where().places - 1))
 
     def test_long_texts_are_cut(self) -> None:
         with opened(pickle.dumps(['x' * 3_000_000, b'\0' * 3_000_000, 'y'], 4)) as document:
@@ -221,6 +250,15 @@ class Asking(unittest.TestCase):
         thread.join()
         self.viewer.__exit__()
 
+    def raw(self, request: bytes) -> Tuple[int, Dict[str, str], bytes]:
+        """The status, the headers and the body of the answer to bytes that need be no request."""
+        host, port = self.viewer.host.split(':')
+        with socket.create_connection((host, int(port)), 20) as connection:
+            connection.sendall(request)
+            response = http.client.HTTPResponse(connection, method=request.partition(b' ')[0].decode('latin-1'))
+            response.begin()
+            return response.status, dict(response.getheaders()), response.read()
+
     def ask(self, method: str, path: str, body: bytes = b'{}', **headers: Optional[str]) -> Tuple[int, Dict[str, str], bytes]:
         """The status, the headers and the body of an answer."""
         host, port = self.viewer.host.split(':')
@@ -249,6 +287,27 @@ class Asking(unittest.TestCase):
             self.assertNotRegex(body.decode('utf-8'), 'https?://(?!www.w3.org/2000/svg)')
         self.assertEqual(self.ask('GET', f'/{self.viewer.token}/other')[0], 404)
 
+    def test_every_answer_has_the_policy_and_own_words(self) -> None:
+        token = self.viewer.token
+        asked = [(method, path) for method in ('GET', 'HEAD', 'POST', 'PUT', 'DELETE', 'OPTIONS', 'TRACE', 'BURN')
+                 for path in ('/', '/x/', f'/{token}/', f'/{token}/other', f'/{token}/open', f'/{token}')]
+        answers = [(f'{method} {path}', self.ask(method, path)) for method, path in asked]
+        host = f'\r\nHost: {self.viewer.host}\r\n\r\n'.encode('ascii')
+        for line in (b'burn', b'GET', b'GET /%s/' % token.encode('ascii'), b'PUT /', b'GET / HTTP/9.9', b'GET / HTTP/x', b'POST / HTTP/1.1 x',
+                     b'\xff\0', b'GET /' + b'x' * 70_000, b'GET / HTTP/1.1' + b'\r\na: b' * 200, b'GET / HTTP/1.1\r\na: ' + b'b' * 70_000):
+            answers.append((repr(line[:40]), self.raw(line + host)))
+        for name, (status, headers, body) in answers:
+            with self.subTest(name):
+                self.assertTrue(headers['Content-Security-Policy'].startswith("default-src 'none';"))
+                self.assertEqual((headers['X-Content-Type-Options'], headers['Cache-Control']), ('nosniff', 'no-store'))
+                self.assertIn(status, (200, 400, 403, 404, 414, 431, 501, 505))
+                if status != 200:
+                    self.assertIn(body, (b'', b'refused\n', b'no such page\n', b'no such question\n', b'no such request\n'))
+        statuses = {name: status for name, (status, _, _) in answers}
+        self.assertEqual([statuses[f'{method} /x/'] for method in ('GET', 'HEAD', 'POST', 'PUT', 'BURN')], [403] * 5)
+        self.assertEqual([statuses[f'{method} /{token}/'] for method in ('GET', 'HEAD', 'POST', 'PUT', 'BURN')], [200, 200, 404, 501, 501])
+        self.assertEqual(self.ask('HEAD', f'/{token}/')[2], b'')
+
     def test_without_the_token(self) -> None:
         for path in ('/', '/open', '/style.css', f'/{self.viewer.token[:-1]}/', f'/{self.viewer.token}', '/x/../open', '//', '*'):
             self.assertEqual(self.ask('GET', path)[0], 404 if path == f'/{self.viewer.token}' else 403, path)
@@ -276,6 +335,26 @@ class Asking(unittest.TestCase):
             status, _, answer = self.ask('POST', path + word, body)
             self.assertEqual((status, json.loads(answer).get('failed')), (200, True), (word, answer))
         self.assertEqual(json.loads(self.ask('POST', path + 'move', b'{"what": "step"}')[2])['place'], 1)
+
+    def test_odd_questions_get_an_answer_and_no_traceback(self) -> None:
+        path = f'/{self.viewer.token}/'
+        with contextlib.redirect_stderr(io.StringIO()) as told:
+            for body in (b'[' * 200_000, b'{"a":' * 200_000, b'9' * 5000, b'{"after": %s}' % (b'9' * 5000), b'\xff', b'"', b'null'):
+                self.assertEqual(self.ask('POST', path + 'find', body)[::2], (400, b'no such question\n'), body[:20])
+            for word, body, said in (('find', b'{"text": "a", "after": -1000000}', 'not done: after is no number from 0 on'),
+                                     ('lines', b'{"start": -5, "count": 9}', 'not done: start is no number from 0 on'),
+                                     ('move', b'{"what": "goto", "place": 1e99}', 'not done: place is no number from 0 on'),
+                                     ('find', b'{"text": "%s"}' % (b'9' * 5000), 'not done: '), ('save', b'{"name": "a\\u0000"}', 'not done: '),
+                                     ('edit', b'{"what": "insert", "name": "\\ud800"}', 'not done: '), ('holds', b'{"number": true}', 'not done: '),
+                                     ('find', b'{"text": %s%s}' % (b'[' * 900, b']' * 900), '')):
+                status, _, answer = self.ask('POST', path + word, body)
+                self.assertEqual(status, 200, body[:50])
+                self.assertTrue(json.loads(answer).get('said', '').startswith(said), answer)
+            for length in ('9' * 5000, '-1', '+1', '1_0', ''):
+                status, _, _ = self.raw(f'POST {path}open HTTP/1.1\r\nHost: {self.viewer.host}\r\nOrigin: http://{self.viewer.host}\r\n'
+                                        f'Content-Length: {length}\r\n\r\n'.encode('ascii'))
+                self.assertEqual(status, 413)
+        self.assertEqual(told.getvalue(), '')
 
     def test_many_at_a_time(self) -> None:
         places: List[int] = []
@@ -361,6 +440,44 @@ class Running(unittest.TestCase):
         for wanted in ("&#x27;posix&#x27; &#x27;system&#x27;", '<a href="#at23">23</a>', 'REDUCE', '6 opcodes, 1 imports, 1 calls'):
             self.assertIn(wanted, text)
         self.assertNotRegex(text, '<script|https?:|unsafe')
+
+    def test_export_asks_before_it_writes_over_a_file(self) -> None:
+        out = self.folder / 'out.html'
+        out.write_text('mine')
+        out.chmod(0o640)
+        with contextlib.redirect_stderr(io.StringIO()) as told:
+            self.assertEqual(main([str(self.file), '--export', str(out)]), 2)
+        self.assertEqual((told.getvalue(), out.read_text()), (f'picklestep: {out} is there; with --force it is written over\n', 'mine'))
+        link = self.folder / 'link.html'
+        link.symlink_to(out)
+        self.assertEqual(main([str(self.file), '--export', str(link), '--force']), 0)
+        self.assertTrue(link.is_symlink() and out.read_text().startswith('<!DOCTYPE html>'))
+        self.assertEqual((out.stat().st_mode & 0o777, sorted(os.listdir(self.folder))), (0o640, ['a.pickle', 'link.html', 'out.html']))
+        self.assertEqual(main([str(self.file), '--export', '/dev/null']), 0)
+        self.assertTrue(Path('/dev/null').is_char_device())
+
+    def test_export_leaves_nothing_after_an_error(self) -> None:
+        out = self.folder / 'out.html'
+
+        def broken(document: Document, file: Any) -> Tuple[int, int]:
+            file.write('half a page')
+            raise OSError(28, 'No space left on device')
+
+        for before in ((), ('mine',)):
+            for text in before:
+                out.write_text(text)
+            with mock.patch('picklestep.view.command.write_report', broken), contextlib.redirect_stderr(io.StringIO()):
+                self.assertEqual(main([str(self.file), '--export', str(out), '--force']), 2)
+            self.assertEqual(sorted(os.listdir(self.folder)), ['a.pickle', *(['out.html'] if before else [])])
+        self.assertEqual(out.read_text(), 'mine')
+
+    def test_export_of_several_pickles(self) -> None:
+        self.file.write_bytes(SYSTEM + SYSTEM)
+        out = self.folder / 'out.html'
+        self.assertEqual(main([str(self.file), '--export', str(out)]), 0)
+        self.assertIn(f'6 opcodes, 1 imports, 1 calls. kept: {len(SYSTEM)} bytes after STOP; highest protocol among opcodes = 1.', out.read_text())
+        self.assertEqual(main([str(self.file), '--many', '--export', str(out), '--force']), 0)
+        self.assertIn('12 opcodes, 2 imports, 2 calls.', out.read_text())
 
     def test_export_puts_texts_in_as_text(self) -> None:
         hostile = self.folder / '<img onerror=alert(1)>.pickle'

@@ -1,6 +1,6 @@
 """The page of a pickle in a real browser: steps, breakpoints, edits, hostile texts, and a million opcodes.
 
-With PICKLESTEP_LARGE set, a pickle of 200 MB is opened too.
+With PICKLESTEP_LARGE set, a pickle of 200 MB is opened and edited too.
 """
 
 from __future__ import annotations
@@ -16,16 +16,32 @@ import unittest
 from pathlib import Path
 from typing import Any, List
 
+import picklestep
 from chromium import PROGRAM, Browser
+from picklestep import Ref, Session
 from picklestep.view import main
 from picklestep.view.command import _leading_to
 from picklestep.view.document import Document
 from picklestep.view.server import Viewer
 
-DATA = Path(__file__).resolve().parent / 'data' / 'models'
+REAL = Path(__file__).resolve().parent / 'data' / 'models' / 'sklearn_tree.pkl'
+SYSTEM = b'cposix\nsystem\n(X\x02\x00\x00\x00idtR.'
 HOSTILE_NAME = '</script><img src=x onerror="document.title=1">'
 HOSTILE = b'c' + HOSTILE_NAME.encode('ascii') + b'\n<b>&amp;\n\x8c\x1c<img src=x onerror=alert(1)>\x85R.'
 READY = "document.querySelector('#where')?.textContent.startsWith('at ')"
+# How much each text that is seen stands out from what is behind it, by the formula of the Web Content Accessibility Guidelines.
+CONTRASTS = '''(() => {
+    const parts = (colour) => colour.match(/[0-9.]+/g).map(Number);
+    const light = (colour) => parts(colour).slice(0, 3).map((part) => part / 255)
+        .map((part) => part <= 0.04045 ? part / 12.92 : ((part + 0.055) / 1.055) ** 2.4)
+        .reduce((sum, part, at) => sum + part * [0.2126, 0.7152, 0.0722][at], 0);
+    const behind = (each) => { const colour = getComputedStyle(each).backgroundColor;
+        return (parts(colour)[3] ?? 1) === 1 ? colour : behind(each.parentElement); };
+    return [...document.querySelectorAll('body *')].filter((each) => each.checkVisibility() && !each.disabled && !each.closest('.hidden, dialog') &&
+        [...each.childNodes].some((child) => child.nodeType === Node.TEXT_NODE && child.textContent.trim())).map((each) => {
+            const [low, high] = [light(getComputedStyle(each).color), light(behind(each))].sort((left, right) => left - right);
+            return [each.className + ' ' + each.textContent.slice(0, 40), (high + 0.05) / (low + 0.05)]; });
+})()'''
 
 
 @unittest.skipIf(PROGRAM is None, 'there is no chromium')
@@ -39,9 +55,9 @@ class InBrowser(unittest.TestCase):
         cls.browser = Browser()
         cls.addClassCleanup(cls.browser.close)
 
-    def open(self, source: Any) -> Viewer:
+    def open(self, source: Any, many: bool = False) -> Viewer:
         """Opens the page of a pickle, and waits until it is shown."""
-        document = Document(source, 'a pickle')
+        document = Document(source, 'a pickle', many)
         self.addCleanup(document.close)
         viewer = Viewer(document)
         thread = threading.Thread(target=viewer.serve, daemon=True)
@@ -73,7 +89,7 @@ class InBrowser(unittest.TestCase):
 
     def said(self, text: str) -> None:
         """Waits until the last answer begins so."""
-        self.browser.wait(f"document.querySelector('#said').textContent.startsWith({json.dumps(text)})")
+        self.browser.wait(f"document.querySelector('#said').textContent.startsWith({json.dumps(text)})", 100)
 
     def texts(self, selector: str) -> List[str]:
         """The texts of elements."""
@@ -81,10 +97,9 @@ class InBrowser(unittest.TestCase):
         return found
 
     def test_steps_on_a_real_pickle(self) -> None:
-        data = (DATA / 'sklearn_tree.pkl').read_bytes()
-        opcodes = list(pickletools.genops(data))
+        opcodes = list(pickletools.genops(REAL.read_bytes()))
         calls = [at for at, (opcode, _, _) in enumerate(opcodes) if opcode.name in ('REDUCE', 'NEWOBJ', 'BUILD')]
-        self.open(data)
+        self.open(REAL)
         shown = [name for name in self.texts('.row:not([hidden]) .name') if name]
         self.assertEqual(shown[:20], [opcode.name for opcode, _, _ in opcodes[:20]])
         self.press('ArrowRight', 1)
@@ -99,17 +114,21 @@ class InBrowser(unittest.TestCase):
         self.press('Home', 0)
 
     def test_breakpoint_by_click_and_run(self) -> None:
-        self.open(b'cposix\nsystem\n(X\x02\x00\x00\x00idtR.')
-        self.browser.click('.row[data-place="4"] .gutter')
-        self.browser.wait("document.querySelector('.row[data-place=\"4\"]').classList.contains('broken')")
-        self.press(' ', 4)
-        self.said('at 4: breakpoint')
+        with Session(REAL) as session:
+            session.goto(9)
+            stack = [f'#{thing.number}' for thing in reversed(session.stack()) if isinstance(thing, Ref)]
+            places = session.where().places
+        self.open(REAL)
+        self.browser.click('.row[data-place="9"] .gutter')
+        self.browser.wait("document.querySelector('.row[data-place=\"9\"]').classList.contains('broken')")
+        self.press(' ', 9)
+        self.said('at 9: breakpoint')
         self.browser.wait("document.querySelectorAll('#stack .thing').length === 2")
-        self.assertEqual(self.texts('#stack .thing'), ['#2 tuple (#1)', "#0 global 'posix' 'system'"])
-        self.assertEqual(self.browser.js("document.querySelector('.row.call .name').textContent"), 'REDUCE')
-        self.browser.click('.row[data-place="4"] .gutter')
+        self.assertEqual(self.texts('#stack .number'), stack)
+        self.assertEqual(self.browser.js("document.querySelector('.row.call .name').textContent"), 'NEWOBJ')
+        self.browser.click('.row[data-place="9"] .gutter')
         self.browser.wait("!document.querySelector('.row.broken')")
-        self.press(' ', 6)
+        self.press(' ', places)
 
     def test_an_object_opens_and_tells_its_maker(self) -> None:
         self.open(pickle.dumps([('a', 'b'), 7], 2))
@@ -125,25 +144,22 @@ class InBrowser(unittest.TestCase):
         about = self.browser.js("document.querySelector('#about').textContent")
         self.assertRegex(about, "BINUNICODE 'a'.*It stands in the memo under 1; in #3")
 
-    def test_edit_undo_redo_and_save(self) -> None:
-        self.open(b'cposix\nsystem\n(X\x02\x00\x00\x00idtR.')
+    def edit(self, what: str, place: int, name: str = '', argument: str = '', count: int = 1) -> None:
+        """Fills in the form of edits, and sends it."""
         self.browser.key('e')
         self.browser.wait("document.querySelector('#edit-dialog').open && document.activeElement.id === 'edit-name'")
-        self.browser.type('GLOBAL')
-        self.browser.js("document.querySelector('#edit-argument').focus()")
-        self.browser.type('builtins')
-        self.browser.key('Enter')
-        self.browser.wait("document.querySelector('#edit-error').textContent.includes('a blank between them')")
-        self.browser.type(' len')
-        self.browser.key('Enter')
+        for field, value in (('what', what), ('place', place), ('name', name), ('argument', argument), ('count', count)):
+            self.browser.js(f"(() => {{ const field = document.querySelector('#edit-{field}'); field.value = {json.dumps(value)};"
+                            "field.dispatchEvent(new Event('change')); })()")
+        self.browser.click('#edit-form button[type=submit]')
+
+    def edited(self, text: str) -> None:
+        """Waits until an edit was made, with this answer."""
+        self.said(text)
         self.browser.wait("!document.querySelector('#edit-dialog').open")
-        self.said('edited 0')
-        self.browser.wait("document.querySelector('.row.edited .argument')?.textContent === \"'builtins' 'len'\"")
-        self.browser.key('u')
-        self.said('undone 0')
-        self.browser.wait("document.querySelector('.row .argument').textContent === \"'posix' 'system'\"")
-        self.browser.key('r')
-        self.said('redone 0')
+
+    def saved(self) -> bytes:
+        """What is saved under a name."""
         with tempfile.TemporaryDirectory() as folder:
             path = Path(folder) / 'saved.pickle'
             self.browser.key('s')
@@ -151,7 +167,55 @@ class InBrowser(unittest.TestCase):
             self.browser.type(str(path))
             self.browser.key('Enter')
             self.said('saved ')
-            self.assertEqual(path.read_bytes(), b'cbuiltins\nlen\n(X\x02\x00\x00\x00idtR.')
+            return path.read_bytes()
+
+    def test_edit_undo_redo_and_save(self) -> None:
+        self.open(REAL)
+        for _ in range(4):
+            self.browser.key('ArrowDown')
+        self.browser.key('e')
+        self.browser.wait("document.querySelector('#edit-dialog').open && document.activeElement.id === 'edit-name'")
+        self.browser.type('SHORT_BINUNICODE')
+        self.browser.js("document.querySelector('#edit-argument').focus()")
+        self.browser.type('ExtraTreeClassifier')
+        self.browser.key('Enter')
+        self.edited('edited 4')
+        argument = "document.querySelector('.row[data-place=\"4\"] .argument').textContent"
+        self.browser.wait(f"{argument} === \"'ExtraTreeClassifier'\"")
+        self.assertEqual(self.browser.js("document.querySelectorAll('.row.edited').length"), 1)
+        self.browser.key('u')
+        self.said('undone 4')
+        self.browser.wait(f"{argument} === \"'DecisionTreeClassifier'\"")
+        self.assertEqual(self.saved(), REAL.read_bytes())
+        self.browser.key('r')
+        self.said('redone 4')
+        with Session(REAL) as session:
+            session.replace(4, 'SHORT_BINUNICODE', 'ExtraTreeClassifier')
+            self.assertEqual(self.saved(), session.bytes())
+
+    def test_insert_delete_unframe_and_frame(self) -> None:
+        self.open(REAL)
+        self.edit('insert', 2, 'GLOBAL', 'builtins')
+        self.browser.wait("document.querySelector('#edit-error').textContent.includes('a blank between them')")
+        self.browser.js("document.querySelector('#edit-argument').focus()")
+        self.browser.key('End')
+        self.browser.type(' len')
+        self.browser.key('Enter')
+        self.edited('edited 2')
+        self.browser.wait("document.querySelector('.row.edited.import .argument')?.textContent === \"'builtins' 'len'\"")
+        with Session(REAL) as session:
+            session.insert(2, 'GLOBAL', 'builtins', 'len')
+            self.assertEqual(self.saved(), session.bytes())
+            places = session.where().places
+        self.edit('delete', 2)
+        self.edited('edited 2')
+        self.edit('unframe', 1)
+        self.edited('edited 1')
+        self.browser.wait("![...document.querySelectorAll('.row .name')].some((each) => each.textContent === 'FRAME')")
+        self.edit('frame', 1, count=places - 3)
+        self.edited('edited 1')
+        self.browser.wait("document.querySelector('.row[data-place=\"1\"] .name').textContent === 'FRAME'")
+        self.assertEqual(self.saved(), REAL.read_bytes())
 
     def test_edits_behind_the_cursor_are_refused_in_words(self) -> None:
         self.open(b'NN0.')
@@ -183,17 +247,77 @@ class InBrowser(unittest.TestCase):
             self.assertEqual(self.browser.js('location.href'), viewer.address)
         self.assertFalse(path.parent.exists())
 
-    def test_find(self) -> None:
-        self.open((DATA / 'sklearn_tree.pkl').read_bytes())
+    def find(self, text: str, place: int) -> None:
+        """Looks for a text from the keyboard, and waits until a place is selected."""
+        self.browser.key('Escape')  # (where the last text was looked for)
         self.browser.key('/')
         self.browser.wait("document.activeElement.id === 'sought'")
-        self.browser.type('BUILD')
+        self.browser.type(text)
+        self.found_next(place)
+
+    def found_next(self, place: int) -> None:
+        """Presses Enter, and waits until a place is selected."""
         self.browser.key('Enter')
-        self.said('found at place ')
+        self.said(f'found at place {place}')
+        self.browser.wait(f"document.querySelector('.row.selected').dataset.place === '{place}'")
+
+    def test_find(self) -> None:
+        self.open(REAL)
+        names = [opcode.name for opcode in picklestep.listing(REAL)]
+        self.find('BUILD', names.index('BUILD'))
         self.browser.wait("document.querySelector('.row.selected .name').textContent === 'BUILD'")
+        self.find('87', 18)
+        self.assertEqual(self.browser.js("document.querySelector('.row.selected .offset').textContent"), '87')
+        self.find('90', 18)  # (an offset within an opcode is found in it)
+        self.find("'max_", 22)
+        self.found_next(34)
+        self.found_next(37)
+        self.browser.type('absent')
+        self.browser.key('Enter')
+        self.said('not found: ')
+        self.browser.key('Escape')
+        self.assertEqual(self.browser.js('document.activeElement.id'), 'listing')
+
+    def test_the_bar_is_dragged(self) -> None:
+        self.open(REAL)
+        left, width, y = self.browser.js("(() => { const r = document.querySelector('#bar').getBoundingClientRect();"
+                                         'return [r.left, r.width, r.top + r.height / 2]; })()')
+        self.browser.mouse('mousePressed', left + 8, y)
+        for part in (0.25, 0.5):
+            self.browser.mouse('mouseMoved', left + part * width, y)
+            self.browser.wait(f"Math.abs(parseInt(document.querySelector('#where').textContent.slice(3)) - {part * 353}) < 9")
+        self.browser.mouse('mouseReleased', left + width / 2, y)
+        place = int(self.browser.js("document.querySelector('#bar').value"))
+        self.press('ArrowLeft', place - 1)
+        self.browser.wait(f"document.querySelector('.row[data-place=\"{place - 1}\"]')?.classList.contains('selected')")
+
+    def test_light_and_dark_colours(self) -> None:
+        self.addCleanup(self.browser.scheme, 'light')
+        self.open(REAL)
+        self.press('n', 9)
+        self.press('ArrowRight', 10)
+        backgrounds = []
+        for scheme in ('light', 'dark'):
+            self.browser.scheme(scheme)
+            contrasts = self.browser.js(CONTRASTS)
+            self.assertGreater(len(contrasts), 60)
+            self.assertEqual([each for each in contrasts if each[1] < 4.5], [])
+            backgrounds.append(self.browser.js('getComputedStyle(document.body).backgroundColor'))
+        self.assertEqual(backgrounds, ['rgb(255, 255, 255)', 'rgb(20, 24, 31)'])
+
+    def test_bytes_after_stop_are_told(self) -> None:
+        self.open(b'N.' + SYSTEM)
+        self.assertIn(f'kept: {len(SYSTEM)} bytes after STOP (view --many reads on)', self.texts('#closing')[0])
+
+    def test_several_pickles(self) -> None:
+        self.open(b'N.' + SYSTEM, many=True)
+        self.press('n', 6)
+        self.press('End', 8)
+        self.assertRegex(self.texts('#where')[0], 'end stopped, result #0 #4$')
+        self.press('ArrowLeft', 7)
 
     def test_the_keyboard_and_a_screen_reader(self) -> None:
-        self.open((DATA / 'sklearn_tree.pkl').read_bytes())
+        self.open(REAL)
         self.browser.key('?')
         self.browser.wait("document.querySelector('#help-dialog').open")
         self.browser.js("document.querySelector('#help-dialog').close()")
@@ -212,7 +336,7 @@ class InBrowser(unittest.TestCase):
         self.assertEqual((roles['listbox'], roles['tree'], roles['slider']), ('Opcodes', 'Objects', 'Place in the pickle'))
 
     def test_nothing_is_wider_than_the_page(self) -> None:
-        self.open((DATA / 'sklearn_tree.pkl').read_bytes())
+        self.open(REAL)
         for width in (1280, 600, 360):
             self.browser.size(width, 900)
             self.assertLessEqual(self.browser.js('document.documentElement.scrollWidth'), width)
@@ -230,10 +354,27 @@ class InBrowser(unittest.TestCase):
             self.assertNotEqual(self.browser.js("getComputedStyle(document.querySelector('tr.call')).backgroundColor"), 'rgba(0, 0, 0, 0)')
             self.assertEqual(self.browser.errors(), [])
 
+    def edit_and_undo(self) -> None:
+        """Puts an opcode at the start, and takes the edit back."""
+        self.press('Home', 0)
+        self.edit('insert', 0, 'MARK')
+        self.edited('edited 0')
+        self.browser.wait("document.querySelector('.row.edited .name')?.textContent === 'MARK'")
+        self.browser.key('u')
+        self.said('undone 0')
+        self.browser.wait("!document.querySelector('.row.edited')")
+
+    def page_seconds(self) -> float:
+        """How long the page kept a processor busy until now."""
+        metrics = self.browser.call('Performance.getMetrics')['metrics']
+        return float(next(metric['value'] for metric in metrics if metric['name'] == 'ThreadTime'))
+
     def test_a_million_opcodes(self) -> None:
         self.open(b'\x80\x04](' + b'K\x01' * 1_000_000 + b'e.')
         self.assertLess(self.browser.js("document.querySelectorAll('.row').length"), 60)
-        # (the middle one of a hundred frames: other work on the machine makes single ones slow)
+        self.browser.call('Performance.enable', timeDomain='threadTicks')
+        before = self.page_seconds()
+        # (the middle one of a hundred frames: other work on the machine makes single ones slow, and much work all of them)
         middle = self.browser.js('''(async () => {
             const times = [];
             for (let turn = 0; turn < 100; turn += 1) {
@@ -243,13 +384,19 @@ class InBrowser(unittest.TestCase):
                 times.push(performance.now() - begun);
             }
             return times.sort((left, right) => left - right)[50]; })()''')
-        self.assertLess(middle, 250)
+        self.assertLess(middle, 50 if os.getloadavg()[0] < (os.cpu_count() or 1) / 2 else 250)
+        self.assertLess((self.page_seconds() - before) / 100, 0.03)
         self.browser.wait("Number(document.querySelector('.row').dataset.place) >= 14000")
         self.browser.wait("![...document.querySelectorAll('.row:not([hidden]) .name')].some((each) => each.textContent === '..')")
         self.browser.js("(() => { const rail = document.querySelector('#rail'); rail.scrollTop = rail.scrollHeight; })()")
         self.browser.wait("[...document.querySelectorAll('.row:not([hidden]) .name')].some((each) => each.textContent === 'STOP')")
         self.press('End', 1_000_006 - 1)
         self.press('ArrowLeft', 1_000_004)
+        self.browser.js("""(() => { window.told = []; const said = document.querySelector('#said');
+            new MutationObserver(() => window.told.push(said.textContent)).observe(said, { childList: true }); })()""")
+        self.edit_and_undo()
+        told = self.browser.js('window.told')
+        self.assertEqual([told[told.index(text) - 1] for text in ('edited 0', 'undone 0')], ['working ..'] * 2)
 
     @unittest.skipUnless(os.environ.get('PICKLESTEP_LARGE'), 'PICKLESTEP_LARGE is not set')
     def test_200_megabytes(self) -> None:
@@ -261,6 +408,9 @@ class InBrowser(unittest.TestCase):
         self.press('End', 1015)
         self.press('ArrowLeft', 1014)
         print(f'three moves took {time.monotonic() - begun:.1f} s')
+        begun = time.monotonic()
+        self.edit_and_undo()
+        print(f'an edit and its undo took {time.monotonic() - begun:.1f} s')
 
 
 if __name__ == '__main__':

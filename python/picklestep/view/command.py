@@ -4,12 +4,15 @@ from __future__ import annotations
 
 import argparse
 import contextlib
+import os
+import secrets
+import shutil
 import signal
 import sys
 import tempfile
 import webbrowser
 from pathlib import Path
-from typing import Iterator, List, Optional
+from typing import IO, Iterator, List, Optional
 
 from ..errors import PicklestepError
 from .document import Document
@@ -22,14 +25,37 @@ __all__ = ['main']
 def _parser() -> argparse.ArgumentParser:
     parser = argparse.ArgumentParser(prog='picklestep view', description='Shows a pickle in a browser; nothing of it is run.')
     parser.add_argument('file', metavar='FILE', help='the pickle')
+    parser.add_argument('--many', action='store_true', help='FILE holds several pickles one after another')
     parser.add_argument('--export', metavar='OUT.html', type=Path, help='write a report as a page of its own, and end')
+    parser.add_argument('--force', action='store_true', help='let --export write over a file that is there')
     parser.add_argument('--no-browser', action='store_true', help='print the address, and open no browser')
     parser.add_argument('--idle', metavar='SECONDS', type=float, default=IDLE, help='end when no page was open for so long (%(default)g)')
     return parser
 
 
+@contextlib.contextmanager
+def _written_whole(path: Path) -> Iterator[IO[str]]:
+    """A text file that gets its name when it is whole. A device or a pipe is written as it is, since it cannot be replaced."""
+    if path.exists() and not path.is_file():
+        with open(path, 'w', encoding='utf-8') as file:
+            yield file
+        return
+    path = Path(os.path.realpath(path))
+    beside = path.with_name(f'picklestep-view-{secrets.token_hex(4)}.unfinished')
+    file = open(beside, 'x', encoding='utf-8')
+    try:
+        with file:
+            yield file
+        if path.exists():
+            shutil.copymode(path, beside)
+        os.replace(beside, path)
+    except BaseException:
+        beside.unlink()
+        raise
+
+
 def _export(document: Document, path: Path) -> int:
-    with open(path, 'w', encoding='utf-8') as file:
+    with _written_whole(path) as file:
         shown, all_lines = write_report(document, file)
     if shown < all_lines:
         print(f'picklestep: {path} has the first {MOST:,} of {all_lines:,} opcodes', file=sys.stderr)
@@ -37,9 +63,7 @@ def _export(document: Document, path: Path) -> int:
 
 
 def _serve(document: Document, with_browser: bool, idle: float) -> int:
-    with Viewer(document, idle) as viewer:
-        for number in (signal.SIGTERM, signal.SIGHUP):
-            signal.signal(number, signal.default_int_handler)
+    with contextlib.suppress(KeyboardInterrupt), Viewer(document, idle) as viewer:
         print(f'{viewer.address}\nCtrl-C ends it.', flush=True)
         if not with_browser:
             viewer.serve()
@@ -60,6 +84,26 @@ def _leading_to(address: str) -> Iterator[Path]:
         yield path
 
 
+@contextlib.contextmanager
+def _signals_interrupt() -> Iterator[None]:
+    """SIGTERM and SIGHUP do what Ctrl-C does, so that nothing is left behind."""
+    before = {number: signal.signal(number, signal.default_int_handler) for number in (signal.SIGTERM, signal.SIGHUP)}
+    try:
+        yield
+    finally:
+        for number, handler in before.items():
+            signal.signal(number, handler)
+
+
+def _do(options: argparse.Namespace) -> int:
+    if options.export is not None and options.export.is_file() and not options.force:
+        raise FileExistsError(f'{options.export} is there; with --force it is written over')
+    with contextlib.closing(Document(options.file, Path(options.file).name, options.many)) as document:
+        if options.export is not None:
+            return _export(document, options.export)
+        return _serve(document, not options.no_browser, options.idle)
+
+
 def main(words: Optional[List[str]] = None) -> int:
     """Does what the words say, and answers the status."""
     try:
@@ -67,15 +111,10 @@ def main(words: Optional[List[str]] = None) -> int:
     except SystemExit as end:
         return int(end.code or 0)
     try:
-        document = Document(options.file, Path(options.file).name)
-        try:
-            if options.export is not None:
-                return _export(document, options.export)
-            return _serve(document, not options.no_browser, options.idle)
-        finally:
-            document.close()
+        with _signals_interrupt():
+            return _do(options)
     except KeyboardInterrupt:
-        return 0
+        return 130
     except (OSError, PicklestepError) as error:
         print(f'picklestep: {error}', file=sys.stderr)
         return 2

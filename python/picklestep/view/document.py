@@ -29,6 +29,7 @@ _MOST_LINES = 2000
 _MOST_PARTS = 500
 _MOST_ENTRIES = 500
 _MOST_HOLDERS = 20
+_MOST_RESULTS = 5
 _IMPORTS = ('import', 'inst')
 _CALLS = ('inst', 'call', 'new', 'state', 'append', 'set', 'add')
 _PLACES = {'replace': 0, 'insert': 1, 'delete': -1, 'frame': 1, 'unframe': -1}
@@ -76,11 +77,12 @@ _CALLS_COUNT = _CALLS.__contains__
 
 
 class Document:
-    """A pickle that is looked at and edited."""
+    """A pickle that is looked at and edited; with `many`, several that stand one after another."""
 
-    def __init__(self, source: Source, name: str) -> None:
+    def __init__(self, source: Source, name: str, many: bool = False) -> None:
         self.name = name
-        self.session = Session(source)
+        self.session = Session(source, many=many)
+        self._options = ['--many'] if many else []
         self.breaks: Set[int] = set()
         self._has_breaks = False
         self._edits: List[Tuple[str, int]] = []
@@ -113,11 +115,11 @@ class Document:
             self.breaks = {int(match[1]) for match in _BROKEN.finditer(self.session.items().text)}
 
     def _read_from(self, given: Input) -> None:
-        self.lines = read_listing(given)
+        self.lines = read_listing(given, self._options)
         if len(self.lines) < self.session.where().places:
-            add_items(self.lines, given)
-        self._final = read_objects(given)
-        self.reaches = Reaches(Calls(run_program(['calls', given.path], given.files).decode('ascii')))
+            add_items(self.lines, given, self._options)
+        self._final = read_objects(given, self._options)
+        self.reaches = Reaches(Calls(run_program(['calls', given.path, *self._options], given.files).decode('ascii')))
         self._makers = makers_of(self.lines)
 
     def slice(self, start: int, count: int) -> List[List[Any]]:
@@ -138,7 +140,8 @@ class Document:
         imports, calls_before = self.reaches.before(where.offset)
         return {
             'version': self.version, 'name': self.name, 'place': where.place, 'places': where.places, 'offset': where.offset,
-            'results': list(where.results), 'end': where.end.text, 'imports': [imports, self.reaches.answer.imports],
+            'results': list(where.results[-_MOST_RESULTS:]), 'results_before': max(0, len(where.results) - _MOST_RESULTS),
+            'end': where.end.text, 'imports': [imports, self.reaches.answer.imports],
             'calls': [calls_before, self.reaches.answer.calls], 'stack': _last(self.session.ask('stack')),
             'memo': _last(self.session.ask('memo')), 'made': self._made(), 'exact': self._is_exact(), 'edits': len(self._edits),
             'undone': len(self._undone), 'breaks': len(self.breaks), 'closing': self.lines.closing}

@@ -5,6 +5,7 @@ from __future__ import annotations
 import base64
 import hashlib
 from html import escape
+from itertools import islice
 from pathlib import Path
 from typing import IO, Iterator, Tuple
 
@@ -57,11 +58,9 @@ def _calls(document: Document) -> Iterator[str]:
     answer = document.reaches.answer
     shown = min(len(answer), MOST)
     yield _section('calls', 'Imports and calls', shown, len(answer), ('Offset', 'What'))
-    for at in range(shown):
-        reach = answer.text[answer._starts[at]:answer.text.index('\n', answer._starts[at])]
-        offset, _, text = reach.strip().partition(': ')
-        kind = document.reaches.kind_at(int(offset))
-        yield f'<tr class="{kind}"><td class="n"><a href="#at{offset}">{offset}</a></td><td>{escape(text)}</td></tr>\n'
+    for reach in islice(answer, shown):
+        kind = document.reaches.kind_at(reach.offset)
+        yield f'<tr class="{kind}"><td class="n"><a href="#at{reach.offset}">{reach.offset}</a></td><td>{escape(reach.text)}</td></tr>\n'
     yield '</tbody></table></div></section>\n'
 
 

@@ -9,19 +9,19 @@ from array import array
 from bisect import bisect_right
 from dataclasses import dataclass
 from itertools import accumulate
-from typing import Dict, Iterator, List, Optional
+from typing import Dict, List, Optional, Sequence
 
 from ..errors import ProgramError
 from ..program import Process
 from ..sources import Input
 
-__all__ = ['CUT', 'Line', 'Lines', 'Listing', 'add_items', 'makers_of', 'opcode_names', 'read_listing', 'read_objects']
+__all__ = ['CUT', 'Line', 'Lines', 'OpcodeLines', 'add_items', 'makers_of', 'opcode_names', 'read_listing', 'read_objects']
 
 # The most bytes that are kept of a text.
 CUT = 500
 _BLOCK = 1 << 20
 _LISTED = re.compile(r' *([0-9]+): (\S+)( +)([A-Z][A-Z0-9_]*)(?: +(.*))?')
-_NAMES = re.compile(rb'^ *[0-9]+: \S+ +([A-Z][A-Z0-9_]*)', re.MULTILINE)
+_CODE = re.compile(rb'[ 0-9]*: (\S+).*\n')  # (each match ends where the next begins, so that none is searched for)
 _LISTED_BEGIN = re.compile(rb' *[0-9]+: ')
 _ITEM = re.compile(rb'[> ][* ] *[0-9]+ +([0-9]+): ([A-Z][A-Z0-9_]*)(.*)')
 
@@ -78,8 +78,8 @@ class Lines:
         return bisect_right(self.starts, position) - 1
 
 
-class Listing(Lines):
-    """The lines of opcodes, by their places."""
+class OpcodeLines(Lines):
+    """The lines of opcodes, by their places. `closing` has the lines after them."""
 
     def __init__(self) -> None:
         super().__init__()
@@ -158,39 +158,39 @@ def _cut(line: bytes, dropped: int = 0) -> bytes:
     return b"%s .. %d bytes more%s" % (line[:CUT], dropped + last - CUT, line[last:])
 
 
-def _read(into: Lines, words: List[str], given: Input, script: bytes = b'') -> None:
+def _read(into: Lines, words: Sequence[str], given: Input, script: bytes = b'') -> None:
     """Reads all that the program answers about an input."""
     process = Process([*words, given.path], given.files, stdin=bool(script))
     cutter = _Cutter(into)
     try:
         if script:
             os.write(process.stdin, script)
-        while True:
-            block = os.read(process.stdout, _BLOCK)
-            if not block:
-                break
+        for block in process.blocks():
             cutter.feed(block)
-        if not len(into):
-            process.fail()
     finally:
         process.close()
 
 
-def read_listing(given: Input) -> Listing:
+def read_listing(given: Input, options: Sequence[str] = ()) -> OpcodeLines:
     """The lines of `list`."""
-    listing = Listing()
-    _read(listing, ['list'], given)
+    listing = OpcodeLines()
+    _read(listing, ['list', *options], given)
     while len(listing) and not _LISTED_BEGIN.match(listing.text, listing.starts[-2]):
         listing.closing.insert(0, listing.drop_last())
     if not listing.closing:
         raise ProgramError('the program gave no whole listing')
+    if b'\nleft: ' in listing.text:  # (what a STOP left stands behind it, also where another pickle follows)
+        whole = OpcodeLines()
+        whole.add([line for line in listing.text.split(b'\n')[:-1] if not line.startswith(b'left: ')])
+        whole.whole, whole.closing = listing.whole, listing.closing
+        return whole
     return listing
 
 
-def add_items(listing: Listing, given: Input) -> None:
+def add_items(listing: OpcodeLines, given: Input, options: Sequence[str] = ()) -> None:
     """Adds the opcodes that a listing has not, since it ends where an opcode is refused."""
     items = Lines()
-    _read(items, ['debug'], given, b'items\nquit\n')
+    _read(items, ['debug', *options], given, b'items\nquit\n')
     added = []
     for place in range(len(listing), len(items)):
         match = _ITEM.fullmatch(items.text, items.starts[place], items.starts[place + 1] - 1)
@@ -200,10 +200,10 @@ def add_items(listing: Listing, given: Input) -> None:
         listing.add(added)
 
 
-def read_objects(given: Input) -> Lines:
+def read_objects(given: Input, options: Sequence[str] = ()) -> Lines:
     """The lines of `objects`, without its closing lines."""
     objects = Lines()
-    _read(objects, ['objects'], given)
+    _read(objects, ['objects', *options], given)
     while len(objects) and objects.text[objects.starts[-2]] != ord('#'):
         objects.drop_last()
     return objects
@@ -230,13 +230,12 @@ MAKE_NONE = frozenset(
     b'ADDITEMS BUILD'.split())
 
 
-def _names(listing: Listing) -> Iterator[bytes]:
-    return (match[1] for match in _NAMES.finditer(listing.text))
+_NO_MAKERS = frozenset(map(_CODES.__getitem__, MAKE_NONE))
 
 
-def makers_of(listing: Listing) -> 'array[int]':
+def makers_of(listing: OpcodeLines) -> 'array[int]':
     """The places of the opcodes that make the objects, in the order of these."""
-    return array('Q', (place for place, name in enumerate(_names(listing)) if name not in MAKE_NONE))
+    return array('Q', (place for place, code in enumerate(_CODE.findall(listing.text)) if code not in _NO_MAKERS))
 
 
 def opcode_names() -> Dict[str, str]:

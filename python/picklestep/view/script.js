@@ -5,6 +5,7 @@ const HEIGHT = 20;
 const CHUNK = 200;
 const RAIL = 4000000;
 const PAGE = 200;
+const SLOW = 300; // milliseconds, after which the page says that it waits
 
 const by = (id) => document.getElementById(id);
 const view = { state: null, top: 0, selected: 0, chunks: new Map(), waiting: new Set(), objects: 0, busy: Promise.resolve(), rows: [] };
@@ -25,7 +26,9 @@ async function ask(word, asked) {
 // Commands go one after another, in the order in which they were given.
 function command(word, asked) {
   const done = view.busy.then(async () => {
+    const slow = setTimeout(say, SLOW, 'working ..');
     const answer = await ask(word, asked);
+    clearTimeout(slow);
     if (answer.said !== undefined) say(answer.said, answer.failed);
     if (answer.version !== undefined) await show(answer);
     return answer;
@@ -57,8 +60,10 @@ async function show(state) {
   by('name').textContent = state.name;
   document.title = state.name + ': picklestep';
   by('where').textContent = `at ${state.place} of ${state.places}, offset ${state.offset}, end ${state.end}` +
-    (state.results.length ? ', result ' + state.results.map((number) => '#' + number).join(' ') : '');
+    (state.results.length ? ', result ' + state.results.map((number) => '#' + number).join(' ') : '') +
+    (state.results_before ? ` after ${state.results_before} others` : '');
   by('reached').textContent = `imports ${state.imports[0]} of ${state.imports[1]}, calls ${state.calls[0]} of ${state.calls[1]}`;
+  by('closing').textContent = state.closing.map((line) => line + (line.startsWith('kept: ') ? ' (view --many reads on)' : '')).join('; ');
   by('bar').max = state.places;
   by('bar').value = state.place;
   by('bar').setAttribute('aria-valuetext', `opcode ${state.place} of ${state.places}`);
@@ -330,13 +335,14 @@ async function sendSave(event) {
 function openSave() {
   by('save-error').textContent = '';
   by('save-dialog').showModal();
+  by('save-name').select();
 }
 
 // --- Keys ---
 
 const KEYS = {
   ArrowRight: () => move('step'), ArrowLeft: () => move('back'), Home: () => go(0), End: () => go(view.state.places), ' ': () => move('run'),
-  n: () => move('next'), p: () => move('previous'), '/': () => by('sought').focus(), u: () => command('undo'), r: () => command('redo'),
+  n: () => move('next'), p: () => move('previous'), '/': () => by('sought').select(), u: () => command('undo'), r: () => command('redo'),
   '?': () => by('help-dialog').showModal(), b: () => toggle(view.selected), e: () => openEdit('replace'), s: openSave,
   Delete: () => command('edit', { what: 'delete', place: view.selected }),
 };

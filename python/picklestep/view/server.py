@@ -5,10 +5,12 @@ from __future__ import annotations
 import contextlib
 import hmac
 import json
+import re
 import secrets
 import sys
 import threading
 import time
+from http import HTTPStatus
 from http.server import BaseHTTPRequestHandler, ThreadingHTTPServer
 from pathlib import Path
 from typing import Any, Callable, Dict, Optional, Tuple
@@ -30,6 +32,7 @@ _POLICY = ("default-src 'none'; script-src 'self'; style-src 'self'; img-src 'se
            "form-action 'none'; frame-ancestors 'none'")
 _HEADERS = {'Content-Security-Policy': _POLICY, 'X-Content-Type-Options': 'nosniff', 'Referrer-Policy': 'same-origin',
             'Cache-Control': 'no-store', 'Cross-Origin-Resource-Policy': 'same-origin', 'Cross-Origin-Opener-Policy': 'same-origin'}
+_LENGTH = re.compile('[0-9]{1,9}')
 _MOST_WORDS = 1 << 20
 
 
@@ -80,7 +83,7 @@ class Viewer(contextlib.AbstractContextManager['Viewer']):
                 return {'said': f'refused: {error.text}', 'failed': True}
             except FileExistsError:
                 return {'said': 'not saved: there is such a file', 'failed': True}
-            except (ProgramError, OSError, ValueError, TypeError, OverflowError) as error:
+            except (ProgramError, OSError, ValueError, TypeError, OverflowError, RecursionError) as error:
                 return {'said': f'not done: {error}', 'failed': True}
 
 
@@ -109,13 +112,15 @@ class _Handler(BaseHTTPRequestHandler):
         """Gives a file of the page."""
         word = self._word()
         if word is None or self.headers.get('Origin', self._origin()) != self._origin():
-            self._send(403, 'text/plain', b'refused\n')
+            self._refuse(403, b'refused\n')
         elif word not in _FILES:
-            self._send(404, 'text/plain', b'no such page\n')
+            self._refuse(404, b'no such page\n')
         else:
             name, kind = _FILES[word]
             self._viewer().heard()
             self._send(200, f'{kind}; charset=utf-8', (_HERE / name).read_bytes())
+
+    do_HEAD = do_GET
 
     def do_POST(self) -> None:
         """Answers a question of the page."""
@@ -125,7 +130,7 @@ class _Handler(BaseHTTPRequestHandler):
             self._refuse(403, b'refused\n')
         elif word not in _ANSWERS and word not in ('alive', 'closed'):
             self._refuse(404, b'no such question\n')
-        elif not length.isdecimal() or int(length) > _MOST_WORDS:
+        elif not _LENGTH.fullmatch(length) or int(length) > _MOST_WORDS:
             self._refuse(413, b'too long\n')
         else:
             self._answer(word, self.rfile.read(int(length)))
@@ -133,10 +138,10 @@ class _Handler(BaseHTTPRequestHandler):
     def _answer(self, word: str, body: bytes) -> None:
         try:
             asked = json.loads(body or b'{}')
-        except ValueError:
+        except (ValueError, RecursionError):
             asked = None
         if not isinstance(asked, dict):
-            self._send(400, 'text/plain', b'no such question\n')
+            self._refuse(400, b'no such question\n')
             return
         answer = self._viewer().answer(word, asked)
         self._send(200, 'application/json', json.dumps(answer, separators=(',', ':')).encode('ascii'))
@@ -156,19 +161,28 @@ class _Handler(BaseHTTPRequestHandler):
             return None
         return rest[0] if '/' in self.path[1:] else 'none'
 
+    def send_error(self, code: int, message: Optional[str] = None, explain: Optional[str] = None) -> None:
+        """Refuses what is no request of the page, such as a method that there is not, in the server's own words."""
+        if code == HTTPStatus.NOT_IMPLEMENTED and self._word() is None:
+            self._refuse(403, b'refused\n')
+        else:
+            self._refuse(code, b'no such request\n')
+
     def _refuse(self, status: int, text: bytes) -> None:
-        """Refuses a request whose body is not read."""
+        """Refuses a request, of which a part may not have been read."""
         self.close_connection = True
-        self._send(status, 'text/plain', text)
+        self._send(status, 'text/plain; charset=utf-8', text)
 
     def _send(self, status: int, kind: str, body: bytes) -> None:
+        self.request_version = self.protocol_version  # (to a request without a version no headers would be sent)
         self.send_response(status)
         for name, value in {**_HEADERS, 'Content-Type': kind, 'Content-Length': str(len(body))}.items():
             self.send_header(name, value)
         if self.close_connection:
             self.send_header('Connection', 'close')
         self.end_headers()
-        self.wfile.write(body)
+        if self.command != 'HEAD':
+            self.wfile.write(body)
 
     def log_message(self, format: str, *words: Any) -> None:
         """Says nothing on standard error."""
@@ -178,8 +192,8 @@ class _Handler(BaseHTTPRequestHandler):
 
 def _number(asked: Fields, name: str) -> int:
     value = asked.get(name, 0)
-    if not isinstance(value, int) or isinstance(value, bool) or abs(value) >= 1 << 62:
-        raise ValueError(f'{name} is no number')
+    if not isinstance(value, int) or isinstance(value, bool) or not 0 <= value < 1 << 62:
+        raise ValueError(f'{name} is no number from 0 on')
     return value
 
 
