@@ -233,7 +233,7 @@ class Inputs:
         broken = next((line for line in lines if line.startswith(("refused: ", "fault: "))), None)
         place = len(items) - int(broken is not None and broken.startswith("refused: "))
         ends = [(at + 1, offset + 1) for at, (offset, name) in enumerate(items[:place]) if name == "STOP"]
-        return Expected(text, status, place, reply_to_run(place, broken), ends), items
+        return Expected(text, status, place, reply_to_run(place, broken or ""), ends), items
 
     def whole_fault(self, data: bytes) -> str:
         """A file twice in a row, as it is."""
