@@ -9,18 +9,22 @@ import lzma
 import os
 import random
 import socket
+import struct
 import tarfile
 import threading
 import time
 import unittest
 import zipfile
 import zlib
+from dataclasses import replace
+from typing import Sequence
 from unittest import mock
 
 from picklestep.records import End
 from picklestep.scan import Options, look
 from picklestep.scan.blobs import Limits
-from scan_support import HARMLESS, HOSTILE, MODELS, Made, ScanCase, names_of, notes_of, places_of, zip_of
+from scan_support import (HARMLESS, HOSTILE, MODELS, Made, ScanCase, closing, entry, local, names_of, notes_of, places_of,
+                          zip_of)
 
 
 class HostileZip(ScanCase):
@@ -115,6 +119,46 @@ class HostileZip(ScanCase):
             result = self.look('model.pt', data)
             self.assertEqual(sorted(names_of(result)), ['collections.OrderedDict', 'posix.system'])
 
+    def test_two_directories(self) -> None:
+        # (the real torch 1.13 loads data.pkl of this file, which Python's zipfile does not see)
+        data = two_directories([Made(b'archive/data.pkl', HOSTILE), Made(b'archive/version', b'3\n')])
+        with zipfile.ZipFile(io.BytesIO(data)) as archive:
+            self.assertEqual(archive.namelist(), ['weights.bin'])
+            self.assertEqual(archive.read('weights.bin')[:5], b'\xffPK\x03\x04')
+        self.found(data, 'it has another directory at offset 2201')
+        self.assertIn('archive/data.pkl', places_of(self.look('a.pt', data)))
+
+    def test_two_closing_records(self) -> None:
+        # The last record is the comment of another one, whose comment reaches to the end of the file too.
+        hidden = Made(b'data.pkl', HOSTILE)
+        told = entry(hidden, 42)
+        seen = Made(b'weights.bin', b'\xff' + local(hidden) + told)
+        body, last = local(seen), entry(seen, 0)
+        places = (len(told), 42 + len(local(hidden))), (len(last), len(body))
+        for one, other in (places, places[::-1]):
+            self.found(body + last + closing(1, *one, comment=closing(1, *other)))
+
+    def test_closing_records_without_end(self) -> None:
+        # Several thousand of them in each member: no more than a few are looked at.
+        data = shared(Made(b'name', b'\xff' + b'PK\x05\x06' * 16_000), 300)
+        begin = time.monotonic()
+        self.look('a.zip', data)
+        self.assertLess(time.monotonic() - begin, 10)
+
+    def test_bytes_of_the_size_of_a_record(self) -> None:
+        # The record after a member's data has 12, 16, 20 or 24 bytes, and these pickles are as long.
+        for call in (b'cos\nxy\n)R0N.', b'PK\x07\x08\ncos\nx\n)R.', b'cos\ngetppid\n(tR0NN0.', b'ccode\ninteract\n)R0NN0N0.'):
+            self.assertTrue(12 <= len(call) <= 24)
+            result = self.look('a.zip', zip_of([Made(b'a', b'text', after=call), Made(b'b', b'text')]))
+            self.assertIn(f'(bytes 35 to {35 + len(call)}): these bytes belong to no member', notes_of(result))
+        self.assertEqual(names_of(result), ['code.interact'])
+
+    def test_a_record_after_the_data(self) -> None:
+        sums = struct.pack('<III', zlib.crc32(b'text'), 4, 4)
+        for record in (sums, b'PK\x07\x08' + sums, sums[:4] + struct.pack('<QQ', 4, 4), b'PK\x07\x08' + sums[:4] + struct.pack('<QQ', 4, 4)):
+            data = zip_of([Made(b'a', b'text', flags=8, after=record), Made(b'b', b'text')])
+            self.assertEqual(notes_of(self.look('a.zip', data)), '')
+
     def test_an_ending_that_says_nothing(self) -> None:
         self.found(zip_of([Made(b'weights.bin', HOSTILE, 8)]))
         self.found(zip_of([Made(b'archive/data/0', HOSTILE)]))
@@ -178,12 +222,7 @@ class Bombs(ScanCase):
             self.assertIn('more than 1,000,000 bytes are unpacked', notes_of(result))
 
     def test_members_that_share_their_data(self) -> None:
-        one = zip_of([Made(b'a', bytes(1_000_000), 8)])
-        start = one.index(b'PK\x01\x02')
-        entry, record = one[start:one.index(b'PK\x05\x06')], bytearray(one[one.index(b'PK\x05\x06'):])
-        record[8:10] = record[10:12] = (200).to_bytes(2, 'little')
-        record[12:16] = (200 * len(entry)).to_bytes(4, 'little')
-        result = self.look('a.zip', one[:start] + entry * 200 + bytes(record), Options(Limits(unpacked=50_000_000)))
+        result = self.look('a.zip', shared(Made(b'name', bytes(1_000_000), 8), 200), Options(Limits(unpacked=50_000_000)))
         self.assertIn('bytes are unpacked', notes_of(result))
 
     def test_too_many_members(self) -> None:
@@ -216,6 +255,32 @@ class Bombs(ScanCase):
         with mock.patch('picklestep.scan.reading.calls', side_effect=limited):
             results = [look(str(self.folder / name)) for name in ('a.pkl', 'b.pkl')]
         self.assertIn('! : the program did not read it', notes_of(results[0]))
+
+
+def shared(made: Made, count: int) -> bytes:
+    """An archive whose directory names one member many times."""
+    entries = b''.join(entry(replace(made, name=b'%d' % number), 0) for number in range(count))
+    body = local(made)
+    return body + entries + closing(count, len(entries), len(body))
+
+
+def two_directories(hidden: Sequence[Made]) -> bytes:
+    """An archive with one closing record and two directories. One ends at the record and names one member, which begins with ff. The record
+    tells the offset of the other one, which stands inside that member like the members that it names.
+
+    Whoever counts the directory's size back adds the difference to all offsets, so bytes of no member stand before it.
+    """
+    body = local(Made(b'archive/pad', bytes(2000)))
+    first = len(body)
+    inside, told = b'\xff', b''
+    for made in hidden:
+        told += entry(made, first + 41 + len(inside))
+        inside += local(made)
+    offset = first + 41 + len(inside)
+    seen = Made(b'weights.bin', inside + told)
+    body += local(seen)
+    back = entry(seen, first - (len(body) - offset), b' ' * (len(told) - 57))
+    return body + back + closing(len(hidden), len(told), offset)
 
 
 def limited(path: str, many: bool) -> object:
