@@ -42,6 +42,12 @@ def written_by() -> Dict[str, Set[str]]:
     return names
 
 
+def numpy_file(items: str, content: bytes) -> bytes:
+    """A file in numpy's own layout whose header describes the items of its array by these words."""
+    header = f"{{'descr': {items}, 'fortran_order': False, 'shape': (1,), }}\n".encode()
+    return b'\x93NUMPY\x01\x00' + len(header).to_bytes(2, 'little') + header + content
+
+
 class RealFiles(ScanCase):
     """Files that torch, numpy, joblib, scikit-learn and pandas wrote."""
 
@@ -184,6 +190,21 @@ class Containers(ScanCase):
         result = self.look('a.npy', floats[:128] + HOSTILE)
         self.assertEqual(names_of(result), ['posix.system'])
         self.assertEqual(self.look('b.npy', floats).pickles, ())
+
+    def test_items_that_numpy_takes_for_objects(self) -> None:
+        # numpy 1.24 runs the pickle behind each of these headers with `allow_pickle=True` but the last, which older ones take.
+        # (CPython goes on at p+1, where the program ends: nothing but the header tells that this is a pickle)
+        hidden = b'Np+1\n0\x95\x00\x00' + HOSTILE
+        for items in ("'O'", "'1O'", "'|O8'", "'i4,O'", "'object'", "'(2,)O'", "'O,'", "'M8[ns],O'", "[('a', '<i4'), ('b', '1O')]",
+                      "[('a', [('b', 'O')])]", "[('a', 'i4,O')]", "[(('t', 'a'), 'O')]", "[('a', 'O', (2,))]", "('O', (2,))",
+                      "('|V8', [('a', 'O')])"):
+            with self.subTest(items):
+                self.assertEqual(places_of(self.look('a.npy', numpy_file(items, hidden))), ['(objects)'])
+                self.assertEqual(names_of(self.look('a.npy', numpy_file(items, HOSTILE))), ['posix.system'])
+        for items in ("'<i4'", "'|b1'", "'<c16'", "'<U5'", "'|S0'", "'<M8[ns]'", "'<m8[25s]'", "'|V8'", "[('a', '<i4'), ('b', '<f8', (2, 3))]",
+                      "('<i4', (2,))", "('<i4', 2)"):
+            with self.subTest(items):
+                self.assertEqual(self.look('a.npy', numpy_file(items, hidden)).pickles, ())
 
     def test_names_that_are_no_plain_words(self) -> None:
         for content, name in ((b'cos \nsystem\n.', "'os ' 'system'"), (b'c\xc3\xa9\nx\n.', '\xe9.x'), (b'\x82\x07.', 'ext 7'),

@@ -140,10 +140,10 @@ class HostileZip(ScanCase):
 
     def test_closing_records_without_end(self) -> None:
         # Several thousand of them in each member: no more than a few are looked at.
-        data = shared(Made(b'name', b'\xff' + b'PK\x05\x06' * 16_000), 300)
+        data = shared(Made(b'name', b'\xff' + b'PK\x05\x06' * 16_000), 50)
         begin = time.monotonic()
         self.look('a.zip', data)
-        self.assertLess(time.monotonic() - begin, 10)
+        self.assertLess(time.monotonic() - begin, 5)
 
     def test_bytes_of_the_size_of_a_record(self) -> None:
         # The record after a member's data has 12, 16, 20 or 24 bytes, and these pickles are as long.

@@ -343,25 +343,32 @@ def _unpacker(blob: Blob, entry: zips.Entry) -> Optional[_Start]:
     return None
 
 
+# Items of arrays that are no objects, as numpy writes them. It takes many other spellings ('1O', 'i4,O', 'object'): all else counts as objects.
+_PLAIN_ITEM = re.compile(r'[<>=|]?([?]|[biufc][0-9]{1,2}|[SUVa][0-9]+|[mM]8(\[[0-9A-Za-z/]+\])?)')
+
+
 def _array_header(blob: Blob) -> Tuple[int, bool]:
-    """Where the header of numpy's own layout ends, and whether the array holds objects."""
+    """Where the header of numpy's own layout ends, and whether the array may hold objects."""
     begin = blob.read(0, 12)
     width = 2 if begin[6:7] == b'\x01' else 4
     length = int.from_bytes(begin[8:8 + width], 'little')
     text = blob.read(8 + width, min(length, HEAD)).decode('latin-1')
     try:
-        return 8 + width + length, _holds_objects(ast.literal_eval(text.strip())['descr'])
+        return 8 + width + length, not _is_plain(ast.literal_eval(text.strip())['descr'])
     except (ValueError, SyntaxError, KeyError, TypeError, MemoryError, RecursionError):
         return 8 + width + length, True  # numpy may read it another way
 
 
-def _holds_objects(description: Any) -> bool:
-    """Whether a description of an array's items has one that is an object."""
+def _is_plain(description: Any) -> bool:
+    """Whether a description of an array's items is known to have no objects: a word, a list of fields, or a pair of items and a shape."""
     if isinstance(description, str):
-        return description.lstrip('<>=|').startswith('O')
+        return _PLAIN_ITEM.fullmatch(description) is not None
     if isinstance(description, list):
-        return any(_holds_objects(field[1]) for field in description)
-    return isinstance(description, tuple) and _holds_objects(description[0])
+        return all(isinstance(field, tuple) and len(field) in (2, 3) and _is_plain(field[1]) for field in description)
+    if not isinstance(description, tuple) or len(description) != 2:
+        return False
+    shape = description[1] if isinstance(description[1], tuple) else (description[1],)
+    return _is_plain(description[0]) and all(isinstance(count, int) for count in shape)
 
 
 # --- Files ---
