@@ -10,6 +10,7 @@ import os
 import random
 import socket
 import struct
+import subprocess
 import tarfile
 import threading
 import time
@@ -289,6 +290,20 @@ def limited(path: str, many: bool) -> object:
     return picklestep.calls(path, many=many, memory=1 << 20)
 
 
+def summed(header: bytearray) -> bytes:
+    """A tar header with the sum that it should have."""
+    header[148:156] = b' ' * 8
+    header[148:156] = b'%06o\0 ' % sum(header[:512])
+    return bytes(header)
+
+
+def with_records(kind: bytes, records: bytes, member: bytes) -> bytes:
+    """A tar archive that has a block of records before a member."""
+    header = bytearray(tarfile.TarInfo('records').tobuf(tarfile.USTAR_FORMAT))
+    header[124:136], header[156:157] = b'%011o\0' % len(records), kind
+    return summed(header) + records.ljust(512, b'\0') + member
+
+
 class HostileTar(ScanCase):
     """Tar archives."""
 
@@ -336,11 +351,73 @@ class HostileTar(ScanCase):
         for field in (b'\xff' * 12, b'77777777777\0', b'-0000000001\0', b'\x80' + b'\xff' * 11):
             data = bytearray(self.tar(a=HOSTILE))
             data[124:136] = field
-            data[148:156] = b' ' * 8
-            data[148:156] = b'%06o\0 ' % sum(data[:512])
-            result = self.look('a.tar', bytes(data))
+            result = self.look('a.tar', summed(data))
             self.assertIsNone(result.error)
             self.assertIn('posix.system', names_of(result) or [notes_of(result)])
+
+    def test_sparse_members(self) -> None:
+        # The stored bytes end within the text of an opcode. What an extractor makes of them is a pickle.
+        content = b'B' + (1 << 20).to_bytes(4, 'little') + bytes(1 << 20) + b'0' + HOSTILE
+        with open(self.folder / 'model.bin', 'wb') as file:
+            file.write(content[:5])
+            file.seek(len(content) - 26)
+            file.write(content[-26:])
+        for words in (['--format=gnu'], *(['--format=posix', f'--sparse-version={version}'] for version in ('0.0', '0.1', '1.0'))):
+            with self.subTest(words):
+                run = subprocess.run(['tar', '-c', '-S', '--hole-detection=raw', *words, '-f', 'a.tar', 'model.bin'], cwd=self.folder,
+                                     capture_output=True, check=False)
+                if run.returncode != 0:
+                    self.skipTest('GNU tar is not here')
+                with tarfile.open(self.folder / 'a.tar') as archive:
+                    held = archive.extractfile('model.bin')
+                    assert held is not None
+                    self.assertEqual(held.read(), content)
+                self.assertLess((self.folder / 'a.tar').stat().st_size, 1 << 16)
+                result = look(str(self.folder / 'a.tar'))
+                self.assertEqual((names_of(result), places_of(result)), (['posix.system'], ['model.bin > (expanded)']))
+                self.assertIn('it is sparse', notes_of(result))
+                self.assertFalse(any(note.missed for note in result.notes), notes_of(result))
+                small = look(str(self.folder / 'a.tar'), Options(Limits(unpacked=1 << 19)))
+                self.assertIn('! model.bin: more than 524,288 bytes are unpacked', notes_of(small))
+
+    def test_sparse_members_that_nobody_writes(self) -> None:
+        data = bytearray(self.tar(a=HOSTILE))
+        for pieces in (((0, 25), (10, 5)), ((1 << 40, 25),), ((0, 25),) * 4):
+            for index, number in enumerate(number for piece in pieces for number in piece):
+                data[386 + 12 * index:398 + 12 * index] = b'%011o\0' % number
+            data[156:157], data[483:495] = b'S', b'%011o\0' % 25
+            self.assertIn('! a: it is sparse, and its pieces are not in order', notes_of(self.look('a.tar', summed(data))))
+        records = b'22 GNU.sparse.major=1\n22 GNU.sparse.minor=0\n30 GNU.sparse.realsize=999999\n'
+        for begin in (b'9' * 20 + b'\n', b'3\n1\n', b'x\n', b'-1\n'):
+            result = self.look('a.tar', with_records(b'x', records, self.tar(a=begin.ljust(512, b'\0') + HOSTILE)))
+            self.assertIsNone(result.error)
+
+    def test_sizes_that_readers_take_differently(self) -> None:
+        # tarfile takes the size of the records, and busybox that of the header. Behind the smaller one other members stand.
+        inner = self.tar(b=HOSTILE)[:1024]
+        for kind in (b'x', b'X', b'g'):
+            for told, size in ((1024, 0), (0, 1024), (1024, 5), (3, 1024)):
+                member = bytearray(self.tar(a=bytes(size))[:512])
+                data = with_records(kind, b'%d size=%d\n' % (9 + len(b'%d' % told), told), bytes(member) + inner)
+                with self.subTest((kind, told, size)):
+                    self.assertIn('posix.system', names_of(self.look('a.tar', data)))
+
+    def test_records_that_are_longer_than_the_archive(self) -> None:
+        header = bytearray(self.tar(a=b'')[:512])
+        header[124:136], header[156:157] = b'77777777777\0', b'x'
+        self.assertIn('posix.system', names_of(self.look('a.tar', summed(header) + self.tar(b=HOSTILE))))
+
+    def test_sums_and_numbers_that_tarfile_takes(self) -> None:
+        # Bytes above 127 in a name, counted as numbers below zero; numbers with signs and as bytes.
+        data = bytearray(self.tar(**{'a' * 20: HOSTILE}))
+        data[:4] = b'\xff\xfe\xfd\xfc'
+        data[148:156] = b' ' * 8
+        below = sum(byte - 256 if byte > 127 else byte for byte in data[:512])
+        for field in (b'%06o\0 ' % below, b'+%o' % below, b'\x80\0\0\0' + below.to_bytes(4, 'big')):
+            data[148:156] = field.ljust(8, b'\0')
+            with tarfile.open(fileobj=io.BytesIO(bytes(data))) as archive:
+                self.assertEqual([member.size for member in archive], [len(HOSTILE)])
+            self.assertEqual(names_of(self.look('a.tar', bytes(data))), ['posix.system'])
 
     def test_links_and_names(self) -> None:
         held = io.BytesIO()

@@ -6,7 +6,7 @@ import pickletools
 import re
 from typing import Dict, Optional
 
-__all__ = ['HEAD', 'is_pickle_name', 'is_storage_name', 'kind_of', 'may_be_pickle', 'unread_kind_of']
+__all__ = ['HEAD', 'is_pickle_name', 'is_storage_name', 'kind_of', 'may_be_pickle', 'tar_number', 'tar_sum_fits', 'unread_kind_of']
 
 # So many bytes of a member tell what it is.
 HEAD = 16_384
@@ -14,7 +14,6 @@ HEAD = 16_384
 _PICKLE_NAME = re.compile(r'.*\.(pkl|pickle|pck|pcl|pk|p|joblib|pt|pth|ckpt|dill)', re.IGNORECASE | re.DOTALL)
 _STORAGE_NAME = re.compile(r'(.*/)?(data|constants)/[0-9]+', re.DOTALL)
 _ZLIB_METHOD = 8
-_TAR_SUM = re.compile(rb'[ \0]*([0-7]{1,8})[ \0]*')
 
 # Containers that this package does not open. They are told, since a loader may open them.
 _UNREAD = {
@@ -42,12 +41,28 @@ def is_storage_name(name: str) -> bool:
     return _STORAGE_NAME.fullmatch(name) is not None
 
 
+def tar_number(field: bytes) -> int:
+    """A number in a tar header: octal digits, or bytes where it is large. One that is no number or below zero counts as 0.
+
+    >>> tar_number(b'0000017\\0'), tar_number(b'\\x80\\0\\0\\1'), tar_number(b'text')
+    (15, 1, 0)
+    """
+    if field[:1] >= b'\x80':
+        return int.from_bytes(bytes([field[0] & 0x7f]) + field[1:], 'big') if field[0] != 0xff else 0
+    try:
+        return max(0, int(field.split(b'\0')[0].strip() or b'0', 8))
+    except ValueError:
+        return 0
+
+
 def tar_sum_fits(block: bytes) -> bool:
-    """Whether a block of 512 bytes has the sum of a tar header."""
-    told = _TAR_SUM.fullmatch(block[148:156])
-    if told is None or len(block) < 512:
+    """Whether a block of 512 bytes has the sum of a tar header. Some writers count bytes above 127 as numbers below zero."""
+    if len(block) < 512:
         return False
-    return int(told[1], 8) == sum(block[:148]) + 8 * 32 + sum(block[156:512])
+    told = tar_number(block[148:156])
+    counted = block[:148] + block[156:512]
+    unsigned = 8 * 32 + sum(counted)
+    return told in (unsigned, unsigned - 256 * sum(byte > 127 for byte in counted)) if told else False
 
 
 def _is_zlib(head: bytes) -> bool:

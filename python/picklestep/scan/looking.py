@@ -145,9 +145,20 @@ class Looker:
                 continue
             inner = where + (member.name,)
             self._note_name(member.name, inner, seen)
-            if member.cut:
-                self.note(inner, 'its data are cut short', missed=True)
+            for text in member.odd:
+                self.note(inner, text)
+            for text in member.missed:
+                self.note(inner, text, missed=True)
             self.look_at(blob.part(member.offset, member.size), inner, (member.name,), depth + 1)
+            for sparse in member.sparse:
+                self._look_at_sparse(sparse, inner, depth + 1)
+
+    def _look_at_sparse(self, sparse: Blob, where: Place, depth: int) -> None:
+        """Looks at what an extractor makes of a sparse member. It is mostly zeros, and may be very large."""
+        self.note(where, f'it is sparse: its stored bytes are looked at, and the {sparse.size:,} bytes that an extractor makes of them')
+        self.at = where
+        self.budget.unpack(sparse.size)
+        self.look_at(sparse, where + ('(expanded)',), where[-1:], depth)
 
     def _note_name(self, name: str, where: Place, seen: 'Counter[str]') -> None:
         """Tells a name that comes again, and one that leads elsewhere."""
