@@ -13,15 +13,18 @@ from __future__ import annotations
 import contextlib
 import fcntl
 import os
+import select
 import signal
 import subprocess
+import time
 from pathlib import Path
-from typing import IO, Iterable, List, NoReturn, Optional, Sequence
+from typing import IO, Generator, Iterable, List, NoReturn, Optional, Sequence
 
 from .errors import OutOfMemory, ProgramError, TimedOut, TooLarge
 
 __all__ = ['Process', 'find_program', 'run_program']
 
+_PIECE = 1 << 18
 _HERE = Path(__file__).resolve().parent
 _LIMITED = ['/bin/sh', '-c', 'ulimit -v "$1" && shift && exec "$@"', 'sh']
 
@@ -102,6 +105,31 @@ class Process:
         if self._popen.returncode not in (0, 1):
             _raise_failure(self._popen.returncode, errors)
         return bytes(output)
+
+    def pieces(self, timeout: Optional[float]) -> Generator[bytes, None, None]:
+        """The program's output as it comes, for a program without input. It has ended then, also after an exception.
+
+        Raises TimedOut after so many seconds, and ProgramError where the program failed, after what it wrote.
+        """
+        deadline = None if timeout is None else time.monotonic() + timeout
+        ready = select.poll()
+        ready.register(self.stdout, select.POLLIN)
+        try:
+            while True:
+                left = None if deadline is None else max(0, deadline - time.monotonic())
+                if left == 0 or not ready.poll(None if left is None else left * 1000):
+                    raise TimedOut(f'no answer within {timeout} seconds')
+                piece = os.read(self.stdout, _PIECE)
+                if not piece:
+                    break
+                yield piece
+            assert self._popen.stderr is not None
+            errors = self._popen.stderr.read()
+            self._popen.wait()
+        finally:
+            self.close()
+        if self._popen.returncode not in (0, 1):
+            _raise_failure(self._popen.returncode, errors)
 
     def fail(self) -> NoReturn:
         """Raises why the program gave no answer, which ends it where it runs."""

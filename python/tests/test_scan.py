@@ -12,6 +12,8 @@ import lzma
 import os
 import pickle
 import pkgutil
+import random
+import struct
 import tarfile
 import unittest
 import zipfile
@@ -179,6 +181,38 @@ class Containers(ScanCase):
             with self.subTest(content[:20]):
                 self.assertEqual(len(self.look('weights.bin', content).pickles), int(is_pickle))
                 self.assertEqual(len(self.look('named.pkl', content).pickles), 1)
+
+    def test_pickles_that_cpython_goes_on_with(self) -> None:
+        # The program ends before the import in each of these, and CPython makes the call. Their name says nothing.
+        frame = b'\x95' + (11).to_bytes(8, 'little') + b'N\x95' + bytes(8) + b'0'
+        blanks = b'Np' + b' ' * 20_000 + b'1\n0'
+        by_text = b'\x8c\x05posix\x8c\x06getcwd\x93)R.'
+        for begin in (b'Np+1\n0', b'Np 1\n0', b'Np1_0\n0', b'Np1\0x\n0', blanks, frame, b'N0' * 9000 + b'Np+1\n0'):
+            for end in (b'cposix\ngetcwd\n(tR.', b'(iposix\ngetcwd\n.', by_text):
+                with self.subTest((begin[:20], end)):
+                    self.assertEqual(pickle.loads(begin + end), os.getcwd())
+                    result = self.look('model.bin', begin + end)
+                    self.assertEqual(len(result.pickles), 1)
+                    self.assertFalse(result.pickles[0].end.is_stopped)
+
+    def test_raw_numbers_are_no_pickles(self) -> None:
+        # Numbers that begin like opcodes: an import by a number of copyreg's, an id, a frame, a text.
+        chance = random.Random(33)
+        for code in b'\x82\x83\x84\x95PQcgpVI\x8cN]}(':
+            for _ in range(8):
+                numbers = [chance.gauss(0, 0.05) for _ in range(300)]
+                self.assertEqual(self.look('archive/data/0', bytes([code]) + struct.pack('<300f', *numbers)).pickles, ())
+
+    def test_texts_are_no_pickles(self) -> None:
+        for text in ('Version 1\ncat 2\ndog 3\n', 'I am a line\ncat\ndog\n', 'p 1\ng 2\nand so on\n', 'License\n=======\n', '(see below)\n',
+                     "S'quoted'\ntext\n", 'float x;\n', 'configuration of it\nall\n', 'N/A,2\n', 'Persons\nsome of them\n', 'g++ -O2\n'):
+            with self.subTest(text):
+                self.assertEqual(self.look('notes', text.encode()).pickles, ())
+
+    def test_where_an_opcode_is_refused(self) -> None:
+        result = self.look('a.pkl', b'N0' * 1000 + b'Xabcd'.replace(b'abcd', bytes(4)) + b'0a')
+        self.assertEqual((result.pickles[0].end.code, result.pickles[0].end.offset, result.pickles[0].end.item), ('S2', 2006, 2002))
+        self.assertRegex(self.scan('a.pkl').stdout, '(?m)^!     end: S2 stack underflow at 2006$')
 
     def test_a_long_argument_hides_nothing(self) -> None:
         result = self.look('weights.bin', b'B' + (100_000).to_bytes(4, 'little') + bytes(100_000) + b'0' + HOSTILE)

@@ -24,6 +24,7 @@ from unittest import mock
 from picklestep.records import End
 from picklestep.scan import Options, look
 from picklestep.scan.blobs import Limits
+from picklestep.scan.reading import Summary
 from scan_support import (HARMLESS, HOSTILE, MODELS, Made, ScanCase, closing, entry, local, names_of, notes_of, places_of,
                           zip_of)
 
@@ -196,14 +197,8 @@ class HostileZip(ScanCase):
                 self.assertIsNone(self.look('a.zip', bytes(data)).error)
 
 
-class _Nothing(list):  # type: ignore[type-arg]
-    """An answer of the program without a line."""
-
-    text = '0 imports, 0 calls\n'
-    end = End('stopped')
-
-
-NOTHING = _Nothing()
+NOTHING = Summary(Limits(), False)
+NOTHING.end = End('stopped')
 
 
 class Bombs(ScanCase):
@@ -251,11 +246,59 @@ class Bombs(ScanCase):
         self.assertIn('! (xz): the compressed data cannot be unpacked', notes_of(self.look('a.xz', packed)))
 
     def test_a_real_limit_of_memory(self) -> None:
-        self.file('a.pkl', b'(' + b'N' * 3_000_000 + b'l.')
-        self.file('b.pkl', HOSTILE)
-        with mock.patch('picklestep.scan.reading.calls', side_effect=limited):
-            results = [look(str(self.folder / name)) for name in ('a.pkl', 'b.pkl')]
-        self.assertIn('! : the program did not read it', notes_of(results[0]))
+        limits = Options(Limits(memory=32 << 20))
+        result = self.look('a.pkl', b'(' + b'N' * 3_000_000 + b'l.', limits)
+        self.assertIn('! : the program had no more memory (it may take 33,554,432 bytes)', notes_of(result))
+        self.assertEqual(names_of(self.look('b.pkl', HOSTILE, limits)), ['posix.system'])
+
+    def test_an_answer_of_many_lines(self) -> None:
+        many = b'cos\ngetcwd\nq\x000' + b'h\x00)R0' * 5000 + b'N.'
+        result = self.look('a.pkl', many, Options(Limits(lines=1000)))
+        self.assertIn('! : the answer about it has more than 1,000 lines: the rest of it is not looked at', notes_of(result))
+        self.assertEqual((names_of(result), result.pickles[0].end.how), (['os.getcwd'], 'unknown'))
+        self.assertLessEqual(result.pickles[0].calls[0].count, 1000)
+        # What is kept of it is bounded too: lines that all differ, and all lines where these are asked for.
+        with mock.patch('picklestep.scan.reading._MOST_KEPT', 10_000):
+            different = b''.join(b'cos\nname%d\n0' % number for number in range(5000)) + b'N.'
+            for content, lines in ((different, False), (many, True)):
+                result = self.look('a.pkl', content, Options(Limits(), lines))
+                self.assertIn('! : the answer about it has more than 10,000 bytes of different lines', notes_of(result))
+            self.assertTrue(self.look('a.pkl', many).pickles[0].end.is_stopped)
+
+    def test_an_answer_that_takes_long(self) -> None:
+        program = self.file('program', b"#!/bin/sh\necho '    0: import '\"'os' 'x'\"' as #0'\nexec sleep 30\n")
+        program.chmod(0o755)
+        begin = time.monotonic()
+        with mock.patch.dict(os.environ, PICKLESTEP_PROGRAM=str(program)):
+            result = self.look('a.pkl', b'N.', Options(Limits(seconds=1)))
+        self.assertLess(time.monotonic() - begin, 10)
+        self.assertIn('! : the program took more than 1 seconds: the rest of it is not looked at', notes_of(result))
+        self.assertEqual(names_of(result), ['os.x'])  # (what it said before is told)
+
+    def test_stored_members_that_share_their_bytes(self) -> None:
+        data = shared(Made(b'name', HARMLESS * 1000), 100)
+        result = self.look('a.zip', data, Options(Limits(unpacked=500_000)))
+        self.assertIn('members share bytes, and more than 500,000 are looked at again', notes_of(result))
+        self.assertLess(len(result.pickles), 40)
+        # Bytes that unpack to nothing.
+        data = shared(Made(b'name', b'', 8, after=b''), 1)
+        nothing = zlib.compressobj(0, zlib.DEFLATED, -15)
+        packed = b''.join(nothing.flush(zlib.Z_FULL_FLUSH) + b'\0\0\0\xff\xff' * 20_000 for _ in range(2)) + nothing.flush()
+        result = self.look('a.zip', shared(Packed(b'name', packed, 8), 300), Options(Limits(unpacked=1_000_000)))
+        self.assertIn('members share bytes', notes_of(result))
+
+    def test_honest_files_are_read_once(self) -> None:
+        names = [b'%d.pkl' % number for number in range(30)]
+        data = zip_of([Made(name, HARMLESS * 3000) for name in names])
+        result = self.look('a.zip', data, Options(Limits(unpacked=100_000)))
+        self.assertEqual((len(result.pickles), notes_of(result)), (30, ''))
+
+
+class Packed(Made):
+    """A member whose data are packed already."""
+
+    def packed(self) -> bytes:
+        return self.data
 
 
 def shared(made: Made, count: int) -> bytes:
@@ -282,12 +325,6 @@ def two_directories(hidden: Sequence[Made]) -> bytes:
     body += local(seen)
     back = entry(seen, first - (len(body) - offset), b' ' * (len(told) - 57))
     return body + back + closing(len(hidden), len(told), offset)
-
-
-def limited(path: str, many: bool) -> object:
-    """The program with as little memory as no pickle fits in."""
-    import picklestep
-    return picklestep.calls(path, many=many, memory=1 << 20)
 
 
 def summed(header: bytearray) -> bytes:

@@ -106,8 +106,9 @@ class Runs(RunCase):
         env = self.wrapped('case $file in *0001.pkl) kill -9 $$;; esac')
         run = subprocess.run([sys.executable, '-m', 'picklestep', 'scan', 'files'], cwd=self.folder, env=env, capture_output=True, text=True,
                              timeout=60)
-        self.assertIn('! files/0001.pkl: the program did not read it: ended by signal 9', run.stdout)
-        self.assertIn('3 files, 2 pickles', run.stdout)
+        self.assertIn('! files/0001.pkl: the program did not read all of it: ended by signal 9', run.stdout)
+        self.assertIn('3 files, 3 pickles', run.stdout)
+        self.assertIn('1 pickles not read to a STOP, 1 files not looked at whole', run.stdout)
 
     def test_ctrl_c(self) -> None:
         self.fill(30)

@@ -63,6 +63,9 @@ def _parser() -> argparse.ArgumentParser:
     parser.add_argument('--max-bytes', metavar='N', type=_bytes, default=limits.unpacked, help='unpacked bytes of a file (1G)')
     parser.add_argument('--max-members', metavar='N', type=_positive, default=limits.members, help='members of a file (100000)')
     parser.add_argument('--max-depth', metavar='N', type=_positive, default=limits.depth, help='containers one in another (4)')
+    parser.add_argument('--max-seconds', metavar='N', type=_positive, default=limits.seconds, help='seconds for the answer about one pickle (300)')
+    parser.add_argument('--max-memory', metavar='N', type=_bytes, default=limits.memory, help='memory of the program for one pickle (4G)')
+    parser.add_argument('--max-lines', metavar='N', type=_positive, default=limits.lines, help='lines of the answer about one pickle (10000000)')
     return parser
 
 
@@ -93,7 +96,8 @@ def _is_same(path: str, earlier: Result) -> bool:
 
 
 def _results(words: argparse.Namespace, paths: List[str]) -> Generator[Result, None, None]:
-    options = Options(Limits(words.max_bytes, words.max_members, words.max_depth), words.lines)
+    limits = Limits(words.max_bytes, words.max_members, words.max_depth, words.max_seconds, words.max_memory, words.max_lines)
+    options = Options(limits, words.lines)
     if words.cluster is not None:
         return look_on_cluster(paths, options, words.cluster)
     return look_at_all(paths, options, words.jobs)

@@ -12,19 +12,20 @@ from dataclasses import dataclass, replace
 from importlib import import_module
 from typing import Any, BinaryIO, Callable, Dict, Iterator, List, Optional, Set, Tuple
 
-from ..errors import ProgramError
 from ..sources import LIMIT
 from . import tars, zips
-from .begins import HEAD, is_pickle_name, is_storage_name, kind_of, may_be_pickle, unread_kind_of
+from .begins import HEAD, imports_something, is_pickle_name, is_storage_name, kind_of, may_be_pickle, unread_kind_of
 from .blobs import Blob, Budget, BytesBlob, FileBlob, LimitMet, Limits, OpenedBlob, spooled
 from .packed import METHODS, Decompressor, Unpacking, raw_deflate, raw_lzma
-from .reading import asks_program, reaches_out, summed_up, why_unread
+from .reading import asks_program, held, offset_of_item, why_unread
 from .results import Note, Pickle, Place, Result
 
 __all__ = ['Options', 'look', 'look_at_bytes']
 
 _URL = re.compile(r'[A-Za-z][A-Za-z0-9+.-]*(::|://)')
 _PACKED_ENDING = re.compile(r'\.(gz|gzip|bz2|xz|lzma|z|zlib)$', re.IGNORECASE)
+# The bytes by which a member is told to be a container: its first ones, and where the record stands that closes a zip archive.
+_GLANCE = HEAD + zips.TAIL
 # joblib before 0.10: the letters ZF, then the length as 19 characters, then a zlib stream.
 _ZFILE_HEADER = 21
 
@@ -57,6 +58,7 @@ class Looker:
     def look_at(self, blob: Blob, where: Place, names: Tuple[str, ...], depth: int, is_gap: bool = False) -> None:
         """Looks at bytes: a container, a pickle, or neither."""
         self.at = where
+        self.budget.look(min(blob.size, _GLANCE))
         head = blob.read(0, HEAD)
         kind = None if is_gap else kind_of(head)
         if kind is not None and self._open(kind, blob, where, names, depth):
@@ -79,15 +81,20 @@ class Looker:
         if blob.size > LIMIT:
             self.note(where, f'it has more than {LIMIT:,} bytes, which is too large for the program', missed=True)
             return True
-        try:
-            answer = asks_program(blob)
-        except ProgramError as error:
-            self.note(where, f'the program did not read it: {error.words}', missed=True)
-            return True
-        begins = head[:1] == b'\x80' and head[1:2] <= b'\x05' and not any(is_storage_name(name) for name in names)
-        if not (begins or any(is_pickle_name(name) for name in names) or reaches_out(answer)):
-            return False
-        pickle = summed_up(where, blob.size, answer, self.options.lines)
+        self.at = where
+        self.budget.look(max(0, blob.size - _GLANCE))
+        limits = self.options.limits
+        with held(blob) as path:
+            answer = asks_program(path, blob.size, limits, self.options.lines)
+            is_pickle = _begins_as_pickle(head, names) or answer.is_sure or answer.end.is_stopped
+            if answer.trouble is not None:
+                self.note(where, answer.trouble, missed=True)
+                is_pickle = is_pickle or not answer.is_empty
+            if not is_pickle and (answer.trouble is not None or not imports_something(blob, self.budget)):
+                return answer.trouble is not None
+            if answer.end.item is not None:
+                answer.end = replace(answer.end, offset=offset_of_item(path, answer.end.item, limits))
+        pickle = answer.pickle(where, blob.size)
         self.pickles.append(pickle)
         why = why_unread(head, pickle)
         if why is not None:
@@ -263,7 +270,9 @@ class Looker:
             self.note(where, 'its checksum is wrong: it is looked at all the same')
 
     def _look_at_packed(self, blob: Blob, entry: zips.Entry, start: '_Start', where: Place, depth: int) -> None:
-        unpacking = start(blob.part(entry.data, entry.packed))
+        packed = blob.part(entry.data, entry.packed)
+        self.budget.look(packed.size)
+        unpacking = start(packed)
         size, sum_of = self._look_at_unpacked(unpacking, where, (entry.name,), depth)
         if unpacking.trouble is not None:
             self.note(where, unpacking.trouble, missed=True)
@@ -309,9 +318,9 @@ class Looker:
         return told[0], told[1]
 
     def _look_at_held(self, pieces: Iterator[bytes], where: Place, names: Tuple[str, ...], depth: int) -> None:
-        held = spooled(pieces)
-        with held.file:
-            self.look_at(held, where, names, depth)
+        copy = spooled(pieces)
+        with copy.file:
+            self.look_at(copy, where, names, depth)
 
     @staticmethod
     def _ends_in_zip(begin: List[bytes], pieces: Iterator[bytes]) -> bool:
@@ -320,6 +329,12 @@ class Looker:
         for piece in pieces:
             tail = (tail + piece)[-zips.TAIL:]
         return b'PK\x05\x06' in tail[-zips.TAIL:]
+
+
+def _begins_as_pickle(head: bytes, names: Tuple[str, ...]) -> bool:
+    """Whether bytes are told as a pickle whatever the program finds in them: by a name, or since they begin with PROTO."""
+    begins = head[:1] == b'\x80' and head[1:2] <= b'\x05' and not any(is_storage_name(name) for name in names)
+    return begins or any(is_pickle_name(name) for name in names)
 
 
 _Start = Callable[[Blob], Unpacking]
@@ -431,6 +446,7 @@ def is_url(path: str) -> bool:
 def _gone_through(looker: Looker, blob: Blob, start: Result) -> Result:
     """The result of a file, also where a limit is met or reading fails on the way."""
     error = None
+    looker.budget.size = blob.size
     try:
         looker.look_at(blob, (), (start.path.rpartition('/')[2],), 0)
     except LimitMet as limit:

@@ -6,6 +6,7 @@ import json
 from collections import Counter
 from typing import Dict, Iterator, List, Optional, TextIO
 
+from ..records import End
 from .allow import Allowed
 from .results import Pickle, Place, Result, to_json
 
@@ -23,6 +24,11 @@ def shown(text: str) -> str:
 
 def _place(path: str, where: Place) -> str:
     return ' > '.join(shown(name) for name in (path, *where))
+
+
+def _end(end: End) -> str:
+    """How reading ended. The words of a fault tell its place; those of a refusal do not."""
+    return shown(end.text if end.how != 'refused' or end.offset is None else f'{end.text} at {end.offset}')
 
 
 def _times(count: int) -> str:
@@ -113,7 +119,7 @@ class Report:
                 if self.allowed is not None and not self._is_allowed(found.name):
                     yield f'! {place}: import {shown(found.name)} {_times(found.count)}, first at {found.offset}'
             if not pickle.end.is_stopped:
-                yield f'! {place}: {shown(pickle.end.text)}'
+                yield f'! {place}: {_end(pickle.end)}'
             return
         yield f'  {place}: {pickle.size} bytes'
         for found in pickle.imports:
@@ -122,7 +128,7 @@ class Report:
         for done in pickle.calls:
             yield f'      {done.what} {shown(done.name) or "-"} {_times(done.count)}, first at {done.offset}: {shown(done.text)}'
         yield from (f'      {shown(line)}' for line in pickle.lines)
-        yield f'{" " if pickle.end.is_stopped else "!"}     end: {shown(pickle.end.text)}'
+        yield f'{" " if pickle.end.is_stopped else "!"}     end: {_end(pickle.end)}'
 
     # --- The summary ---
 
