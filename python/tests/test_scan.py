@@ -337,6 +337,16 @@ class TheCommand(ScanCase):
         self.assertEqual(run.returncode, 1)
         self.assertIn('more than 1,024 bytes are unpacked', run.stdout)
 
+    def test_a_file_whose_name_begins_like_a_url(self) -> None:
+        names = ['http::evil.pkl', 'simplecache::x.pkl', 'a:b', 'file:/x.pkl', 's3:/bucket/model.pkl']
+        for name in names:
+            self.file(name, HOSTILE)
+        self.assertTrue((self.folder / 's3:' / 'bucket' / 'model.pkl').exists())
+        run = self.scan(*names, 's3://bucket/model.pkl', 's3://')
+        self.assertEqual(run.returncode, 0)
+        self.assertIn('7 files, 7 pickles in 7 of them', run.stdout)
+        self.assertRegex(self.scan('s3://bucket/none.pkl').stdout, '^! s3://bucket/none.pkl: cannot be read: ')
+
     def test_urls(self) -> None:
         try:
             import fsspec  # noqa: F401

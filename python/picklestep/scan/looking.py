@@ -439,8 +439,8 @@ def _look_at_url(looker: Looker, path: str) -> Result:
 
 
 def is_url(path: str) -> bool:
-    """Whether a path is one for fsspec."""
-    return _URL.match(path) is not None
+    """Whether a path is one for fsspec: it begins like a URL, and no file has this name."""
+    return _URL.match(path) is not None and not os.path.lexists(path)
 
 
 def _gone_through(looker: Looker, blob: Blob, start: Result) -> Result:
