@@ -30,12 +30,17 @@ _LIMITED = ['/bin/sh', '-c', 'ulimit -v "$1" && shift && exec "$@"', 'sh']
 
 
 def find_program() -> str:
-    """The path of the program: PICKLESTEP_PROGRAM, else the package's own copy, else that of the source tree."""
+    """The path of the program: PICKLESTEP_PROGRAM, else the package's own copy, else that of the source tree.
+
+    There it is the newer one of the released program and the one that was built, else the script that builds it.
+    """
     named = os.environ.get('PICKLESTEP_PROGRAM')
     if named:
         return named
     root = _HERE.parent.parent
-    for path in (_HERE / 'bin' / 'picklestep', root / 'dist' / 'linux-x86_64' / 'picklestep', root / 'picklestep'):
+    in_tree = [root / 'dist' / 'linux-x86_64' / 'picklestep', root / 'crates' / 'picklestep' / 'out' / 'picklestep']
+    newest = sorted(filter(Path.is_file, in_tree), key=lambda path: path.stat().st_mtime_ns, reverse=True)
+    for path in (_HERE / 'bin' / 'picklestep', *newest, root / 'picklestep'):
         if path.is_file():
             return str(path)
     raise ProgramError('the program picklestep is not there: set PICKLESTEP_PROGRAM to its path')
@@ -60,7 +65,8 @@ class Process:
         command = _command(words, memory)
         self._is_open = False
         near, self._lifeline = os.pipe()
-        # (an interrupt that came while the program starts would leave it without anybody who ends it)
+        # (an interrupt that came while the program starts would leave it without anybody who ends it; the program inherits that
+        # interrupts are blocked, and is ended by this process)
         masked = signal.pthread_sigmask(signal.SIG_BLOCK, {signal.SIGINT})
         try:
             self._popen = subprocess.Popen(command, stdin=subprocess.PIPE if stdin else subprocess.DEVNULL, stdout=subprocess.PIPE,
