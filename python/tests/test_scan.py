@@ -155,6 +155,19 @@ class Containers(ScanCase):
         result = self.look('old.joblib', b'ZF' + hex(len(HOSTILE)).ljust(19).encode() + zlib.compress(HOSTILE))
         self.assertEqual((places_of(result), names_of(result)), (['(zfile)'], ['posix.system']))
 
+    def test_compressed_files_that_joblib_reads(self) -> None:
+        # joblib 1.2 takes what begins with ZF or with 5d 00, reads any hexadecimal length, and skips a blank after it.
+        for length in (b'0x19', b'19', b' 19', b'0X19'):
+            for blank in (b'', b' '):
+                result = self.look('old.bin', b'ZF' + length.ljust(19) + blank + zlib.compress(HOSTILE))
+                self.assertEqual((places_of(result), names_of(result)), (['(zfile)'], ['posix.system']))
+        packed = lzma.compress(HOSTILE, lzma.FORMAT_ALONE, filters=[{'id': lzma.FILTER_LZMA1, 'dict_size': 0x18000}])
+        self.assertEqual((packed[:3], lzma.decompress(packed)), (b'\x5d\x00\x80', HOSTILE))
+        self.assertEqual(names_of(self.look('model.bin', packed)), ['posix.system'])
+        for text in (b'ZF means something else\n', b'\x5d\x00\x01text'):
+            result = self.look('text', text)
+            self.assertEqual((result.pickles, result.others, result.notes), ((), 1, ()))
+
     def test_one_in_another(self) -> None:
         inner = self.zipped(zipfile.ZIP_DEFLATED, data=HOSTILE)
         result = self.look('a.tar.gz', gzip.compress(self.tarred(tarfile.PAX_FORMAT, **{'in.zip': inner})))
@@ -194,6 +207,13 @@ class Containers(ScanCase):
                     result = self.look('model.bin', begin + end)
                     self.assertEqual(len(result.pickles), 1)
                     self.assertFalse(result.pickles[0].end.is_stopped)
+        # The rest of a line is read from behind the frame, and what the frame has of it is dropped.
+        content = b'\x95' + (7).to_bytes(8, 'little') + b'I a b c' + b'1\n0cposix\ngetcwd\n(tR.'
+        self.assertEqual(pickle.load(io.BytesIO(content)), os.getcwd())
+        self.assertEqual(len(self.look('model.bin', content).pickles), 1)
+        content = b'I\x00 and so on\n0cposix\ngetcwd\n(tR.'
+        self.assertEqual(pickle.loads(content), os.getcwd())
+        self.assertEqual(len(self.look('model.bin', content).pickles), 1)
 
     def test_raw_numbers_are_no_pickles(self) -> None:
         # Numbers that begin like opcodes: an import by a number of copyreg's, an id, a frame, a text.
@@ -279,8 +299,8 @@ class TheCommand(ScanCase):
             '      import posix.system once, first at 0\n'
             "      call posix.system once, first at 23: call 'posix' 'system' ('id') as #3\n"
             '      end: stopped\n'
-            '2 files, 1 pickles in 1 of them, 1 others that are no pickles\n'
-            '  posix.system: once, in 1 pickles, first in models/a.pkl\n'))
+            '2 files, 1 pickle in 1 of them, 1 other that is no pickle\n'
+            '  posix.system: once, in 1 pickle, first in models/a.pkl\n'))
 
     def test_allowed_names(self) -> None:
         self.file('a.pkl', HARMLESS)
@@ -290,7 +310,7 @@ class TheCommand(ScanCase):
         run = self.scan('a.pkl', 'b.pkl', '--allow', 'torch', '--brief')
         self.assertEqual(run.returncode, 1)
         self.assertEqual([line for line in run.stdout.splitlines() if line.startswith('!')],
-                         ['! b.pkl: import posix.system once, first at 0', '! posix.system: once, in 1 pickles, first in b.pkl'])
+                         ['! b.pkl: import posix.system once, first at 0', '! posix.system: once, in 1 pickle, first in b.pkl'])
         self.assertEqual(self.scan('a.pkl', 'b.pkl', '--allow', 'torch', '--allow', 'mine').returncode, 0)
         self.assertEqual(self.scan('a.pkl', '--allow', 'no_such_file').returncode, 2)
 

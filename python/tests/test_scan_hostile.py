@@ -492,7 +492,7 @@ class HostileFolders(ScanCase):
                      '  ./n\\udcff.pkl: 28 bytes'):
             self.assertIn(line, run.stdout.splitlines())
         self.assertIn('4 files, 3 pickles in 3 of them', run.stdout)
-        self.assertIn('1 files that cannot be read, 3 left out', run.stdout)
+        self.assertIn('1 file that cannot be read, 3 left out', run.stdout)
 
     def test_devices(self) -> None:
         run = self.scan('/dev/null', '/dev/zero')

@@ -108,7 +108,7 @@ class Runs(RunCase):
                              timeout=60)
         self.assertIn('! files/0001.pkl: the program did not read all of it: ended by signal 9', run.stdout)
         self.assertIn('3 files, 3 pickles', run.stdout)
-        self.assertIn('1 pickles not read to a STOP, 1 files not looked at whole', run.stdout)
+        self.assertIn('1 pickle not read to a STOP, 1 file not looked at whole', run.stdout)
 
     def test_ctrl_c(self) -> None:
         self.fill(30)

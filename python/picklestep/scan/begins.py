@@ -94,11 +94,11 @@ def kind_of(head: bytes) -> Optional[str]:
         return 'bz2'
     if head[:6] == b'\xfd7zXZ\0':
         return 'xz'
-    if head[:3] == b'\x5d\0\0':
+    if head[:2] == b'\x5d\0':
         return 'lzma'
     if head[257:262] == b'ustar' or tar_sum_fits(head[:512]):
         return 'tar'
-    if head[:2] == b'ZF' and head[2:4] == b'0x':
+    if head[:2] == b'ZF':
         return 'zfile'
     return 'zlib' if _is_zlib(head) else None
 
@@ -119,8 +119,8 @@ def may_be_pickle(head: bytes, size: int) -> bool:
     if head[:1] == b'\x80' and head[1:2] <= b'\x05' and size > 1:
         return True
     for name, argument in _opcodes(BytesBlob(head), size):
-        if name in _TELLING or name == _UNKNOWN:
-            return True
+        if name in _TELLING or name == _UNKNOWN or name == 'FRAME' and int.from_bytes(argument, 'little') <= size:
+            return True  # (where a frame ends within an argument, loaders differ in how they go on)
         if name in _IMPORTS:
             return _can_be_named(argument)
     return False
@@ -235,7 +235,7 @@ def _argument(data: _Bytes, at: int, shape: 'pickletools.OpcodeInfo') -> Optiona
 def _is_taken(shape: 'pickletools.OpcodeInfo', argument: bytes) -> bool:
     """Whether some loader goes on after an opcode with this argument. Numbers may stand between blanks, and end at a NUL byte."""
     if shape.name in _NUMBERS:
-        return len(argument) >= HEAD or len(argument.split(b'\0')[0].split()) == 1
+        return len(argument) >= HEAD or len(argument.split(b'\0')[0].split()) <= 1
     if shape.name == 'STRING':
         return argument.strip()[:1] in (b'"', b"'")
     return shape.name != 'PROTO' or argument <= b'\x05'

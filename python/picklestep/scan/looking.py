@@ -24,9 +24,11 @@ __all__ = ['Options', 'look', 'look_at_bytes']
 
 _URL = re.compile(r'[A-Za-z][A-Za-z0-9+.-]*(::|://)')
 _PACKED_ENDING = re.compile(r'\.(gz|gzip|bz2|xz|lzma|z|zlib)$', re.IGNORECASE)
+# The program ends at a frame in a frame, and at an opcode that crosses the end of one. Raw numbers do not get there, and CPython goes on.
+_FRAME_FAULTS = ('F6', 'F8')
 # The bytes by which a member is told to be a container: its first ones, and where the record stands that closes a zip archive.
 _GLANCE = HEAD + zips.TAIL
-# joblib before 0.10: the letters ZF, then the length as 19 characters, then a zlib stream.
+# joblib before 0.10: the letters ZF, then the length as 19 characters, then a zlib stream, before which joblib skips a blank.
 _ZFILE_HEADER = 21
 
 
@@ -86,7 +88,7 @@ class Looker:
         limits = self.options.limits
         with held(blob) as path:
             answer = asks_program(path, blob.size, limits, self.options.lines)
-            is_pickle = _begins_as_pickle(head, names) or answer.is_sure or answer.end.is_stopped
+            is_pickle = _begins_as_pickle(head, names) or answer.is_sure or answer.end.is_stopped or answer.end.code in _FRAME_FAULTS
             if answer.trouble is not None:
                 self.note(where, answer.trouble, missed=True)
                 is_pickle = is_pickle or not answer.is_empty
@@ -120,7 +122,7 @@ class Looker:
 
     def _open_packed(self, kind: str, blob: Blob, where: Place, names: Tuple[str, ...], depth: int) -> bool:
         """Looks into a compressed file, and at what stands after its end."""
-        offset = _ZFILE_HEADER if kind == 'zfile' else 0
+        offset = _ZFILE_HEADER + (blob.read(_ZFILE_HEADER, 1) == b' ') if kind == 'zfile' else 0
         unpacking = Unpacking(blob, METHODS['zlib' if kind == 'zfile' else kind], offset, kind != 'lzma')
         inner = where + (f'({kind})',)
         before = self.budget.unpacked
