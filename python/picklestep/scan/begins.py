@@ -8,7 +8,8 @@ from typing import Dict, Iterator, Optional, Tuple
 
 from .blobs import Blob, Budget, BytesBlob
 
-__all__ = ['HEAD', 'imports_something', 'is_dotted', 'is_pickle_name', 'is_storage_name', 'kind_of', 'may_be_pickle', 'tar_number', 'tar_sum_fits', 'unread_kind_of']
+__all__ = ['HEAD', 'imports_something', 'is_dotted', 'is_pickle_name', 'is_storage_name', 'kind_of', 'may_be_pickle', 'tar_number',
+           'tar_sum_fits', 'unread_kind_of']
 
 # The first bytes of a member, which tell what it is.
 HEAD = 16_384
@@ -233,9 +234,12 @@ def _argument(data: _Bytes, at: int, shape: 'pickletools.OpcodeInfo') -> Optiona
 
 
 def _is_taken(shape: 'pickletools.OpcodeInfo', argument: bytes) -> bool:
-    """Whether some loader goes on after an opcode with this argument. Numbers may stand between blanks, and end at a NUL byte."""
+    """Whether some loader goes on after an opcode with this argument. Numbers may stand between blanks, and end at a NUL byte; an id is
+    ASCII."""
     if shape.name in _NUMBERS:
         return len(argument) >= HEAD or len(argument.split(b'\0')[0].split()) <= 1
+    if shape.name == 'PERSID':
+        return argument.isascii()
     if shape.name == 'STRING':
         return argument.strip()[:1] in (b'"', b"'")
     return shape.name != 'PROTO' or argument <= b'\x05'

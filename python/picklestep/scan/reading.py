@@ -50,7 +50,8 @@ class _Enough(Exception):
 class Summary:
     """What the program says of some bytes, summed up by name while it comes.
 
-    `is_sure` tells that they import something that can be there, or call something. `trouble` says why the answer is not whole, if it is not.
+    `is_sure` tells that they import something that can be there, or call something. `trouble` says why the answer is not whole, if it is
+    not.
     """
 
     def __init__(self, limits: Limits, keep_lines: bool) -> None:
