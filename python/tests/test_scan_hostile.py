@@ -351,7 +351,7 @@ def with_records(kind: bytes, records: bytes, member: bytes) -> bytes:
     """A tar archive that has a block of records before a member."""
     header = bytearray(tarfile.TarInfo('records').tobuf(tarfile.USTAR_FORMAT))
     header[124:136], header[156:157] = b'%011o\0' % len(records), kind
-    return summed(header) + records.ljust(512, b'\0') + member
+    return summed(header) + records + bytes(-len(records) % 512) + member
 
 
 class HostileTar(ScanCase):
@@ -456,6 +456,13 @@ class HostileTar(ScanCase):
         header = bytearray(self.tar(a=b'')[:512])
         header[124:136], header[156:157] = b'77777777777\0', b'x'
         self.assertIn('posix.system', names_of(self.look('a.tar', summed(header) + self.tar(b=HOSTILE))))
+
+    def test_records_that_are_very_long(self) -> None:
+        comment = b'1500020 comment=' + b'x' * 1_500_003 + b'\n'
+        data = with_records(b'x', comment + b'9 size=0\n', self.tar(a=self.tar(b=HOSTILE)))
+        with tarfile.open(fileobj=io.BytesIO(data)) as archive:
+            self.assertEqual(archive.getnames(), ['a', 'b'])
+        self.assertIn('! a: the records before it have more than 1,048,576 bytes', notes_of(self.look('a.tar', data)))
 
     def test_sums_and_numbers_that_tarfile_takes(self) -> None:
         # Bytes above 127 in a name, counted as numbers below zero; numbers with signs and as bytes.
