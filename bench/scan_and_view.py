@@ -19,7 +19,7 @@ import time
 import urllib.request
 import zipfile
 from pathlib import Path
-from typing import Any, List, Tuple
+from typing import Any, List
 
 FILES = 10_000
 STORAGES = 1 << 30
@@ -29,11 +29,11 @@ def family(process: int) -> List[int]:
     """A process and all that it started."""
     found = [process]
     for each in found:
-        for task in Path(f'/proc/{each}/task').glob('*/children'):
-            try:
-                found.extend(map(int, task.read_text().split()))
-            except OSError:
-                pass
+        try:
+            for task in os.listdir(f'/proc/{each}/task'):
+                found.extend(map(int, Path(f'/proc/{each}/task/{task}/children').read_text().split()))
+        except OSError:  # it has ended
+            pass
     return found
 
 
@@ -49,16 +49,18 @@ def memory(processes: List[int]) -> int:
     return total
 
 
-def measured(words: List[str]) -> Tuple[float, int, str]:
-    """The seconds and the most memory of a run of scan, and the last line but those of names."""
-    start = time.perf_counter()
+def measured(words: List[str]) -> str:
+    """What a run of scan took, and the first line of its summary."""
+    start, before = time.perf_counter(), os.times()
     run = subprocess.Popen([sys.executable, '-m', 'picklestep', 'scan', '--json', *words], stdout=subprocess.DEVNULL, stderr=subprocess.PIPE, text=True)
     most = 0
     while run.poll() is None:
         most = max(most, memory(family(run.pid)))
         time.sleep(0.05)
+    seconds, after = time.perf_counter() - start, os.times()
+    used = after.children_user + after.children_system - before.children_user - before.children_system
     assert run.stderr is not None
-    return time.perf_counter() - start, most, run.stderr.readline().strip()
+    return f'{seconds:.2f} s, {used:.2f} s of a processor, {most / 1e6:.0f} MB: {run.stderr.readline().strip()}'
 
 
 def make_files(folder: Path) -> None:
@@ -117,12 +119,10 @@ def main(folder: Path) -> None:
     folder.mkdir()
     make_files(folder / 'many')
     for jobs in ('4', '4', '1'):
-        seconds, most, told = measured(['--jobs', jobs, str(folder / 'many')])
-        print(f'scan --jobs {jobs}: {seconds:.1f} s, {most / 1e6:.0f} MB: {told}')
+        print(f'scan --jobs {jobs}:', measured(['--jobs', jobs, str(folder / 'many')]))
     make_large(folder / 'large.pt')
     for _ in range(3):
-        seconds, most, told = measured([str(folder / 'large.pt')])
-        print(f'scan of {(folder / "large.pt").stat().st_size:,} bytes: {seconds:.2f} s, {most / 1e6:.0f} MB: {told}')
+        print(f'scan of {(folder / "large.pt").stat().st_size:,} bytes:', measured([str(folder / 'large.pt')]))
     (folder / '200_MB.pickle').write_bytes(pickle.dumps([os.urandom(100_000_000), 'x' * 100_000_000, list(range(1000))], 4))
     view(folder / '200_MB.pickle', edit=False)
     (folder / 'million.pickle').write_bytes(b'K\x070' * 500_000 + b'N.')

@@ -25,6 +25,8 @@ _UNREAD = {
 
 _SHAPES: Dict[int, 'pickletools.OpcodeInfo'] = {ord(each.code): each for each in pickletools.opcodes}
 
+_BELOW_128 = bytes(range(128))
+
 # Opcodes from which on the program is asked: they end a pickle or reach out of it.
 _TELLING = frozenset({'STOP', 'STACK_GLOBAL', 'EXT1', 'EXT2', 'EXT4', 'PERSID', 'BINPERSID', 'NEXT_BUFFER'})
 _IMPORTS = frozenset({'GLOBAL', 'INST'})
@@ -69,9 +71,11 @@ def tar_sum_fits(block: bytes) -> bool:
     if len(block) < 512:
         return False
     told = tar_number(block[148:156])
+    if not told:
+        return False
     counted = block[:148] + block[156:512]
     unsigned = 8 * 32 + sum(counted)
-    return told in (unsigned, unsigned - 256 * sum(byte > 127 for byte in counted)) if told else False
+    return told in (unsigned, unsigned - 256 * len(counted.translate(None, _BELOW_128)))
 
 
 def _is_zlib(head: bytes) -> bool:
