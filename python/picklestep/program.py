@@ -114,7 +114,7 @@ class Process:
     def pieces(self, timeout: Optional[float]) -> Generator[bytes, None, None]:
         """The program's output as it comes, for a program without input. It has ended then, also after an exception.
 
-        Raises TimedOut after so many seconds, and ProgramError where the program failed, after what it wrote.
+        Raises TimedOut after `timeout` seconds, and ProgramError where the program failed, after what it wrote.
         """
         deadline = None if timeout is None else time.monotonic() + timeout
         ready = select.poll()
