@@ -17,27 +17,31 @@ import select
 import signal
 import subprocess
 import time
-from pathlib import Path
-from typing import IO, Iterable, Iterator, List, NoReturn, Optional, Sequence
+from typing import IO, Generator, Iterable, List, NoReturn, Optional, Sequence
 
 from .errors import OutOfMemory, ProgramError, TimedOut, TooLarge
 
 __all__ = ['Process', 'find_program', 'run_program']
 
-_HERE = Path(__file__).resolve().parent
-_BLOCK = 1 << 20
+_BLOCK = 1 << 18
+_HERE = os.path.dirname(os.path.realpath(__file__))
 _LIMITED = ['/bin/sh', '-c', 'ulimit -v "$1" && shift && exec "$@"', 'sh']
 
 
 def find_program() -> str:
-    """The path of the program: PICKLESTEP_PROGRAM, else the package's own copy, else that of the source tree."""
+    """The path of the program: PICKLESTEP_PROGRAM, else the package's own copy, else that of the source tree.
+
+    There it is the newer one of the released program and the one that was built, else the script that builds it.
+    """
     named = os.environ.get('PICKLESTEP_PROGRAM')
     if named:
         return named
-    root = _HERE.parent.parent
-    for path in (_HERE / 'bin' / 'picklestep', root / 'dist' / 'linux-x86_64' / 'picklestep', root / 'picklestep'):
-        if path.is_file():
-            return str(path)
+    root = os.path.dirname(os.path.dirname(_HERE))
+    in_tree = [os.path.join(root, *place, 'picklestep') for place in (('dist', 'linux-x86_64'), ('crates', 'picklestep', 'out'))]
+    newest = sorted(filter(os.path.isfile, in_tree), key=os.path.getmtime, reverse=True)
+    for path in (os.path.join(_HERE, 'bin', 'picklestep'), *newest, os.path.join(root, 'picklestep')):
+        if os.path.isfile(path):
+            return path
     raise ProgramError('the program picklestep is not there: set PICKLESTEP_PROGRAM to its path')
 
 
@@ -107,23 +111,30 @@ class Process:
             _raise_failure(self._popen.returncode, errors)
         return bytes(output)
 
-    def blocks(self, timeout: Optional[float] = None) -> Iterator[bytes]:
-        """The program's output as it comes. The program has ended after the last block, also after an exception."""
+    def blocks(self, timeout: Optional[float] = None) -> Generator[bytes, None, None]:
+        """The program's output as it comes, for a program without input. It has ended then, also after an exception.
+
+        Raises TimedOut after `timeout` seconds, and ProgramError where the program failed, after what it wrote.
+        """
         deadline = None if timeout is None else time.monotonic() + timeout
-        poll = select.poll()
-        poll.register(self.stdout, select.POLLIN)
+        ready = select.poll()
+        ready.register(self.stdout, select.POLLIN)
         try:
-            while poll.poll(None if deadline is None else max(0.0, deadline - time.monotonic()) * 1000):
+            while True:
+                left = None if deadline is None else max(0, deadline - time.monotonic())
+                if left == 0 or not ready.poll(None if left is None else left * 1000):
+                    raise TimedOut(f'no answer within {timeout} seconds')
                 block = os.read(self.stdout, _BLOCK)
                 if not block:
                     break
                 yield block
-            else:
-                raise TimedOut(f'no answer within {timeout:.3g} seconds')
-            if self._popen.wait() not in (0, 1):
-                self.fail()
+            assert self._popen.stderr is not None
+            errors = self._popen.stderr.read()
+            self._popen.wait()
         finally:
             self.close()
+        if self._popen.returncode not in (0, 1):
+            _raise_failure(self._popen.returncode, errors)
 
     def fail(self) -> NoReturn:
         """Raises why the program gave no answer, which ends it where it runs."""
