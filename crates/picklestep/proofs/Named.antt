@@ -38,10 +38,10 @@ no_file matches name rows found want file p n q f =
     absurd cc
 
 pub no_task : (matches : Matches) (name : Text) (rows : List Row) (t : Task) → matches ≡ Some (name, rows) → None ≡ first_of (codes "FILE") rows → IsNamed matches t → ⊥
-no_task matches name rows (task.List input) p n u = no_file matches name rows u.rows _ _ p n u.used u.given.path_is
-no_task matches name rows (task.Objects input) p n u = no_file matches name rows u.rows _ _ p n u.used u.given.path_is
-no_task matches name rows (task.Calls input) p n u = no_file matches name rows u.rows _ _ p n u.used u.given.path_is
-no_task matches name rows (task.Debug input options) p n u = no_file matches name rows u.0.rows _ _ p n u.0.used u.0.given.path_is
+no_task matches name rows (task.List input) p n u = no_file matches name rows u.rows _ _ p n u.used u.file_is
+no_task matches name rows (task.Objects input) p n u = no_file matches name rows u.rows _ _ p n u.used u.file_is
+no_task matches name rows (task.Calls input) p n u = no_file matches name rows u.rows _ _ p n u.used u.file_is
+no_task matches name rows (task.Debug input options) p n u = no_file matches name rows u.0.rows _ _ p n u.0.used u.0.file_is
 
 -- ---- a window
 

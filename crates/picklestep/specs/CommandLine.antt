@@ -64,17 +64,13 @@ IsWindow (Some text) (Some n) = IsCount text n
 IsWindow None (Some n) = ⊥
 IsWindow (Some text) None = ⊥
 
--- this FILE, and `--many` or not
-pub record IsGiven (rows : List Row) (input : GivenFile) : Type 0 where
-  pub path_is : first_of (codes "FILE") rows ≡ Some (string_bytes input.path)
-  pub many_is : IsTrue input.many → first_of (codes "many") rows ≡ Some (codes "true")
-  pub one_is : first_of (codes "many") rows ≡ Some (codes "true") → IsTrue input.many
-
--- the subcommand of this name was used, with such a file
+-- the subcommand of this name was used, with this FILE, and with `--many` or not
 pub record IsUsed (name : Text) (matches : Matches) (input : GivenFile) : Type 0 where
   pub rows : List Row
   pub used : matches ≡ Some (name, rows)
-  pub given : IsGiven rows input
+  pub file_is : first_of (codes "FILE") rows ≡ Some (string_bytes input.file)
+  pub many_is : IsTrue input.many → first_of (codes "many") rows ≡ Some (codes "true")
+  pub one_is : first_of (codes "many") rows ≡ Some (codes "true") → IsTrue input.many
 
 pub record HasOptions (rows : List Row) (options : Options) : Type 0 where
   pub save_is : first_of (codes "save") rows ≡ option_map string_bytes options.save
@@ -93,7 +89,7 @@ IsBounded (task.Objects input) = ⊤
 IsBounded (task.Calls input) = ⊤
 IsBounded (task.Debug input options) = IfSome options.window (λ n. (1 ≤ n) × (n ≤ most_records))
 
--- the words are refused where memory runs out
+-- the words are refused for want of memory
 abbrev pub IsMemory : Usage → Type 0
 IsMemory usage.Memory = ⊤
 IsMemory (usage.Words e) = kind_of e ≡ kind.OutOfMemory

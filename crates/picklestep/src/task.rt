@@ -3,18 +3,18 @@
 ghost use Rattle.std.specs.Prelude.{◌≡◌, ◌≤◌, ◌↔◌, IsTrue, ℕ, Option, Some, None, Ok, IfOk, IfErr, IfSome, map, option_map, true, codes};
 ghost use Rattle.std.specs.String.{string_bytes};
 ghost use Rattle.clap.specs.Words.{found_of, first_of, one_of, rows_of, subcommand_of, subcommand_rows_of, takes};
-ghost use Rattle.picklestep.specs.CommandLine.{program, most_records, HasOptions, IsWindow, IsGiven, IsNamed, IsBounded, IsMemory};
+ghost use Rattle.picklestep.specs.CommandLine.{program, most_records, HasOptions, IsWindow, IsNamed, IsBounded, IsMemory};
 
 use crate::command_line::{MOST_RECORDS, command_line};
 use clap::error::ErrorKind;
 use clap::{ArgMatches, Error};
 use std::alloc::{AllocError, Global};
 
-/// The file of a task, and how it is read.
+/// What a task is done on.
 #[derive(Drop, Debug, PartialEq, Eq)]
 pub struct GivenFile {
-    /// The path of the file.
-    pub path: String,
+    /// The name of the file.
+    pub file: String,
     /// Whether it is read as several pickles that follow one another.
     pub many: bool,
 }
@@ -127,16 +127,6 @@ fn is_many(found: &ArgMatches<'_>) -> bool
     if text == "true" { true } else { false }
 }
 
-/// The file at this path, and how it is read.
-fn given(alloc: Global, found: &ArgMatches<'_>, path: &str) -> Result<GivenFile, AllocError>
-    requires { first_of (codes "FILE") (rows_of (found_of found.now)) ≡ Some path.now }
-    ensures { IfOk result (IsGiven (rows_of (found_of found.now))) }
-{
-    let many = is_many(found);
-    let path = String::from_str(alloc, path)?;
-    Ok(GivenFile { path, many })
-}
-
 /// The task that matches name, if they name one.
 fn named(alloc: Global, matches: &ArgMatches<'_>) -> Result<Option<Task>, AllocError>
     ensures some { IfOk result (λ r. IfSome r (IsNamed (subcommand_rows_of matches.now))) }
@@ -145,24 +135,25 @@ fn named(alloc: Global, matches: &ArgMatches<'_>) -> Result<Option<Task>, AllocE
     let Some((name, found)) = matches.subcommand() else {
         return Ok(None);
     };
-    let Some(path) = found.get_str("FILE") else {
+    let Some(file) = found.get_str("FILE") else {
         return Ok(None);
     };
+    let many = is_many(found);
     if name == "list" {
-        let file = given(alloc, found, path)?;
-        Ok(Some(Task::List(file)))
+        let file = String::from_str(alloc, file)?;
+        Ok(Some(Task::List(GivenFile { file, many })))
     } else if name == "objects" {
-        let file = given(alloc, found, path)?;
-        Ok(Some(Task::Objects(file)))
+        let file = String::from_str(alloc, file)?;
+        Ok(Some(Task::Objects(GivenFile { file, many })))
     } else if name == "calls" {
-        let file = given(alloc, found, path)?;
-        Ok(Some(Task::Calls(file)))
+        let file = String::from_str(alloc, file)?;
+        Ok(Some(Task::Calls(GivenFile { file, many })))
     } else if name == "debug" {
         let Some(options) = options_of(alloc, found)? else {
             return Ok(None);
         };
-        let file = given(alloc, found, path)?;
-        Ok(Some(Task::Debug(file, options)))
+        let file = String::from_str(alloc, file)?;
+        Ok(Some(Task::Debug(GivenFile { file, many }, options)))
     } else {
         Ok(None)
     }
@@ -177,7 +168,7 @@ pub fn task_of(alloc: Global, words: &[&str]) -> Result<Task, Usage>
     ensures named { IfOk result (IsNamed (subcommand_of program (map (λ w. w.now) words.now))) }
     ensures bounded { IfOk result IsBounded }
 
-    // Words that clap's definition takes, and whose matches name a task, are refused only where memory runs out.
+    // Words that clap's definition takes, and whose matches name a task, are refused for want of memory alone.
     ensures refuses { (task : Task) → takes program (map (λ w. w.now) words.now) ≡ true → IsNamed (subcommand_of program (map (λ w. w.now) words.now)) task → IfErr result IsMemory }
 {
     let mut command = command_line(alloc)?;

@@ -14,7 +14,9 @@ returns-in_ok-file-clause-some c =
     record {
       rows = rows_of (found_of c.in-Some.found.now);
       used = used_is _ _ _ _ _ c.in-Some.ensures.name c.in-Some.ensures.rows ∙ ap (λ (n : Text). Some (n, rows_of (found_of c.in-Some.found.now))) name;
-      given = c.in_ok-file.ensures;
+      file_is = sym (first_value-rows (found_of c.in-Some.found.now) (codes "FILE")) ∙ sym c.in-Some-get_str.ensures ∙ ap Some (sym c.in_ok-file.ensures.ok);
+      many_is = c.is_many-many.ensures.yes;
+      one_is = c.is_many-many.ensures.no;
     }
 
 pub returns-in_ok-file-2-clause-some : goal.returns-in_ok-file-2-clause-some
@@ -23,7 +25,9 @@ returns-in_ok-file-2-clause-some c =
     record {
       rows = rows_of (found_of c.in-Some.found.now);
       used = used_is _ _ _ _ _ c.in-Some.ensures.name c.in-Some.ensures.rows ∙ ap (λ (n : Text). Some (n, rows_of (found_of c.in-Some.found.now))) name;
-      given = c.in_ok-file-2.ensures;
+      file_is = sym (first_value-rows (found_of c.in-Some.found.now) (codes "FILE")) ∙ sym c.in-Some-get_str.ensures ∙ ap Some (sym c.in_ok-file-2.ensures.ok);
+      many_is = c.is_many-many.ensures.yes;
+      one_is = c.is_many-many.ensures.no;
     }
 
 pub returns-in_ok-file-3-clause-some : goal.returns-in_ok-file-3-clause-some
@@ -32,7 +36,9 @@ returns-in_ok-file-3-clause-some c =
     record {
       rows = rows_of (found_of c.in-Some.found.now);
       used = used_is _ _ _ _ _ c.in-Some.ensures.name c.in-Some.ensures.rows ∙ ap (λ (n : Text). Some (n, rows_of (found_of c.in-Some.found.now))) name;
-      given = c.in_ok-file-3.ensures;
+      file_is = sym (first_value-rows (found_of c.in-Some.found.now) (codes "FILE")) ∙ sym c.in-Some-get_str.ensures ∙ ap Some (sym c.in_ok-file-3.ensures.ok);
+      many_is = c.is_many-many.ensures.yes;
+      one_is = c.is_many-many.ensures.no;
     }
 
 pub returns-in_ok-file-4-clause-some : goal.returns-in_ok-file-4-clause-some
@@ -41,7 +47,9 @@ returns-in_ok-file-4-clause-some c =
       record {
         rows = rows_of (found_of c.in-Some.found.now);
         used = used_is _ _ _ _ _ c.in-Some.ensures.name c.in-Some.ensures.rows ∙ ap (λ (n : Text). Some (n, rows_of (found_of c.in-Some.found.now))) name;
-        given = c.in_ok-file-4.ensures;
+        file_is = sym (first_value-rows (found_of c.in-Some.found.now) (codes "FILE")) ∙ sym c.in-Some-get_str.ensures ∙ ap Some (sym c.in_ok-file-4.ensures.ok);
+        many_is = c.is_many-many.ensures.yes;
+        one_is = c.is_many-many.ensures.no;
       },
       search rules,
     )
