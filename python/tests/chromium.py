@@ -107,7 +107,7 @@ class Browser:
             raise BrowserError(str(answer['exceptionDetails'].get('exception', {}).get('description', answer)))
         return answer['result'].get('value')
 
-    def wait(self, text: str, seconds: float = 20) -> Any:
+    def wait(self, text: str, seconds: float = 100) -> Any:
         """Waits until an expression is true, and answers it."""
         deadline = time.monotonic() + seconds
         while True:

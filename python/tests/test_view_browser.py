@@ -89,7 +89,7 @@ class InBrowser(unittest.TestCase):
 
     def said(self, text: str) -> None:
         """Waits until the last answer begins so."""
-        self.browser.wait(f"document.querySelector('#said').textContent.startsWith({json.dumps(text)})", 100)
+        self.browser.wait(f"document.querySelector('#said').textContent.startsWith({json.dumps(text)})")
 
     def texts(self, selector: str) -> List[str]:
         """The texts of elements."""
