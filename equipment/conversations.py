@@ -15,11 +15,13 @@ For each block it writes a line: its place on the page, a tab, and what is wrong
 """
 
 import pathlib
+import re
 import subprocess
 import sys
 
 
-# the first word of a block, and the options that it gives to every command
+# the first line of a block; its first word, and the options that it gives to every command
+START = re.compile(r" *(pickles?)((?: [0-9a-f]+)*)")
 OPTIONS = {"pickle": [], "pickles": ["--many"]}
 
 
@@ -54,10 +56,9 @@ def blocks_of(page):
             if block is not None:
                 yield block
             block = None
-        elif line.split()[0] in OPTIONS:
-            word = line.split()[0]
-            margin = line.index(word)
-            block = Block(number, OPTIONS[word], bytes.fromhex(line[margin + len(word):]))
+        elif start := START.fullmatch(line):
+            margin = start.start(1)
+            block = Block(number, OPTIONS[start[1]], bytes.fromhex(start[2]))
         elif block is not None:
             block.take(line[margin:])
     if block is not None:
