@@ -13,26 +13,34 @@ from __future__ import annotations
 import contextlib
 import fcntl
 import os
+import select
 import signal
 import subprocess
+import time
 from pathlib import Path
-from typing import IO, Iterable, List, NoReturn, Optional, Sequence
+from typing import IO, Generator, Iterable, List, NoReturn, Optional, Sequence
 
 from .errors import OutOfMemory, ProgramError, TimedOut, TooLarge
 
 __all__ = ['Process', 'find_program', 'run_program']
 
+_PIECE = 1 << 18
 _HERE = Path(__file__).resolve().parent
 _LIMITED = ['/bin/sh', '-c', 'ulimit -v "$1" && shift && exec "$@"', 'sh']
 
 
 def find_program() -> str:
-    """The path of the program: PICKLESTEP_PROGRAM, else the package's own copy, else that of the source tree."""
+    """The path of the program: PICKLESTEP_PROGRAM, else the package's own copy, else that of the source tree.
+
+    There it is the newer one of the released program and the one that was built, else the script that builds it.
+    """
     named = os.environ.get('PICKLESTEP_PROGRAM')
     if named:
         return named
     root = _HERE.parent.parent
-    for path in (_HERE / 'bin' / 'picklestep', root / 'dist' / 'linux-x86_64' / 'picklestep', root / 'picklestep'):
+    in_tree = [root / 'dist' / 'linux-x86_64' / 'picklestep', root / 'crates' / 'picklestep' / 'out' / 'picklestep']
+    newest = sorted(filter(Path.is_file, in_tree), key=lambda path: path.stat().st_mtime_ns, reverse=True)
+    for path in (_HERE / 'bin' / 'picklestep', *newest, root / 'picklestep'):
         if path.is_file():
             return str(path)
     raise ProgramError('the program picklestep is not there: set PICKLESTEP_PROGRAM to its path')
@@ -57,7 +65,8 @@ class Process:
         command = _command(words, memory)
         self._is_open = False
         near, self._lifeline = os.pipe()
-        # (an interrupt that came while the program starts would leave it without anybody who ends it)
+        # (an interrupt that came while the program starts would leave it without anybody who ends it; the program inherits that
+        # interrupts are blocked, and is ended by this process)
         masked = signal.pthread_sigmask(signal.SIG_BLOCK, {signal.SIGINT})
         try:
             self._popen = subprocess.Popen(command, stdin=subprocess.PIPE if stdin else subprocess.DEVNULL, stdout=subprocess.PIPE,
@@ -102,6 +111,31 @@ class Process:
         if self._popen.returncode not in (0, 1):
             _raise_failure(self._popen.returncode, errors)
         return bytes(output)
+
+    def pieces(self, timeout: Optional[float]) -> Generator[bytes, None, None]:
+        """The program's output as it comes, for a program without input. It has ended then, also after an exception.
+
+        Raises TimedOut after so many seconds, and ProgramError where the program failed, after what it wrote.
+        """
+        deadline = None if timeout is None else time.monotonic() + timeout
+        ready = select.poll()
+        ready.register(self.stdout, select.POLLIN)
+        try:
+            while True:
+                left = None if deadline is None else max(0, deadline - time.monotonic())
+                if left == 0 or not ready.poll(None if left is None else left * 1000):
+                    raise TimedOut(f'no answer within {timeout} seconds')
+                piece = os.read(self.stdout, _PIECE)
+                if not piece:
+                    break
+                yield piece
+            assert self._popen.stderr is not None
+            errors = self._popen.stderr.read()
+            self._popen.wait()
+        finally:
+            self.close()
+        if self._popen.returncode not in (0, 1):
+            _raise_failure(self._popen.returncode, errors)
 
     def fail(self) -> NoReturn:
         """Raises why the program gave no answer, which ends it where it runs."""

@@ -91,6 +91,11 @@ class _Talk:
         elif word == 'redone':
             self.edits.append(self._undone.pop())
 
+    def edits_that_stand(self) -> List[bytes]:
+        """The edits up to now. Another thread may make more."""
+        with self._lock:
+            return list(self.edits)
+
     def _send(self, data: bytes, deadline: Optional[float]) -> None:
         while True:
             try:
@@ -421,7 +426,7 @@ class Session(contextlib.AbstractContextManager['Session']):
         """Makes the edits in a second run of the program, so that this one goes on."""
         if not self._finalizer.alive:
             raise ValueError('the session is closed')
-        edits = self._talk.edits
+        edits = self._talk.edits_that_stand()
         answer = run_program([*self._words, '--save', path], [*self._input.files, *files], b''.join(edits), *self._limits)
         if answer.count(b'edited ') != len(edits):
             raise ProgramError(f'an edit was not made again: {answer.decode("ascii")[-_SHOWN:]}')

@@ -8,12 +8,12 @@ from typing import Callable, Dict, List, Optional, Tuple, Union
 
 from .records import (Argument, Brief, Briefs, Change, End, Extension, Global, Item, Mark, Name, Object, Opcode, Reach, Ref, Value, Where)
 
-__all__ = ['LinesError', 'OPCODE', 'memo_of', 'object_of', 'opcode_of', 'reach_of', 'stack_of', 'unquoted', 'where_of']
+__all__ = ['LinesError', 'OPCODE', 'QUOTED', 'memo_of', 'object_of', 'opcode_of', 'reach_of', 'stack_of', 'unquoted', 'where_of']
 
-_QUOTED = r"'[^'\\]*(?:\\.[^'\\]*)*'"
+QUOTED = r"'[^'\\]*(?:\\.[^'\\]*)*'"
 _NUMBER = r'-?[0-9]+|le:[0-9a-f]*|f8:[0-9a-f]{16}'
 _ESCAPE = re.compile(rb'\\(x[0-9a-f]{2}|.)')
-_ATOM = re.compile(f'({_QUOTED})|({_NUMBER})')
+_ATOM = re.compile(f'({QUOTED})|({_NUMBER})')
 _OBJECT = re.compile(r'#([0-9]+) ([a-z-]+)')
 _PARTS = re.compile(r' \((#[^)]*)\)')
 _CHANGE = re.compile(r' (?:([+&!])#([0-9]+)|\[#([0-9]+)\]=#([0-9]+))')
@@ -181,7 +181,7 @@ def memo_of(line: str) -> Dict[int, int]:
 class _Units:
     """Reads what stands in a line of `calls`: units with blanks between them, up to the word that ends them."""
 
-    _token = re.compile(rf"[ ,]*({_QUOTED}|#[0-9]+|[()]|\+[0-9]+|{_NUMBER}|[a-z-]+)")
+    _token = re.compile(rf"[ ,]*({QUOTED}|#[0-9]+|[()]|\+[0-9]+|{_NUMBER}|[a-z-]+)")
 
     def __init__(self, text: str, at: int) -> None:
         self.text = text

@@ -190,6 +190,24 @@ class Errors(LeavesNothing):
                 with self.assertRaises(ProgramError):
                     ask(b'N.')
 
+    def test_the_newer_program_of_a_source_tree(self) -> None:
+        with tempfile.TemporaryDirectory() as folder, mock.patch('picklestep.program._HERE', Path(folder) / 'python' / 'picklestep'), \
+                mock.patch.dict(os.environ):
+            os.environ.pop('PICKLESTEP_PROGRAM', None)
+            released, built = (Path(folder) / place / 'picklestep' for place in ('dist/linux-x86_64', 'crates/picklestep/out'))
+            for path, seconds in ((released, 1000), (built, 2000)):
+                path.parent.mkdir(parents=True)
+                path.touch()
+                os.utime(path, (seconds, seconds))
+            self.assertEqual(find_program(), str(built))
+            os.utime(released, (3000, 3000))
+            self.assertEqual(find_program(), str(released))
+            released.unlink()
+            self.assertEqual(find_program(), str(built))
+            built.unlink()
+            with self.assertRaises(ProgramError):
+                find_program()
+
     def test_words_that_are_no_task(self) -> None:
         with self.assertRaises(ProgramError) as caught:
             Session(b'N.', window=0)

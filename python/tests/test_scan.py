@@ -12,6 +12,8 @@ import lzma
 import os
 import pickle
 import pkgutil
+import random
+import struct
 import tarfile
 import unittest
 import zipfile
@@ -40,6 +42,12 @@ def written_by() -> Dict[str, Set[str]]:
             file = line.partition(':')[0]
             names[file] = set()
     return names
+
+
+def numpy_file(items: str, content: bytes) -> bytes:
+    """A file in numpy's own layout whose header describes the items of its array by these words."""
+    header = f"{{'descr': {items}, 'fortran_order': False, 'shape': (1,), }}\n".encode()
+    return b'\x93NUMPY\x01\x00' + len(header).to_bytes(2, 'little') + header + content
 
 
 class RealFiles(ScanCase):
@@ -147,6 +155,19 @@ class Containers(ScanCase):
         result = self.look('old.joblib', b'ZF' + hex(len(HOSTILE)).ljust(19).encode() + zlib.compress(HOSTILE))
         self.assertEqual((places_of(result), names_of(result)), (['(zfile)'], ['posix.system']))
 
+    def test_compressed_files_that_joblib_reads(self) -> None:
+        # joblib 1.2 takes what begins with ZF or with 5d 00, reads any hexadecimal length, and skips a blank after it.
+        for length in (b'0x19', b'19', b' 19', b'0X19'):
+            for blank in (b'', b' '):
+                result = self.look('old.bin', b'ZF' + length.ljust(19) + blank + zlib.compress(HOSTILE))
+                self.assertEqual((places_of(result), names_of(result)), (['(zfile)'], ['posix.system']))
+        packed = lzma.compress(HOSTILE, lzma.FORMAT_ALONE, filters=[{'id': lzma.FILTER_LZMA1, 'dict_size': 0x18000}])
+        self.assertEqual((packed[:3], lzma.decompress(packed)), (b'\x5d\x00\x80', HOSTILE))
+        self.assertEqual(names_of(self.look('model.bin', packed)), ['posix.system'])
+        for text in (b'ZF means something else\n', b'\x5d\x00\x01text'):
+            result = self.look('text', text)
+            self.assertEqual((result.pickles, result.others, result.notes), ((), 1, ()))
+
     def test_one_in_another(self) -> None:
         inner = self.zipped(zipfile.ZIP_DEFLATED, data=HOSTILE)
         result = self.look('a.tar.gz', gzip.compress(self.tarred(tarfile.PAX_FORMAT, **{'in.zip': inner})))
@@ -174,6 +195,45 @@ class Containers(ScanCase):
                 self.assertEqual(len(self.look('weights.bin', content).pickles), int(is_pickle))
                 self.assertEqual(len(self.look('named.pkl', content).pickles), 1)
 
+    def test_pickles_that_cpython_goes_on_with(self) -> None:
+        # The program ends before the import in each of these, and CPython makes the call. Their name says nothing.
+        frame = b'\x95' + (11).to_bytes(8, 'little') + b'N\x95' + bytes(8) + b'0'
+        blanks = b'Np' + b' ' * 20_000 + b'1\n0'
+        by_text = b'\x8c\x05posix\x8c\x06getcwd\x93)R.'
+        for begin in (b'Np+1\n0', b'Np 1\n0', b'Np1_0\n0', b'Np1\0x\n0', blanks, frame, b'N0' * 9000 + b'Np+1\n0'):
+            for end in (b'cposix\ngetcwd\n(tR.', b'(iposix\ngetcwd\n.', by_text):
+                with self.subTest((begin[:20], end)):
+                    self.assertEqual(pickle.loads(begin + end), os.getcwd())
+                    result = self.look('model.bin', begin + end)
+                    self.assertEqual(len(result.pickles), 1)
+                    self.assertFalse(result.pickles[0].end.is_stopped)
+        # The rest of a line is read from behind the frame, and what the frame has of it is dropped.
+        content = b'\x95' + (7).to_bytes(8, 'little') + b'I a b c' + b'1\n0cposix\ngetcwd\n(tR.'
+        self.assertEqual(pickle.load(io.BytesIO(content)), os.getcwd())
+        self.assertEqual(len(self.look('model.bin', content).pickles), 1)
+        content = b'I\x00 and so on\n0cposix\ngetcwd\n(tR.'
+        self.assertEqual(pickle.loads(content), os.getcwd())
+        self.assertEqual(len(self.look('model.bin', content).pickles), 1)
+
+    def test_raw_numbers_are_no_pickles(self) -> None:
+        # Numbers that begin like opcodes: an import by a number of copyreg's, an id, a frame, a text.
+        chance = random.Random(33)
+        for code in b'\x82\x83\x84\x95PQcgpVI\x8cN]}(':
+            for _ in range(8):
+                numbers = [chance.gauss(0, 0.05) for _ in range(300)]
+                self.assertEqual(self.look('archive/data/0', bytes([code]) + struct.pack('<300f', *numbers)).pickles, ())
+
+    def test_texts_are_no_pickles(self) -> None:
+        for text in ('Version 1\ncat 2\ndog 3\n', 'I am a line\ncat\ndog\n', 'p 1\ng 2\nand so on\n', 'License\n=======\n', '(see below)\n',
+                     "S'quoted'\ntext\n", 'float x;\n', 'configuration of it\nall\n', 'N/A,2\n', 'Persons\nsome of them\n', 'g++ -O2\n'):
+            with self.subTest(text):
+                self.assertEqual(self.look('notes', text.encode()).pickles, ())
+
+    def test_where_an_opcode_is_refused(self) -> None:
+        result = self.look('a.pkl', b'N0' * 1000 + b'Xabcd'.replace(b'abcd', bytes(4)) + b'0a')
+        self.assertEqual((result.pickles[0].end.code, result.pickles[0].end.offset, result.pickles[0].end.item), ('S2', 2006, 2002))
+        self.assertRegex(self.scan('a.pkl').stdout, '(?m)^!     end: S2 stack underflow at 2006$')
+
     def test_a_long_argument_hides_nothing(self) -> None:
         result = self.look('weights.bin', b'B' + (100_000).to_bytes(4, 'little') + bytes(100_000) + b'0' + HOSTILE)
         self.assertEqual(names_of(result), ['posix.system'])
@@ -184,6 +244,21 @@ class Containers(ScanCase):
         result = self.look('a.npy', floats[:128] + HOSTILE)
         self.assertEqual(names_of(result), ['posix.system'])
         self.assertEqual(self.look('b.npy', floats).pickles, ())
+
+    def test_items_that_numpy_takes_for_objects(self) -> None:
+        # numpy 1.24 runs the pickle behind each of these headers with `allow_pickle=True` but the last, which older ones take.
+        # (CPython goes on at p+1, where the program ends: nothing but the header tells that this is a pickle)
+        hidden = b'Np+1\n0\x95\x00\x00' + HOSTILE
+        for items in ("'O'", "'1O'", "'|O8'", "'i4,O'", "'object'", "'(2,)O'", "'O,'", "'M8[ns],O'", "[('a', '<i4'), ('b', '1O')]",
+                      "[('a', [('b', 'O')])]", "[('a', 'i4,O')]", "[(('t', 'a'), 'O')]", "[('a', 'O', (2,))]", "('O', (2,))",
+                      "('|V8', [('a', 'O')])"):
+            with self.subTest(items):
+                self.assertEqual(places_of(self.look('a.npy', numpy_file(items, hidden))), ['(objects)'])
+                self.assertEqual(names_of(self.look('a.npy', numpy_file(items, HOSTILE))), ['posix.system'])
+        for items in ("'<i4'", "'|b1'", "'<c16'", "'<U5'", "'|S0'", "'<M8[ns]'", "'<m8[25s]'", "'|V8'", "[('a', '<i4'), ('b', '<f8', (2, 3))]",
+                      "('<i4', (2,))", "('<i4', 2)"):
+            with self.subTest(items):
+                self.assertEqual(self.look('a.npy', numpy_file(items, hidden)).pickles, ())
 
     def test_names_that_are_no_plain_words(self) -> None:
         for content, name in ((b'cos \nsystem\n.', "'os ' 'system'"), (b'c\xc3\xa9\nx\n.', '\xe9.x'), (b'\x82\x07.', 'ext 7'),
@@ -224,8 +299,8 @@ class TheCommand(ScanCase):
             '      import posix.system once, first at 0\n'
             "      call posix.system once, first at 23: call 'posix' 'system' ('id') as #3\n"
             '      end: stopped\n'
-            '2 files, 1 pickles in 1 of them, 1 others that are no pickles\n'
-            '  posix.system: once, in 1 pickles, first in models/a.pkl\n'))
+            '2 files, 1 pickle in 1 of them, 1 other that is no pickle\n'
+            '  posix.system: once, in 1 pickle, first in models/a.pkl\n'))
 
     def test_allowed_names(self) -> None:
         self.file('a.pkl', HARMLESS)
@@ -235,7 +310,7 @@ class TheCommand(ScanCase):
         run = self.scan('a.pkl', 'b.pkl', '--allow', 'torch', '--brief')
         self.assertEqual(run.returncode, 1)
         self.assertEqual([line for line in run.stdout.splitlines() if line.startswith('!')],
-                         ['! b.pkl: import posix.system once, first at 0', '! posix.system: once, in 1 pickles, first in b.pkl'])
+                         ['! b.pkl: import posix.system once, first at 0', '! posix.system: once, in 1 pickle, first in b.pkl'])
         self.assertEqual(self.scan('a.pkl', 'b.pkl', '--allow', 'torch', '--allow', 'mine').returncode, 0)
         self.assertEqual(self.scan('a.pkl', '--allow', 'no_such_file').returncode, 2)
 
@@ -281,6 +356,16 @@ class TheCommand(ScanCase):
         run = self.scan('a.pkl.gz', '--max-bytes', '1K')
         self.assertEqual(run.returncode, 1)
         self.assertIn('more than 1,024 bytes are unpacked', run.stdout)
+
+    def test_a_file_whose_name_begins_like_a_url(self) -> None:
+        names = ['http::evil.pkl', 'simplecache::x.pkl', 'a:b', 'file:/x.pkl', 's3:/bucket/model.pkl']
+        for name in names:
+            self.file(name, HOSTILE)
+        self.assertTrue((self.folder / 's3:' / 'bucket' / 'model.pkl').exists())
+        run = self.scan(*names, 's3://bucket/model.pkl', 's3://')
+        self.assertEqual(run.returncode, 0)
+        self.assertIn('7 files, 7 pickles in 7 of them', run.stdout)
+        self.assertRegex(self.scan('s3://bucket/none.pkl').stdout, '^! s3://bucket/none.pkl: cannot be read: ')
 
     def test_urls(self) -> None:
         try:

@@ -9,18 +9,24 @@ import lzma
 import os
 import random
 import socket
+import struct
+import subprocess
 import tarfile
 import threading
 import time
 import unittest
 import zipfile
 import zlib
+from dataclasses import replace
+from typing import Sequence
 from unittest import mock
 
 from picklestep.records import End
 from picklestep.scan import Options, look
 from picklestep.scan.blobs import Limits
-from scan_support import HARMLESS, HOSTILE, MODELS, Made, ScanCase, names_of, notes_of, places_of, zip_of
+from picklestep.scan.reading import Summary
+from scan_support import (HARMLESS, HOSTILE, MODELS, Made, ScanCase, closing, entry, local, names_of, notes_of, places_of,
+                          zip_of)
 
 
 class HostileZip(ScanCase):
@@ -115,6 +121,46 @@ class HostileZip(ScanCase):
             result = self.look('model.pt', data)
             self.assertEqual(sorted(names_of(result)), ['collections.OrderedDict', 'posix.system'])
 
+    def test_two_directories(self) -> None:
+        # (the real torch 1.13 loads data.pkl of this file, which Python's zipfile does not see)
+        data = two_directories([Made(b'archive/data.pkl', HOSTILE), Made(b'archive/version', b'3\n')])
+        with zipfile.ZipFile(io.BytesIO(data)) as archive:
+            self.assertEqual(archive.namelist(), ['weights.bin'])
+            self.assertEqual(archive.read('weights.bin')[:5], b'\xffPK\x03\x04')
+        self.found(data, 'it has another directory at offset 2201')
+        self.assertIn('archive/data.pkl', places_of(self.look('a.pt', data)))
+
+    def test_two_closing_records(self) -> None:
+        # The last record is the comment of another one, whose comment reaches to the end of the file too.
+        hidden = Made(b'data.pkl', HOSTILE)
+        told = entry(hidden, 42)
+        seen = Made(b'weights.bin', b'\xff' + local(hidden) + told)
+        body, last = local(seen), entry(seen, 0)
+        places = (len(told), 42 + len(local(hidden))), (len(last), len(body))
+        for one, other in (places, places[::-1]):
+            self.found(body + last + closing(1, *one, comment=closing(1, *other)))
+
+    def test_closing_records_without_end(self) -> None:
+        # Several thousand of them in each member: no more than a few are looked at.
+        data = shared(Made(b'name', b'\xff' + b'PK\x05\x06' * 16_000), 50)
+        begin = time.monotonic()
+        self.look('a.zip', data)
+        self.assertLess(time.monotonic() - begin, 5)
+
+    def test_bytes_of_the_size_of_a_record(self) -> None:
+        # The record after a member's data has 12, 16, 20 or 24 bytes, and these pickles are as long.
+        for call in (b'cos\nxy\n)R0N.', b'PK\x07\x08\ncos\nx\n)R.', b'cos\ngetppid\n(tR0NN0.', b'ccode\ninteract\n)R0NN0N0.'):
+            self.assertTrue(12 <= len(call) <= 24)
+            result = self.look('a.zip', zip_of([Made(b'a', b'text', after=call), Made(b'b', b'text')]))
+            self.assertIn(f'(bytes 35 to {35 + len(call)}): these bytes belong to no member', notes_of(result))
+        self.assertEqual(names_of(result), ['code.interact'])
+
+    def test_a_record_after_the_data(self) -> None:
+        sums = struct.pack('<III', zlib.crc32(b'text'), 4, 4)
+        for record in (sums, b'PK\x07\x08' + sums, sums[:4] + struct.pack('<QQ', 4, 4), b'PK\x07\x08' + sums[:4] + struct.pack('<QQ', 4, 4)):
+            data = zip_of([Made(b'a', b'text', flags=8, after=record), Made(b'b', b'text')])
+            self.assertEqual(notes_of(self.look('a.zip', data)), '')
+
     def test_an_ending_that_says_nothing(self) -> None:
         self.found(zip_of([Made(b'weights.bin', HOSTILE, 8)]))
         self.found(zip_of([Made(b'archive/data/0', HOSTILE)]))
@@ -151,14 +197,8 @@ class HostileZip(ScanCase):
                 self.assertIsNone(self.look('a.zip', bytes(data)).error)
 
 
-class _Nothing(list):  # type: ignore[type-arg]
-    """An answer of the program without a line."""
-
-    text = '0 imports, 0 calls\n'
-    end = End('stopped')
-
-
-NOTHING = _Nothing()
+NOTHING = Summary(Limits(), False)
+NOTHING.end = End('stopped')
 
 
 class Bombs(ScanCase):
@@ -178,12 +218,7 @@ class Bombs(ScanCase):
             self.assertIn('more than 1,000,000 bytes are unpacked', notes_of(result))
 
     def test_members_that_share_their_data(self) -> None:
-        one = zip_of([Made(b'a', bytes(1_000_000), 8)])
-        start = one.index(b'PK\x01\x02')
-        entry, record = one[start:one.index(b'PK\x05\x06')], bytearray(one[one.index(b'PK\x05\x06'):])
-        record[8:10] = record[10:12] = (200).to_bytes(2, 'little')
-        record[12:16] = (200 * len(entry)).to_bytes(4, 'little')
-        result = self.look('a.zip', one[:start] + entry * 200 + bytes(record), Options(Limits(unpacked=50_000_000)))
+        result = self.look('a.zip', shared(Made(b'name', bytes(1_000_000), 8), 200), Options(Limits(unpacked=50_000_000)))
         self.assertIn('bytes are unpacked', notes_of(result))
 
     def test_too_many_members(self) -> None:
@@ -211,17 +246,99 @@ class Bombs(ScanCase):
         self.assertIn('! (xz): the compressed data cannot be unpacked', notes_of(self.look('a.xz', packed)))
 
     def test_a_real_limit_of_memory(self) -> None:
-        self.file('a.pkl', b'(' + b'N' * 3_000_000 + b'l.')
-        self.file('b.pkl', HOSTILE)
-        with mock.patch('picklestep.scan.reading.calls', side_effect=limited):
-            results = [look(str(self.folder / name)) for name in ('a.pkl', 'b.pkl')]
-        self.assertIn('! : the program did not read it', notes_of(results[0]))
+        limits = Options(Limits(memory=32 << 20))
+        result = self.look('a.pkl', b'(' + b'N' * 3_000_000 + b'l.', limits)
+        self.assertIn('! : the program had no more memory (it may take 33,554,432 bytes)', notes_of(result))
+        self.assertEqual(names_of(self.look('b.pkl', HOSTILE, limits)), ['posix.system'])
+
+    def test_an_answer_of_many_lines(self) -> None:
+        many = b'cos\ngetcwd\nq\x000' + b'h\x00)R0' * 5000 + b'N.'
+        result = self.look('a.pkl', many, Options(Limits(lines=1000)))
+        self.assertIn('! : the answer about it has more than 1,000 lines: the rest of it is not looked at', notes_of(result))
+        self.assertEqual((names_of(result), result.pickles[0].end.how), (['os.getcwd'], 'unknown'))
+        self.assertLessEqual(result.pickles[0].calls[0].count, 1000)
+        # What is kept of it is bounded too: lines that all differ, and all lines where these are asked for.
+        with mock.patch('picklestep.scan.reading._MOST_KEPT', 10_000):
+            different = b''.join(b'cos\nname%d\n0' % number for number in range(5000)) + b'N.'
+            for content, lines in ((different, False), (many, True)):
+                result = self.look('a.pkl', content, Options(Limits(), lines))
+                self.assertIn('! : the answer about it has more than 10,000 bytes of different lines', notes_of(result))
+            self.assertTrue(self.look('a.pkl', many).pickles[0].end.is_stopped)
+
+    def test_an_answer_that_takes_long(self) -> None:
+        program = self.file('program', b"#!/bin/sh\necho '    0: import '\"'os' 'x'\"' as #0'\nexec sleep 30\n")
+        program.chmod(0o755)
+        begin = time.monotonic()
+        with mock.patch.dict(os.environ, PICKLESTEP_PROGRAM=str(program)):
+            result = self.look('a.pkl', b'N.', Options(Limits(seconds=1)))
+        self.assertLess(time.monotonic() - begin, 10)
+        self.assertIn('! : the program took more than 1 seconds: the rest of it is not looked at', notes_of(result))
+        self.assertEqual(names_of(result), ['os.x'])  # (what it said before is told)
+
+    def test_stored_members_that_share_their_bytes(self) -> None:
+        data = shared(Made(b'name', HARMLESS * 1000), 100)
+        result = self.look('a.zip', data, Options(Limits(unpacked=500_000)))
+        self.assertIn('members share bytes, and more than 500,000 are looked at again', notes_of(result))
+        self.assertLess(len(result.pickles), 40)
+        # Bytes that unpack to nothing.
+        data = shared(Made(b'name', b'', 8, after=b''), 1)
+        nothing = zlib.compressobj(0, zlib.DEFLATED, -15)
+        packed = b''.join(nothing.flush(zlib.Z_FULL_FLUSH) + b'\0\0\0\xff\xff' * 20_000 for _ in range(2)) + nothing.flush()
+        result = self.look('a.zip', shared(Packed(b'name', packed, 8), 300), Options(Limits(unpacked=1_000_000)))
+        self.assertIn('members share bytes', notes_of(result))
+
+    def test_honest_files_are_read_once(self) -> None:
+        names = [b'%d.pkl' % number for number in range(30)]
+        data = zip_of([Made(name, HARMLESS * 3000) for name in names])
+        result = self.look('a.zip', data, Options(Limits(unpacked=100_000)))
+        self.assertEqual((len(result.pickles), notes_of(result)), (30, ''))
 
 
-def limited(path: str, many: bool) -> object:
-    """The program with as little memory as no pickle fits in."""
-    import picklestep
-    return picklestep.calls(path, many=many, memory=1 << 20)
+class Packed(Made):
+    """A member whose data are packed already."""
+
+    def packed(self) -> bytes:
+        return self.data
+
+
+def shared(made: Made, count: int) -> bytes:
+    """An archive whose directory names one member many times."""
+    entries = b''.join(entry(replace(made, name=b'%d' % number), 0) for number in range(count))
+    body = local(made)
+    return body + entries + closing(count, len(entries), len(body))
+
+
+def two_directories(hidden: Sequence[Made]) -> bytes:
+    """An archive with one closing record and two directories. One ends at the record and names one member, which begins with ff. The record
+    tells the offset of the other one, which stands inside that member like the members that it names.
+
+    Whoever counts the directory's size back adds the difference to all offsets, so bytes of no member stand before it.
+    """
+    body = local(Made(b'archive/pad', bytes(2000)))
+    first = len(body)
+    inside, told = b'\xff', b''
+    for made in hidden:
+        told += entry(made, first + 41 + len(inside))
+        inside += local(made)
+    offset = first + 41 + len(inside)
+    seen = Made(b'weights.bin', inside + told)
+    body += local(seen)
+    back = entry(seen, first - (len(body) - offset), b' ' * (len(told) - 57))
+    return body + back + closing(len(hidden), len(told), offset)
+
+
+def summed(header: bytearray) -> bytes:
+    """A tar header with the sum that it should have."""
+    header[148:156] = b' ' * 8
+    header[148:156] = b'%06o\0 ' % sum(header[:512])
+    return bytes(header)
+
+
+def with_records(kind: bytes, records: bytes, member: bytes) -> bytes:
+    """A tar archive that has a block of records before a member."""
+    header = bytearray(tarfile.TarInfo('records').tobuf(tarfile.USTAR_FORMAT))
+    header[124:136], header[156:157] = b'%011o\0' % len(records), kind
+    return summed(header) + records.ljust(512, b'\0') + member
 
 
 class HostileTar(ScanCase):
@@ -271,11 +388,73 @@ class HostileTar(ScanCase):
         for field in (b'\xff' * 12, b'77777777777\0', b'-0000000001\0', b'\x80' + b'\xff' * 11):
             data = bytearray(self.tar(a=HOSTILE))
             data[124:136] = field
-            data[148:156] = b' ' * 8
-            data[148:156] = b'%06o\0 ' % sum(data[:512])
-            result = self.look('a.tar', bytes(data))
+            result = self.look('a.tar', summed(data))
             self.assertIsNone(result.error)
             self.assertIn('posix.system', names_of(result) or [notes_of(result)])
+
+    def test_sparse_members(self) -> None:
+        # The stored bytes end within the text of an opcode. What an extractor makes of them is a pickle.
+        content = b'B' + (1 << 20).to_bytes(4, 'little') + bytes(1 << 20) + b'0' + HOSTILE
+        with open(self.folder / 'model.bin', 'wb') as file:
+            file.write(content[:5])
+            file.seek(len(content) - 26)
+            file.write(content[-26:])
+        for words in (['--format=gnu'], *(['--format=posix', f'--sparse-version={version}'] for version in ('0.0', '0.1', '1.0'))):
+            with self.subTest(words):
+                run = subprocess.run(['tar', '-c', '-S', '--hole-detection=raw', *words, '-f', 'a.tar', 'model.bin'], cwd=self.folder,
+                                     capture_output=True, check=False)
+                if run.returncode != 0:
+                    self.skipTest('GNU tar is not here')
+                with tarfile.open(self.folder / 'a.tar') as archive:
+                    held = archive.extractfile('model.bin')
+                    assert held is not None
+                    self.assertEqual(held.read(), content)
+                self.assertLess((self.folder / 'a.tar').stat().st_size, 1 << 16)
+                result = look(str(self.folder / 'a.tar'))
+                self.assertEqual((names_of(result), places_of(result)), (['posix.system'], ['model.bin > (expanded)']))
+                self.assertIn('it is sparse', notes_of(result))
+                self.assertFalse(any(note.missed for note in result.notes), notes_of(result))
+                small = look(str(self.folder / 'a.tar'), Options(Limits(unpacked=1 << 19)))
+                self.assertIn('! model.bin: more than 524,288 bytes are unpacked', notes_of(small))
+
+    def test_sparse_members_that_nobody_writes(self) -> None:
+        data = bytearray(self.tar(a=HOSTILE))
+        for pieces in (((0, 25), (10, 5)), ((1 << 40, 25),), ((0, 25),) * 4):
+            for index, number in enumerate(number for piece in pieces for number in piece):
+                data[386 + 12 * index:398 + 12 * index] = b'%011o\0' % number
+            data[156:157], data[483:495] = b'S', b'%011o\0' % 25
+            self.assertIn('! a: it is sparse, and its pieces are not in order', notes_of(self.look('a.tar', summed(data))))
+        records = b'22 GNU.sparse.major=1\n22 GNU.sparse.minor=0\n30 GNU.sparse.realsize=999999\n'
+        for begin in (b'9' * 20 + b'\n', b'3\n1\n', b'x\n', b'-1\n'):
+            result = self.look('a.tar', with_records(b'x', records, self.tar(a=begin.ljust(512, b'\0') + HOSTILE)))
+            self.assertIsNone(result.error)
+
+    def test_sizes_that_readers_take_differently(self) -> None:
+        # tarfile takes the size of the records, and busybox that of the header. Behind the smaller one other members stand.
+        inner = self.tar(b=HOSTILE)[:1024]
+        for kind in (b'x', b'X', b'g'):
+            for told, size in ((1024, 0), (0, 1024), (1024, 5), (3, 1024)):
+                member = bytearray(self.tar(a=bytes(size))[:512])
+                data = with_records(kind, b'%d size=%d\n' % (9 + len(b'%d' % told), told), bytes(member) + inner)
+                with self.subTest((kind, told, size)):
+                    self.assertIn('posix.system', names_of(self.look('a.tar', data)))
+
+    def test_records_that_are_longer_than_the_archive(self) -> None:
+        header = bytearray(self.tar(a=b'')[:512])
+        header[124:136], header[156:157] = b'77777777777\0', b'x'
+        self.assertIn('posix.system', names_of(self.look('a.tar', summed(header) + self.tar(b=HOSTILE))))
+
+    def test_sums_and_numbers_that_tarfile_takes(self) -> None:
+        # Bytes above 127 in a name, counted as numbers below zero; numbers with signs and as bytes.
+        data = bytearray(self.tar(**{'a' * 20: HOSTILE}))
+        data[:4] = b'\xff\xfe\xfd\xfc'
+        data[148:156] = b' ' * 8
+        below = sum(byte - 256 if byte > 127 else byte for byte in data[:512])
+        for field in (b'%06o\0 ' % below, b'+%o' % below, b'\x80\0\0\0' + below.to_bytes(4, 'big')):
+            data[148:156] = field.ljust(8, b'\0')
+            with tarfile.open(fileobj=io.BytesIO(bytes(data))) as archive:
+                self.assertEqual([member.size for member in archive], [len(HOSTILE)])
+            self.assertEqual(names_of(self.look('a.tar', bytes(data))), ['posix.system'])
 
     def test_links_and_names(self) -> None:
         held = io.BytesIO()
@@ -313,7 +492,7 @@ class HostileFolders(ScanCase):
                      '  ./n\\udcff.pkl: 28 bytes'):
             self.assertIn(line, run.stdout.splitlines())
         self.assertIn('4 files, 3 pickles in 3 of them', run.stdout)
-        self.assertIn('1 files that cannot be read, 3 left out', run.stdout)
+        self.assertIn('1 file that cannot be read, 3 left out', run.stdout)
 
     def test_devices(self) -> None:
         run = self.scan('/dev/null', '/dev/zero')

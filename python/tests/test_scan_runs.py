@@ -106,8 +106,9 @@ class Runs(RunCase):
         env = self.wrapped('case $file in *0001.pkl) kill -9 $$;; esac')
         run = subprocess.run([sys.executable, '-m', 'picklestep', 'scan', 'files'], cwd=self.folder, env=env, capture_output=True, text=True,
                              timeout=60)
-        self.assertIn('! files/0001.pkl: the program did not read it: ended by signal 9', run.stdout)
-        self.assertIn('3 files, 2 pickles', run.stdout)
+        self.assertIn('! files/0001.pkl: the program did not read all of it: ended by signal 9', run.stdout)
+        self.assertIn('3 files, 3 pickles', run.stdout)
+        self.assertIn('1 pickle not read to a STOP, 1 file not looked at whole', run.stdout)
 
     def test_ctrl_c(self) -> None:
         self.fill(30)
@@ -151,6 +152,34 @@ class Runs(RunCase):
         run = self.scan('files', '--json', '--resume', 'log')
         self.assertEqual([json.loads(line)['path'] for line in run.stdout.splitlines()], [f'files/{names[2]}'])
         self.assertEqual(self.scan('files', '--resume', 'no_such_log').returncode, 2)
+
+    def test_going_on_in_the_same_log(self) -> None:
+        names = self.fill(30)
+        env = self.wrapped('sleep 0.02')
+        log = self.folder / 'log'
+        run = self.start(['files', '--json'], env)
+        assert run.stdout is not None and run.stderr is not None
+        # What a pipe had brought when the run was killed: three lines, and a part of the fourth.
+        log.write_text(''.join(run.stdout.readline() for _ in range(3)) + run.stdout.read(50))
+        run.kill()
+        run.wait(30)
+        run.stdout.close()
+        run.stderr.close()
+        for _ in range(2):  # (the second run finds nothing to do, and writes nothing)
+            with open(log, 'ab') as out:
+                again = subprocess.run([sys.executable, '-m', 'picklestep', 'scan', 'files', '--json', '--resume', 'log'], cwd=self.folder,
+                                       env=environment(), stdout=out, stderr=subprocess.PIPE, text=True, timeout=60)
+            self.assertRegex(again.stderr, '^30 files, 30 pickles')
+        lines = log.read_text().splitlines()
+        self.assertEqual(len(lines), 31)
+        self.assertEqual(len(lines.pop(3)), 50)
+        self.assertEqual([json.loads(line)['path'] for line in lines], [f'files/{name}' for name in names])
+        # What goes into another file begins with its own first line.
+        log.write_text('{"path": "cut')
+        with open(self.folder / 'other', 'wb') as out:
+            subprocess.run([sys.executable, '-m', 'picklestep', 'scan', 'files/0001.pkl', '--json', '--resume', 'log'], cwd=self.folder,
+                           env=environment(), stdout=out, stderr=subprocess.DEVNULL, timeout=60)
+        self.assertTrue((self.folder / 'other').read_text().startswith('{"path": "files/0001.pkl"'))
 
     def test_a_reader_that_leaves(self) -> None:
         self.fill(40)

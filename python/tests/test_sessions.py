@@ -11,12 +11,13 @@ import tempfile
 import threading
 import unittest
 from pathlib import Path
-from typing import Callable, Dict, List, Tuple
+from typing import Any, Callable, Dict, List, Tuple
+from unittest import mock
 
 import picklestep
 from picklestep import Change, End, Item, Mark, Object, Ran, Ref, Refused, Session, Shown, Where
 from picklestep.arguments import encoded
-from picklestep.program import find_program
+from picklestep.program import find_program, run_program
 from pickles import LIST, known_opcodes, real_pickles
 
 
@@ -289,6 +290,18 @@ class Threads(unittest.TestCase):
             for thread in threads:
                 thread.join()
             self.assertEqual(session.where().place, 1000)
+
+    def test_an_edit_while_another_thread_saves(self) -> None:
+        with picklestep.Session(b'K\x01.') as session:
+            session.replace(0, 'BININT1', 2)
+
+            def edited_meanwhile(*words: Any) -> bytes:
+                session.replace(0, 'BININT1', 3)
+                return run_program(*words)
+
+            with mock.patch('picklestep.session.run_program', side_effect=edited_meanwhile):
+                self.assertEqual(session.bytes(), b'K\x02.')
+            self.assertEqual(session.bytes(), b'K\x03.')
 
     def test_a_session_outlives_its_thread(self) -> None:
         opened: List[Session] = []

@@ -4,17 +4,18 @@ from __future__ import annotations
 
 import pickletools
 import re
-from typing import Dict, Optional
+from typing import Dict, Iterator, Optional, Tuple
 
-__all__ = ['HEAD', 'is_pickle_name', 'is_storage_name', 'kind_of', 'may_be_pickle', 'unread_kind_of']
+from .blobs import Blob, Budget, BytesBlob
 
-# So many bytes of a member tell what it is.
+__all__ = ['HEAD', 'imports_something', 'is_dotted', 'is_pickle_name', 'is_storage_name', 'kind_of', 'may_be_pickle', 'tar_number', 'tar_sum_fits', 'unread_kind_of']
+
+# The first bytes of a member, which tell what it is.
 HEAD = 16_384
 
 _PICKLE_NAME = re.compile(r'.*\.(pkl|pickle|pck|pcl|pk|p|joblib|pt|pth|ckpt|dill)', re.IGNORECASE | re.DOTALL)
 _STORAGE_NAME = re.compile(r'(.*/)?(data|constants)/[0-9]+', re.DOTALL)
 _ZLIB_METHOD = 8
-_TAR_SUM = re.compile(rb'[ \0]*([0-7]{1,8})[ \0]*')
 
 # Containers that this package does not open. They are told, since a loader may open them.
 _UNREAD = {
@@ -26,6 +27,12 @@ _SHAPES: Dict[int, 'pickletools.OpcodeInfo'] = {ord(each.code): each for each in
 # Opcodes from which on the program is asked: they end a pickle or reach out of it.
 _TELLING = frozenset({'STOP', 'STACK_GLOBAL', 'EXT1', 'EXT2', 'EXT4', 'PERSID', 'BINPERSID', 'NEXT_BUFFER'})
 _IMPORTS = frozenset({'GLOBAL', 'INST'})
+
+# Opcodes whose argument is a number in a line.
+_NUMBERS = frozenset({'INT', 'LONG', 'FLOAT', 'GET', 'PUT'})
+
+# What stands where the bytes at hand do not show how it goes on.
+_UNKNOWN = ''
 
 
 def is_pickle_name(name: str) -> bool:
@@ -42,12 +49,28 @@ def is_storage_name(name: str) -> bool:
     return _STORAGE_NAME.fullmatch(name) is not None
 
 
+def tar_number(field: bytes) -> int:
+    """A number in a tar header: octal digits, or bytes where it is large. One that is no number or below zero counts as 0.
+
+    >>> tar_number(b'0000017\\0'), tar_number(b'\\x80\\0\\0\\1'), tar_number(b'text')
+    (15, 1, 0)
+    """
+    if field[:1] >= b'\x80':
+        return int.from_bytes(bytes([field[0] & 0x7f]) + field[1:], 'big') if field[0] != 0xff else 0
+    try:
+        return max(0, int(field.split(b'\0')[0].strip() or b'0', 8))
+    except ValueError:
+        return 0
+
+
 def tar_sum_fits(block: bytes) -> bool:
-    """Whether a block of 512 bytes has the sum of a tar header."""
-    told = _TAR_SUM.fullmatch(block[148:156])
-    if told is None or len(block) < 512:
+    """Whether a block of 512 bytes has the sum of a tar header. Some writers count bytes above 127 as numbers below zero."""
+    if len(block) < 512:
         return False
-    return int(told[1], 8) == sum(block[:148]) + 8 * 32 + sum(block[156:512])
+    told = tar_number(block[148:156])
+    counted = block[:148] + block[156:512]
+    unsigned = 8 * 32 + sum(counted)
+    return told in (unsigned, unsigned - 256 * sum(byte > 127 for byte in counted)) if told else False
 
 
 def _is_zlib(head: bytes) -> bool:
@@ -71,11 +94,11 @@ def kind_of(head: bytes) -> Optional[str]:
         return 'bz2'
     if head[:6] == b'\xfd7zXZ\0':
         return 'xz'
-    if head[:3] == b'\x5d\0\0':
+    if head[:2] == b'\x5d\0':
         return 'lzma'
     if head[257:262] == b'ustar' or tar_sum_fits(head[:512]):
         return 'tar'
-    if head[:2] == b'ZF' and head[2:4] == b'0x':
+    if head[:2] == b'ZF':
         return 'zfile'
     return 'zlib' if _is_zlib(head) else None
 
@@ -95,48 +118,132 @@ def may_be_pickle(head: bytes, size: int) -> bool:
     """
     if head[:1] == b'\x80' and head[1:2] <= b'\x05' and size > 1:
         return True
-    at = 0
-    while at < len(head):
-        shape = _SHAPES.get(head[at])
-        if shape is None:
-            return False
-        if shape.name in _TELLING:
+    for name, argument in _opcodes(BytesBlob(head), size):
+        if name in _TELLING or name == _UNKNOWN or name == 'FRAME' and int.from_bytes(argument, 'little') <= size:
+            return True  # (where a frame ends within an argument, loaders differ in how they go on)
+        if name in _IMPORTS:
+            return _can_be_named(argument)
+    return False
+
+
+def imports_something(blob: Blob, budget: Budget) -> bool:
+    """Whether a loader comes to an import of a plain name if it goes on wherever an opcode can be read.
+
+    The program ends in some pickles in which CPython goes on (docs/CODES.md). Where nothing else tells that the bytes are a pickle, this
+    does. They count as one, too, where the budget of opcodes is used up.
+
+    >>> from .blobs import Limits
+    >>> imports_something(BytesBlob(b'Np+1\\n0cos\\nsystem\\n'), Budget(Limits()))
+    True
+    >>> imports_something(BytesBlob(b'Np+1\\ntext\\ntext'), Budget(Limits()))
+    False
+    """
+    has_text = False
+    for name, argument in _opcodes(blob, blob.size):
+        budget.opcodes -= 1
+        if budget.opcodes < 0 or name in _IMPORTS and all(is_dotted(line) for line in argument.split(b'\n')):
             return True
-        if shape.name in _IMPORTS:
-            return _names_something(head, at + 1, size)
-        end = _end_of_argument(head, at + 1, shape)
-        if end is None:
-            return len(head) < size  # a line or a count that goes on after the head
-        if end > size:
-            return False
-        at = end
-    return len(head) < size
+        if name == 'STACK_GLOBAL' and has_text:
+            return True
+        has_text = has_text or ('UNICODE' in name or 'STRING' in name) and is_dotted(argument.strip(b'\'"'))
+    return False
 
 
-def _end_of_argument(head: bytes, at: int, shape: 'pickletools.OpcodeInfo') -> Optional[int]:
-    """Where an argument ends. None where the head does not show it."""
-    if shape.arg is None:
-        return at
-    if shape.arg.n >= 0:
-        return at + shape.arg.n
-    if shape.arg.n == pickletools.UP_TO_NEWLINE:
-        found = head.find(b'\n', at)
-        return found + 1 if found >= 0 else None
-    width = {pickletools.TAKEN_FROM_ARGUMENT1: 1, pickletools.TAKEN_FROM_ARGUMENT8U: 8}.get(shape.arg.n, 4)
-    if at + width > len(head):
-        return None
-    return at + width + int.from_bytes(head[at:at + width], 'little')
+def is_dotted(text: bytes) -> bool:
+    """Whether this is a plain name, or several with dots between them.
 
-
-def _names_something(head: bytes, at: int, size: int) -> bool:
-    """Whether two lines stand here that can name something. Text with a NUL byte or outside UTF-8 names nothing that can be imported."""
-    lines = head[at:].split(b'\n', 2)
-    if len(lines) < 3 and len(head) >= size:
-        return False
-    if any(b'\0' in line for line in lines[:2]):
-        return False
+    >>> is_dotted(b'os.path'), is_dotted(b'os '), is_dotted(b'')
+    (True, False, False)
+    """
     try:
-        b'\n'.join(lines[:2]).decode('utf-8')
+        return all(part.isidentifier() for part in text.decode('utf-8').split('.'))
     except UnicodeDecodeError:
-        return len(lines) < 3
-    return True
+        return False
+
+
+class _Bytes:
+    """Bytes that are gone over from the first to the last: some of them are at hand."""
+
+    def __init__(self, blob: Blob) -> None:
+        self.blob = blob
+        self.start = 0
+        self.window = b''
+
+    def at(self, offset: int, count: int) -> bytes:
+        """The bytes from an offset on: `count` of them, or fewer at the end."""
+        if not self.start <= offset <= offset + count <= self.start + len(self.window):
+            self.start, self.window = offset, self.blob.read(offset, max(count, HEAD))
+        return self.window[offset - self.start:offset - self.start + count]
+
+    def after_newline(self, offset: int) -> Optional[int]:
+        """Where the line ends that begins here, with its newline."""
+        found = self.window.find(b'\n', offset - self.start) if offset >= self.start else -1
+        if found >= 0:
+            return self.start + found + 1
+        for piece in self.blob.chunks(offset):
+            found = piece.find(b'\n')
+            if found >= 0:
+                return offset + found + 1
+            offset += len(piece)
+        return None
+
+
+def _opcodes(blob: Blob, size: int) -> Iterator[Tuple[str, bytes]]:
+    """The opcodes that a loader finds in `size` bytes, each with the first bytes of its argument, up to where no loader goes on. Where
+    `blob` has only the first of these bytes, the last opcode is `_UNKNOWN`.
+    """
+    at = 0
+    data = _Bytes(blob)
+    while at < size:
+        code = data.at(at, 1)  # (none where the file became shorter)
+        shape = _SHAPES.get(code[0]) if code else None
+        if shape is None:
+            if at >= blob.size:
+                yield _UNKNOWN, b''
+            return
+        found = _argument(data, at + 1, shape)
+        if found is None:
+            if blob.size < size:
+                yield _UNKNOWN, b''
+            return
+        begin, end = found
+        argument = data.at(begin, min(end - begin, HEAD))
+        if end > size or not _is_taken(shape, argument):
+            return
+        yield shape.name, argument.rstrip(b'\n') if shape.arg is not None and shape.arg.n == pickletools.UP_TO_NEWLINE else argument
+        at = end
+
+
+def _argument(data: _Bytes, at: int, shape: 'pickletools.OpcodeInfo') -> Optional[Tuple[int, int]]:
+    """Where the content of an argument begins and where it ends. None where it has no end."""
+    if shape.arg is None:
+        return at, at
+    if shape.arg.n >= 0:
+        return at, at + shape.arg.n
+    if shape.arg.n == pickletools.UP_TO_NEWLINE:
+        end = data.after_newline(at)
+        if end is not None and shape.name in _IMPORTS:
+            end = data.after_newline(end)
+        return None if end is None else (at, end)
+    width = {pickletools.TAKEN_FROM_ARGUMENT1: 1, pickletools.TAKEN_FROM_ARGUMENT8U: 8}.get(shape.arg.n, 4)
+    length = data.at(at, width)
+    if len(length) < width:
+        return None
+    return at + width, at + width + int.from_bytes(length, 'little')
+
+
+def _is_taken(shape: 'pickletools.OpcodeInfo', argument: bytes) -> bool:
+    """Whether some loader goes on after an opcode with this argument. Numbers may stand between blanks, and end at a NUL byte."""
+    if shape.name in _NUMBERS:
+        return len(argument) >= HEAD or len(argument.split(b'\0')[0].split()) <= 1
+    if shape.name == 'STRING':
+        return argument.strip()[:1] in (b'"', b"'")
+    return shape.name != 'PROTO' or argument <= b'\x05'
+
+
+def _can_be_named(lines: bytes) -> bool:
+    """Whether these two lines can name something. Text with a NUL byte or outside UTF-8 names nothing that can be imported."""
+    try:
+        return '\0' not in lines.decode('utf-8')
+    except UnicodeDecodeError:
+        return False

@@ -14,11 +14,18 @@ CHUNK = 1 << 18
 
 @dataclass(frozen=True)
 class Limits:
-    """How much is looked at in one file: bytes that are unpacked, members, and containers one in another."""
+    """How much is looked at.
+
+    In one file: unpacked bytes, members, and containers one in another. For one pickle: seconds and bytes of memory that the program may
+    take, and lines of its answer.
+    """
 
     unpacked: int = 1 << 30
     members: int = 100_000
     depth: int = 4
+    seconds: float = 300
+    memory: int = 4 << 30
+    lines: int = 10_000_000
 
 
 class LimitMet(Exception):
@@ -26,18 +33,31 @@ class LimitMet(Exception):
 
 
 class Budget:
-    """What is left of the limits while a file is looked at."""
+    """What is left of the limits while a file is looked at.
+
+    `size` is that of the file, and `opcodes` how many are gone over in bytes in which the program found nothing.
+    """
 
     def __init__(self, limits: Limits) -> None:
         self.limits = limits
+        self.size = 0
         self.unpacked = 0
+        self.read = 0
         self.members = 0
+        self.opcodes = 1_000_000
 
     def unpack(self, count: int) -> None:
         """Counts unpacked bytes."""
         self.unpacked += count
         if self.unpacked > self.limits.unpacked:
             raise LimitMet(f'more than {self.limits.unpacked:,} bytes are unpacked: the rest of the file is not looked at')
+
+    def look(self, count: int) -> None:
+        """Counts bytes that are looked at. Those of the file and the unpacked ones may be once; members that share bytes need more."""
+        self.read += count
+        if self.read > self.size + self.unpacked + self.limits.unpacked:
+            raise LimitMet(f'members share bytes, and more than {self.limits.unpacked:,} are looked at again: the rest of the file is not '
+                           'looked at')
 
     def member(self) -> None:
         """Counts a member."""

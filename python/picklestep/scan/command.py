@@ -10,7 +10,7 @@ import re
 import signal
 import sys
 from contextlib import closing
-from typing import Dict, Generator, List, Optional
+from typing import Dict, Generator, List, Optional, TextIO
 
 from ..errors import ProgramError
 from ..program import find_program
@@ -63,6 +63,9 @@ def _parser() -> argparse.ArgumentParser:
     parser.add_argument('--max-bytes', metavar='N', type=_bytes, default=limits.unpacked, help='unpacked bytes of a file (1G)')
     parser.add_argument('--max-members', metavar='N', type=_positive, default=limits.members, help='members of a file (100000)')
     parser.add_argument('--max-depth', metavar='N', type=_positive, default=limits.depth, help='containers one in another (4)')
+    parser.add_argument('--max-seconds', metavar='N', type=_positive, default=limits.seconds, help='seconds for the answer about one pickle (300)')
+    parser.add_argument('--max-memory', metavar='N', type=_bytes, default=limits.memory, help='memory of the program for one pickle (4G)')
+    parser.add_argument('--max-lines', metavar='N', type=_positive, default=limits.lines, help='lines of the answer about one pickle (10000000)')
     return parser
 
 
@@ -72,7 +75,7 @@ def _earlier(log: Optional[str]) -> Dict[str, Result]:
     earlier: Dict[str, Result] = {}
     if log is None:
         return earlier
-    with open(log, encoding='utf-8') as lines:
+    with open(log, encoding='utf-8', errors='replace') as lines:
         for line in lines:
             try:
                 result = from_json(json.loads(line))
@@ -81,6 +84,18 @@ def _earlier(log: Optional[str]) -> Dict[str, Result]:
             if result.error is None and result.left is None:
                 earlier[result.path] = result
     return earlier
+
+
+def _end_cut_line(log: str, out: TextIO) -> None:
+    """Ends the log's last line where it is cut and the output goes on in that file, so that the next line is one of its own."""
+    with open(log, 'rb') as file:
+        is_cut = file.seek(0, os.SEEK_END) > 0 and os.pread(file.fileno(), 1, file.tell() - 1) != b'\n'
+        try:
+            other = os.fstat(out.fileno())
+        except OSError:  # an output that is no file, such as one in memory
+            return
+        if is_cut and os.path.samestat(os.fstat(file.fileno()), other):
+            out.write('\n')
 
 
 def _is_same(path: str, earlier: Result) -> bool:
@@ -93,7 +108,8 @@ def _is_same(path: str, earlier: Result) -> bool:
 
 
 def _results(words: argparse.Namespace, paths: List[str]) -> Generator[Result, None, None]:
-    options = Options(Limits(words.max_bytes, words.max_members, words.max_depth), words.lines)
+    limits = Limits(words.max_bytes, words.max_members, words.max_depth, words.max_seconds, words.max_memory, words.max_lines)
+    options = Options(limits, words.lines)
     if words.cluster is not None:
         return look_on_cluster(paths, options, words.cluster)
     return look_at_all(paths, options, words.jobs)
@@ -102,6 +118,8 @@ def _results(words: argparse.Namespace, paths: List[str]) -> Generator[Result, N
 def _scan(words: argparse.Namespace) -> int:
     allowed = read_allowed(words.allow) if words.allow else None
     earlier = _earlier(words.resume)
+    if words.resume is not None and words.json:
+        _end_cut_line(words.resume, sys.stdout)
     report = Report(sys.stdout, allowed, words.json, words.brief)
     paths: List[str] = []
     interrupted = False

@@ -12,20 +12,23 @@ from dataclasses import dataclass, replace
 from importlib import import_module
 from typing import Any, BinaryIO, Callable, Dict, Iterator, List, Optional, Set, Tuple
 
-from ..errors import ProgramError
 from ..sources import LIMIT
 from . import tars, zips
-from .begins import HEAD, is_pickle_name, is_storage_name, kind_of, may_be_pickle, unread_kind_of
+from .begins import HEAD, imports_something, is_pickle_name, is_storage_name, kind_of, may_be_pickle, unread_kind_of
 from .blobs import Blob, Budget, BytesBlob, FileBlob, LimitMet, Limits, OpenedBlob, spooled
 from .packed import METHODS, Decompressor, Unpacking, raw_deflate, raw_lzma
-from .reading import asks_program, reaches_out, summed_up, why_unread
+from .reading import asks_program, held, offset_of_item, why_unread
 from .results import Note, Pickle, Place, Result
 
 __all__ = ['Options', 'look', 'look_at_bytes']
 
 _URL = re.compile(r'[A-Za-z][A-Za-z0-9+.-]*(::|://)')
 _PACKED_ENDING = re.compile(r'\.(gz|gzip|bz2|xz|lzma|z|zlib)$', re.IGNORECASE)
-# joblib before 0.10: the letters ZF, then the length as 19 characters, then a zlib stream.
+# The program ends at a frame in a frame, and at an opcode that crosses the end of one. Raw numbers do not get there, and CPython goes on.
+_FRAME_FAULTS = ('F6', 'F8')
+# The bytes by which a member is told to be a container: its first ones, and where the record stands that closes a zip archive.
+_GLANCE = HEAD + zips.TAIL
+# joblib before 0.10: the letters ZF, then the length as 19 characters, then a zlib stream, before which joblib skips a blank.
 _ZFILE_HEADER = 21
 
 
@@ -57,6 +60,7 @@ class Looker:
     def look_at(self, blob: Blob, where: Place, names: Tuple[str, ...], depth: int, is_gap: bool = False) -> None:
         """Looks at bytes: a container, a pickle, or neither."""
         self.at = where
+        self.budget.look(min(blob.size, _GLANCE))
         head = blob.read(0, HEAD)
         kind = None if is_gap else kind_of(head)
         if kind is not None and self._open(kind, blob, where, names, depth):
@@ -79,15 +83,20 @@ class Looker:
         if blob.size > LIMIT:
             self.note(where, f'it has more than {LIMIT:,} bytes, which is too large for the program', missed=True)
             return True
-        try:
-            answer = asks_program(blob)
-        except ProgramError as error:
-            self.note(where, f'the program did not read it: {error.words}', missed=True)
-            return True
-        begins = head[:1] == b'\x80' and head[1:2] <= b'\x05' and not any(is_storage_name(name) for name in names)
-        if not (begins or any(is_pickle_name(name) for name in names) or reaches_out(answer)):
-            return False
-        pickle = summed_up(where, blob.size, answer, self.options.lines)
+        self.at = where
+        self.budget.look(max(0, blob.size - _GLANCE))
+        limits = self.options.limits
+        with held(blob) as path:
+            answer = asks_program(path, blob.size, limits, self.options.lines)
+            is_pickle = _begins_as_pickle(head, names) or answer.is_sure or answer.end.is_stopped or answer.end.code in _FRAME_FAULTS
+            if answer.trouble is not None:
+                self.note(where, answer.trouble, missed=True)
+                is_pickle = is_pickle or not answer.is_empty
+            if not is_pickle and (answer.trouble is not None or not imports_something(blob, self.budget)):
+                return answer.trouble is not None
+            if answer.end.item is not None:
+                answer.end = replace(answer.end, offset=offset_of_item(path, answer.end.item, limits))
+        pickle = answer.pickle(where, blob.size)
         self.pickles.append(pickle)
         why = why_unread(head, pickle)
         if why is not None:
@@ -113,7 +122,7 @@ class Looker:
 
     def _open_packed(self, kind: str, blob: Blob, where: Place, names: Tuple[str, ...], depth: int) -> bool:
         """Looks into a compressed file, and at what stands after its end."""
-        offset = _ZFILE_HEADER if kind == 'zfile' else 0
+        offset = _ZFILE_HEADER + (blob.read(_ZFILE_HEADER, 1) == b' ') if kind == 'zfile' else 0
         unpacking = Unpacking(blob, METHODS['zlib' if kind == 'zfile' else kind], offset, kind != 'lzma')
         inner = where + (f'({kind})',)
         before = self.budget.unpacked
@@ -145,9 +154,20 @@ class Looker:
                 continue
             inner = where + (member.name,)
             self._note_name(member.name, inner, seen)
-            if member.cut:
-                self.note(inner, 'its data are cut short', missed=True)
+            for text in member.odd:
+                self.note(inner, text)
+            for text in member.missed:
+                self.note(inner, text, missed=True)
             self.look_at(blob.part(member.offset, member.size), inner, (member.name,), depth + 1)
+            for sparse in member.sparse:
+                self._look_at_sparse(sparse, inner, depth + 1)
+
+    def _look_at_sparse(self, sparse: Blob, where: Place, depth: int) -> None:
+        """Looks at what an extractor makes of a sparse member. It is mostly zeros, and may be very large."""
+        self.note(where, f'it is sparse: its stored bytes are looked at, and the {sparse.size:,} bytes that an extractor makes of them')
+        self.at = where
+        self.budget.unpack(sparse.size)
+        self.look_at(sparse, where + ('(expanded)',), where[-1:], depth)
 
     def _note_name(self, name: str, where: Place, seen: 'Counter[str]') -> None:
         """Tells a name that comes again, and one that leads elsewhere."""
@@ -252,7 +272,9 @@ class Looker:
             self.note(where, 'its checksum is wrong: it is looked at all the same')
 
     def _look_at_packed(self, blob: Blob, entry: zips.Entry, start: '_Start', where: Place, depth: int) -> None:
-        unpacking = start(blob.part(entry.data, entry.packed))
+        packed = blob.part(entry.data, entry.packed)
+        self.budget.look(packed.size)
+        unpacking = start(packed)
         size, sum_of = self._look_at_unpacked(unpacking, where, (entry.name,), depth)
         if unpacking.trouble is not None:
             self.note(where, unpacking.trouble, missed=True)
@@ -298,9 +320,9 @@ class Looker:
         return told[0], told[1]
 
     def _look_at_held(self, pieces: Iterator[bytes], where: Place, names: Tuple[str, ...], depth: int) -> None:
-        held = spooled(pieces)
-        with held.file:
-            self.look_at(held, where, names, depth)
+        copy = spooled(pieces)
+        with copy.file:
+            self.look_at(copy, where, names, depth)
 
     @staticmethod
     def _ends_in_zip(begin: List[bytes], pieces: Iterator[bytes]) -> bool:
@@ -309,6 +331,12 @@ class Looker:
         for piece in pieces:
             tail = (tail + piece)[-zips.TAIL:]
         return b'PK\x05\x06' in tail[-zips.TAIL:]
+
+
+def _begins_as_pickle(head: bytes, names: Tuple[str, ...]) -> bool:
+    """Whether bytes are told as a pickle whatever the program finds in them: by a name, or since they begin with PROTO."""
+    begins = head[:1] == b'\x80' and head[1:2] <= b'\x05' and not any(is_storage_name(name) for name in names)
+    return begins or any(is_pickle_name(name) for name in names)
 
 
 _Start = Callable[[Blob], Unpacking]
@@ -343,25 +371,32 @@ def _unpacker(blob: Blob, entry: zips.Entry) -> Optional[_Start]:
     return None
 
 
+# Items of arrays that are no objects, as numpy writes them. It takes many other spellings ('1O', 'i4,O', 'object'): all else counts as objects.
+_PLAIN_ITEM = re.compile(r'[<>=|]?([?]|[biufc][0-9]{1,2}|[SUVa][0-9]+|[mM]8(\[[0-9A-Za-z/]+\])?)')
+
+
 def _array_header(blob: Blob) -> Tuple[int, bool]:
-    """Where the header of numpy's own layout ends, and whether the array holds objects."""
+    """Where the header of numpy's own layout ends, and whether the array may hold objects."""
     begin = blob.read(0, 12)
     width = 2 if begin[6:7] == b'\x01' else 4
     length = int.from_bytes(begin[8:8 + width], 'little')
     text = blob.read(8 + width, min(length, HEAD)).decode('latin-1')
     try:
-        return 8 + width + length, _holds_objects(ast.literal_eval(text.strip())['descr'])
+        return 8 + width + length, not _is_plain(ast.literal_eval(text.strip())['descr'])
     except (ValueError, SyntaxError, KeyError, TypeError, MemoryError, RecursionError):
         return 8 + width + length, True  # numpy may read it another way
 
 
-def _holds_objects(description: Any) -> bool:
-    """Whether a description of an array's items has one that is an object."""
+def _is_plain(description: Any) -> bool:
+    """Whether a description of an array's items is known to have no objects: a word, a list of fields, or a pair of items and a shape."""
     if isinstance(description, str):
-        return description.lstrip('<>=|').startswith('O')
+        return _PLAIN_ITEM.fullmatch(description) is not None
     if isinstance(description, list):
-        return any(_holds_objects(field[1]) for field in description)
-    return isinstance(description, tuple) and _holds_objects(description[0])
+        return all(isinstance(field, tuple) and len(field) in (2, 3) and _is_plain(field[1]) for field in description)
+    if not isinstance(description, tuple) or len(description) != 2:
+        return False
+    shape = description[1] if isinstance(description[1], tuple) else (description[1],)
+    return _is_plain(description[0]) and all(isinstance(count, int) for count in shape)
 
 
 # --- Files ---
@@ -406,13 +441,14 @@ def _look_at_url(looker: Looker, path: str) -> Result:
 
 
 def is_url(path: str) -> bool:
-    """Whether a path is one for fsspec."""
-    return _URL.match(path) is not None
+    """Whether a path is one for fsspec: it begins like a URL, and no file has this name."""
+    return _URL.match(path) is not None and not os.path.lexists(path)
 
 
 def _gone_through(looker: Looker, blob: Blob, start: Result) -> Result:
     """The result of a file, also where a limit is met or reading fails on the way."""
     error = None
+    looker.budget.size = blob.size
     try:
         looker.look_at(blob, (), (start.path.rpartition('/')[2],), 0)
     except LimitMet as limit:

@@ -3,15 +3,20 @@
 from __future__ import annotations
 
 import re
+from contextlib import closing, contextmanager
 from typing import Dict, Iterator, List, Optional, Tuple
 
 from ..answers import Calls
-from ..records import Extension, Global, Name, Reach, Ref
-from ..tasks import calls
-from .blobs import Blob, FileBlob, spooled
+from ..errors import OutOfMemory, PicklestepError, ProgramError, TimedOut
+from ..program import Process
+from ..records import End, Extension, Global, Name, Ref
+from ..session import Session
+from ..texts import QUOTED, reach_of
+from .begins import is_dotted
+from .blobs import Blob, FileBlob, Limits, spooled
 from .results import Call, Import, Pickle, Place
 
-__all__ = ['asks_program', 'reaches_out', 'shown_name', 'summed_up', 'why_unread']
+__all__ = ['Summary', 'asks_program', 'held', 'offset_of_item', 'shown_name', 'why_unread']
 
 # These lines tell of an import.
 _IMPORTS = ('import', 'inst')
@@ -20,29 +25,150 @@ _IMPORTS = ('import', 'inst')
 _WITH_NAME = ('import', 'inst', 'call', 'new')
 
 # A line of the program, and the name in it where its first part stands in quotes.
-_QUOTED = r"'[^'\\]*(?:\\.[^'\\]*)*'"
-_LINE = re.compile(rf"(?m)^ *([0-9]+): ((\w+)(?: ({_QUOTED} (?:{_QUOTED}|#[0-9]+)))?.*)$")
+_LINE = re.compile(rf"(?m)^ *([0-9]+): ((\w+)(?: ({QUOTED} (?:{QUOTED}|#[0-9]+)))?.*)$")
 
 # These lines alone show no pickle: many texts begin with the letters P and Q, and what a loader does with such an id is its own.
 _WEAK = ('persistent', 'buffer', 'readonly')
 
+# This much of an answer is kept (names and the lines that come first), as bytes. Its closing lines are within the last `_CLOSING`.
+_MOST_KEPT = 64 << 20
+_CLOSING = 2_000
+
+# How reading ended where the program did not come to an end.
+_NOT_KNOWN = End('unknown', text='not known')
+
+# A pickle cannot take more memory than this for each of its bytes, so a small one needs no limit (and starts faster).
+_MEMORY_OF_A_BYTE = 4096
+
 _LEGACY_TORCH = b'\x80\x02\x8a\x0al\xfc\x9cF\xf9 j\xa8P\x19.'
 
 
-def asks_program(blob: Blob) -> Calls:
-    """What the bytes import and call, as one pickle or several in a row. They are read through an open file, not by a name."""
+class _Enough(Exception):
+    """A limit of the answer is met; the text says which."""
+
+
+class Summary:
+    """What the program says of some bytes, summed up by name while it comes.
+
+    `is_sure` tells that they import something that can be there, or call something. `trouble` says why the answer is not whole, if it is not.
+    """
+
+    def __init__(self, limits: Limits, keep_lines: bool) -> None:
+        self.is_sure = False
+        self.end = _NOT_KNOWN
+        self.trouble: Optional[str] = None
+        self._limits = limits
+        self._imports: Dict[str, List[int]] = {}
+        self._done: Dict[Tuple[str, str], List[int]] = {}
+        self._texts: Dict[Tuple[str, str], str] = {}
+        self._lines: Optional[List[str]] = [] if keep_lines else None
+        self._shown: Dict[str, str] = {}
+        self._count = 0
+        self._kept = 0
+
+    @property
+    def is_empty(self) -> bool:
+        """Whether there was no line."""
+        return not self._count
+
+    def take(self, pieces: Iterator[bytes]) -> None:
+        """Reads the program's answer to its end."""
+        rest, tail = b'', ''
+        for piece in pieces:
+            whole, newline, rest = (rest + piece).rpartition(b'\n')
+            text = (whole + newline).decode('ascii')
+            for match in _LINE.finditer(text):
+                self._line(match)
+            tail = (tail + text)[-_CLOSING:]
+        if rest or not tail:
+            raise ProgramError('the program gave no whole answer')
+        self.end = Calls(tail).end
+
+    def _line(self, match: 're.Match[str]') -> None:
+        self._count += 1
+        if self._count > self._limits.lines:
+            raise _Enough(f'the answer about it has more than {self._limits.lines:,} lines')
+        first, text, what, quoted = match.groups()
+        offset = int(first)
+        name = self._name(match[0], what, quoted)
+        self.is_sure = self.is_sure or (what != 'import' and what not in _WEAK)
+        if what in _IMPORTS:
+            self._imports.setdefault(name, [0, offset])[0] += 1
+        if what != 'import':
+            if (what, name) not in self._texts:
+                self._keep(text)
+                self._texts[what, name] = text
+            self._done.setdefault((what, name), [0, offset])[0] += 1
+        if self._lines is not None:
+            self._keep(match[0])
+            self._lines.append(match[0])
+
+    def _name(self, line: str, what: str, quoted: Optional[str]) -> str:
+        """What a line imports or calls. A pickle may have a hundred thousand lines and few names, so a name is read once."""
+        if what not in _WITH_NAME:
+            return ''
+        if quoted is not None and quoted in self._shown:
+            return self._shown[quoted]
+        name = reach_of(line).name
+        # (a number of copyreg's alone does not count: one of a hundred files of raw numbers begins with its opcode)
+        self.is_sure = self.is_sure or isinstance(name, Global) and (not isinstance(name.module, bytes) or is_dotted(name.module))
+        if quoted is None:
+            return shown_name(name)
+        self._keep(quoted)
+        self._shown[quoted] = shown_name(name)
+        return self._shown[quoted]
+
+    def _keep(self, text: str) -> None:
+        self._kept += len(text)
+        if self._kept > _MOST_KEPT:
+            raise _Enough(f'the answer about it has more than {_MOST_KEPT:,} bytes of different lines')
+
+    def pickle(self, where: Place, size: int) -> Pickle:
+        """What was found, by names, in the order in which they come first."""
+        return Pickle(
+            where, size, tuple(Import(name, count, first) for name, (count, first) in self._imports.items()),
+            tuple(Call(what, name, count, first, self._texts[what, name]) for (what, name), (count, first) in self._done.items()),
+            self.end, tuple(self._lines or ()),
+        )
+
+
+@contextmanager
+def held(blob: Blob) -> Iterator[str]:
+    """The path under which the program can open these bytes: an open file, not a name."""
     if isinstance(blob, FileBlob):
-        return calls(blob.path(), many=True)
-    held = spooled(blob.chunks())
-    with held.file:
-        return calls(held.path(), many=True)
+        yield blob.path()
+        return
+    copy = spooled(blob.chunks())
+    with copy.file:
+        yield copy.path()
 
 
-def _is_dotted(text: bytes) -> bool:
+def asks_program(path: str, size: int, limits: Limits, keep_lines: bool = False) -> Summary:
+    """What the bytes import and call, as one pickle or several in a row. What was found before a limit or a failure is kept."""
+    summary = Summary(limits, keep_lines)
+    memory = limits.memory if size * _MEMORY_OF_A_BYTE > limits.memory else None
     try:
-        return all(part.isidentifier() for part in text.decode('utf-8').split('.'))
-    except UnicodeDecodeError:
-        return False
+        with closing(Process(['calls', path, '--many'], memory=memory).pieces(limits.seconds)) as pieces:
+            summary.take(pieces)
+    except _Enough as limit:
+        summary.trouble = f'{limit}: the rest of it is not looked at'
+    except OutOfMemory:
+        summary.trouble = f'the program had no more memory (it may take {limits.memory:,} bytes): the rest of it is not looked at'
+    except TimedOut:
+        summary.trouble = f'the program took more than {limits.seconds:g} seconds: the rest of it is not looked at'
+    except ProgramError as error:
+        summary.trouble = f'the program did not read all of it: {error.words}'
+    return summary
+
+
+def offset_of_item(path: str, item: int, limits: Limits) -> Optional[int]:
+    """Where an opcode begins. `item` counts the opcodes before it. None where a limit is met first."""
+    try:
+        with Session(path, window=1, many=True, timeout=limits.seconds, memory=limits.memory) as session:
+            session.goto(item)
+            return session.where().offset
+    except PicklestepError:
+        return None
 
 
 def _part(part: object) -> str:
@@ -63,57 +189,9 @@ def shown_name(name: Optional[Name]) -> str:
         return f'ext {name.code}'
     if not isinstance(name, Global):
         return ''
-    if isinstance(name.module, bytes) and isinstance(name.name, bytes) and _is_dotted(name.module) and _is_dotted(name.name):
+    if isinstance(name.module, bytes) and isinstance(name.name, bytes) and is_dotted(name.module) and is_dotted(name.name):
         return f'{name.module.decode()}.{name.name.decode()}'
     return f'{_part(name.module)} {_part(name.name)}'
-
-
-def _is_sure(reach: Reach) -> bool:
-    """Whether a line shows that the bytes are a pickle: an import of something that can be there, or a call."""
-    if reach.what != 'import':
-        return reach.what not in _WEAK
-    name = reach.name
-    return not isinstance(name, Global) or not isinstance(name.module, bytes) or _is_dotted(name.module)
-
-
-def reaches_out(answer: Calls) -> bool:
-    """Whether bytes that nothing else tells to be a pickle are one: all of them read as pickles, or they import or call something."""
-    return answer.end.is_stopped or any(_is_sure(reach) for reach in answer)
-
-
-def _lines(answer: Calls) -> Iterator[Tuple[int, str, str, str]]:
-    """The offset of each line, its first word, the name that is imported or called, and the line without its offset.
-
-    A pickle may have a hundred thousand lines and few names, so a name is read once, and not at each of its lines.
-    """
-    shown: Dict[str, str] = {}
-    for index, match in enumerate(_LINE.finditer(answer.text)):
-        offset, text, what, name = match.groups()
-        if what not in _WITH_NAME:
-            known = ''
-        elif name is None:
-            known = shown_name(answer[index].name)
-        else:
-            known = shown.get(name) or shown.setdefault(name, shown_name(answer[index].name))
-        yield int(offset), what, known, text
-
-
-def summed_up(where: Place, size: int, answer: Calls, lines: bool) -> Pickle:
-    """The answer by names, in the order in which they come first."""
-    imports: Dict[str, List[int]] = {}
-    done: Dict[Tuple[str, str], List[int]] = {}
-    texts: Dict[Tuple[str, str], str] = {}
-    for offset, what, name, text in _lines(answer):
-        if what in _IMPORTS:
-            imports.setdefault(name, [0, offset])[0] += 1
-        if what != 'import':
-            done.setdefault((what, name), [0, offset])[0] += 1
-            texts.setdefault((what, name), text)
-    return Pickle(
-        where, size, tuple(Import(name, count, first) for name, (count, first) in imports.items()),
-        tuple(Call(what, name, count, first, texts[what, name]) for (what, name), (count, first) in done.items()), answer.end,
-        tuple(match[0] for match in _LINE.finditer(answer.text)) if lines else (),
-    )
 
 
 def why_unread(head: bytes, pickle: Pickle) -> Optional[str]:

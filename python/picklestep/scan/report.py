@@ -6,6 +6,7 @@ import json
 from collections import Counter
 from typing import Dict, Iterator, List, Optional, TextIO
 
+from ..records import End
 from .allow import Allowed
 from .results import Pickle, Place, Result, to_json
 
@@ -23,6 +24,20 @@ def shown(text: str) -> str:
 
 def _place(path: str, where: Place) -> str:
     return ' > '.join(shown(name) for name in (path, *where))
+
+
+def _end(end: End) -> str:
+    """How reading ended. The words of a fault tell its place; those of a refusal do not."""
+    return shown(end.text if end.how != 'refused' or end.offset is None else f'{end.text} at {end.offset}')
+
+
+def _number(count: int, one: str, more: str = '') -> str:
+    """A number of things. More than one of them have an `s` at the end unless it is said otherwise.
+
+    >>> _number(1, 'file'), _number(0, 'file')
+    ('1 file', '0 files')
+    """
+    return f'{count} {one if count == 1 else more or one + "s"}'
 
 
 def _times(count: int) -> str:
@@ -113,7 +128,7 @@ class Report:
                 if self.allowed is not None and not self._is_allowed(found.name):
                     yield f'! {place}: import {shown(found.name)} {_times(found.count)}, first at {found.offset}'
             if not pickle.end.is_stopped:
-                yield f'! {place}: {shown(pickle.end.text)}'
+                yield f'! {place}: {_end(pickle.end)}'
             return
         yield f'  {place}: {pickle.size} bytes'
         for found in pickle.imports:
@@ -122,22 +137,24 @@ class Report:
         for done in pickle.calls:
             yield f'      {done.what} {shown(done.name) or "-"} {_times(done.count)}, first at {done.offset}: {shown(done.text)}'
         yield from (f'      {shown(line)}' for line in pickle.lines)
-        yield f'{" " if pickle.end.is_stopped else "!"}     end: {shown(pickle.end.text)}'
+        yield f'{" " if pickle.end.is_stopped else "!"}     end: {_end(pickle.end)}'
 
     # --- The summary ---
 
     def summary(self) -> List[str]:
         """The counts over all files, and the imports: those that are not allowed, then the rarest first."""
         counts = self.counts
-        told = [f'{counts["files"]} files', f'{counts["pickles"]} pickles in {counts["files with pickles"]} of them',
-                f'{counts["others"]} others that are no pickles']
-        for key, words in (('not stopped', 'pickles not read to a STOP'), ('missed', 'files not looked at whole'),
-                           ('errors', 'files that cannot be read'), ('left', 'left out'), ('not allowed', 'imports not allowed')):
+        told = [_number(counts['files'], 'file'), f'{_number(counts["pickles"], "pickle")} in {counts["files with pickles"]} of them',
+                _number(counts['others'], 'other that is no pickle', 'others that are no pickles')]
+        for key, *words in (('not stopped', 'pickle not read to a STOP', 'pickles not read to a STOP'),
+                            ('missed', 'file not looked at whole', 'files not looked at whole'),
+                            ('errors', 'file that cannot be read', 'files that cannot be read'), ('left', 'left out', 'left out'),
+                            ('not allowed', 'import not allowed', 'imports not allowed')):
             if counts[key]:
-                told.append(f'{counts[key]} {words}')
+                told.append(_number(counts[key], *words))
         lines = [', '.join(told)]
         for name in sorted(self.imports, key=lambda name: (self._is_allowed(name), self.pickles_with[name], name)):
             mark = ' ' if self._is_allowed(name) else '!'
-            lines.append(f'{mark} {shown(name)}: {_times(self.imports[name])}, in {self.pickles_with[name]} pickles, first in '
+            lines.append(f'{mark} {shown(name)}: {_times(self.imports[name])}, in {_number(self.pickles_with[name], "pickle")}, first in '
                          f'{self.first_with[name]}')
         return lines
