@@ -4,15 +4,16 @@
     pages.py ROOT PROGRAM FOLDER
 
 ROOT is the repository; FOLDER gets the pickles of docs/CODES.md. Each line says what was checked, a tab, and what was wrong, or
-nothing after it. The last line says how many links there were.
+nothing after it. The last line says how many checks there were.
 """
 from __future__ import annotations
 
+import functools
 import itertools
 import re
 import subprocess
 import sys
-from collections.abc import Iterator
+from collections.abc import Callable, Iterator
 from dataclasses import dataclass
 from pathlib import Path
 
@@ -60,10 +61,9 @@ def anchors(page: Path) -> set[str]:
     return found
 
 
-def faults_of_links(page: Path) -> tuple[list[str], int]:
+def fault_of_links(page: Path) -> str:
     faults = []
-    links = re.findall(r"\]\(([^)\s]+)\)", without_code(page.read_text(encoding="utf-8")))
-    for link in links:
+    for link in re.findall(r"\]\(([^)\s]+)\)", without_code(page.read_text(encoding="utf-8"))):
         name, _, anchor = link.partition("#")
         if re.match(r"[a-z]+:", name):
             continue
@@ -72,7 +72,7 @@ def faults_of_links(page: Path) -> tuple[list[str], int]:
             faults.append(f"{link}: there is no such file")
         elif anchor and anchor not in anchors(target):
             faults.append(f"{link}: there is no such heading")
-    return faults, len(links)
+    return "; ".join(faults)
 
 
 # --- Length ---
@@ -82,7 +82,7 @@ def words(page: Path) -> int:
     return len(page.read_text(encoding="utf-8").split())
 
 
-def faults_of_length(pages: list[Path]) -> list[str]:
+def fault_of_length(pages: list[Path]) -> str:
     faults = []
     counted = sum(words(page) for page in pages)
     if counted > WORDS:
@@ -94,7 +94,7 @@ def faults_of_length(pages: list[Path]) -> list[str]:
             # (a row of a table cannot be broken, and what a program prints in an example is as it is)
             if len(line) > COLUMNS and not line.startswith(("|", "    ")):
                 faults.append(f"{page.name}, line {number}: {len(line)} columns, and not at most {COLUMNS}")
-    return faults
+    return "; ".join(faults)
 
 
 # --- The examples of codes ---
@@ -187,24 +187,37 @@ def fault_of_checklist(root: Path, page: str, heading: str, sample: str, pattern
     return f"it lacks {', '.join(missing)}" if missing else "" if named else "it lists no file"
 
 
-def main() -> None:
-    root, program, folder = Path(sys.argv[1]).resolve(), sys.argv[2], Path(sys.argv[3])
+def fault_of_index(root: Path) -> str:
+    """Each file of definitions has a head."""
+    index = subprocess.run([sys.executable, str(root / "tools" / "definitions.py")], capture_output=True, text=True, timeout=60)
+    return "" if index.returncode == 0 else index.stderr.strip()[:200]
+
+
+def checks(root: Path, program: str, folder: Path) -> list[tuple[str, Callable[[], str]]]:
+    """What is checked, by name. Each call returns what is wrong, or an empty text."""
     folder.mkdir(parents=True, exist_ok=True)
     pages = [root / "README.md", *sorted((root / "docs").glob("*.md"))]
-    links = 0
-    for page in pages:
-        faults, count = faults_of_links(page)
-        links += count
-        print(f"the links of {page.name}\t{'; '.join(faults)}")
-    print(f"the length of the pages\t{'; '.join(faults_of_length(pages))}")
+    others = [page for page in sorted(root.glob("*.md")) if page not in pages]
+    found: list[tuple[str, Callable[[], str]]] = []
+    for page in [*pages, *others]:
+        found.append((f"the links of {page.name}", functools.partial(fault_of_links, page)))
+    found.append(("the length of the pages", functools.partial(fault_of_length, pages)))
     for example in examples((root / "docs" / "CODES.md").read_text(encoding="utf-8")):
-        print(f"the example of {example.code}\t{fault_of_example(program, example, folder / 'code.pickle')}")
+        name = f"the example of {example.code}, {' '.join([example.pickle, *example.commands])}"
+        found.append((name, functools.partial(fault_of_example, program, example, folder / "code.pickle")))
     design = (root / "docs" / "DESIGN.md").read_text(encoding="utf-8")
-    for heading, sample, patterns in CHECKLISTS:
-        print(f"the checklist '{heading}'\t{fault_of_checklist(root, design, heading, sample, patterns)}")
-    index = subprocess.run([sys.executable, str(root / "tools" / "definitions.py")], capture_output=True, text=True, timeout=60)
-    print(f"the index of definitions\t{'' if index.returncode == 0 else index.stderr.strip()[:200]}")
-    print(f"{links} links were checked")
+    for checklist in CHECKLISTS:
+        found.append((f"the checklist '{checklist[0]}'", functools.partial(fault_of_checklist, root, design, *checklist)))
+    found.append(("the index of definitions", functools.partial(fault_of_index, root)))
+    return found
+
+
+def main() -> None:
+    root, program, folder = Path(sys.argv[1]).resolve(), sys.argv[2], Path(sys.argv[3])
+    found = checks(root, program, folder)
+    for name, check in found:
+        print(f"{name}\t{check()}")
+    print(f"{len(found)} checks of the pages")
 
 
 if __name__ == "__main__":
