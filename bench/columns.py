@@ -8,7 +8,7 @@ import sys
 
 def cells(row: str) -> list[str]:
     """The cells of a row, without the bars between them."""
-    return [cell.strip().replace('`', '') for cell in re.split(r'(?<!\\)\|', row.strip()[1:-1])]
+    return [cell.strip().replace('`', '').replace('\\|', '|') for cell in re.split(r'(?<!\\)\|', row.strip()[1:-1])]
 
 
 def show(rows: list[list[str]]) -> None:
