@@ -132,7 +132,7 @@ def examples(text: str) -> Iterator[Example]:
             else:
                 yield Example(named[1], "4e 2e", spans)
         elif heading.startswith("What CPython"):
-            for span in re.findall(r"\(`([0-9a-f ]+)`\)", item):
+            for span in re.findall(r"\(`([0-9a-f ]+)`[):]", item):
                 yield Example(item.split(",")[0] + " ..", span, [])
 
 
