@@ -1,42 +1,48 @@
-#!/usr/bin/env python3
 """Runs the conversations that a page shows, and says of each what is wrong.
-
-    conversations.py PROGRAM PAGE FOLDER
 
 A conversation on the page is a block of lines, indented or not, that begins with `pickle` and the bytes of a pickle in
 hexadecimal. After `pickles` they are of several pickles, and every command has the option --many. Then comes a line of the
-script after `debug> `, then the lines that answer it, and so on. `$ list`, `$ objects` or `$ calls` stands before what that command writes. A last line `saved` has the bytes that the pickle is saved as. The block ends at an empty
-line, or at the end of the page.
+script after `debug> `, then the lines that answer it, and so on. `$ list`, `$ objects` or `$ calls` stands before what that command
+writes. A last line `saved` has the bytes that the pickle is saved as. The block ends at an empty line, or at the end of the page.
 
 Each script is run with all records and in windows of 1 and 2. The status has to be 1 just where an answer refuses. What is shown of one
 pickle is also tried with --many, where no byte stands after its STOP: the answers are the same then.
-
-For each block it writes a line: its place on the page, a tab, and what is wrong or nothing. FOLDER gets the pickles.
 """
 
+from __future__ import annotations
+
+import functools
 import pathlib
 import re
 import subprocess
-import sys
+from collections.abc import Iterator
+from dataclasses import dataclass, field
 
+from trials.trial import Trial
 
+Done = subprocess.CompletedProcess[bytes]
+WINDOWS: list[list[str]] = [[], ["--window", "1"], ["--window", "2"]]
 # the first line of a block; its first word, and the options that it gives to every command
 START = re.compile(r" *(pickles?)((?: [0-9a-f]+)*)")
-OPTIONS = {"pickle": [], "pickles": ["--many"]}
+OPTIONS: dict[str, list[str]] = {"pickle": [], "pickles": ["--many"]}
 
 
+@dataclass
 class Block:
-    def __init__(self, number, options, pickle):
-        self.number = number
-        self.options = options
-        self.pickle = pickle
-        self.script = []
-        self.answers = []
-        self.written = {}
-        self.saved = None
+    """A conversation on a page: its line there, the options of every command, and what is told and answered."""
+
+    number: int
+    options: list[str]
+    pickle: bytes
+    script: list[str] = field(default_factory=list)
+    answers: list[str] = field(default_factory=list)
+    written: dict[str, list[str]] = field(default_factory=dict)
+    saved: bytes | None = None
+
+    def __post_init__(self) -> None:
         self.told = self.answers
 
-    def take(self, line):
+    def take(self, line: str) -> None:
         if line.startswith("debug> "):
             self.script.append(line[len("debug> "):])
             self.told = self.answers
@@ -48,7 +54,7 @@ class Block:
             self.told.append(line)
 
 
-def blocks_of(page):
+def blocks_of(page: str) -> Iterator[Block]:
     block = None
     margin = 0
     for number, line in enumerate(page.splitlines(), 1):
@@ -65,33 +71,33 @@ def blocks_of(page):
         yield block
 
 
-def run(program, words, script):
+def run(program: str, words: list[str], script: bytes) -> tuple[Done, str]:
     done = subprocess.run([program, *words], input=script, capture_output=True, timeout=120)
     if done.stderr:
-        return None, f"errors, which begin: {done.stderr[:200]!r}"
-    return done, None
+        return done, f"errors, which begin: {done.stderr[:200]!r}"
+    return done, ""
 
 
-def differs(words, done, wanted, status):
+def differs(words: list[str], done: Done, wanted: list[str], status: int) -> str:
     text = "".join(line + "\n" for line in wanted).encode()
     if done.stdout != text:
         return f"{' '.join(words)} writes {done.stdout!r} and not {text!r}"
     if done.returncode != status:
         return f"{' '.join(words)} ends with status {done.returncode} and not {status}"
-    return None
+    return ""
 
 
-def fault_of_command(program, block, mode, command, file):
+def fault_of_command(program: str, block: Block, mode: list[str], command: str, file: pathlib.Path) -> str:
     wanted = block.written[command]
     status = int(any(line.startswith(("refused: ", "fault: ")) for line in wanted))
     done, why = run(program, [command, *mode, str(file)], b"")
     return why or differs([command, *mode], done, wanted, status)
 
 
-def fault_of_script(program, block, mode, file, saved):
+def fault_of_script(program: str, block: Block, mode: list[str], file: pathlib.Path, saved: pathlib.Path) -> str:
     script = "".join(line + "\n" for line in block.script).encode()
     status = int(any(line.startswith("refused: ") for line in block.answers))
-    for options in ([], ["--window", "1"], ["--window", "2"]):
+    for options in WINDOWS:
         saved.unlink(missing_ok=True)
         done, why = run(program, ["debug", *mode, str(file), "--save", str(saved), *options], script)
         why = why or differs(["debug", *mode, *options], done, block.answers, status)
@@ -99,10 +105,10 @@ def fault_of_script(program, block, mode, file, saved):
             return why
         if block.saved is not None and saved.read_bytes() != block.saved:
             return f"it saves {saved.read_bytes().hex(' ')}"
-    return None
+    return ""
 
 
-def fault_in(program, block, mode, folder):
+def fault_in(program: str, block: Block, mode: list[str], folder: pathlib.Path) -> str:
     file = folder / "shown.pickle"
     file.write_bytes(block.pickle)
     for command in block.written:
@@ -111,29 +117,29 @@ def fault_in(program, block, mode, folder):
             return why
     if block.script or block.saved is not None:
         return fault_of_script(program, block, mode, file, folder / "saved.pickle")
-    return None if block.written else "there is nothing to run"
+    return "" if block.written else "there is nothing to run"
 
 
-def keeps_bytes(program, block, folder):
+def keeps_bytes(program: str, block: Block, folder: pathlib.Path) -> bool:
     """Whether bytes stand after STOP."""
     file = folder / "shown.pickle"
     file.write_bytes(block.pickle)
     done, _ = run(program, ["list", str(file)], b"")
-    return done is not None and b"\nkept: " in done.stdout
+    return b"\nkept: " in done.stdout
 
 
-def fault_of(program, block, folder):
-    why = fault_in(program, block, block.options, folder)
-    if why or block.options or keeps_bytes(program, block, folder):
-        return why
-    return fault_in(program, block, ["--many"], folder)
-
-
-def main():
-    program, page, folder = sys.argv[1], pathlib.Path(sys.argv[2]), pathlib.Path(sys.argv[3])
+def fault_of(program: str, block: Block, folder: pathlib.Path) -> str:
+    """What is wrong with a conversation, or an empty text. The folder gets the pickles."""
     folder.mkdir(exist_ok=True)
-    for block in blocks_of(page.read_text()):
-        print(f"{page.name}, line {block.number}", fault_of(program, block, folder) or "", sep="\t")
+    why = fault_in(program, block, block.options, folder)
+    if not why and not block.options and not keeps_bytes(program, block, folder):
+        why = fault_in(program, block, ["--many"], folder)
+    return why
 
 
-main()
+def trials(program: str, page: pathlib.Path, folder: pathlib.Path) -> list[Trial]:
+    """Each conversation, by its place on the page."""
+    return [
+        Trial(f"the conversation of {page.name}, line {block.number}", functools.partial(fault_of, program, block, folder))
+        for block in blocks_of(page.read_text("utf-8"))
+    ]

@@ -1,24 +1,22 @@
-#!/usr/bin/env python3
 """Counts what each real pickle imports and calls, by Python's pickletools, and compares it with what the program counts.
 
-    count_calls.py PROGRAM PICKLES LISTINGS
-
-PICKLES is crates/real_pickles/data. LISTINGS is equipment/listings, which says how many opcodes of a pickle are accepted. Of these the
-imports and calls are counted on a stack that knows of an object only whether it is opaque: whether it came from elsewhere or from a call.
-What an opcode takes and leaves there is `stack_before` and `stack_after` of `pickletools`.
-
-For each pickle it writes a line: its name, a tab, and what is wrong or nothing. The last line says how much was counted.
+The stored listing says how many opcodes of a pickle are accepted. Of these the imports and calls are counted on a stack that knows of an
+object only whether it is opaque: whether it came from elsewhere or from a call. What an opcode takes and leaves there is `stack_before`
+and `stack_after` of `pickletools`.
 """
 
+from __future__ import annotations
+
+import functools
 import pathlib
 import pickletools
 import re
 import subprocess
-import sys
 from dataclasses import dataclass, field
 from typing import Dict, List, Tuple
 
 from real_pickles.answers import Read, genops, without_interpretation
+from trials.trial import Trial
 
 IMPORTS = {"GLOBAL", "STACK_GLOBAL", "INST", "EXT1", "EXT2", "EXT4"}
 CALLS = {"INST", "REDUCE", "OBJ", "NEWOBJ", "NEWOBJ_EX", "BUILD"}
@@ -100,15 +98,27 @@ def fault_of(program: str, pickle: pathlib.Path, listing: str, imports: int, cal
     return ""
 
 
-def main() -> None:
-    program, pickles, listings = sys.argv[1], pathlib.Path(sys.argv[2]), pathlib.Path(sys.argv[3])
-    all_imports = all_calls = 0
-    for pickle in sorted(pickles.glob("*.pickle")):
-        listing = (listings / f"{pickle.stem}.txt").read_text()
+@dataclass
+class Counts:
+    """What was counted of all pickles."""
+
+    program: str
+    listings: pathlib.Path
+    imports: int = 0
+    calls: int = 0
+
+    def fault(self, pickle: pathlib.Path) -> str:
+        listing = (self.listings / f"{pickle.stem}.txt").read_text()
         imports, calls = counts(pickle.read_bytes(), listing)
-        all_imports, all_calls = all_imports + imports, all_calls + calls
-        print(f"the calls of {pickle.stem}", fault_of(program, pickle, listing, imports, calls), sep="\t")
-    print(f"{all_imports} imports and {all_calls} calls of real pickles")
+        self.imports, self.calls = self.imports + imports, self.calls + calls
+        return fault_of(self.program, pickle, listing, imports, calls)
+
+    def closing(self) -> str:
+        return f"{self.imports} imports and {self.calls} calls of real pickles, by count_calls.py"
 
 
-main()
+def trials(counted: Counts, pickles: pathlib.Path) -> list[Trial]:
+    return [
+        Trial(f"the calls of {pickle.stem}", functools.partial(counted.fault, pickle))
+        for pickle in sorted(pickles.glob("*.pickle"))
+    ]

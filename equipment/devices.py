@@ -1,15 +1,14 @@
-#!/usr/bin/python3
-"""Runs the program with each of its reads and each of its writes failing in turn, from outside.
+"""Runs the program with each of its reads and each of its writes failing in turn, from outside, by equipment/break_devices.c."""
 
-    devices.py PROGRAM LIBRARY FOLDER
+from __future__ import annotations
 
-LIBRARY is equipment/break_devices.c, compiled. Each line says what was tried, a tab, and what was wrong, or nothing after it.
-The last line says how many reads and writes failed.
-"""
+import functools
 import os
 import pathlib
 import subprocess
-import sys
+from collections.abc import Callable
+
+from trials.trial import Trial
 
 # The bytes, and the lines that are told; what they are answered stands in the pages of the program (README, docs/USING.md).
 BREAKPOINTS = (
@@ -43,7 +42,7 @@ SEVERAL_LISTING = (
 )
 SEVERAL_OBJECTS = "#0 none\n#1 none\nresult #0\nresult #1\n"
 # Scripts, with their names and the options of the program; and tasks with their options, the bytes, and what is written of them.
-SCRIPTS = (
+SCRIPTS: tuple[tuple[str, list[str], tuple[bytes, str, str, int]], ...] = (
     ("breakpoints", [], BREAKPOINTS),
     ("a list appended to itself by memo", [], BY_MEMO),
     ("several pickles", ["--many"], SEVERAL),
@@ -56,45 +55,49 @@ TASKS = (
     (["objects", "--many"], SEVERAL[0], SEVERAL_OBJECTS),
     (["calls", "--many"], SEVERAL[0], CALLS),
 )
+Done = subprocess.CompletedProcess[bytes]
+Ran = tuple[Done, int, int, int]
 
 
 class Devices:
-    def __init__(self, program, library, folder):
+    """Runs over a file, where something is saved, and how many reads and writes failed."""
+
+    def __init__(self, program: str, library: Callable[[], pathlib.Path], folder: pathlib.Path) -> None:
         self.program = program
-        self.library = str(library)
+        self.library = library
         self.folder = folder
         self.file = folder / "device.pickle"
         self.out = folder / "device.out"
         self.count = folder / "device.count"
         self.broken = 0
 
-    def run(self, words, script, **breaks):
+    def run(self, words: list[str], script: str, **breaks: object) -> Ran:
         self.out.unlink(missing_ok=True)
         (self.folder / "script").write_text(script)
-        environment = dict(os.environ, LD_PRELOAD=self.library, DEVICES=str(self.count))
+        environment = dict(os.environ, LD_PRELOAD=str(self.library()), DEVICES=str(self.count))
         environment.update({name: str(value) for name, value in breaks.items()})
         with open(self.folder / "script", "rb") as given:
             done = subprocess.run([self.program, *words], stdin=given, capture_output=True, timeout=60, env=environment)
         reads, writes, again = (int(part.split()[0]) for part in self.count.read_text().split(","))
         return done, reads, writes, again
 
-    def fault_of(self, done, words, text, begins):
+    def fault_of(self, done: Done, words: str, text: str) -> str:
         """What is wrong with a run that met a broken device."""
         if done.returncode != 2 or done.stderr != f"picklestep: {words}\n".encode():
             return f"status {done.returncode}, errors {done.stderr!r}"
-        if not begins or not text.startswith(done.stdout.decode()):
+        if not text.startswith(done.stdout.decode()):
             return f"the output is {done.stdout!r}"
         if self.out.exists():
             return "something was saved"
         return ""
 
-    def whole_lines(self, script, text, given):
+    def whole_lines(self, script: str, text: str, given: int) -> str | None:
         """The transcript of the lines that were given whole; None where these are not known."""
         lines = script[:given].count("\n")
         answers = text.splitlines(keepends=True)
         return "".join(answers[:lines]) if len(answers) == script.count("\n") else None
 
-    def break_reads(self, words, script, text, most, is_script):
+    def break_reads(self, words: list[str], script: str, text: str, most: int, is_script: bool) -> str:
         whole, reads, _, again = self.run(words, script, READ_MOST=most)
         if whole.stdout.decode() != text or again:
             return f"with reads of {most} bytes the output is {whole.stdout!r}"
@@ -102,7 +105,7 @@ class Devices:
         for number in range(1, reads + 1):
             done, _, _, again = self.run(words, script, READ_MOST=most, READ_FAIL=number)
             self.broken += 1
-            why = self.fault_of(done, "cannot read", text, True)
+            why = self.fault_of(done, "cannot read", text)
             of_file = -(-size // most) + 1
             if not why and number > of_file and is_script:
                 wanted = self.whole_lines(script, text, (number - of_file - 1) * most)
@@ -114,7 +117,7 @@ class Devices:
                 return f"with read {number} of {most} bytes failing: {why}"
         return ""
 
-    def break_writes(self, words, script, text, most, saved):
+    def break_writes(self, words: list[str], script: str, text: str, most: int, saved: bool) -> str:
         whole, _, writes, again = self.run(words, script, WRITE_MOST=most)
         if whole.stdout.decode() != text or again:
             return f"with writes of {most} bytes the output is {whole.stdout!r}"
@@ -129,16 +132,15 @@ class Devices:
                 if self.out.exists() or any(self.folder.glob("picklestep-save-*")):
                     why = "something was saved"
             else:
-                why = self.fault_of(done, "cannot write", text, True)
+                why = self.fault_of(done, "cannot write", text)
             if not why and again:
                 why = "a device is written again after its failure"
             if why:
                 return f"with write {number} of {most} bytes failing: {why}"
         return ""
 
-    def shrink(self):
+    def shrink(self) -> str:
         """The file is emptied while it is read: what was read until then is listed, or reading fails."""
-        self.file.write_bytes(BY_MEMO[0])
         for number in range(1, 8):
             self.file.write_bytes(BY_MEMO[0])
             done, _, _, _ = self.run(["list", str(self.file)], "", READ_MOST=2, SHRINK=self.file, SHRINK_AT=number)
@@ -148,30 +150,46 @@ class Devices:
             wanted = subprocess.run([self.program, "list", str(cut)], capture_output=True, timeout=60)
             if (done.stdout, done.returncode, done.stderr) != (wanted.stdout, wanted.returncode, b""):
                 return f"emptied before read {number}, the output is {done.stdout!r}, status {done.returncode}"
-        self.file.write_bytes(BREAKPOINTS[0])
         return ""
 
 
-def main():
-    program, library, folder = sys.argv[1], pathlib.Path(sys.argv[2]).resolve(), pathlib.Path(sys.argv[3])
-    folder.mkdir(parents=True, exist_ok=True)
-    devices = Devices(program, library, folder)
-    for name, options, (pickled, script, text, _) in SCRIPTS:
-        devices.file.write_bytes(pickled)
-        words = ["debug", *options, str(devices.file), "--save", str(devices.out)]
+    def fault_of_script(self, words: list[str], script: str, text: str, most: int, is_reading: bool) -> str:
+        """Breaks each read, or each write, of a conversation that is saved."""
+        words = ["debug", *words, str(self.file), "--save", str(self.out)]
+        if not is_reading:
+            return self.break_writes(words, script, text, most, True)
         is_answered_by_lines = len(text.splitlines()) == len(script.splitlines())
-        for most in (1, 2, 7):
-            print(f"{name}, each read of {most} bytes failing\t{devices.break_reads(words, script, text, most, is_answered_by_lines)}")
-            print(f"{name}, each write of {most} bytes failing\t{devices.break_writes(words, script, text, most, True)}")
-    for task, pickled, text in TASKS:
-        devices.file.write_bytes(pickled)
-        name, words = " ".join(task), [*task, str(devices.file)]
-        for most in (1, 2, 7):
-            print(f"{name}, each read of {most} bytes failing\t{devices.break_reads(words, '', text, most, False)}")
-            print(f"{name}, each write of {most} bytes failing\t{devices.break_writes(words, '', text, most, False)}")
-    print(f"a file that is emptied while it is read\t{devices.shrink()}")
-    print(f"{devices.broken} reads and writes failed")
+        return self.break_reads(words, script, text, most, is_answered_by_lines)
+
+    def fault_of_task(self, words: list[str], text: str, most: int, is_reading: bool) -> str:
+        words = [*words, str(self.file)]
+        if is_reading:
+            return self.break_reads(words, "", text, most, False)
+        return self.break_writes(words, "", text, most, False)
+
+    def with_file(self, pickled: bytes, attempt: Callable[..., str], *given: object) -> str:
+        """Tries something with these bytes in the file."""
+        self.folder.mkdir(exist_ok=True)
+        self.file.write_bytes(pickled)
+        return attempt(*given)
+
+    def closing(self) -> str:
+        return f"{self.broken} reads and writes failed, by devices.py"
 
 
-if __name__ == "__main__":
-    main()
+def trials(devices: Devices) -> list[Trial]:
+    """Each script and each task, with each read and with each write failing of so many bytes."""
+    attempts: list[tuple[str, bytes, Callable[..., str], tuple[object, ...]]]
+    attempts = [(name, pickled, devices.fault_of_script, (words, script, text)) for name, words, (pickled, script, text, _) in SCRIPTS]
+    attempts += [(" ".join(words), pickled, devices.fault_of_task, (words, text)) for words, pickled, text in TASKS]
+    found = [
+        Trial(
+            f"{name}, each {'read' if is_reading else 'write'} of {most} bytes failing",
+            functools.partial(devices.with_file, pickled, attempt, *given, most, is_reading),
+        )
+        for name, pickled, attempt, given in attempts
+        for most in (1, 2, 7)
+        for is_reading in (True, False)
+    ]
+    shrink = functools.partial(devices.with_file, BY_MEMO[0], devices.shrink)
+    return [*found, Trial("a file that is emptied while it is read", shrink)]

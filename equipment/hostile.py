@@ -1,28 +1,31 @@
-#!/usr/bin/python3
 """Gives the program inputs that are cut short, deep or long, with a stack of 256 KiB.
 
-    hostile.py PROGRAM FOLDER PICKLES
-
-FOLDER is for the files; PICKLES is a folder of real pickles, of which each is cut at each of its first 2,000 bytes and listed. What
-a listing of a cut says follows from the listing of the whole: the opcodes that stand whole in it, and the fault of what is left,
-by the sizes that pickletools gives. Each line of the output says what was tried, a tab, and what was wrong, or nothing after it.
-The last line says how many inputs there were.
+Each real pickle is cut at each of its first 2,000 bytes and listed. What a listing of a cut says follows from the listing of the whole:
+the opcodes that stand whole in it, and the fault of what is left, by the sizes that pickletools gives.
 """
+
+from __future__ import annotations
+
 import concurrent.futures
+import dataclasses
+import functools
 import os
 import pathlib
 import pickletools
 import re
 import resource
 import subprocess
-import sys
+from collections.abc import Callable
+
+from trials.trial import Trial
 
 MOST = 2000
+STACK = 256 * 1024
 OPCODES = {opcode.name: opcode for opcode in pickletools.opcodes}
 ITEM = re.compile(r" *(\d+): \S+ +(\S+)(?: +(\d+))?")
 
 
-def answer(program, words, script=""):
+def answer(program: str, words: list[str], script: str = "") -> tuple[str, int]:
     done = subprocess.run([program, *words], input=script.encode(), capture_output=True, timeout=100, close_fds=False)
     if done.stderr:
         raise ValueError(f"errors {done.stderr[:100]!r}")
@@ -32,10 +35,10 @@ def answer(program, words, script=""):
 class Listing:
     """The listing of whole bytes, in parts."""
 
-    def __init__(self, text, size):
-        self.lines = [line for line in text.splitlines() if ITEM.match(line)]
+    def __init__(self, text: str, size: int) -> None:
+        parts = [part for part in map(ITEM.match, text.splitlines()) if part]
+        self.lines = [part.string for part in parts]
         self.closing = text.splitlines()[len(self.lines) :]
-        parts = [ITEM.match(line) for line in self.lines]
         self.starts = [int(part[1]) for part in parts]
         self.names = [part[2] for part in parts]
         self.frames = [int(part[3]) if part[2] == "FRAME" else 0 for part in parts]
@@ -51,13 +54,13 @@ class Listing:
         else:
             self.end = size
 
-    def closed(self, count, lines):
+    def closed(self, count: int, lines: list[str]) -> str:
         protocols = [OPCODES[name].proto for name in self.names[:count]]
         if count:
             lines = lines + [f"highest protocol among opcodes = {max(protocols)}"]
         return "".join(f"{line}\n" for line in self.lines[:count] + lines)
 
-    def of_cut(self, cut):
+    def of_cut(self, cut: int) -> list[tuple[str, int]]:
         """What may be listed of the first `cut` bytes, with the status; more than one where the whole listing does not tell."""
         ends = self.starts[1:] + [self.end]
         for k, start in enumerate(self.starts):
@@ -75,11 +78,11 @@ class Listing:
         faults = [f"fault: {why} at {self.end}" for why in self.cut_faults(self.end, cut)]
         return [(self.closed(len(self.lines), [line]), 1) for line in [*faults, *([self.fault] if cut > self.end else [])]]
 
-    def cut_faults(self, start, cut):
+    def cut_faults(self, start: int, cut: int) -> list[str]:
         return ["F1 ended" if cut == start else "F3 truncated"]
 
 
-def try_pickle(program, folder, path):
+def try_pickle(program: str, folder: pathlib.Path, path: pathlib.Path) -> tuple[int, str]:
     pickled = path.read_bytes()
     text, _ = answer(program, ["list", str(path)])
     listing = Listing(text, len(pickled))
@@ -92,7 +95,7 @@ def try_pickle(program, folder, path):
     return min(len(pickled), MOST), ""
 
 
-def try_pickles(program, folder, pickles):
+def try_pickles(program: str, folder: pathlib.Path, pickles: pathlib.Path) -> tuple[int, str]:
     paths = sorted(pickles.glob("*.pickle"), key=lambda path: -path.stat().st_size)
     count = 0
     with concurrent.futures.ProcessPoolExecutor(os.cpu_count()) as pool:
@@ -103,14 +106,14 @@ def try_pickles(program, folder, pickles):
     return count, ""
 
 
-def debug(program, file, script):
+def debug(program: str, file: pathlib.Path, script: str) -> tuple[str, int, bool]:
     """The transcript, and whether the bytes are saved as they were."""
     saved = file.with_name("saved.pickle")
     text, status = answer(program, ["debug", str(file), "--save", str(saved)], script)
     return text, status, saved.read_bytes() == file.read_bytes()
 
 
-def many_marks(program, file):
+def many_marks(program: str, file: pathlib.Path) -> bool:
     file.write_bytes(b"(" * 100_000 + b"N.")
     found = debug(program, file, "goto 100002\nwhere\ngoto 0\nwhere\nstack\n")
     end = "buffers 0, result {}, end stopped\n"
@@ -118,7 +121,7 @@ def many_marks(program, file):
     return found == (text, 0, True)
 
 
-def deep_listing(program, file):
+def deep_listing(program: str, file: pathlib.Path) -> bool:
     file.write_bytes(b"(" * 1000 + b"N.")
     text, status = answer(program, ["list", str(file)])
     lines = text.splitlines()
@@ -126,14 +129,14 @@ def deep_listing(program, file):
     return lines[:-1] == wanted and lines[-1] == "highest protocol among opcodes = 0" and status == 0
 
 
-def deep_tuples(program, file):
+def deep_tuples(program: str, file: pathlib.Path) -> bool:
     file.write_bytes(b")" + b"\x85" * 100_000 + b".")
     text, status, is_same = debug(program, file, "run\nshow 100000\n")
     wanted = ["at 100002: end, stopped"] + [f"{k} #{100_000 - k} tuple (#{99_999 - k})" for k in range(100_000)] + ["100000 #0 tuple"]
     return text.splitlines() == wanted and (status, is_same) == (0, True)
 
 
-def doublings(program, file):
+def doublings(program: str, file: pathlib.Path) -> bool:
     file.write_bytes(b")" + b"2\x86" * 40 + b".")
     text, status, is_same = debug(program, file, "run\nshow 40\n")
     wanted = ["at 82: end, stopped"] + [f"{k} #{40 - k} tuple (#{39 - k} #{39 - k})" for k in range(40)] + ["40 #0 tuple"]
@@ -141,14 +144,14 @@ def doublings(program, file):
     return text.splitlines() == wanted and (status, is_same) == (0, True)
 
 
-def deep_lists(program, file):
+def deep_lists(program: str, file: pathlib.Path) -> bool:
     file.write_bytes(b"]" * 100_001 + b"a" * 100_000 + b".")
     text, status, is_same = debug(program, file, "run\nshow 0\n")
     wanted = ["at 200002: end, stopped"] + [f"{k} #{k} list +#{k + 1}" for k in range(100_000)] + ["100000 #100000 list"]
     return text.splitlines() == wanted and (status, is_same) == (0, True)
 
 
-def many_parts(program, file):
+def many_parts(program: str, file: pathlib.Path) -> bool:
     file.write_bytes(b"(" + b"N" * 100_000 + b"t.")
     text, status = answer(program, ["objects", str(file)])
     parts = " ".join(f"#{k}" for k in range(100_000))
@@ -156,7 +159,7 @@ def many_parts(program, file):
     return text.splitlines() == wanted and status == 0
 
 
-def deep_arguments(program, file):
+def deep_arguments(program: str, file: pathlib.Path) -> bool:
     file.write_bytes(b"cm\nn\n)" + b"\x85" * 100_000 + b"R(cm\nn\n" + b"N" * 100_000 + b"o.")
     wanted = ["    0: import 'm' 'n' as #0", "100006: call 'm' 'n' (#100000) as #100002", "100008: import 'm' 'n' as #100003"]
     wanted += [f"200013: call 'm' 'n' ({'none, ' * 16}+99984) as #200004", "2 imports, 2 calls"]
@@ -164,7 +167,7 @@ def deep_arguments(program, file):
     return text.splitlines() == wanted and status == 0
 
 
-def many_entries(program, file):
+def many_entries(program: str, file: pathlib.Path) -> bool:
     file.write_bytes(b"N" + b"\x94" * 100_000 + b".")
     text, status, is_same = debug(program, file, "run\nmemo\ngoto 0\nmemo\n")
     entries = "".join(f" {k}=#0" for k in range(100_000))
@@ -174,7 +177,7 @@ def many_entries(program, file):
 LARGEST = ["55ff", "58ffffffff", "54ffffff7f", "8e" + "ff" * 8, "96" + "ff" * 8, "95" + "ff" * 8]
 
 
-def largest_lengths(program, file):
+def largest_lengths(program: str, file: pathlib.Path) -> bool:
     for spelled in LARGEST:
         file.write_bytes(bytes.fromhex(spelled))
         fault = "F7 frame past the end" if spelled.startswith("95") else "F3 truncated"
@@ -183,8 +186,8 @@ def largest_lengths(program, file):
     return True
 
 
-def single_bytes(program, file):
-    counts = {}
+def single_bytes(program: str, file: pathlib.Path) -> bool:
+    counts: dict[str, int] = {}
     for byte in range(256):
         file.write_bytes(bytes([byte]))
         text, _ = answer(program, ["list", str(file)])
@@ -214,22 +217,33 @@ ROWS = [
 ]
 
 
-def main():
-    program, folder, pickles = sys.argv[1], pathlib.Path(sys.argv[2]), pathlib.Path(sys.argv[3])
-    folder.mkdir(parents=True, exist_ok=True)
-    resource.setrlimit(resource.RLIMIT_STACK, (256 * 1024, resource.getrlimit(resource.RLIMIT_STACK)[1]))
-    inputs = 0
-    for name, row, count in ROWS:
-        try:
-            why = "" if row(program, folder / "hostile.pickle") else "something else is answered"
-        except (ValueError, OSError, subprocess.SubprocessError) as fault:
-            why = str(fault)[:200]
-        print(f"{name}\t{why}", flush=True)
-        inputs += count
-    count, why = try_pickles(program, folder, pickles)
-    print(f"the real pickles, cut at each byte\t{why}")
-    print(f"{inputs + count} inputs")
+def limit_stack() -> None:
+    """For this process, and so for each program that it starts."""
+    resource.setrlimit(resource.RLIMIT_STACK, (STACK, resource.getrlimit(resource.RLIMIT_STACK)[1]))
 
 
-if __name__ == "__main__":
-    main()
+@dataclasses.dataclass
+class Hostile:
+    program: str
+    folder: pathlib.Path
+    pickles: pathlib.Path
+    inputs: int = 0
+
+    def row_fault(self, row: Callable[[str, pathlib.Path], bool], count: int) -> str:
+        self.folder.mkdir(exist_ok=True)
+        self.inputs += count
+        return "" if row(self.program, self.folder / "hostile.pickle") else "something else is answered"
+
+    def cuts_fault(self) -> str:
+        self.folder.mkdir(exist_ok=True)
+        count, why = try_pickles(self.program, self.folder, self.pickles)
+        self.inputs += count
+        return why
+
+    def closing(self) -> str:
+        return f"{self.inputs} inputs, by hostile.py"
+
+
+def trials(hostile: Hostile) -> list[Trial]:
+    rows = [Trial(name, functools.partial(hostile.row_fault, row, count)) for name, row, count in ROWS]
+    return [*rows, Trial("the real pickles, cut at each byte", hostile.cuts_fault)]

@@ -1,12 +1,13 @@
-#!/usr/bin/python3
 """Tries the Python package: builds its wheel, installs it into a fresh environment without a network, and runs its tests there.
 
-    packages.py PROGRAM FOLDER
+The wheel carries dist/linux-x86_64/picklestep, or the program that is tried where nothing was released. Where setuptools and wheel are not
+there, the tests run from the source tree. They run in another interpreter, which starts this file:
 
-The wheel carries dist/linux-x86_64/picklestep, or PROGRAM where nothing was released. FOLDER is for the files. Where setuptools and wheel are
-not there, the tests run from the source tree. Each line says what was tried, a tab, and what was wrong, or nothing after it. The last line says
-how many tests ran, and where.
+    packages.py --names             writes the names of the tests
+    packages.py --run LINES NAME..  runs these tests, or all where none is named; LINES gets for each its name, a tab, a note, a tab, and
+                                    what is wrong or nothing
 """
+
 from __future__ import annotations
 
 import contextlib
@@ -15,13 +16,20 @@ import shutil
 import subprocess
 import sys
 import unittest
+from collections.abc import Iterable, Iterator, Set
+from dataclasses import dataclass
 from pathlib import Path
 from typing import Any, Dict, List, Optional, TextIO, Tuple
+
+from trials.trial import Verdict
 
 ROOT = Path(__file__).resolve().parent.parent
 SOURCES = ROOT / 'python'
 RELEASED = ROOT / 'dist' / 'linux-x86_64' / 'picklestep'
 MOST_SECONDS = 600
+WHEEL = 'python: the wheel is built and installed'
+TYPES = 'python: mypy --strict'
+NO_BUILDER = 'there is no setuptools, wheel and pip'
 
 
 class Lines(unittest.TestResult):
@@ -50,12 +58,13 @@ class Lines(unittest.TestResult):
 
     def addSkip(self, test: unittest.TestCase, reason: str) -> None:
         super().addSkip(test, reason)
-        self.notes[test.id()] = f' (skipped: {reason})'
+        self.notes[test.id()] = f' (skipped: {reason})'.replace('\t', ' ')
 
     def stopTest(self, test: unittest.TestCase) -> None:
         super().stopTest(test)
         name = test.id()
-        print(f'python {name}{self.notes.get(name, "")}\t{self.faults.get(name, "")}'.replace('\n', ' '), file=self.out, flush=True)
+        fields = (f'python {name}', self.notes.get(name, ''), self.faults.get(name, ''))
+        print('\t'.join(fields).replace('\n', ' '), file=self.out, flush=True)
 
 
 def _words(err: Any) -> str:
@@ -63,26 +72,52 @@ def _words(err: Any) -> str:
     return f'{err[0].__name__}: {err[1]}'.replace('\n', ' ').replace('\t', ' ')[:300]
 
 
-def run_tests(lines: str) -> None:
-    """Runs all tests of the package in this interpreter."""
+def tests_in(suite: Iterable[Any]) -> Iterator[unittest.TestCase]:
+    for test in suite:
+        if isinstance(test, unittest.TestSuite):
+            yield from tests_in(test)
+        else:
+            yield test
+
+
+def run_tests(lines: str, names: List[str]) -> None:
+    """Runs tests of the package in this interpreter: all of them where none is named."""
+    suite = unittest.defaultTestLoader.discover(str(SOURCES / 'tests'))
+    if names:
+        suite = unittest.TestSuite(test for test in tests_in(suite) if f'python {test.id()}' in names)
     with open(lines, 'w', encoding='utf-8', errors='backslashreplace') as out, contextlib.redirect_stdout(sys.stderr):
-        unittest.defaultTestLoader.discover(str(SOURCES / 'tests')).run(Lines(out))
+        suite.run(Lines(out))
+
+
+def print_names() -> None:
+    for test in tests_in(unittest.defaultTestLoader.discover(str(SOURCES / 'tests'))):
+        print(f'python {test.id()}')
 
 
 def builder() -> Optional[str]:
     """An interpreter that can build and install a wheel."""
     for python in (sys.executable, '/usr/bin/python3'):
         if subprocess.run([python, '-c', 'import setuptools, wheel, venv, pip'], stdout=subprocess.DEVNULL, stderr=subprocess.DEVNULL,
-                          check=False).returncode == 0:
+                          env=own_environment(), check=False).returncode == 0:
             return python
     return None
+
+
+def own_environment() -> Dict[str, str]:
+    """The environment without what would lead a test to another package or program."""
+    return {name: value for name, value in os.environ.items() if name not in ('PYTHONPATH', 'PICKLESTEP_PROGRAM')}
+
+
+def from_sources(program: str) -> Dict[str, str]:
+    """What an interpreter is given that reads the package from the source tree."""
+    return {'PYTHONPATH': str(SOURCES), 'PICKLESTEP_PROGRAM': program, 'PYTHONDONTWRITEBYTECODE': '1'}
 
 
 def call(words: List[str], folder: Path, **environment: str) -> str:
     """Runs a command, and says what was wrong with it."""
     with open(folder / 'log', 'ab') as log:
         try:
-            status = subprocess.run(words, cwd=folder, env={**os.environ, **environment}, stdin=subprocess.DEVNULL, stdout=log, stderr=log,
+            status = subprocess.run(words, cwd=folder, env={**own_environment(), **environment}, stdin=subprocess.DEVNULL, stdout=log, stderr=log,
                                     timeout=MOST_SECONDS, check=False).returncode
         except (OSError, subprocess.TimeoutExpired) as error:
             return str(error).replace('\n', ' ')
@@ -112,34 +147,54 @@ def check_types(folder: Path) -> str:
     return call(['mypy', *words, str(SOURCES / 'picklestep')], folder)
 
 
-def main(program: str, folder: Path) -> int:
-    """Tries the package, and answers the status."""
-    folder.mkdir()
-    python, place, environment = builder(), 'the installed wheel', {}
-    interpreter = ''
-    if python is not None:
-        interpreter, why = install(python, os.path.abspath(program), folder)
-        print(f'python: the wheel is built and installed\t{why}', flush=True)
-    if python is None or why:
-        interpreter, place = sys.executable, 'the source tree, since there is no setuptools, wheel and pip'
-        environment = {'PYTHONPATH': str(SOURCES), 'PICKLESTEP_PROGRAM': os.path.abspath(program)}
-    else:
-        os.environ.pop('PICKLESTEP_PROGRAM', None)
-        os.environ.pop('PYTHONPATH', None)
-    lines = folder / 'lines'
-    why = call([interpreter, str(Path(__file__).resolve()), '--run', str(lines)], folder, PYTHONDONTWRITEBYTECODE='1', **environment)
-    told = lines.read_text(encoding='utf-8').splitlines() if lines.exists() else []
-    print('\n'.join(told), flush=True)
-    if shutil.which('mypy'):
-        print(f'python: mypy --strict\t{check_types(folder)}', flush=True)
-    print(f'{len(told)} tests of the Python package in {place}')
-    if why:
-        print(f'the tests did not end: {why}', file=sys.stderr)
-    return 1 if why or not told else 0
+@dataclass
+class Package:
+    """The group of trials of the package. The tests run in one call of an interpreter, which the wheel is installed into."""
+
+    program: str
+    folder: Path
+    name: str = 'python'
+    aside: None = None
+
+    def names(self) -> List[str]:
+        words = [sys.executable, str(Path(__file__).resolve()), '--names']
+        done = subprocess.run(words, env={**own_environment(), **from_sources(self.program)}, stdin=subprocess.DEVNULL,
+                              stdout=subprocess.PIPE, text=True, timeout=MOST_SECONDS, check=True)
+        return [WHEEL, *done.stdout.splitlines(), TYPES]
+
+    def verdicts(self, wanted: Optional[Set[str]]) -> Iterator[Verdict]:
+        self.folder.mkdir()
+        python, interpreter, why = builder(), '', NO_BUILDER
+        if python is not None:
+            interpreter, why = install(python, self.program, self.folder)
+        if wanted is None or WHEEL in wanted:
+            yield Verdict(WHEEL, WHEEL, why, is_skipped=python is None)
+        tests = sorted(name for name in wanted or () if name.startswith('python '))
+        if wanted is None or tests:
+            yield from self.tests('' if why else interpreter, tests, why or 'it is installed')
+        if wanted is None or TYPES in wanted:
+            found = check_types(self.folder) if shutil.which('mypy') else 'there is no mypy'
+            yield Verdict(TYPES, TYPES, found, is_skipped=not shutil.which('mypy'))
+
+    def tests(self, interpreter: str, names: List[str], place: str) -> Iterator[Verdict]:
+        """Runs tests where the wheel is installed, or from the source tree; without names all, and counts them."""
+        environment = {'PYTHONDONTWRITEBYTECODE': '1'} if interpreter else from_sources(self.program)
+        lines = self.folder / 'lines'
+        words = [interpreter or sys.executable, str(Path(__file__).resolve()), '--run', str(lines), *names]
+        why = call(words, self.folder, **environment)
+        told = lines.read_text(encoding='utf-8').splitlines() if lines.exists() else []
+        for line in told:
+            name, note, fault = line.split('\t', 2)
+            yield Verdict(name, name + note, fault)
+        if why or not told:
+            yield Verdict(self.name, f'{self.name}: the tests end', why or 'nothing was tried')
+        elif not names:
+            where = 'the installed wheel' if interpreter else f'the source tree, since {place}'
+            yield Verdict(self.name, f'{len(told)} tests of the Python package in {where}, by packages.py', '')
 
 
 if __name__ == '__main__':
-    if sys.argv[1] == '--run':
-        run_tests(sys.argv[2])
+    if sys.argv[1] == '--names':
+        print_names()
     else:
-        sys.exit(main(sys.argv[1], Path(sys.argv[2])))
+        run_tests(sys.argv[2], sys.argv[3:])

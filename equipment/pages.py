@@ -1,11 +1,5 @@
-#!/usr/bin/python3
-"""Checks README.md and the pages of docs/: links, length, the examples of codes, and the checklists.
+"""Checks README.md and the pages of docs/: links, length, the examples of codes, and the checklists."""
 
-    pages.py ROOT PROGRAM FOLDER
-
-ROOT is the repository; FOLDER gets the pickles of docs/CODES.md. Each line says what was checked, a tab, and what was wrong, or
-nothing after it. The last line says how many checks there were.
-"""
 from __future__ import annotations
 
 import functools
@@ -13,9 +7,11 @@ import itertools
 import re
 import subprocess
 import sys
-from collections.abc import Callable, Iterator
+from collections.abc import Iterator
 from dataclasses import dataclass
 from pathlib import Path
+
+from trials.trial import Trial
 
 WORDS = 13000
 WORDS_OF_README = 900
@@ -193,32 +189,18 @@ def fault_of_index(root: Path) -> str:
     return "" if index.returncode == 0 else index.stderr.strip()[:200]
 
 
-def checks(root: Path, program: str, folder: Path) -> list[tuple[str, Callable[[], str]]]:
-    """What is checked, by name. Each call returns what is wrong, or an empty text."""
+def trials(root: Path, program: str, folder: Path) -> list[Trial]:
+    """What is checked. FOLDER gets the pickles of docs/CODES.md."""
     folder.mkdir(parents=True, exist_ok=True)
     pages = [root / "README.md", *sorted((root / "docs").glob("*.md"))]
     others = [page for page in sorted(root.glob("*.md")) if page not in pages]
-    found: list[tuple[str, Callable[[], str]]] = []
-    for page in [*pages, *others]:
-        found.append((f"the links of {page.name}", functools.partial(fault_of_links, page)))
-    found.append(("the length of the pages", functools.partial(fault_of_length, pages)))
+    found = [Trial(f"the links of {page.name}", functools.partial(fault_of_links, page)) for page in [*pages, *others]]
+    found.append(Trial("the length of the pages", functools.partial(fault_of_length, pages)))
     for example in examples((root / "docs" / "CODES.md").read_text(encoding="utf-8")):
         name = f"the example of {example.code}, {' '.join([example.pickle, *example.commands])}"
-        found.append((name, functools.partial(fault_of_example, program, example, folder / "code.pickle")))
+        found.append(Trial(name, functools.partial(fault_of_example, program, example, folder / "code.pickle")))
     design = (root / "docs" / "DESIGN.md").read_text(encoding="utf-8")
     for checklist in CHECKLISTS:
-        found.append((f"the checklist '{checklist[0]}'", functools.partial(fault_of_checklist, root, design, *checklist)))
-    found.append(("the index of definitions", functools.partial(fault_of_index, root)))
+        found.append(Trial(f"the checklist '{checklist[0]}'", functools.partial(fault_of_checklist, root, design, *checklist)))
+    found.append(Trial("the index of definitions", functools.partial(fault_of_index, root)))
     return found
-
-
-def main() -> None:
-    root, program, folder = Path(sys.argv[1]).resolve(), sys.argv[2], Path(sys.argv[3])
-    found = checks(root, program, folder)
-    for name, check in found:
-        print(f"{name}\t{check()}")
-    print(f"{len(found)} checks of the pages")
-
-
-if __name__ == "__main__":
-    main()

@@ -1,24 +1,22 @@
-#!/usr/bin/python3
-"""Tries the released program, from outside: in a fresh clone, where something was changed, installed, and with nothing but the C library.
+"""Tries the released program, from outside: in a fresh clone, where something was changed, installed, and with nothing but the C library."""
 
-    releases.py ROOT FOLDER
-
-ROOT is the repository, of which the last commit is cloned. FOLDER is for the files. Each line says what was tried, a tab, and what was wrong, or
-nothing after it. The last line says how many starts there were.
-"""
 from __future__ import annotations
 
+import filecmp
+import functools
 import os
 import pathlib
 import re
 import shutil
 import subprocess
-import sys
 import time
 from collections.abc import Callable
 from dataclasses import dataclass, field
 
-HOSTILE = b"cposix\nsystem\n(X\x02\x00\x00\x00idtR."
+from saves import unprivileged
+from trials.samples import HOSTILE
+from trials.trial import Trial
+
 LISTING = """\
     0: c    GLOBAL     'posix' 'system'
    14: (    MARK
@@ -58,13 +56,12 @@ class Releases:
     root: pathlib.Path
     folder: pathlib.Path
     starts: int = 0
-    clone: pathlib.Path = field(init=False)
     called: pathlib.Path = field(init=False)
     environment: dict[str, str] = field(init=False)
 
-    def __post_init__(self) -> None:
+    def begin(self) -> None:
+        """Makes the folder, and a stand-in for the toolchain in it."""
         self.folder.mkdir(parents=True)
-        self.clone = self.folder / "a clone"
         self.called = self.folder / "called"
         (self.folder / "hostile.pickle").write_bytes(HOSTILE)
         (self.folder / "gitconfig").write_text("[safe]\n\tdirectory = *\n")
@@ -79,6 +76,23 @@ class Releases:
             "CALLED": str(self.called),
             "GIT_CONFIG_GLOBAL": str(self.folder / "gitconfig"),
         }
+
+    @functools.cached_property
+    def clone(self) -> pathlib.Path:
+        """A fresh clone of the last commit."""
+        at = self.folder / "a clone"
+        done = self.run("git", "clone", "-q", str(self.root), str(at), at=self.folder)
+        if done.status != 0:
+            raise OSError(f"git clone: {done.errors[:200]}")
+        return at
+
+    def tried(self, attempt: Callable[[Releases], str]) -> str:
+        if not self.folder.exists():
+            self.begin()
+        return attempt(self)
+
+    def closing(self) -> str:
+        return f"{self.starts} starts were tried, by releases.py"
 
     def run(self, *words: str, at: pathlib.Path | None = None, **environment: str) -> Run:
         """Runs a command with no toolchain on the path."""
@@ -123,9 +137,6 @@ def change_byte(file: pathlib.Path) -> None:
 
 
 def clone_starts(releases: Releases) -> str:
-    done = releases.run("git", "clone", "-q", str(releases.root), str(releases.clone), at=releases.folder)
-    if done.status != 0:
-        return f"git clone: {done.errors[:200]}"
     for number in ("first", "second"):
         why = releases.lists("./picklestep")
         if why:
@@ -140,10 +151,7 @@ def starts_read_only(releases: Releases) -> str:
     at = releases.copy("read only")
     shutil.rmtree(at / "out", ignore_errors=True)
     subprocess.run(["chmod", "-R", "a-w", str(at)], check=True)
-    words = ["./picklestep"]
-    if os.geteuid() == 0:
-        words = ["setpriv", "--inh-caps=-all", "--ambient-caps=-all", "--bounding-set=-all", *words]
-    why = releases.lists(*words, at=at)
+    why = releases.lists(*unprivileged(), "./picklestep", at=at)
     subprocess.run(["chmod", "-R", "u+w", str(at)], check=True)
     return why
 
@@ -453,12 +461,12 @@ TRIED: list[tuple[str, Callable[[Releases], str]]] = [
 ]
 
 
-def main() -> None:
-    releases = Releases(pathlib.Path(sys.argv[1]).resolve(), pathlib.Path(sys.argv[2]).resolve())
-    for name, attempt in TRIED:
-        print(f"{name}\t{attempt(releases)}", flush=True)
-    print(f"{releases.starts} starts were tried")
+def is_the_built(root: pathlib.Path) -> str:
+    """Proofs from nothing build the program again, byte for byte."""
+    built, released = root / "crates/picklestep/out/picklestep", root / DIST / "picklestep"
+    return "" if filecmp.cmp(built, released, shallow=False) else f"{built} and {released} differ"
 
 
-if __name__ == "__main__":
-    main()
+def trials(releases: Releases) -> list[Trial]:
+    built = Trial("the program of the proofs is the released one", functools.partial(is_the_built, releases.root))
+    return [built, *(Trial(name, functools.partial(releases.tried, attempt)) for name, attempt in TRIED)]

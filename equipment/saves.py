@@ -1,13 +1,8 @@
-#!/usr/bin/python3
-"""Saves documents where something stands in the way, from outside: no file may be lost.
+"""Saves documents where something stands in the way, from outside: no file may be lost."""
 
-    saves.py PROGRAM LIBRARY FOLDER
-
-LIBRARY is equipment/break_devices.c, compiled. FOLDER is for the files. Each line says what was tried, a tab, and what was wrong, or nothing
-after it. The last line says how many saves there were.
-"""
 from __future__ import annotations
 
+import functools
 import os
 import pathlib
 import resource
@@ -15,9 +10,10 @@ import shutil
 import signal
 import stat
 import subprocess
-import sys
-from collections.abc import Callable, Iterator
+from collections.abc import Callable
 from dataclasses import dataclass, field
+
+from trials.trial import Noted, Trial
 
 OLD = b"K\x01."
 NEW = b"K\x02."
@@ -47,7 +43,7 @@ def unprivileged() -> list[str]:
 @dataclass
 class Saves:
     program: str
-    library: str
+    library: Callable[[], pathlib.Path]
     folder: pathlib.Path
     count: int = 0
     room: pathlib.Path = field(init=False)
@@ -88,6 +84,9 @@ class Saves:
             restore_signals=limit is None,
         )
         return Run(done.returncode, done.stdout, done.stderr)
+
+    def closing(self) -> str:
+        return f"{self.count} saves were tried, by saves.py"
 
     def left(self) -> list[str]:
         return sorted(str(path.relative_to(self.room)) for path in self.room.rglob(UNFINISHED))
@@ -336,17 +335,17 @@ def breaks_calls(saves: Saves) -> str:
     for call in ("fchmod", "fsync", "rename"):
         saves.begin()
         (saves.room / "out").write_bytes(OLD)
-        why = saves.refused(saves.save("out", LD_PRELOAD=saves.library, FAIL=call), "out")
+        why = saves.refused(saves.save("out", LD_PRELOAD=str(saves.library()), FAIL=call), "out")
         if why:
             return f"{call}: {why}"
     saves.begin()
-    return saves.refused(saves.save("none", LD_PRELOAD=saves.library, FAIL="rename"), "none", None)
+    return saves.refused(saves.save("none", LD_PRELOAD=str(saves.library()), FAIL="rename"), "none", None)
 
 
 def fails_without_owner(saves: Saves) -> str:
     saves.begin()
     (saves.room / "out").write_bytes(OLD)
-    return saves.stored(saves.save("out", LD_PRELOAD=saves.library, FAIL="fchown"), "out")
+    return saves.stored(saves.save("out", LD_PRELOAD=str(saves.library()), FAIL="fchown"), "out")
 
 
 # --- Runs that are killed, and runs side by side ---
@@ -428,23 +427,13 @@ TRIED: list[tuple[str, Callable[[Saves], str]]] = [
 ]
 
 
-def try_all(saves: Saves) -> Iterator[tuple[str, str]]:
-    for name, attempt in TRIED:
-        yield name, attempt(saves)
+def full_file_system(saves: Saves) -> Noted:
     words = may_mount()
     if words is None:
-        yield "a full file system (not tried: nothing may be mounted here)", ""
-    else:
-        yield "a full file system", fills_a_device(saves, words)
+        return Noted("", " (not tried: nothing may be mounted here)")
+    return Noted(fills_a_device(saves, words), "")
 
 
-def main() -> None:
-    program, library, folder = sys.argv[1], pathlib.Path(sys.argv[2]).resolve(), pathlib.Path(sys.argv[3])
-    saves = Saves(program, str(library), folder.resolve())
-    for name, why in try_all(saves):
-        print(f"{name}\t{why}", flush=True)
-    print(f"{saves.count} saves were tried")
-
-
-if __name__ == "__main__":
-    main()
+def trials(saves: Saves) -> list[Trial]:
+    found = [Trial(name, functools.partial(attempt, saves)) for name, attempt in TRIED]
+    return [*found, Trial("a full file system", functools.partial(full_file_system, saves))]

@@ -1,24 +1,22 @@
-#!/usr/bin/python3
 """Gives the program real pickles one after another in one input, with --many, and goes there and back.
 
-    several.py PROGRAM FOLDER PICKLES LISTINGS COMPARE
-
-FOLDER is for the files. PICKLES is a folder of real pickles, LISTINGS one of their stored listings, which come from Python's pickletools,
-and COMPARE is equipment/compare_listing. Every pickle stands twice in a row, and three at random stand in a row. What is listed follows
-from the stored listings: each with its offsets moved, up to the first refusal or fault. One with a frame that goes on after its STOP is
-left out.
-A conversation goes to the end of each pickle, and back over the same places, where the same has to be shown.
-Each line of the output says what was tried, a tab, and what was wrong, or nothing after it. The last line says how many inputs there were.
+Every pickle stands twice in a row, and three at random stand in a row. What is listed follows from the stored listings, which come from
+Python's pickletools: each with its offsets moved, up to the first refusal or fault. One with a frame that goes on after its STOP is left
+out. A conversation goes to the end of each pickle, and back over the same places, where the same has to be shown.
 """
+
 from __future__ import annotations
 
 import dataclasses
+import functools
 import pathlib
 import random
 import re
 import subprocess
-import sys
 from collections.abc import Sequence
+
+from trials.listings import listing_difference, reply_to_run
+from trials.trial import Trial
 
 TRIPLES = 200
 ITEM = re.compile(r" *(\d+)(: .*)")
@@ -100,15 +98,6 @@ class Expected:
     ends: list[tuple[int, int]]
 
 
-def reply_to_run(place: int, broken: str | None) -> str:
-    """What `run` from the start is answered."""
-    if broken is not None and broken.startswith("refused: "):
-        why = broken.removeprefix("refused: ")
-        return f"at {place}: refused, {why}" if place > 0 else f"refused: C3 item 0: {why}"
-    end = "stopped" if broken is None else broken.removeprefix("fault: ")
-    return f"at {place}: end, {end}" if place > 0 else f"refused: C2 at the end, {end}"
-
-
 def broken_line(broken: str, base: int, objects: int) -> str:
     """A refusal or fault of a pickle behind others."""
     if broken.startswith("fault: "):
@@ -140,14 +129,16 @@ def expect(pickles: Sequence[Pickle], objects: Sequence[int]) -> Expected:
     if protocol >= 0:
         lines.append(f"highest protocol among opcodes = {protocol}")
     listing = "".join(f"{line}\n" for line in lines)
-    return Expected(listing, int(broken is not None), place, reply_to_run(place, broken), ends)
+    return Expected(listing, int(broken is not None), place, reply_to_run(place, broken or ""), ends)
 
 
-@dataclasses.dataclass(frozen=True)
-class Trial:
+@dataclasses.dataclass
+class Inputs:
+    """Inputs of several pickles, which are written into a folder and given to a program."""
+
     program: str
     folder: pathlib.Path
-    compare: str
+    count: int = 0
 
     def answer(self, words: Sequence[str], script: str = "") -> tuple[str, int]:
         told = [self.program, *words]
@@ -165,12 +156,9 @@ class Trial:
 
     def listing_fault(self, file: pathlib.Path, expected: Expected) -> str:
         text, status = self.answer(["list", "--many", str(file)])
-        found, wanted = self.folder / "found.txt", self.folder / "wanted.txt"
-        found.write_text(text, "utf-8", "surrogateescape")
-        wanted.write_text(expected.listing, "utf-8", "surrogateescape")
-        done = subprocess.run([self.compare, str(found), str(wanted)], capture_output=True, text=True, check=False)
-        if done.returncode != 0:
-            return f"the listing: {done.stdout or done.stderr}".strip()
+        why = listing_difference(text.encode("utf-8", "surrogateescape"), expected.listing.encode("utf-8", "surrogateescape"))
+        if why:
+            return f"the listing: {why}"
         return "" if status == expected.status else f"the listing has status {status}"
 
     def report_fault(self, file: pathlib.Path, expected: Expected) -> str:
@@ -206,6 +194,8 @@ class Trial:
         return ""
 
     def fault(self, pickles: Sequence[Pickle]) -> str:
+        self.folder.mkdir(exist_ok=True)
+        self.count += 1
         file = self.folder / "several.pickle"
         file.write_bytes(b"".join(pickle.data for pickle in pickles))
         expected = expect(pickles, [self.objects_of(pickle) for pickle in pickles])
@@ -222,11 +212,8 @@ class Trial:
         self.answer(["debug", "--many", str(file), "--save", str(saved)])
         return "" if saved.read_bytes() == file.read_bytes() else "other bytes are saved"
 
-    def judged(self, pickles: Sequence[Pickle]) -> str:
-        try:
-            return self.fault(pickles)
-        except (ValueError, OSError, subprocess.SubprocessError) as fault:
-            return str(fault)[:200]
+    def closing(self) -> str:
+        return f"{self.count} inputs of several pickles, by several.py"
 
 
 def inputs_of(pickles: Sequence[Pickle]) -> list[tuple[str, list[Pickle]]]:
@@ -243,17 +230,7 @@ def inputs_of(pickles: Sequence[Pickle]) -> list[tuple[str, list[Pickle]]]:
     return inputs
 
 
-def main() -> None:
-    program, folder, data, listings, compare = sys.argv[1], *(pathlib.Path(word) for word in sys.argv[2:5]), sys.argv[5]
-    folder.mkdir(parents=True, exist_ok=True)
+def trials(inputs: Inputs, data: pathlib.Path, listings: pathlib.Path) -> list[Trial]:
     found = [read_pickle(path, listings) for path in sorted(data.glob("*.pickle"))]
     pickles = [pickle for pickle in found if pickle is not None]
-    trial = Trial(program, folder, compare)
-    inputs = inputs_of(pickles)
-    for name, three in inputs:
-        print(f"{name}\t{trial.judged(three)}", flush=True)
-    print(f"{len(inputs)} inputs of several pickles")
-
-
-if __name__ == "__main__":
-    main()
+    return [Trial(name, functools.partial(inputs.fault, three)) for name, three in inputs_of(pickles)]

@@ -1,0 +1,45 @@
+"""Runs the trials that `./test` asks for.
+
+    python3 -m trials --list [NAME..]
+    python3 -m trials --program FILE --folder FOLDER NAME..
+    python3 -m trials --program FILE --folder FOLDER --proofs LOG STATUS SECONDS
+
+The folder is for files, and is empty. LOG is what `rt ci` wrote.
+"""
+
+from __future__ import annotations
+
+import argparse
+import sys
+from pathlib import Path
+
+from . import runner
+from .room import Room
+
+ROOT = Path(__file__).resolve().parents[2]
+
+
+def main() -> int:
+    parser = argparse.ArgumentParser(prog="trials", description="tries the built program from outside")
+    parser.add_argument("--list", action="store_true")
+    parser.add_argument("--program", type=Path, default=Path())
+    parser.add_argument("--folder", type=Path, default=Path())
+    parser.add_argument("--proofs", nargs=3, metavar=("LOG", "STATUS", "SECONDS"))
+    parser.add_argument("names", nargs="*")
+    words = parser.parse_args()
+    room = Room(ROOT, words.program.resolve(), words.folder.resolve())
+    try:
+        if words.list:
+            runner.list_names(room, words.names)
+            return 0
+        if words.proofs:
+            log, status, seconds = words.proofs
+            return runner.run_all(room, Path(log), int(status), int(seconds))
+        return runner.run_named(room, words.names)
+    except runner.Unknown as unknown:
+        print(f"./test: no trial and no group has the name {unknown}: ./test --list writes the names", file=sys.stderr)
+        return 2
+
+
+if __name__ == "__main__":
+    sys.exit(main())

@@ -1,0 +1,85 @@
+"""The examples of the pages: commands of the README, and conversations."""
+
+from __future__ import annotations
+
+import functools
+import re
+from collections.abc import Iterator
+from dataclasses import dataclass, field
+from pathlib import Path
+
+import conversations
+
+from .room import Room, Word, run
+from .trial import Trial
+
+COMMAND = "    $ "
+MARGIN = "    "
+PAGES = ("docs/USING.md", "equipment/conversations.txt", "equipment/calls.txt")
+BLOCK = re.compile(r"^ *pickles?( [0-9a-f ]+)?$", re.MULTILINE)
+
+
+def examples_of(page: str) -> Iterator[tuple[str, str]]:
+    """Each command of a page, which stands after `$ `, with what it has to write."""
+    command, wanted = "", ""
+    for line in [*page.splitlines(), ""]:
+        if command and (line.startswith(COMMAND) or not line.startswith(MARGIN)):
+            yield command, wanted
+            command = ""
+        if line.startswith(COMMAND):
+            command, wanted = line[len(COMMAND) :], ""
+        elif command:
+            wanted += line[len(MARGIN) :] + "\n"
+
+
+@dataclass
+class Readme:
+    """The examples of the README. Later ones use the files of earlier ones, so they run in their order."""
+
+    room: Room
+    examples: list[tuple[str, str]] = field(init=False)
+    done: int = 0
+
+    def __post_init__(self) -> None:
+        self.examples = list(examples_of((self.room.root / "README.md").read_text("utf-8")))
+
+    @functools.cached_property
+    def folder(self) -> Path:
+        folder = self.room.folder / "readme"
+        folder.mkdir()
+        (folder / "picklestep").symlink_to(self.room.start)
+        (folder / "crates").symlink_to(self.room.root / "crates")
+        return folder
+
+    def fault(self, number: int) -> str:
+        """Runs an example, and before it those that were not run yet."""
+        while self.done < number:
+            self.fault(self.done)
+        self.done = number + 1
+        command, wanted = self.examples[number]
+        sources, binary = self.room.root / "python", self.room.program
+        settings = [f"PYTHONPATH={sources}", f"PICKLESTEP_PROGRAM={binary}", "PYTHONDONTWRITEBYTECODE=1"]
+        words: list[Word] = ["env", *settings, "bash", "-c", command]
+        return run(words, self.folder).difference(0, wanted, "")
+
+
+def of_readme(room: Room) -> list[Trial]:
+    readme = Readme(room)
+    return [
+        Trial(f"the example '{command}'", functools.partial(readme.fault, number))
+        for number, (command, _) in enumerate(readme.examples)
+    ]
+
+
+def of_pages(room: Room) -> list[Trial]:
+    """The conversations of all pages. None may be overlooked by the one who reads the page."""
+    trials = []
+    for name in PAGES:
+        page = room.root / name
+        found = conversations.trials(str(room.program), page, room.folder / "conversations")
+        wanted = len(BLOCK.findall(page.read_text("utf-8")))
+        if len(found) != wanted or not found:
+            why = f"{len(found)} of {wanted} were found"
+            trials.append(Trial(f"the conversations of {page.name}", functools.partial(str, why)))
+        trials += found
+    return trials

@@ -1,0 +1,102 @@
+"""All groups of trials, in the order in which they are told."""
+
+from __future__ import annotations
+
+import functools
+import subprocess
+import sys
+from collections.abc import Iterator, Set
+from typing import Optional, Protocol
+
+import count_calls
+import devices
+import hostile
+import packages
+import pages
+import releases
+import saves
+import several
+
+from . import examples, large, listings, memory, options, program
+from .room import Room, Word
+from .trial import Group, Noted, Trial, Verdict
+
+# Random cases end with what comes first. They run beside the other groups, which take longer.
+CASES = 1000
+SECONDS = 110
+
+
+class AnyGroup(Protocol):
+    """What the runner asks of a group: Group, or one that has its own way to run."""
+
+    @property
+    def name(self) -> str: ...
+
+    @property
+    def aside(self) -> object: ...
+
+    def names(self) -> list[str]: ...
+
+    def verdicts(self, wanted: Optional[Set[str]]) -> Iterator[Verdict]: ...
+
+
+def random_cases(room: Room) -> Noted:
+    """Laws of the program that need no reference, over what a generator makes. The seed is always the same."""
+    words: list[Word] = [sys.executable, "-B", room.equipment / "fuzz.py", room.program, room.folder / "fuzz"]
+    limits: list[Word] = ["--seed", "1", "--cases", str(CASES), "--seconds", str(SECONDS), "--pickles", room.pickles]
+    done = subprocess.run([*words, *limits], stdout=subprocess.PIPE, stderr=subprocess.STDOUT, text=True, check=False)
+    said = done.stdout.splitlines()[-1:] or ["it says nothing"]
+    why = "" if done.returncode == 0 else done.stdout.strip() or f"it ended with status {done.returncode}"
+    return Noted(why, f": {said[0]}")
+
+
+def random_trials(room: Room) -> list[Trial]:
+    return [Trial("random pickles and scripts", functools.partial(random_cases, room))]
+
+
+def of_program(room: Room) -> list[AnyGroup]:
+    """What the program does by itself."""
+    return [
+        Group("program", functools.partial(program.trials, room)),
+        Group("options", functools.partial(options.trials, room)),
+        Group("readme", functools.partial(examples.of_readme, room)),
+        Group("conversations", functools.partial(examples.of_pages, room)),
+        Group("pages", functools.partial(pages.trials, room.root, str(room.program), room.folder / "pages")),
+    ]
+
+
+def of_pickles(room: Room) -> list[AnyGroup]:
+    """What it does with the real pickles, and with large inputs."""
+    answers = room.equipment / "listings"
+    counts = count_calls.Counts(str(room.program), answers)
+    inputs = several.Inputs(str(room.program), room.folder / "several")
+    return [
+        Group("listings", functools.partial(listings.trials, room)),
+        Group("calls", functools.partial(count_calls.trials, counts, room.pickles), counts.closing),
+        Group("there-and-back", functools.partial(listings.there_and_back, room)),
+        Group("several", functools.partial(several.trials, inputs, room.pickles, answers), inputs.closing),
+        Group("large", functools.partial(large.trials, room)),
+    ]
+
+
+def of_surroundings(room: Room) -> list[AnyGroup]:
+    """Inputs that lie, devices that break, files in the way, and how the program is released."""
+    library = functools.partial(room.library, "break_devices")
+    cut = hostile.Hostile(str(room.program), room.folder / "hostile", room.pickles)
+    broken = devices.Devices(str(room.program), library, room.folder / "devices")
+    saved = saves.Saves(str(room.program), library, room.folder / "saves")
+    released = releases.Releases(room.root, room.folder / "releases")
+    return [
+        Group("hostile", functools.partial(hostile.trials, cut), cut.closing, aside=hostile.limit_stack),
+        packages.Package(str(room.program), room.folder / "python"),
+        Group("devices", functools.partial(devices.trials, broken), broken.closing),
+        Group("saves", functools.partial(saves.trials, saved), saved.closing),
+        Group("release", functools.partial(releases.trials, released), released.closing),
+        Group("random", functools.partial(random_trials, room), aside=lambda: None),
+    ]
+
+
+def in_order(room: Room) -> list[AnyGroup]:
+    """Memory comes last, when nothing else runs."""
+    memory_group = Group("memory", functools.partial(memory.trials, room))
+    return [*of_program(room), *of_pickles(room), *of_surroundings(room), memory_group]

@@ -1,0 +1,92 @@
+"""Inputs of 256 MiB, and of the most bytes that a file may have."""
+
+from __future__ import annotations
+
+import functools
+import shutil
+import subprocess
+from collections.abc import Callable, Iterator
+
+from .room import Room, Word, beginning
+from .row import Row, trials_of
+from .samples import LARGE, LARGEST
+from .trial import Skip, Trial
+
+WHERE = "at 0 of {}, offset 0, buffers 0, result none, end {}\n"
+READ = f"large.pickle\n0 BINBYTES\n{LARGE - 1} STOP\nstopped\nsame\nedits: same\ncuts: same\n"
+# An edit is not too large yet at 256 MiB, and a byte more is opened, alone or as a pickle of its own.
+EDITS = (
+    Row("an edit of a large input", ("debug", "large.pickle"), "insert 0 NONE\n", output="edited 0\n"),
+    Row("a large input and a byte", ("debug", "larger.pickle"), "where\n", output=WHERE.format(2, "stopped")),
+    Row(
+        "a large input and a byte, as several pickles",
+        ("debug", "--many", "larger.pickle"),
+        "where\n",
+        output=WHERE.format(3, f"F1 ended at {LARGE + 1}"),
+    ),
+)
+LONGER = Row(
+    "an edit of the largest input",
+    ("debug", "largest.pickle"),
+    "insert 0 NONE\n",
+    status=1,
+    output="refused: C9 E8 too large\n",
+)
+GIGABYTES = 6
+LISTING_SECONDS = 300
+CHUNK = 1 << 20
+
+
+def reads_large(room: Room) -> str:
+    """A large input is read by the crates, and written back."""
+    return room.observe(room.built("real_pickles", "real_pickles"), "large.pickle").difference(0, READ, "")
+
+
+def need_gigabytes(room: Room, count: int) -> None:
+    """Raises Skip where less memory or disk is free."""
+    with open("/proc/meminfo", encoding="ascii") as file:
+        kilobytes = next(int(line.split()[1]) for line in file if line.startswith("MemAvailable:"))
+    if min(kilobytes * 1000, shutil.disk_usage(room.folder).free) < count * 10**9:
+        raise Skip(f"it wants {count} GB of memory and of disk")
+
+
+def with_gigabytes(room: Room, attempt: Callable[[Room], str]) -> str:
+    need_gigabytes(room, GIGABYTES)
+    return attempt(room)
+
+
+def largest_listing() -> Iterator[bytes]:
+    """The listing of the largest input in pieces: four characters for each of its bytes, so it is not kept."""
+    yield b"    0: B    BINBYTES   '"
+    zeros = LARGEST - 6
+    chunk = rb"\x00" * (CHUNK // 4)
+    for _ in range(4 * zeros // CHUNK):
+        yield chunk
+    yield rb"\x00" * (zeros % (CHUNK // 4))
+    yield b"'\n%d: .    STOP\nhighest protocol among opcodes = 3\n" % (LARGEST - 1)
+
+
+def lists_largest(room: Room) -> str:
+    words: list[Word] = ["timeout", str(LISTING_SECONDS), room.start, "list", "largest.pickle"]
+    with subprocess.Popen(
+        words, cwd=room.files, stdin=subprocess.DEVNULL, stdout=subprocess.PIPE, stderr=subprocess.PIPE
+    ) as lister:
+        assert lister.stdout and lister.stderr
+        is_same = all(lister.stdout.read(len(piece)) == piece for piece in largest_listing())
+        is_same = is_same and not lister.stdout.read(1)
+        if not is_same:
+            lister.terminate()
+        errors = lister.stderr.read()
+        status = lister.wait()
+    if not is_same:
+        return f"another output, and errors that begin: {beginning(errors)}"
+    return "" if status == 0 else f"status {status}, with errors that begin: {beginning(errors)}"
+
+
+def trials(room: Room) -> list[Trial]:
+    return [
+        Trial("a large input", functools.partial(reads_large, room)),
+        *trials_of(EDITS, room),
+        Trial(LONGER.name, functools.partial(with_gigabytes, room, LONGER.fault)),
+        Trial("the listing of the largest input", functools.partial(with_gigabytes, room, lists_largest)),
+    ]

@@ -1,0 +1,204 @@
+"""Runs in which each request for memory is refused in turn, by equipment/refuse_memory.c.
+
+LD_PRELOAD takes blanks for separators. So the library and its files are named from the folder of the sample files, `..`, by a
+path that has none.
+"""
+
+from __future__ import annotations
+
+import functools
+from collections.abc import Callable
+from dataclasses import dataclass, field
+
+from .room import Room, Run, Word, beginning
+from .samples import HOSTILE_CALLS, PAIR_LISTING, PAIR_OBJECTS, TWICE_OBJECTS
+from .trial import Noted, Trial
+
+MOST = 10_000
+NO_MEMORY = "picklestep: out of memory\n"
+TEST_ENDS = "test result: ok"
+
+
+def is_part(found: Run, whole: str) -> str:
+    """A beginning of the text was written, and then the fault as the one line of errors."""
+    if found.status != 2 or found.errors != NO_MEMORY.encode():
+        return f"status {found.status}, with errors that begin: {beginning(found.errors)}"
+    if not whole.encode().startswith(found.output):
+        return f"no beginning of the text, but: {beginning(found.output)}"
+    return ""
+
+
+def is_nothing(found: Run, _: str) -> str:
+    """Nothing was written but the fault."""
+    return found.difference(2, "", NO_MEMORY)
+
+
+@dataclass(frozen=True)
+class Command:
+    """A command of the program: what it writes with ample memory, and what is asked of it where a request is refused."""
+
+    name: str
+    words: tuple[str, ...]
+    output: str
+    refused: Callable[[Run, str], str]
+    saved: str = ""
+
+
+PAIR = Command("listing a pair", ("list", "pair.pickle"), PAIR_LISTING, is_part)
+COMMANDS = (
+    PAIR,
+    Command("the objects of a pair", ("objects", "pair.pickle"), PAIR_OBJECTS, is_nothing),
+    Command("the calls of a pickle", ("calls", "hostile.pickle"), HOSTILE_CALLS, is_part),
+    Command("the objects of two pickles", ("objects", "--many", "twice.pickle"), TWICE_OBJECTS, is_nothing),
+    Command(
+        "saving a pickle from a window",
+        ("debug", "doubled.pickle", "--window", "2", "--save", "saved.pickle"),
+        "",
+        is_nothing,
+        saved="doubled.pickle",
+    ),
+)
+
+# Tests of crates that take 'out of memory' for an answer, and look at what is left then.
+TESTS = (
+    ("plain_tests", "tests::whole::refused_memory"),
+    ("plain_tests", "tests::opcodes::refused_memory"),
+    ("plain_tests", "tests::lists::refused_memory"),
+    ("task_tests", "listings::refused_memory"),
+    ("task_tests", "callings::refused_memory"),
+    ("task_tests", "conversations::refused_memory"),
+    ("task_tests", "several::refused_memory"),
+    ("document_tests", "tests::refused_memory"),
+    ("document_tests", "tests::refused_memory_of_many"),
+    ("machine_tests", "tests::refused_memory"),
+    ("session_tests", "tests::refused_memory"),
+    ("session_tests", "tests::refused_memory_of_many"),
+    ("report_tests", "tests::refused_memory"),
+    ("report_tests", "tests::refused_memory_of_many"),
+    ("script_tests", "tests::refused_memory"),
+    ("script_tests", "tests::refused_memory_of_many"),
+    ("script_tests", "tests::refused_memory_of_objects"),
+)
+# Real pickles under a script, with what is shown after each line written down before.
+SCRIPTS = ("sklearn_tree_protocol_4", "sklearn_pipeline_protocol_4", "sklearn_encoder_protocol_0")
+# Two tests of a crate that ask for memory as often, and so what the second does besides asks for none.
+ALIKE = (
+    (
+        "no step back and no free step asks for memory",
+        "machine_tests",
+        ("tests::forwards", "tests::there_and_back_again"),
+    ),
+    (
+        "no free step and no way back of a session asks for memory",
+        "session_tests",
+        ("tests::forwards", "tests::no_memory_for_free_steps"),
+    ),
+)
+
+
+@dataclass
+class Memory:
+    """`said` has the commands that said, at least once, that they have no memory."""
+
+    room: Room
+    tried: dict[str, Noted] = field(default_factory=dict)
+    said: set[str] = field(default_factory=set)
+
+    def observe(self, settings: dict[str, str], *words: Word) -> Run:
+        """Runs a command under the library with these settings."""
+        library = self.room.library("refuse_memory")
+        given = [f"{name}={value}" for name, value in settings.items()]
+        return self.room.observe("env", *given, f"LD_PRELOAD=../{library.name}", *words)
+
+    def fault_of(self, command: Command, found: Run, is_refused: bool) -> str:
+        if found.status != 0 and is_refused:
+            if found.errors == NO_MEMORY.encode():
+                self.said.add(command.name)
+            return command.refused(found, command.output)
+        why = found.difference(0, command.output, "")
+        if not why and command.saved:
+            files = self.room.files
+            if (files / "saved.pickle").read_bytes() != (files / command.saved).read_bytes():
+                why = f"saved.pickle is not {command.saved}"
+        return why
+
+    def in_turn(self, command: Command) -> Noted:
+        """Runs a command with its first request refused, with its second, and so on, until a run has none of that number."""
+        mark = self.room.folder / "refused"
+        why = ""
+        for number in range(1, MOST + 1):
+            mark.unlink(missing_ok=True)
+            settings = {"FAIL_AT": str(number), "REFUSED_MARK": f"../{mark.name}"}
+            found = self.observe(settings, self.room.program, *command.words)
+            why = self.fault_of(command, found, mark.exists())
+            if why:
+                why = f"with allocation {number} refused: {why}"
+            if why or not mark.exists():
+                break
+        else:
+            why = "there was no end of allocations"
+        if not why and number == 1:
+            why = "no allocation was refused"
+        self.room.requests += number - 1
+        return Noted(why, f", with {number - 1} allocations refused in turn")
+
+    def tried_once(self, command: Command) -> Noted:
+        if command.name not in self.tried:
+            self.tried[command.name] = self.in_turn(command)
+        return self.tried[command.name]
+
+    def line_is_written(self) -> str:
+        """Without this, a program that ended in silence would pass."""
+        self.tried_once(PAIR)
+        return "" if PAIR.name in self.said else "it was never written"
+
+    def each(self, last_line: str, is_behind: bool, *words: Word) -> Noted:
+        """Runs a command, and at each of its requests a copy in which this one is refused. All end well, and with this line."""
+        report = self.room.folder / "each"
+        report.unlink(missing_ok=True)
+        settings = {"FAIL_EACH": f"../{report.name}", "LAST_LINE": last_line, "FAIL_BEHIND": str(int(is_behind))}
+        found = self.observe(settings, *words)
+        lines = report.read_text("utf-8").splitlines() if report.exists() else []
+        # (the last line is 'N refused, M wrong')
+        counts = [int(word) for word in lines[-1].split() if word.isdigit()] if lines else []
+        refused, wrong = counts if len(counts) == 2 else (0, 0)
+        why = ""
+        if found.status != 0 or found.output.splitlines()[-1:] != [last_line.encode()]:
+            why = f"status {found.status}, with errors that begin: {beginning(found.errors)}"
+        elif refused == 0 or wrong != 0:
+            why = f"{refused} refused, {wrong} wrong, first: {''.join(lines[:1])}"
+        self.room.requests += refused
+        return Noted(why, f", with {refused} requests refused in turn")
+
+    def of_test(self, crate: str, test: str) -> Noted:
+        return self.each(TEST_ENDS, False, self.room.built(crate, f"{crate}_tests"), test)
+
+    def of_script(self, pickle: str) -> Noted:
+        """Requests before the first text, which open the document, pass."""
+        runs = self.room.built("session_runs", "session_runs")
+        return self.each("as noted", True, runs, "memory", self.room.pickles / f"{pickle}.pickle")
+
+    def requests_of(self, crate: str, test: str) -> int:
+        count = self.room.folder / "requests"
+        count.write_bytes(b"")
+        found = self.observe({"REQUESTS": f"../{count.name}"}, self.room.built(crate, f"{crate}_tests"), test)
+        if found.status != 0 or found.output.splitlines()[-1:] != [TEST_ENDS.encode()]:
+            raise ValueError(f"{test}: status {found.status}, with errors that begin: {beginning(found.errors)}")
+        return count.stat().st_size
+
+    def ask_alike(self, crate: str, tests: tuple[str, str]) -> Noted:
+        first, second = (self.requests_of(crate, test) for test in tests)
+        why = ""
+        if first == 0 or first != second:
+            why = f"{tests[0]} asks {first} times for memory, and {tests[1]} {second} times"
+        return Noted(why, f", by {first} requests")
+
+
+def trials(room: Room) -> list[Trial]:
+    memory = Memory(room)
+    commands = [Trial(command.name, functools.partial(memory.tried_once, command)) for command in COMMANDS]
+    commands.insert(1, Trial("the line of want of memory", memory.line_is_written))
+    tests = [Trial(f"test {crate} {test}", functools.partial(memory.of_test, crate, test)) for crate, test in TESTS]
+    scripts = [Trial(f"a script over {pickle}", functools.partial(memory.of_script, pickle)) for pickle in SCRIPTS]
+    alike = [Trial(name, functools.partial(memory.ask_alike, crate, tests)) for name, crate, tests in ALIKE]
+    return commands + tests + scripts + alike

@@ -1,0 +1,229 @@
+"""What the program does with files, devices and words, a row for each."""
+
+from __future__ import annotations
+
+import select
+import subprocess
+
+from .room import SECONDS, Room, Run, Word, beginning
+from .row import CLOSED, CUT, FULL, SMALL_STACK, UNPRIVILEGED, Row, fails, is_usage, trials_of
+from .samples import PAIR_LISTING, PAIR_OBJECTS
+from .trial import Trial
+
+NO_CALLS = "0 imports, 0 calls\n"
+UNKNOWN = "refused: X1 unknown word\n"
+STEPS = "step\nstep\nstep\nback\nstack\nstep\nstep\nstep\nfly\n"
+STEPS_TOLD = "at 1\nat 2\nat 3\nat 2\nstack #0 #0\nat 3\nat 4\nrefused: C2 at the end, stopped\n" + UNKNOWN
+CUT_LISTING = "    0: K    BININT1    1\nfault: F3 truncated at 2\nhighest protocol among opcodes = 1\n"
+MANY = 50_000
+
+# A FIFO that is written, read, or left in the middle of a line, at the other end.
+FIFO_GIVES = 'rm -f fifo && mkfifo fifo && { cat pair.pickle >fifo & } && "$@" fifo'
+FIFO_TAKES = 'rm -f fifo && mkfifo fifo && { cat fifo >from_fifo & } && "$@" fifo && wait'
+FIFO_ENDS = 'rm -f fifo && mkfifo fifo && { printf "step\\nste" >fifo & } && "$@" <fifo'
+
+LISTINGS = (
+    Row("a pair", ("list", "pair.pickle"), output=PAIR_LISTING),
+    Row("an empty file", ("list", "empty.pickle"), status=1, output="fault: F1 ended at 0\n"),
+    Row("a path with blanks into another folder", ("list", "another folder/a pair.pickle"), output=PAIR_LISTING),
+    Row("a name with a leading dash", ("list", "--", "-pair"), output=PAIR_LISTING),
+    Row("a file named -", ("list", "-"), output=PAIR_LISTING),
+    Row("a file named - after --", ("list", "--", "-"), output=PAIR_LISTING),
+    Row("a start through a link", ("list", "pair.pickle"), output=PAIR_LISTING, through='shift; ./linked "$@"'),
+    Row(
+        "a start by its name alone",
+        ("list", "pair.pickle"),
+        output=PAIR_LISTING,
+        through='PATH=${1%/*}:$PATH; shift; picklestep "$@"',
+    ),
+    Row(
+        "standard input as a file",
+        ("list", "/dev/stdin"),
+        output=PAIR_LISTING,
+        through='exec "$@" <pair.pickle',
+    ),
+    Row("a pipe as a file", ("list", "/dev/stdin"), output=PAIR_LISTING, through='cat pair.pickle | "$@"'),
+    Row("a FIFO as a file", ("list",), output=PAIR_LISTING, through=FIFO_GIVES),
+    Row(
+        "a pickle saved into a FIFO",
+        ("debug", "doubled.pickle", "--save"),
+        through=FIFO_TAKES,
+        saved=("from_fifo", "doubled.pickle"),
+    ),
+    Row(
+        "lines from a FIFO that is closed in the middle of one",
+        ("debug", "doubled.pickle"),
+        status=1,
+        output="at 1\n" + UNKNOWN,
+        through=FIFO_ENDS,
+    ),
+    Row(
+        "a file in the middle of which its writer stops",
+        ("list", "/dev/stdin"),
+        status=1,
+        output=CUT_LISTING,
+        through=CUT,
+    ),
+    Row(
+        "a conversation that ends in the middle of a line",
+        ("debug", "doubled.pickle"),
+        "step\nba",
+        status=1,
+        output="at 1\n" + UNKNOWN,
+    ),
+    Row("a listing with a small stack", ("list", "pair.pickle"), output=PAIR_LISTING, through=SMALL_STACK),
+    Row(
+        "a conversation with a small stack",
+        ("debug", "doubled.pickle"),
+        "step\n",
+        output="at 1\n",
+        through=SMALL_STACK,
+    ),
+    Row("closed standard input", ("list", "pair.pickle"), output=PAIR_LISTING, through='exec "$@" <&-'),
+)
+
+OBJECTS = (
+    Row("the objects of a pair", ("objects", "pair.pickle"), output=PAIR_OBJECTS),
+    Row("the objects of an empty file", ("objects", "empty.pickle"), status=1, output="fault: F1 ended at 0\n"),
+    Row(
+        "the objects of a file that ends too early",
+        ("objects", "/dev/stdin"),
+        status=1,
+        output="#0 int 1\nfault: F3 truncated at 2\n",
+        through=CUT,
+    ),
+    fails("the objects of no such file", "cannot read", "objects", "missing.pickle"),
+    fails("the objects of a file past the size limit", "too large", "objects", "too_large.pickle"),
+    fails("the objects, on a full device", "cannot write", "objects", "pair.pickle", through=FULL),
+    is_usage("objects without a file", "objects"),
+)
+
+CALLS = (
+    Row("the calls of a pair", ("calls", "pair.pickle"), output=NO_CALLS),
+    Row("the calls of several pickles", ("calls", "--many", "pair.pickle"), output=NO_CALLS),
+    Row(
+        "the calls of an empty file",
+        ("calls", "empty.pickle"),
+        status=1,
+        output=NO_CALLS + "fault: F1 ended at 0\n",
+    ),
+    Row(
+        "the calls of a file that ends too early",
+        ("calls", "/dev/stdin"),
+        status=1,
+        output=NO_CALLS + "fault: F3 truncated at 2\n",
+        through=CUT,
+    ),
+    Row("the calls of a long file", ("calls", "long.pickle"), output=NO_CALLS),
+    fails("the calls of no such file", "cannot read", "calls", "missing.pickle"),
+    fails("the calls of a file past the size limit", "too large", "calls", "too_large.pickle"),
+    fails("the calls, on a full device", "cannot write", "calls", "pair.pickle", through=FULL),
+    is_usage("calls without a file", "calls"),
+    is_usage("a window of calls", "calls", "pair.pickle", "--window", "2"),
+)
+
+CONVERSATIONS = (
+    Row("a conversation", ("debug", "doubled.pickle"), STEPS, status=1, output=STEPS_TOLD),
+    Row("a conversation without a line", ("debug", "doubled.pickle")),
+    Row(
+        "a conversation of 100,000 lines",
+        ("debug", "long.pickle"),
+        "step\nback\n" * MANY,
+        output="at 1\nat 0\n" * MANY,
+    ),
+    fails("a conversation about no such file", "cannot read", "debug", "missing.pickle"),
+    fails("a conversation about a file past the size limit", "too large", "debug", "too_large.pickle"),
+    fails(
+        "a conversation with a full device", "cannot write", "debug", "doubled.pickle", given="step\n", through=FULL
+    ),
+    fails(
+        "a conversation with closed standard output",
+        "cannot write",
+        "debug",
+        "doubled.pickle",
+        given="step\n",
+        through=CLOSED,
+    ),
+    fails(
+        "a conversation whose input cannot be read",
+        "cannot read",
+        "debug",
+        "doubled.pickle",
+        through='exec "$@" </',
+    ),
+)
+
+FAULTS = (
+    fails("no such file", "cannot read", "list", "missing.pickle"),
+    fails("an empty path", "cannot read", "list", ""),
+    fails("a folder", "cannot read", "list", "another folder"),
+    fails("a file that may not be read", "cannot read", "list", "unreadable.pickle", through=UNPRIVILEGED),
+    fails("a file whose reading fails", "cannot read", "list", "/proc/self/mem"),
+    fails("a file past the size limit", "too large", "list", "too_large.pickle"),
+    fails("a full device", "cannot write", "list", "pair.pickle", through=FULL),
+    fails("a full device, with a long listing", "cannot write", "list", "long.pickle", through=FULL),
+    fails("closed standard output", "cannot write", "list", "pair.pickle", through=CLOSED),
+    fails("no such file, with closed standard output", "cannot read", "list", "missing.pickle", through=CLOSED),
+)
+
+WORDS = (
+    is_usage("no words"),
+    is_usage("debug without a file", "debug"),
+    is_usage("list without a file", "list"),
+    is_usage("list with two files", "list", "pair.pickle", "pair.pickle"),
+    is_usage("an unknown subcommand", "fly", "pair.pickle"),
+    is_usage("an unknown option", "--fast"),
+    is_usage("an unknown option of list", "list", "--fast", "pair.pickle"),
+    is_usage("the option --help", "--help"),
+    is_usage("the option --help of list", "list", "--help"),
+    is_usage("the subcommand help", "help"),
+    fails("a word that is not text", "cannot read", "list", b"\xff"),
+    fails("a word that is not text after others", "cannot read", "debug", "pair.pickle", "--save", b"a\xff"),
+)
+
+
+def leaves_early(room: Room) -> str:
+    """A reader that leaves after three lines: the signal of the closed pipe ends the program, or it says so."""
+    row = Row("", ("list", "long.pickle"), through='"$@" | head -n 3; exit "${PIPESTATUS[0]}"')
+    run = row.run(room)
+    if run.output != b"".join(b"    %d: N    NONE\n" % number for number in range(3)):
+        return f"another output, which begins: {beginning(run.output)}"
+    if run.status != 128 + 13 and (run.status, run.errors) != (2, b"picklestep: cannot write\n"):
+        return f"status {run.status}, with errors that begin: {beginning(run.errors)}"
+    return ""
+
+
+TALK = (
+    ("step", "at 1"),
+    ("stack", "stack #0"),
+    ("fly", UNKNOWN.rstrip("\n")),
+    ("back", "at 0"),
+)
+
+
+def talks(room: Room) -> str:
+    """A person types a line, and the next when the answer has come."""
+    words: list[Word] = ["timeout", str(SECONDS), room.start, "debug", "doubled.pickle"]
+    pipe = subprocess.PIPE
+    with subprocess.Popen(words, cwd=room.files, stdin=pipe, stdout=pipe, stderr=pipe, bufsize=0) as talker:
+        assert talker.stdin and talker.stdout
+        for line, wanted in TALK:
+            talker.stdin.write(f"{line}\n".encode())
+            answer = b""
+            if select.select([talker.stdout], [], [], SECONDS / 2)[0]:
+                answer = talker.stdout.readline()
+            if answer != f"{wanted}\n".encode():
+                talker.terminate()
+                return f"the answer to {line} is: {beginning(answer)}"
+        output, errors = talker.communicate()
+        return Run(talker.returncode, output, errors).difference(1, "", "")
+
+
+def trials(room: Room) -> list[Trial]:
+    return [
+        *trials_of((*LISTINGS, *OBJECTS, *CALLS, *CONVERSATIONS), room),
+        Trial("a conversation line by line", lambda: talks(room)),
+        *trials_of(FAULTS, room),
+        Trial("a reader that leaves early", lambda: leaves_early(room)),
+        *trials_of(WORDS, room),
+    ]

@@ -1,0 +1,133 @@
+"""Which groups run, and when: all of them after the proofs, or those that are named."""
+
+from __future__ import annotations
+
+import multiprocessing
+import os
+import re
+import time
+from collections.abc import Iterator, Sequence, Set
+from multiprocessing.connection import Connection
+from pathlib import Path
+from typing import Optional
+
+from .groups import AnyGroup, in_order
+from .room import Room
+from .trial import Report, Verdict
+
+CLOSING = re.compile(r"(\d+) passed, (\d+) failed")
+MEMORY = "memory"
+Chosen = list[tuple[AnyGroup, Optional[Set[str]]]]
+
+
+class Unknown(Exception):
+    """A name that is neither a trial's nor a group's."""
+
+
+class Aside:
+    """A group that runs in a process of its own, beside the others."""
+
+    def __init__(self, group: AnyGroup, wanted: Optional[Set[str]]) -> None:
+        context = multiprocessing.get_context("fork")
+        self.group = group
+        self.receiver, sender = context.Pipe(duplex=False)
+        self.process = context.Process(target=self.send, args=(sender, wanted))
+        self.process.start()
+        sender.close()
+
+    def send(self, sender: Connection, wanted: Optional[Set[str]]) -> None:
+        if callable(self.group.aside):
+            self.group.aside()
+        sender.send(list(self.group.verdicts(wanted)))
+
+    def verdicts(self) -> Iterator[Verdict]:
+        try:
+            yield from self.receiver.recv()
+        except EOFError:
+            self.process.join()
+            why = f"its process ended with status {self.process.exitcode}"
+            yield Verdict(self.group.name, self.group.name, why)
+        self.process.join()
+
+
+def choose(room: Room, names: Sequence[str]) -> Chosen:
+    """The groups with these names, and the trials with these names in the others. No name is every group."""
+    groups = in_order(room)
+    if not names:
+        return [(group, None) for group in groups]
+    rest = set(names)
+    chosen: dict[str, Optional[Set[str]]] = {group.name: None for group in groups if group.name in rest}
+    rest -= set(chosen)
+    for group in groups:
+        # (the names of some groups take a second, and are not asked for in vain)
+        wanted = rest.intersection(group.names()) if rest else set()
+        if wanted:
+            chosen.setdefault(group.name, wanted)
+            rest -= wanted
+    if rest:
+        raise Unknown(", ".join(f"'{name}'" for name in sorted(rest)))
+    return [(group, chosen[group.name]) for group in groups if group.name in chosen]
+
+
+def run_groups(chosen: Chosen, report: Report) -> None:
+    """Runs groups one after another, but those that run aside, which begin at once."""
+    asides = {group.name: Aside(group, wanted) for group, wanted in chosen if group.aside is not None}
+    for group, wanted in chosen:
+        found = asides[group.name].verdicts() if group.name in asides else group.verdicts(wanted)
+        try:
+            for verdict in found:
+                report.tell(verdict)
+        except Exception as fault:  # (what tells the trials of a group apart has failed, and the next group still runs)
+            report.tell(Verdict(group.name, group.name, f"{type(fault).__name__}: {fault}"[:600]))
+
+
+def count_proofs(report: Report, log: Path, status: int) -> None:
+    """Adds what `rt ci` counted in its closing line."""
+    lines = log.read_text("utf-8", "replace").splitlines()
+    closing = CLOSING.fullmatch(lines[-1]) if lines else None
+    if closing is None:
+        report.tell(Verdict("", "rt ci", f"it ended with status {status} and without its closing line"))
+        return
+    report.passed += int(closing[1])
+    failed = int(closing[2])
+    if failed:
+        told = [line for line in lines if "FAILED: " in line][-1:] or [closing[0]]
+        report.fail(f"FAIL rt ci: {told[0]}", failed)
+    elif status != 0:
+        report.tell(Verdict("", "rt ci", f"it counts no failure and ended with status {status}"))
+
+
+def run_all(room: Room, log: Path, status: int, seconds: int) -> int:
+    """Runs all groups, if the proofs passed, and tells what the whole took. Returns the status."""
+    report = Report()
+    begin = tried = time.monotonic()
+    count_proofs(report, log, status)
+    if report.failed:
+        report.tell(Verdict("", "the program", "it is not tried, since rt ci failed"))
+    elif not os.access(room.program, os.X_OK):
+        report.tell(Verdict("", "the program", "rt ci built none"))
+    else:
+        chosen = choose(room, [])
+        run_groups([pair for pair in chosen if pair[0].name != MEMORY], report)
+        tried = time.monotonic()
+        # Nothing runs beside these trials, so that none of them lacks memory by chance.
+        run_groups([pair for pair in chosen if pair[0].name == MEMORY], report)
+    print(f"memory: {room.requests} requests refused")
+    of_memory = time.monotonic() - tried if tried > begin else 0
+    print(f"time: rt ci {seconds} s, program {tried - begin:.0f} s, memory {of_memory:.0f} s")
+    return report.close()
+
+
+def run_named(room: Room, names: Sequence[str]) -> int:
+    report = Report()
+    run_groups(choose(room, names), report)
+    return report.close()
+
+
+def list_names(room: Room, names: Sequence[str]) -> None:
+    """Writes each group, and below it its trials."""
+    for group, wanted in choose(room, names):
+        print(group.name)
+        for name in group.names():
+            if wanted is None or name in wanted:
+                print(f"    {name}")

@@ -1,0 +1,70 @@
+"""The sample files, and what the program writes of those that several trials use."""
+
+from __future__ import annotations
+
+from pathlib import Path
+
+from devices import BREAKPOINTS
+
+PAIR = b"K\x01K\x02\x86q\x00."
+PAIR_LISTING = """\
+    0: K    BININT1    1
+    2: K    BININT1    2
+    4: \\x86 TUPLE2
+    5: q    BINPUT     0
+    7: .    STOP
+highest protocol among opcodes = 2
+"""
+PAIR_OBJECTS = "#0 int 1\n#1 int 2\n#2 tuple (#0 #1)\nresult #2\n"
+DOUBLED = b"K\x012\x86."
+TWICE_OBJECTS = "#0 int 1\n#1 tuple (#0 #0)\n#2 int 1\n#3 tuple (#2 #2)\nresult #1\nresult #3\n"
+# It would call os.system('id') when it is loaded; nothing here loads it.
+HOSTILE = b"cposix\nsystem\n(X\x02\x00\x00\x00idtR."
+HOSTILE_CALLS = """\
+    0: import 'posix' 'system' as #0
+   23: call 'posix' 'system' ('id') as #3
+1 imports, 1 calls
+"""
+
+# The size from which an edit is too large, and the size from which a file is not opened.
+LARGE = 2**28
+LARGEST = 2**30
+
+SMALL = {
+    "pair.pickle": PAIR,
+    "-pair": PAIR,
+    "-": PAIR,
+    "another folder/a pair.pickle": PAIR,
+    "unreadable.pickle": PAIR,
+    "doubled.pickle": DOUBLED,
+    "itself.pickle": DOUBLED,
+    "kept.pickle": DOUBLED,
+    "twice.pickle": DOUBLED * 2,
+    "hostile.pickle": HOSTILE,
+    "dump.pickle": BREAKPOINTS[0],
+    "cut_short.pickle": b"X\x05\0\0\0ab",
+    "empty.pickle": b"",
+    "long.pickle": b"N" * 2_000_000 + b".",
+}
+
+
+def make_holes(path: Path, size: int, behind: bytes = b"") -> None:
+    """One BINBYTES of zeros and STOP, of this size together. Most of the file takes no room on a disk."""
+    with open(path, "wb") as file:
+        file.write(b"B" + (size - 6).to_bytes(4, "little"))
+        file.seek(size - 1)
+        file.write(b"." + behind)
+
+
+def make(folder: Path, start: Path) -> None:
+    """Makes all sample files in a new folder, and a link to the script that starts the program."""
+    (folder / "another folder").mkdir(parents=True)
+    for name, content in SMALL.items():
+        (folder / name).write_bytes(content)
+    (folder / "unreadable.pickle").chmod(0)
+    make_holes(folder / "large.pickle", LARGE)
+    make_holes(folder / "larger.pickle", LARGE, b"N")
+    make_holes(folder / "largest.pickle", LARGEST)
+    with open(folder / "too_large.pickle", "wb") as file:
+        file.truncate(LARGEST + 1)
+    (folder / "linked").symlink_to(start)

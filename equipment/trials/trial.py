@@ -1,0 +1,111 @@
+"""Trials, the groups that they come in, and what is told of them."""
+
+from __future__ import annotations
+
+import shlex
+from collections.abc import Callable, Iterator, Sequence, Set
+from dataclasses import dataclass, field
+from typing import Optional, Union
+
+
+class Skip(Exception):
+    """A trial cannot run here; the text says what it needs."""
+
+
+@dataclass(frozen=True)
+class Noted:
+    """What is wrong, or an empty text, with words that are told after the trial's name."""
+
+    why: str
+    note: str
+
+
+@dataclass(frozen=True)
+class Trial:
+    """A check with the name that `./test NAME` takes. `run` returns what is wrong, or an empty text."""
+
+    name: str
+    run: Callable[[], Union[str, Noted]]
+
+
+@dataclass(frozen=True)
+class Verdict:
+    """How a trial ended. `name` runs it again, if it can be run alone; `told` may say more, for example a count."""
+
+    name: str
+    told: str
+    why: str
+    is_skipped: bool = False
+
+
+def judge(trial: Trial) -> Verdict:
+    """Runs a trial. A fault of the trial itself is a failure, so that the other trials still run."""
+    try:
+        found = trial.run()
+    except Skip as lack:
+        return Verdict(trial.name, trial.name, str(lack), is_skipped=True)
+    except Exception as fault:
+        return Verdict(trial.name, trial.name, f"{type(fault).__name__}: {fault}"[:600])
+    if isinstance(found, Noted):
+        return Verdict(trial.name, trial.name + found.note, found.why)
+    return Verdict(trial.name, trial.name, found)
+
+
+@dataclass(frozen=True)
+class Group:
+    """Trials under one name. They are made only when they are needed, since some read many files.
+
+    `closing` says at the end how much was tried, and is told as one more trial. A group with `aside`
+    runs in a process of its own beside the others; `aside` is called there first.
+    """
+
+    name: str
+    make: Callable[[], Sequence[Trial]]
+    closing: Optional[Callable[[], str]] = None
+    aside: Optional[Callable[[], None]] = None
+
+    def names(self) -> list[str]:
+        return [trial.name for trial in self.make()]
+
+    def verdicts(self, wanted: Optional[Set[str]]) -> Iterator[Verdict]:
+        """Runs the trials of these names, or the whole group. A group that tries nothing has failed."""
+        count = 0
+        for trial in self.make():
+            if wanted is None or trial.name in wanted:
+                count += 1
+                yield judge(trial)
+        if wanted is None and (self.closing is not None or count == 0):
+            told = self.closing() if self.closing is not None else self.name
+            yield Verdict(self.name, told, "" if count else "nothing was tried")
+
+
+@dataclass
+class Report:
+    """Tells each verdict as it comes, and counts."""
+
+    passed: int = 0
+    failed: int = 0
+    failures: list[str] = field(default_factory=list)
+
+    def tell(self, verdict: Verdict) -> None:
+        if verdict.is_skipped:
+            print(f"skip {verdict.told}: {verdict.why}", flush=True)
+        elif not verdict.why:
+            print(f"ok   {verdict.told}", flush=True)
+            self.passed += 1
+        else:
+            again = f"\n    alone: ./test {shlex.quote(verdict.name)}" if verdict.name else ""
+            self.fail(f"FAIL {verdict.told}: {verdict.why}{again}", 1)
+
+    def fail(self, text: str, count: int) -> None:
+        """Counts failures, and keeps what is told of them for the end."""
+        print(text, flush=True)
+        self.failures.append(text)
+        self.failed += count
+
+    def close(self) -> int:
+        """Tells the failures again, where nobody has to look for them, and returns the status."""
+        for text in self.failures:
+            print(text)
+        print(f"{self.passed} passed, {self.failed} failed", flush=True)
+        return int(self.failed > 0)
