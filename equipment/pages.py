@@ -166,18 +166,22 @@ def listed(root: Path, page: str, heading: str) -> set[str]:
     return {f"crates/{name}" if (root / "crates" / name.split("/")[0]).is_dir() else name for name in names}
 
 
+def has_sample(file: Path, sample: str) -> bool:
+    return re.search(sample, file.read_text(encoding="utf-8", errors="replace")) is not None
+
+
 def fault_of_checklist(root: Path, page: str, heading: str, sample: str, patterns: list[str]) -> str:
     named = listed(root, page, heading)
     found = set()
     for pattern in patterns:
         for file in root.glob(pattern):
             name = str(file.relative_to(root))
-            if file.is_file() and name != "equipment/pages.py" and re.search(sample, file.read_text(encoding="utf-8", errors="replace")):
+            if file.is_file() and file.suffix != ".pyc" and name != "equipment/pages.py" and has_sample(file, sample):
                 found.add(name)
     for name in sorted(named - found):
         if not (root / name).is_file():
             return f"{name} is not there"
-        if not re.search(sample, (root / name).read_text(encoding="utf-8", errors="replace")):
+        if not has_sample(root / name, sample):
             return f"{name} is listed and does not name the sample"
     missing = sorted(found - named)
     return f"it lacks {', '.join(missing)}" if missing else "" if named else "it lists no file"
