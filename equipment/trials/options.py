@@ -9,7 +9,7 @@ from .row import Row, fails, is_usage, misused, trials_of
 from .trial import Trial
 
 _, BREAK_LINES, BREAK_ANSWERS, BREAK_STATUS = BREAKPOINTS
-NO_WINDOWS = ("0", "1000001", "-1", "x", "", "1.5", "18446744073709551616")
+NO_WINDOWS = ("0", "1000001", "-1", "x", "", "1.5", "18446744073709551617")
 
 WINDOWS = (
     *(
