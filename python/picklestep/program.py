@@ -17,7 +17,6 @@ import select
 import signal
 import subprocess
 import time
-from pathlib import Path
 from typing import IO, Generator, Iterable, List, NoReturn, Optional, Sequence
 
 from .errors import OutOfMemory, ProgramError, TimedOut, TooLarge
@@ -25,7 +24,7 @@ from .errors import OutOfMemory, ProgramError, TimedOut, TooLarge
 __all__ = ['Process', 'find_program', 'run_program']
 
 _PIECE = 1 << 18
-_HERE = Path(__file__).resolve().parent
+_HERE = os.path.dirname(os.path.realpath(__file__))
 _LIMITED = ['/bin/sh', '-c', 'ulimit -v "$1" && shift && exec "$@"', 'sh']
 
 
@@ -37,12 +36,12 @@ def find_program() -> str:
     named = os.environ.get('PICKLESTEP_PROGRAM')
     if named:
         return named
-    root = _HERE.parent.parent
-    in_tree = [root / 'dist' / 'linux-x86_64' / 'picklestep', root / 'crates' / 'picklestep' / 'out' / 'picklestep']
-    newest = sorted(filter(Path.is_file, in_tree), key=lambda path: path.stat().st_mtime_ns, reverse=True)
-    for path in (_HERE / 'bin' / 'picklestep', *newest, root / 'picklestep'):
-        if path.is_file():
-            return str(path)
+    root = os.path.dirname(os.path.dirname(_HERE))
+    in_tree = [os.path.join(root, *place, 'picklestep') for place in (('dist', 'linux-x86_64'), ('crates', 'picklestep', 'out'))]
+    newest = sorted(filter(os.path.isfile, in_tree), key=os.path.getmtime, reverse=True)
+    for path in (os.path.join(_HERE, 'bin', 'picklestep'), *newest, os.path.join(root, 'picklestep')):
+        if os.path.isfile(path):
+            return path
     raise ProgramError('the program picklestep is not there: set PICKLESTEP_PROGRAM to its path')
 
 
@@ -115,7 +114,7 @@ class Process:
     def pieces(self, timeout: Optional[float]) -> Generator[bytes, None, None]:
         """The program's output as it comes, for a program without input. It has ended then, also after an exception.
 
-        Raises TimedOut after so many seconds, and ProgramError where the program failed, after what it wrote.
+        Raises TimedOut after `timeout` seconds, and ProgramError where the program failed, after what it wrote.
         """
         deadline = None if timeout is None else time.monotonic() + timeout
         ready = select.poll()

@@ -191,7 +191,7 @@ class Errors(LeavesNothing):
                     ask(b'N.')
 
     def test_the_newer_program_of_a_source_tree(self) -> None:
-        with tempfile.TemporaryDirectory() as folder, mock.patch('picklestep.program._HERE', Path(folder) / 'python' / 'picklestep'), \
+        with tempfile.TemporaryDirectory() as folder, mock.patch('picklestep.program._HERE', f'{folder}/python/picklestep'), \
                 mock.patch.dict(os.environ):
             os.environ.pop('PICKLESTEP_PROGRAM', None)
             released, built = (Path(folder) / place / 'picklestep' for place in ('dist/linux-x86_64', 'crates/picklestep/out'))

@@ -185,6 +185,13 @@ class Containers(ScanCase):
         self.assertEqual([(found.name, found.count, found.offset) for found in result.pickles[0].imports],
                          [('os.getcwd', 3, 1), ('os.name', 1, 37)])
 
+    def test_lines_are_summed_up_by_name(self) -> None:
+        content = b'(\x82\x07)R\x83\x07\x00)R\x82\x08)Rcos\na.b\n)Rcos.a\nb\n)R(ios\na.b\nl.'
+        result = self.look('a.pkl', content)
+        self.assertEqual([(found.name, found.count) for found in result.pickles[0].imports], [('ext 7', 2), ('ext 8', 1), ('os.a.b', 3)])
+        self.assertEqual({(found.what, found.name): found.count for found in result.pickles[0].calls},
+                         {('call', 'ext 7'): 2, ('call', 'ext 8'): 1, ('call', 'os.a.b'): 2, ('inst', 'os.a.b'): 1})
+
     def test_what_counts_as_a_pickle(self) -> None:
         for content, is_pickle in (
                 (b'', False), (b'N.', True), (b'\x80\x04', True), (b'{"json": 1}', False), (b'class A:\n    pass\n', False),

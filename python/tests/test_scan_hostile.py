@@ -7,6 +7,7 @@ import gzip
 import io
 import lzma
 import os
+import pickle
 import random
 import socket
 import struct
@@ -121,6 +122,18 @@ class HostileZip(ScanCase):
             result = self.look('model.pt', data)
             self.assertEqual(sorted(names_of(result)), ['collections.OrderedDict', 'posix.system'])
 
+    def test_an_archive_that_is_a_pickle_too(self) -> None:
+        # Its first header is a persistent id up to the newline in the name of its member.
+        data = zip_of([Made(b'\n0cposix\ngetcwd\n(tR.', b'text', checksum=1)])
+
+        class Loader(pickle.Unpickler):
+            def persistent_load(self, pid: str) -> str:
+                return pid
+
+        self.assertEqual(Loader(io.BytesIO(data)).load(), os.getcwd())
+        result = self.look('a.pt', data)
+        self.assertIn('posix.getcwd', names_of(result))
+
     def test_two_directories(self) -> None:
         # (the real torch 1.13 loads data.pkl of this file, which Python's zipfile does not see)
         data = two_directories([Made(b'archive/data.pkl', HOSTILE), Made(b'archive/version', b'3\n')])
@@ -143,9 +156,9 @@ class HostileZip(ScanCase):
     def test_closing_records_without_end(self) -> None:
         # Several thousand of them in each member: no more than a few are looked at.
         data = shared(Made(b'name', b'\xff' + b'PK\x05\x06' * 16_000), 50)
-        begin = time.monotonic()
+        begin = time.process_time()
         self.look('a.zip', data)
-        self.assertLess(time.monotonic() - begin, 5)
+        self.assertLess(time.process_time() - begin, 5)
 
     def test_bytes_of_the_size_of_a_record(self) -> None:
         # The record after a member's data has 12, 16, 20 or 24 bytes, and these pickles are as long.
@@ -338,7 +351,7 @@ def with_records(kind: bytes, records: bytes, member: bytes) -> bytes:
     """A tar archive that has a block of records before a member."""
     header = bytearray(tarfile.TarInfo('records').tobuf(tarfile.USTAR_FORMAT))
     header[124:136], header[156:157] = b'%011o\0' % len(records), kind
-    return summed(header) + records.ljust(512, b'\0') + member
+    return summed(header) + records + bytes(-len(records) % 512) + member
 
 
 class HostileTar(ScanCase):
@@ -443,6 +456,13 @@ class HostileTar(ScanCase):
         header = bytearray(self.tar(a=b'')[:512])
         header[124:136], header[156:157] = b'77777777777\0', b'x'
         self.assertIn('posix.system', names_of(self.look('a.tar', summed(header) + self.tar(b=HOSTILE))))
+
+    def test_records_that_are_very_long(self) -> None:
+        comment = b'1500020 comment=' + b'x' * 1_500_003 + b'\n'
+        data = with_records(b'x', comment + b'9 size=0\n', self.tar(a=self.tar(b=HOSTILE)))
+        with tarfile.open(fileobj=io.BytesIO(data)) as archive:
+            self.assertEqual(archive.getnames(), ['a', 'b'])
+        self.assertIn('! a: the records before it have more than 1,048,576 bytes', notes_of(self.look('a.tar', data)))
 
     def test_sums_and_numbers_that_tarfile_takes(self) -> None:
         # Bytes above 127 in a name, counted as numbers below zero; numbers with signs and as bytes.

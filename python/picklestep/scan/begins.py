@@ -8,7 +8,8 @@ from typing import Dict, Iterator, Optional, Tuple
 
 from .blobs import Blob, Budget, BytesBlob
 
-__all__ = ['HEAD', 'imports_something', 'is_dotted', 'is_pickle_name', 'is_storage_name', 'kind_of', 'may_be_pickle', 'tar_number', 'tar_sum_fits', 'unread_kind_of']
+__all__ = ['HEAD', 'imports_something', 'is_dotted', 'is_pickle_name', 'is_storage_name', 'kind_of', 'may_be_pickle', 'tar_number',
+           'tar_sum_fits', 'unread_kind_of']
 
 # The first bytes of a member, which tell what it is.
 HEAD = 16_384
@@ -23,6 +24,8 @@ _UNREAD = {
 }
 
 _SHAPES: Dict[int, 'pickletools.OpcodeInfo'] = {ord(each.code): each for each in pickletools.opcodes}
+
+_BELOW_128 = bytes(range(128))
 
 # Opcodes from which on the program is asked: they end a pickle or reach out of it.
 _TELLING = frozenset({'STOP', 'STACK_GLOBAL', 'EXT1', 'EXT2', 'EXT4', 'PERSID', 'BINPERSID', 'NEXT_BUFFER'})
@@ -68,9 +71,11 @@ def tar_sum_fits(block: bytes) -> bool:
     if len(block) < 512:
         return False
     told = tar_number(block[148:156])
+    if not told:
+        return False
     counted = block[:148] + block[156:512]
     unsigned = 8 * 32 + sum(counted)
-    return told in (unsigned, unsigned - 256 * sum(byte > 127 for byte in counted)) if told else False
+    return told in (unsigned, unsigned - 256 * len(counted.translate(None, _BELOW_128)))
 
 
 def _is_zlib(head: bytes) -> bool:
@@ -233,9 +238,12 @@ def _argument(data: _Bytes, at: int, shape: 'pickletools.OpcodeInfo') -> Optiona
 
 
 def _is_taken(shape: 'pickletools.OpcodeInfo', argument: bytes) -> bool:
-    """Whether some loader goes on after an opcode with this argument. Numbers may stand between blanks, and end at a NUL byte."""
+    """Whether some loader goes on after an opcode with this argument. Numbers may stand between blanks, and end at a NUL byte; an id is
+    ASCII."""
     if shape.name in _NUMBERS:
         return len(argument) >= HEAD or len(argument.split(b'\0')[0].split()) <= 1
+    if shape.name == 'PERSID':
+        return argument.isascii()
     if shape.name == 'STRING':
         return argument.strip()[:1] in (b'"', b"'")
     return shape.name != 'PROTO' or argument <= b'\x05'

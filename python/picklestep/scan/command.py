@@ -63,9 +63,11 @@ def _parser() -> argparse.ArgumentParser:
     parser.add_argument('--max-bytes', metavar='N', type=_bytes, default=limits.unpacked, help='unpacked bytes of a file (1G)')
     parser.add_argument('--max-members', metavar='N', type=_positive, default=limits.members, help='members of a file (100000)')
     parser.add_argument('--max-depth', metavar='N', type=_positive, default=limits.depth, help='containers one in another (4)')
-    parser.add_argument('--max-seconds', metavar='N', type=_positive, default=limits.seconds, help='seconds for the answer about one pickle (300)')
+    parser.add_argument('--max-seconds', metavar='N', type=_positive, default=limits.seconds,
+                        help='seconds for the answer about one pickle (300)')
     parser.add_argument('--max-memory', metavar='N', type=_bytes, default=limits.memory, help='memory of the program for one pickle (4G)')
-    parser.add_argument('--max-lines', metavar='N', type=_positive, default=limits.lines, help='lines of the answer about one pickle (10000000)')
+    parser.add_argument('--max-lines', metavar='N', type=_positive, default=limits.lines,
+                        help='lines of the answer about one pickle (10000000)')
     return parser
 
 

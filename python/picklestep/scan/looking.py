@@ -64,8 +64,9 @@ class Looker:
         head = blob.read(0, HEAD)
         kind = None if is_gap else kind_of(head)
         if kind is not None and self._open(kind, blob, where, names, depth):
-            if kind not in ('zip', 'npy') and may_be_pickle(head, blob.size):
-                self._is_read(blob, head, where, ())  # how a tar or a compressed stream begins can be opcodes
+            # How a container begins can be opcodes. A zip archive begins with a persistent id, so it is not read whole without need.
+            if imports_something(blob, self.budget) if kind == 'zip' else kind != 'npy' and may_be_pickle(head, blob.size):
+                self._is_read(blob, head, where, names)
             return
         unread = unread_kind_of(head)
         if unread is not None:
@@ -371,7 +372,8 @@ def _unpacker(blob: Blob, entry: zips.Entry) -> Optional[_Start]:
     return None
 
 
-# Items of arrays that are no objects, as numpy writes them. It takes many other spellings ('1O', 'i4,O', 'object'): all else counts as objects.
+# Items of arrays that are no objects, as numpy writes them. It takes many other spellings ('1O', 'i4,O', 'object'), so all else counts as
+# objects.
 _PLAIN_ITEM = re.compile(r'[<>=|]?([?]|[biufc][0-9]{1,2}|[SUVa][0-9]+|[mM]8(\[[0-9A-Za-z/]+\])?)')
 
 

@@ -4,6 +4,7 @@ from __future__ import annotations
 
 import re
 from contextlib import closing, contextmanager
+from dataclasses import dataclass, replace
 from typing import Dict, Iterator, List, Optional, Tuple
 
 from ..answers import Calls
@@ -50,7 +51,8 @@ class _Enough(Exception):
 class Summary:
     """What the program says of some bytes, summed up by name while it comes.
 
-    `is_sure` tells that they import something that can be there, or call something. `trouble` says why the answer is not whole, if it is not.
+    `is_sure` tells that they import something that can be there, or call something. `trouble` says why the answer is not whole, if it is
+    not.
     """
 
     def __init__(self, limits: Limits, keep_lines: bool) -> None:
@@ -58,11 +60,9 @@ class Summary:
         self.end = _NOT_KNOWN
         self.trouble: Optional[str] = None
         self._limits = limits
-        self._imports: Dict[str, List[int]] = {}
-        self._done: Dict[Tuple[str, str], List[int]] = {}
-        self._texts: Dict[Tuple[str, str], str] = {}
+        self._found: Dict[Tuple[str, str], _Found] = {}
+        self._names: Dict[str, Optional[Name]] = {}
         self._lines: Optional[List[str]] = [] if keep_lines else None
-        self._shown: Dict[str, str] = {}
         self._count = 0
         self._kept = 0
 
@@ -85,38 +85,35 @@ class Summary:
         self.end = Calls(tail).end
 
     def _line(self, match: 're.Match[str]') -> None:
+        """Counts a line. A pickle may have a hundred thousand lines and few names, so a name is read once."""
         self._count += 1
         if self._count > self._limits.lines:
             raise _Enough(f'the answer about it has more than {self._limits.lines:,} lines')
-        first, text, what, quoted = match.groups()
-        offset = int(first)
-        name = self._name(match[0], what, quoted)
-        self.is_sure = self.is_sure or (what != 'import' and what not in _WEAK)
-        if what in _IMPORTS:
-            self._imports.setdefault(name, [0, offset])[0] += 1
-        if what != 'import':
-            if (what, name) not in self._texts:
+        offset, text, what, quoted = match.groups()
+        has_other_name = quoted is None and what in _WITH_NAME  # one that is no text: a number, or an object of the pickle
+        found = None if has_other_name else self._found.get((what, quoted or ''))
+        if found is None:
+            name = self._name(match[0], what, quoted)
+            key = (what, quoted or shown_name(name))
+            if key not in self._found:
                 self._keep(text)
-                self._texts[what, name] = text
-            self._done.setdefault((what, name), [0, offset])[0] += 1
+                self._found[key] = _Found(what, shown_name(name), int(offset), text)
+            found = self._found[key]
+            self.is_sure = self.is_sure or (_can_be_there(name) if what == 'import' else what not in _WEAK)
+        found.count += 1
         if self._lines is not None:
             self._keep(match[0])
             self._lines.append(match[0])
 
-    def _name(self, line: str, what: str, quoted: Optional[str]) -> str:
-        """What a line imports or calls. A pickle may have a hundred thousand lines and few names, so a name is read once."""
+    def _name(self, line: str, what: str, quoted: Optional[str]) -> Optional[Name]:
+        """What a line imports or calls."""
         if what not in _WITH_NAME:
-            return ''
-        if quoted is not None and quoted in self._shown:
-            return self._shown[quoted]
-        name = reach_of(line).name
-        # (a number of copyreg's alone does not count: one of a hundred files of raw numbers begins with its opcode)
-        self.is_sure = self.is_sure or isinstance(name, Global) and (not isinstance(name.module, bytes) or is_dotted(name.module))
+            return None
         if quoted is None:
-            return shown_name(name)
-        self._keep(quoted)
-        self._shown[quoted] = shown_name(name)
-        return self._shown[quoted]
+            return reach_of(line).name
+        if quoted not in self._names:
+            self._names[quoted] = reach_of(line).name
+        return self._names[quoted]
 
     def _keep(self, text: str) -> None:
         self._kept += len(text)
@@ -125,11 +122,35 @@ class Summary:
 
     def pickle(self, where: Place, size: int) -> Pickle:
         """What was found, by names, in the order in which they come first."""
-        return Pickle(
-            where, size, tuple(Import(name, count, first) for name, (count, first) in self._imports.items()),
-            tuple(Call(what, name, count, first, self._texts[what, name]) for (what, name), (count, first) in self._done.items()),
-            self.end, tuple(self._lines or ()),
-        )
+        imports: Dict[str, Import] = {}
+        done: Dict[Tuple[str, str], Call] = {}
+        for found in self._found.values():
+            if found.what in _IMPORTS:
+                before = imports.get(found.name, Import(found.name, 0, found.offset))
+                imports[found.name] = replace(before, count=before.count + found.count)
+            if found.what != 'import':
+                first = done.get((found.what, found.name), Call(found.what, found.name, 0, found.offset, found.text))
+                done[found.what, found.name] = replace(first, count=first.count + found.count)
+        return Pickle(where, size, tuple(imports.values()), tuple(done.values()), self.end, tuple(self._lines or ()))
+
+
+@dataclass
+class _Found:
+    """Lines of one kind about one name: how many, and the offset and the text of the first."""
+
+    what: str
+    name: str
+    offset: int
+    text: str
+    count: int = 0
+
+
+def _can_be_there(name: Optional[Name]) -> bool:
+    """Whether an import shows that the bytes are a pickle: its module can have this name, or the pickle works it out.
+
+    A number of copyreg's alone does not: one of a hundred files of raw numbers begins with its opcode.
+    """
+    return isinstance(name, Global) and (not isinstance(name.module, bytes) or is_dotted(name.module))
 
 
 @contextmanager

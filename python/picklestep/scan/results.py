@@ -2,7 +2,7 @@
 
 from __future__ import annotations
 
-from dataclasses import asdict, dataclass
+from dataclasses import dataclass
 from typing import Any, Dict, Optional, Tuple
 
 from ..records import End
@@ -78,11 +78,17 @@ class Result:
 
 def to_json(result: Result) -> Dict[str, Any]:
     """The object that stands for a result in a line of JSON."""
-    made = asdict(result)
-    for pickle in made['pickles']:
-        if not pickle['lines']:
-            del pickle['lines']
-    return made
+    return {'path': result.path, 'size': result.size, 'modified': result.modified,
+            'pickles': [_pickle_object(pickle) for pickle in result.pickles], 'others': result.others,
+            'notes': [dict(vars(note)) for note in result.notes], 'error': result.error, 'left': result.left}
+
+
+def _pickle_object(pickle: Pickle) -> Dict[str, Any]:
+    end = pickle.end
+    made = {'where': pickle.where, 'size': pickle.size, 'imports': [dict(vars(each)) for each in pickle.imports],
+            'calls': [dict(vars(each)) for each in pickle.calls],
+            'end': {'how': end.how, 'code': end.code, 'text': end.text, 'offset': end.offset, 'item': end.item}}
+    return {**made, 'lines': pickle.lines} if pickle.lines else made
 
 
 def from_json(made: Dict[str, Any]) -> Result:
