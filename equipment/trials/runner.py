@@ -55,17 +55,17 @@ def choose(room: Room, names: Sequence[str]) -> Chosen:
     groups = in_order(room)
     if not names:
         return [(group, None) for group in groups]
-    rest = set(names)
-    chosen: dict[str, Optional[Set[str]]] = {group.name: None for group in groups if group.name in rest}
-    rest -= set(chosen)
-    for group in groups:
-        # (the names of some groups take a second, and are not asked for in vain)
-        wanted = rest.intersection(group.names()) if rest else set()
+    chosen: dict[str, Optional[Set[str]]] = {group.name: None for group in groups if group.name in names}
+    rest = set(names) - set(chosen)
+    known: set[str] = set()
+    # A name may stand in two groups, and means both trials then.
+    for group in groups if rest else []:
+        wanted = rest.intersection(group.names())
         if wanted:
             chosen.setdefault(group.name, wanted)
-            rest -= wanted
-    if rest:
-        raise Unknown(", ".join(f"'{name}'" for name in sorted(rest)))
+            known |= wanted
+    if rest - known:
+        raise Unknown(", ".join(f"'{name}'" for name in sorted(rest - known)))
     return [(group, chosen[group.name]) for group in groups if group.name in chosen]
 
 
