@@ -13,6 +13,7 @@ from __future__ import annotations
 
 import functools
 import pathlib
+import re
 import subprocess
 from collections.abc import Iterator
 from dataclasses import dataclass, field
@@ -21,7 +22,8 @@ from trials.trial import Trial
 
 Done = subprocess.CompletedProcess[bytes]
 WINDOWS: list[list[str]] = [[], ["--window", "1"], ["--window", "2"]]
-# the first word of a block, and the options that it gives to every command
+# the first line of a block; its first word, and the options that it gives to every command
+START = re.compile(r" *(pickles?)((?: [0-9a-f]+)*)")
 OPTIONS: dict[str, list[str]] = {"pickle": [], "pickles": ["--many"]}
 
 
@@ -60,10 +62,9 @@ def blocks_of(page: str) -> Iterator[Block]:
             if block is not None:
                 yield block
             block = None
-        elif line.split()[0] in OPTIONS:
-            word = line.split()[0]
-            margin = line.index(word)
-            block = Block(number, OPTIONS[word], bytes.fromhex(line[margin + len(word):]))
+        elif start := START.fullmatch(line):
+            margin = start.start(1)
+            block = Block(number, OPTIONS[start[1]], bytes.fromhex(start[2]))
         elif block is not None:
             block.take(line[margin:])
     if block is not None:

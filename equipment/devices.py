@@ -10,7 +10,7 @@ from collections.abc import Callable
 
 from trials.trial import Trial
 
-# The bytes, and the lines that are told; what they are answered stands in the pages of the program (README, DEBUGGER.md).
+# The bytes, and the lines that are told; what they are answered stands in the pages of the program (README, docs/USING.md).
 BREAKPOINTS = (
     bytes.fromhex("80049506000000000000005d944b01612e"),
     "break 4\nrun\nrun\nrun\ngoto 0\nclear 4\nrun\n",

@@ -8,7 +8,7 @@ libpython3.11-testsuite, from anywhere, without arguments. It writes
     crates/real_pickles/args, stdout        their names, and what the program real_pickles is to print
     equipment/listings/NAME.txt             the listing of each without the texts of arguments
     equipment/python_refusals.txt           where Python refuses, and the rules by which this project may stop before
-    docs/REAL_PICKLES.md                    which pickles there are, and where Python and this project differ
+    equipment/real_pickles/TABLE.md         which pickles there are, and where Python and this project differ
 
 and removes what it wrote before under other names. Nothing of this project is run, and no hostile pickle is loaded: the
 answers are those of Python's pickletools, and where this project differs, those of the rules in real_pickles/answers.py.
@@ -71,7 +71,7 @@ def main():
     (program / 'args').write_text(''.join(name + '.pickle\n' for name in names), encoding='ascii')
     (ROOT / 'equipment' / 'python_refusals.txt').write_text(''.join(line + '\n' for line in refusals), encoding='ascii')
     (program / 'stdout').write_text(''.join(line + '\n' for line in expected), encoding='ascii')
-    (ROOT / 'docs' / 'REAL_PICKLES.md').write_text(explain.page(sections), encoding='ascii')
+    (ROOT / 'equipment' / 'real_pickles' / 'TABLE.md').write_text(explain.page(sections), encoding='ascii')
     listed = {read.name for _, rows in sections for row in rows for read in row[3].items}
     assert len(listed) == len(pickletools.opcodes), 'an opcode that no pickle has'
     for kind, rows in sections:

@@ -11,7 +11,8 @@ complain() {
     echo "picklestep: $1" >&2
 }
 
-# The lines of crates.txt for the program and for each crate that it stands on, sorted. No crate of tests is among them.
+# The lines of crates.txt for the program and for each crate that it stands on, sorted. No crate of tests is among them: it
+# changes nothing of the program.
 product_lines() {
     local -A libraries=() seen=()
     local name libraries_of more todo=(picklestep)
@@ -63,6 +64,7 @@ is_built() {
 }
 
 # Whether the released program is the one of the sources as they are, and whole; else it says which of the two it is not.
+# A file that was cut or changed on its way must not be started, so its own sum counts too.
 release_fault() {
     if [ ! -r "$released/SOURCES" ] || [ "$(sum_of_sources)" != "$(<"$released/SOURCES")" ]; then
         echo 'dist/linux-x86_64/SOURCES is not the sum of the sources'

@@ -297,7 +297,7 @@ def told_beside_it(releases: Releases) -> str:
         versions = [tuple(map(int, number.split("."))) for number in re.findall(r"GLIBC_([\d.]+)", said)]
         if tuple(map(int, least.split("."))) != max(versions):
             return f"glibc {least}, and not {max(versions)}"
-    readme = (releases.clone / "README.md").read_text()
+    readme = " ".join((releases.clone / "README.md").read_text().split())
     for what in (f"glibc {least}", (dist / "TOOLCHAIN").read_text().strip()):
         if what not in readme:
             return f"README.md does not tell {what}"

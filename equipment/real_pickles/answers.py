@@ -8,12 +8,12 @@ import io
 import pickletools
 import re
 
-# the words of each rule stand in docs/REAL_PICKLES.md
+# the words of each rule stand in equipment/real_pickles/TABLE.md
 RULES = {
     'payloads': 'Payloads are not interpreted. Python reads lines and texts as numbers, escapes, ASCII or UTF-8 and refuses what '
                 'is none; here the argument only has its shape.',
-    'memo': 'An entry of the memo may be stored anew, as the unpickler does; `pickletools.dis` refuses it.',
-    'left': 'Objects left on the stack at STOP are told in a line `left:`; `pickletools.dis` refuses them.',
+    'memo': 'An entry of the memo may be stored again, as the unpickler does; `pickletools.dis` refuses it.',
+    'left': 'Objects left on the stack at STOP are shown in a line `left:`; `pickletools.dis` refuses them.',
     'decimal': 'The key of GET and PUT is one or more decimal digits, at most 18446744073709551615. Python takes whatever its '
                '`int` takes: signs, blanks, underscores, carriage returns, any size.',
     'quotes': 'The line of a STRING has a quote at both ends, which are two bytes; Python takes one quote for both.',

@@ -1,29 +1,36 @@
-"""The page docs/REAL_PICKLES.md."""
+"""The page equipment/real_pickles/TABLE.md."""
+import textwrap
+
 from answers import RULES
 
 HEAD = """# Real pickles
 
-`equipment/make_real_pickles.py` writes this page, the pickles in `crates/real_pickles/data`, and what Python answers about
-them. Nobody edits these by hand; the script says at its head which packages it wants.
+`equipment/make_real_pickles.py` writes this page, the pickles in `crates/real_pickles/data`, and
+what Python answers about them. Nobody edits these by hand; the head of the script names the
+packages that it needs.
 
-- Pickles of Python's own objects, and of numpy, pandas and scikit-learn, are written by their own picklers.
-- Those of CPython's tests are copied out of the package `libpython3.11-testsuite` (Python Software Foundation License); Python 2
-  wrote many of them.
-- Hostile and broken ones are written byte by byte in `equipment/real_pickles/hostile.py`, in the manner of known attacks. They
-  are never loaded; what they would call is `echo picklestep`.
+- Pickles of Python's own objects, and of numpy, pandas and scikit-learn, are written by their own
+  picklers.
+- Those of CPython's tests are copied out of the package `libpython3.11-testsuite` (Python Software
+  Foundation License); Python 2 wrote many of them.
+- Hostile and broken ones are written byte by byte in `equipment/real_pickles/hostile.py`, in the
+  manner of known attacks. They are never loaded; what they would call is `echo picklestep`.
 
-Two tests read them. `rt ci` runs the program `real_pickles` (test equipment, over `pickle_doc`): of each file it prints the
-offset and the name of every item, how reading ended, and whether `write_bytes` gives the bytes back. `./test` compares
-what the built program lists with `equipment/listings`:
-offset, code, indentation, name, notes and closing lines; the texts of arguments are left out, since Python writes them in its
-own way. Where Python refuses (`equipment/python_refusals.txt`), the listing goes at least as far, but for the rules named there.
-Of a file only the pickle up to the first STOP counts. Each opcode occurs in one of the files at least.
+Two tests read them. `rt ci` runs the program `real_pickles` (test equipment, over `pickle_doc`). Of
+each file it prints the offset and the name of every item, how reading ended, and whether
+`write_bytes` gives the bytes back. `./test` compares what the built program lists with
+`equipment/listings`: offset, code, indentation, name, notes and closing lines. The texts of
+arguments are left out, since Python writes them in its own way. Where Python refuses
+(`equipment/python_refusals.txt`), the listing goes at least as far, except for the rules named
+there. Of a file only the pickle up to the first STOP counts. Each opcode is in at least one file.
 
-Offsets, names, indentation and notes come from `pickletools.genops` and `pickletools.dis` of Python 3.11, and never from this
-project. The lines `refused:`, `fault:`, `left:` and `kept:` are this project's own words for what Python answers by an error,
-or by the place where it stops. Where Python stops at a check that this project does not make (the rules payloads and memo
-below), the lines after it are those of the same functions of Python with that check left out. `equipment/real_pickles/answers.py` has the
-rules, the words, and a table of the refusals that no answer of Python tells.
+Offsets, names, indentation and notes come from `pickletools.genops` and `pickletools.dis` of Python
+3.11, and never from this project. The lines `refused:`, `fault:`, `left:` and `kept:` are this
+project's own words for what Python answers by an error, or by the place where it stops. Where
+Python stops at a check that this project does not make (the rules payloads and memo below), the
+lines after it are those of the same functions of Python without that check.
+`equipment/real_pickles/answers.py` has the rules, the words, and a table of the refusals that no
+answer of Python shows.
 
 ## Where Python and this project differ
 
@@ -58,9 +65,9 @@ def of_python(answer):
 
 
 def page(sections):
-    lines = ['- **%s**: %s' % (rule, words) for rule, words in RULES.items()]
+    lines = [textwrap.fill('- **%s**: %s' % (rule, words), 100, subsequent_indent='  ') for rule, words in RULES.items()]
     lines += ['', *differences(sections), '']
-    lines += ['Where Python refuses and no rule is named, this project refuses at the same offset for the same reason.', '']
+    lines += ['Where Python refuses and no rule is named, this project refuses at the same offset for the same', 'reason.', '']
     for kind, pickles in sections:
         lines += ['## %s: %d' % (kind, len(pickles)), '']
         lines += ['| File | Bytes | Items | What it holds | Python refuses | Here |', '|---|---|---|---|---|---|']

@@ -15,7 +15,7 @@ from .trial import Trial
 
 COMMAND = "    $ "
 MARGIN = "    "
-PAGES = ("docs/DEBUGGER.md", "equipment/conversations.txt", "equipment/calls.txt")
+PAGES = ("docs/USING.md", "equipment/conversations.txt", "equipment/calls.txt")
 BLOCK = re.compile(r"^ *pickles?( [0-9a-f ]+)?$", re.MULTILINE)
 
 
@@ -48,6 +48,7 @@ class Readme:
         folder = self.room.folder / "readme"
         folder.mkdir()
         (folder / "picklestep").symlink_to(self.room.start)
+        (folder / "crates").symlink_to(self.room.root / "crates")
         return folder
 
     def fault(self, number: int) -> str:

@@ -12,6 +12,7 @@ import count_calls
 import devices
 import hostile
 import packages
+import pages
 import releases
 import saves
 import several
@@ -60,6 +61,7 @@ def of_program(room: Room) -> list[AnyGroup]:
         Group("options", functools.partial(options.trials, room)),
         Group("readme", functools.partial(examples.of_readme, room)),
         Group("conversations", functools.partial(examples.of_pages, room)),
+        Group("pages", functools.partial(pages.trials, room.root, str(room.program), room.folder / "pages")),
     ]
 
 

@@ -391,7 +391,7 @@ class Session(contextlib.AbstractContextManager['Session']):
         return texts.memo_of(self._talk.line(b'memo'))
 
     def ask(self, line: str) -> str:
-        """The program's own answer to a line, as docs/DEBUGGER.md has them.
+        """The program's own answer to a line, as docs/USING.md has them.
 
         >>> with Session(b'N.') as session:
         ...     session.ask('where')

@@ -1,0 +1,210 @@
+"""Checks README.md and the pages of docs/: links, length, the examples of codes, and the checklists."""
+
+from __future__ import annotations
+
+import functools
+import itertools
+import re
+import subprocess
+import sys
+from collections.abc import Iterator
+from dataclasses import dataclass
+from pathlib import Path
+
+from trials.trial import Trial
+
+WORDS = 13000
+WORDS_OF_README = 900
+COLUMNS = 100
+
+# The checklists of docs/DESIGN.md: the heading, how the sample is named, and the files that are looked through.
+CHECKLISTS = [
+    (
+        "To add an opcode",
+        r"\b(STACK_GLOBAL|StackGlobal)\b",
+        ["crates/*/src/**/*.rt", "crates/*/specs/**/*.antt", "bench/*", "equipment/**/*.py", "python/picklestep/**/*.py"],
+    ),
+    (
+        "To add a word of the debugger",
+        r"(?i)\bunframe\b",
+        ["crates/*/src/**/*.rt", "crates/*/specs/**/*.antt", "share/**/*", "equipment/*.txt", "equipment/*.py", "python/picklestep/**/*"],
+    ),
+    (
+        "To add a text or a command",
+        r"\bcalls_many\b|[\"']calls[\"':]|\bTask::Calls\b|\bStopsCalls\b|Cm calls|objects calls",
+        ["crates/*/src/**/*.rt", "crates/*/specs/**/*.antt", "share/**/*", "equipment/*.py", "python/picklestep/*.py"],
+    ),
+]
+
+
+# --- Links ---
+
+
+def without_code(text: str) -> str:
+    """A page without its blocks of code and its spans of code."""
+    text = re.sub(r"^```.*?^```$", "", text, flags=re.M | re.S)
+    lines = [line for line in text.splitlines() if not line.startswith("    ")]
+    return re.sub(r"`[^`]*`", "", "\n".join(lines))
+
+
+def anchors(page: Path) -> set[str]:
+    """The anchors that GitHub makes of the headings."""
+    found = set()
+    for line in page.read_text(encoding="utf-8").splitlines():
+        if line.startswith("#"):
+            words = line.lstrip("#").strip().lower()
+            found.add(re.sub(r"[^\w\- ]", "", words).replace(" ", "-"))
+    return found
+
+
+def fault_of_links(page: Path) -> str:
+    faults = []
+    for link in re.findall(r"\]\(([^)\s]+)\)", without_code(page.read_text(encoding="utf-8"))):
+        name, _, anchor = link.partition("#")
+        if re.match(r"[a-z]+:", name):
+            continue
+        target = page.parent / name if name else page
+        if not target.exists():
+            faults.append(f"{link}: there is no such file")
+        elif anchor and anchor not in anchors(target):
+            faults.append(f"{link}: there is no such heading")
+    return "; ".join(faults)
+
+
+# --- Length ---
+
+
+def words(page: Path) -> int:
+    return len(page.read_text(encoding="utf-8").split())
+
+
+def fault_of_length(pages: list[Path]) -> str:
+    faults = []
+    counted = sum(words(page) for page in pages)
+    if counted > WORDS:
+        faults.append(f"{counted} words in all, and not at most {WORDS}")
+    for page in pages:
+        if page.name == "README.md" and words(page) > WORDS_OF_README:
+            faults.append(f"{words(page)} words in README.md, and not at most {WORDS_OF_README}")
+        for number, line in enumerate(page.read_text(encoding="utf-8").splitlines(), 1):
+            # (a row of a table cannot be broken, and what a program prints in an example is as it is)
+            if len(line) > COLUMNS and not line.startswith(("|", "    ")):
+                faults.append(f"{page.name}, line {number}: {len(line)} columns, and not at most {COLUMNS}")
+    return "; ".join(faults)
+
+
+# --- The examples of codes ---
+
+
+@dataclass
+class Example:
+    code: str
+    pickle: str
+    commands: list[str]
+
+
+def bullets(text: str) -> Iterator[tuple[str, str]]:
+    """The items of the page's lists, each with the heading that it is below."""
+    heading, item = "", ""
+    for line in [*text.splitlines(), ""]:
+        if item and not line.startswith("  "):
+            yield heading, item
+            item = ""
+        if line.startswith("#"):
+            heading = line.lstrip("# ")
+        elif line.startswith("- "):
+            item = line[2:]
+        elif item:
+            item += " " + line.strip()
+
+
+def examples(text: str) -> Iterator[Example]:
+    for heading, item in bullets(text):
+        named = re.match(r"\*\*(.+?)\*\*, ((?:`[^`]+`(?:: |, )?)+)", item)
+        if named:
+            spans = re.findall(r"`([^`]+)`", named[2])
+            if not heading.startswith("X"):
+                yield Example(named[1], spans[0], spans[1:])
+            else:
+                yield Example(named[1], "4e 2e", spans)
+        elif heading.startswith("What CPython"):
+            for span in re.findall(r"\(`([0-9a-f ]+)`[):]", item):
+                yield Example(item.split(",")[0] + " ..", span, [])
+
+
+def fault_of_example(program: str, example: Example, file: Path) -> str:
+    file.write_bytes(bytes.fromhex(example.pickle))
+    # (an example without commands is listed; a pickle that refers to an earlier one needs --many)
+    command = ["debug"] if example.commands else ["list", "--many"] if example.code == "S3 .." else ["list"]
+    script = "".join(line + "\n" for line in example.commands).encode()
+    done = subprocess.run([program, *command, str(file)], input=script, capture_output=True, timeout=60)
+    said = done.stdout.decode("latin-1").splitlines()
+    last = [line for line in said if line.startswith(("refused: ", "fault: "))] if not example.commands else said[-1:]
+    # (a code whose words depend on the pickle is known by its first word)
+    wanted = example.code if not re.search(r"\.\.|\b[KO]\b", example.code) else example.code.split()[0] + " "
+    if not any(wanted in line for line in last):
+        return f"{example.pickle} {example.commands}: {last}"
+    return ""
+
+
+# --- Checklists ---
+
+
+def expanded(name: str) -> list[str]:
+    """The names that braces stand for."""
+    found = re.search(r"\{([^{}]*)\}", name)
+    if not found:
+        return [name]
+    return list(itertools.chain.from_iterable(expanded(name[: found.start()] + part + name[found.end() :]) for part in found[1].split(",")))
+
+
+def listed(root: Path, page: str, heading: str) -> set[str]:
+    """The files that the numbered list below a heading names."""
+    section = re.split(r"^#+ ", page.partition(f"# {heading}\n")[2], maxsplit=1, flags=re.M)[0]
+    items = re.findall(r"^\d+\. .*(?:\n   .*)*", section, flags=re.M)
+    names = [name for item in items for span in re.findall(r"`([^`]+/[^`]+)`", item) for name in expanded(span)]
+    return {f"crates/{name}" if (root / "crates" / name.split("/")[0]).is_dir() else name for name in names}
+
+
+def has_sample(file: Path, sample: str) -> bool:
+    return re.search(sample, file.read_text(encoding="utf-8", errors="replace")) is not None
+
+
+def fault_of_checklist(root: Path, page: str, heading: str, sample: str, patterns: list[str]) -> str:
+    named = listed(root, page, heading)
+    found = set()
+    for pattern in patterns:
+        for file in root.glob(pattern):
+            name = str(file.relative_to(root))
+            if file.is_file() and file.suffix != ".pyc" and name != "equipment/pages.py" and has_sample(file, sample):
+                found.add(name)
+    for name in sorted(named - found):
+        if not (root / name).is_file():
+            return f"{name} is not there"
+        if not has_sample(root / name, sample):
+            return f"{name} is listed and does not name the sample"
+    missing = sorted(found - named)
+    return f"it lacks {', '.join(missing)}" if missing else "" if named else "it lists no file"
+
+
+def fault_of_index(root: Path) -> str:
+    """Each file of definitions has a head."""
+    index = subprocess.run([sys.executable, str(root / "tools" / "definitions.py")], capture_output=True, text=True, timeout=60)
+    return "" if index.returncode == 0 else index.stderr.strip()[:200]
+
+
+def trials(root: Path, program: str, folder: Path) -> list[Trial]:
+    """What is checked. FOLDER gets the pickles of docs/CODES.md."""
+    folder.mkdir(parents=True, exist_ok=True)
+    pages = [root / "README.md", *sorted((root / "docs").glob("*.md"))]
+    others = [page for page in sorted(root.glob("*.md")) if page not in pages]
+    found = [Trial(f"the links of {page.name}", functools.partial(fault_of_links, page)) for page in [*pages, *others]]
+    found.append(Trial("the length of the pages", functools.partial(fault_of_length, pages)))
+    for example in examples((root / "docs" / "CODES.md").read_text(encoding="utf-8")):
+        name = f"the example of {example.code}, {' '.join([example.pickle, *example.commands])}"
+        found.append(Trial(name, functools.partial(fault_of_example, program, example, folder / "code.pickle")))
+    design = (root / "docs" / "DESIGN.md").read_text(encoding="utf-8")
+    for checklist in CHECKLISTS:
+        found.append(Trial(f"the checklist '{checklist[0]}'", functools.partial(fault_of_checklist, root, design, *checklist)))
+    found.append(Trial("the index of definitions", functools.partial(fault_of_index, root)))
+    return found
