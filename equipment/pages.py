@@ -26,8 +26,8 @@ CHECKLISTS = [
     ),
     (
         "To add a word of the debugger",
-        r"(?i)\bunframe\b",
-        ["crates/*/src/**/*.rt", "crates/*/specs/**/*.antt", "share/**/*", "equipment/*.txt", "equipment/*.py", "python/picklestep/**/*"],
+        r"(?i)unframe",
+        ["crates/*/src/**/*.rt", "crates/*/specs/**/*.antt", "share/**/*", "equipment/*.txt", "equipment/*.py", "python/picklestep/**/*", "python/tests/*.py"],
     ),
     (
         "To add a text or a command",
