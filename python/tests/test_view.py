@@ -385,6 +385,9 @@ class Running(unittest.TestCase):
 
     def start(self, *words: str) -> Tuple['subprocess.Popen[str]', str]:
         """A running server, and its address."""
+        # A script that runs the tests in the background ignores interrupts, and a process passes that on to those that it starts.
+        before = signal.signal(signal.SIGINT, signal.default_int_handler)
+        self.addCleanup(signal.signal, signal.SIGINT, before)
         command = [sys.executable, '-m', 'picklestep', 'view', str(self.file), '--no-browser', *words]
         process = subprocess.Popen(command, cwd=PACKAGE, stdout=subprocess.PIPE, stderr=subprocess.PIPE, text=True)
         assert process.stdout is not None and process.stderr is not None
