@@ -10,6 +10,7 @@ The folder is for files, and is empty. LOG is what `rt ci` wrote.
 from __future__ import annotations
 
 import argparse
+import signal
 import sys
 from pathlib import Path
 
@@ -30,6 +31,8 @@ def main() -> int:
     room = Room(ROOT, words.program.resolve(), words.folder.resolve())
     try:
         if words.list:
+            # (a reader such as `head` may leave before the end)
+            signal.signal(signal.SIGPIPE, signal.SIG_DFL)
             runner.list_names(room, words.names)
             return 0
         if words.proofs:
