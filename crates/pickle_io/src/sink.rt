@@ -20,6 +20,13 @@ pub trait Sink {
         ensures some { IfOk result (λ n. 0 < length bytes.now → 0 < n) }
         ensures ok { IfOk result (λ n. Wrote (told self.old) (told self.new) (take n bytes.now)) }
         ensures err { OnErr result (Broke (told self.old) (told self.new) []) };
+
+    /// Hands on what it has taken and still holds, to whom it writes for. A sink that holds nothing does nothing.
+    fn flush(&mut self) -> Result<(), Failed>
+        ensures { Writes (told self.old) (told self.new) result [] }
+    {
+        Ok(())
+    }
 }
 
 /// Writes all of the text; after a failure a front of it was written, and the sink is not called again.

@@ -1,6 +1,7 @@
 //! A writer of the standard library as a sink.
 
-ghost use Rattle.std.specs.Prelude.{◌≡◌};
+ghost use Rattle.std.specs.Prelude.{◌≡◌, ◌≤◌};
+ghost use Rattle.pickle_io.specs.Device.{HasFailed};
 ghost use Rattle.pickle_io.specs.Wrapped.{writer_of, write_failures_of};
 
 use crate::sink::{Failed, Sink};
@@ -36,6 +37,16 @@ impl<W> ToWrite<W> {
         } = self;
         writer
     }
+
+    /// Counts a failure of the writer.
+    fn fail(&mut self) -> Failed
+        ensures writer { writer_of self.new ≡ writer_of self.old }
+        ensures rises { write_failures_of self.old ≤ write_failures_of self.new }
+        ensures failed { HasFailed (write_failures_of self.old) (write_failures_of self.new) }
+    {
+        self.failures = self.failures.saturating_add(1);
+        Failed
+    }
 }
 
 impl<W: Write> Sink for ToWrite<W> {
@@ -44,10 +55,14 @@ impl<W: Write> Sink for ToWrite<W> {
     fn write(&mut self, bytes: &[u8]) -> Result<usize, Failed> {
         match self.writer.write(bytes) {
             Ok(n) if n > 0 || bytes.is_empty() => Ok(n),
-            _ => {
-                self.failures = self.failures.saturating_add(1);
-                Err(Failed)
-            }
+            _ => Err(self.fail()),
+        }
+    }
+
+    fn flush(&mut self) -> Result<(), Failed> {
+        match self.writer.flush() {
+            Ok(()) => Ok(()),
+            Err(_) => Err(self.fail()),
         }
     }
 }
