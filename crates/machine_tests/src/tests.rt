@@ -287,7 +287,7 @@ fn several_pickles(rt: HostRuntime) {
     }
 }
 
-/// Run with each request for memory refused in turn: a step that is refused for want of memory leaves every reader as it
+/// Run with each request for memory refused in turn: a step that is refused where memory runs out leaves every reader as it
 /// was, and asked again it succeeds; a free step is never refused so.
 #[test]
 fn refused_memory(rt: HostRuntime) {

@@ -215,6 +215,7 @@ pub fn list_items<'a, I: ItemSource<'a>, S: Sink>(
 {
     let mut reader = source;
     let mut lean = Lean::new(alloc, many);
+    // The offsets of the open marks stand beside the machine, so that a note costs no search.
     let mut opened = Vec::new(alloc);
     let mut page = Page::new();
     let mut highest = Highest::none();

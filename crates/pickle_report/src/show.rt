@@ -128,7 +128,7 @@ fn walk_from<'a, S: Sink>(
     go_on(machine, stack, seen, sink)
 }
 
-/// The marks of so many objects of which none was seen. An error where memory is wanting.
+/// The marks of so many objects of which none was seen. An error where memory runs out.
 fn none_seen(alloc: Global, count: usize) -> Result<Vec<bool>, TextStop>
     ensures ok { IfOk result (λ seen. seen.items ≡ replicate count false) }
     ensures memory { IfErr result (λ e. e ≡ TextStop.Memory) }

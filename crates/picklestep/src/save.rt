@@ -18,6 +18,7 @@ const FILE_ROOM: usize = 65_536;
 const MOST_LINKS: u32 = 40;
 
 /// The most names that are tried for a new file: each run that was killed while it saved may have left a file.
+/// Nothing removes such a file: another run may be writing it.
 const MOST_NAMES: u32 = 1_000;
 
 /// A new file, in the folder of the file that it is to replace.
