@@ -44,7 +44,8 @@ pub struct Options {
 /// Why the words are no task.
 #[derive(Drop, Debug)]
 pub enum Usage {
-    /// What clap says of them; its text is for the user.
+    /// What clap says of them; its text is for the user. A call for help is no task either: the text goes to standard
+    /// error, with status 2.
     Words(Error),
     /// There was not enough memory.
     Memory,
