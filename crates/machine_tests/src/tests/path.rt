@@ -195,8 +195,8 @@ impl Way<'_> {
     }
 }
 
-/// One step of the way. Where it is refused where memory runs out, the machine shows what it showed before and has counted
-/// no move; and asked again it succeeds.
+/// One step of the way. Where it is refused where memory runs out, the machine shows what it showed before and has
+/// counted no move; and asked again it succeeds.
 fn insist_on_step(
     machine: &mut Machine,
     alloc: Global,
