@@ -287,8 +287,8 @@ fn several_pickles(rt: HostRuntime) {
     }
 }
 
-/// Run with each request for memory refused in turn: a step that is refused for want of memory leaves every reader as it
-/// was, and asked again it succeeds; a free step is never refused so.
+/// Run with each request for memory refused in turn: a step that is refused where memory runs out leaves every reader
+/// as it was, and asked again it succeeds; a free step is never refused so.
 #[test]
 fn refused_memory(rt: HostRuntime) {
     assert!(rt; try_row(rt.alloc(), Pickles::One, &ALL_SHAPES, Trip::Twice).is_ok());

@@ -10,7 +10,7 @@ use pickle_objects::{Kind, ObjId, Object};
 use pickle_ops::{Failed, Sink, write_all, write_long, write_quoted};
 use pickle_report::{write_id, write_kind, write_with_number};
 
-/// How many bytes of a payload are shown.
+/// How many bytes of a payload are shown. A name is shown whole, since names are what is looked for.
 const MOST_BYTES: usize = 64;
 
 /// How many objects of a list are shown.

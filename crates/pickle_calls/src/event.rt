@@ -18,7 +18,8 @@ pub enum Event {
     Filled(Filling, usize, ObjId),
 }
 
-/// What is looked at of a machine before it steps.
+/// What is looked at of a machine before it steps. With the state after it these three say the event: the record of the
+/// step is not read, whose form is the machine's own.
 #[derive(Clone, Copy)]
 pub struct Before {
     /// The number of the object that is made next: there are as many.
@@ -97,7 +98,9 @@ fn is_foreign_at(heap: &[Object], id: ObjId) -> bool
     }
 }
 
-/// Whether an object is a view of one that comes from elsewhere or from a call and is no buffer.
+/// Whether an object is a view of one that comes from elsewhere or from a call and is no buffer. It is shown, since a
+/// loader would make it, although nothing can be put into it. A buffer comes from the program, and has its line
+/// already.
 fn is_view(heap: &[Object], object: &Object) -> bool
     ensures { result ≡ is_view heap.now object.now }
 {

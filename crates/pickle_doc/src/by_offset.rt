@@ -69,7 +69,8 @@ pub(crate) fn place_by(items: &GapList<Item>, mark: Mark, offset: u64) -> Option
 }
 
 /// The place with this offset. This goes over the items between it and the nearest of the first place, a mark, and a place that
-/// begins at this start.
+/// begins at this start. Nearness is counted in bytes: each item has one at least, so these are never fewer than the
+/// items.
 pub(crate) fn place_near(
     items: &GapList<Item>,
     mark: Mark,

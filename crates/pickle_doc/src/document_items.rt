@@ -6,6 +6,7 @@ use crate::stream::{Items, NextRef};
 use std::marker::Model;
 
 /// A reader of the items of a document, from the first on. After them it reads on in the tail.
+/// A document is listed by its items: writing the bytes first would take memory for all of them.
 #[derive(Drop)]
 pub struct DocumentItems<'a> {
     document: &'a Document,

@@ -7,7 +7,7 @@ ghost use Rattle.pickle_listing.specs.Column.{code_cells};
 use pickle_ops::Opcode;
 
 /// A colon and a blank, the code of an opcode at the left of a column of four, the character itself where it is visible, and two
-/// blanks.
+/// blanks. It is one list of cases with one answer each: cut in two it would be no easier to read.
 #[tactic(auto, unfolding(hex::specs::Hex::encode_with))]
 #[inline(always)]
 pub fn code_block(opcode: Opcode) -> &'static [u8; 8]

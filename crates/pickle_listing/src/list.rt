@@ -215,6 +215,7 @@ pub fn list_items<'a, I: ItemSource<'a>, S: Sink>(
 {
     let mut reader = source;
     let mut lean = Lean::new(alloc, many);
+    // The offsets of the open marks stand beside the machine, so that a note costs no search.
     let mut opened = Vec::new(alloc);
     let mut page = Page::new();
     let mut highest = Highest::none();
@@ -232,6 +233,8 @@ pub fn list_items<'a, I: ItemSource<'a>, S: Sink>(
             NextRef::Item(op) => {
                 let row = Row::of_ref(&op);
                 highest.raise(op.opcode().protocol());
+                // The machine is asked before it takes the item: its line is written first, and has no note where it is
+                // refused.
                 if let Some(refusal) = lean.refusal(row) {
                     let marks = lean.marks_len();
                     let most = highest.get();

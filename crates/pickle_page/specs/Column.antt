@@ -1,4 +1,5 @@
--- Texts in columns.
+-- Texts in columns. They are here and not in pickle_io, since only the lines of the listing and of scripts have
+-- columns.
 use Rattle.std.specs.Prelude.{ℕ, ◌-◌, List, [], ◌∷◌, length, replicate}
 use Rattle.pickle_io.specs.Text.{◌⧺◌}
 

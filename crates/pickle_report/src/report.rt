@@ -137,7 +137,7 @@ pub fn is_stop(opcode: Opcode) -> bool
 }
 
 /// How a run ends that went over all items: `stop` says whether the last of them is STOP, and the tail has `left` bytes, this fault
-/// and this offset.
+/// and this offset. It answers `Stopped` where STOP is last and nothing is left, else the fault with its offset.
 pub fn closing_at(stop: bool, left: u64, fault: TailFault, offset: u64) -> Closing
     ensures { result ≡ closing_at (left == 0 && stop) fault offset }
 {

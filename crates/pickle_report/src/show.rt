@@ -90,7 +90,7 @@ fn visit<'a, S: Sink>(
     }
 }
 
-/// Writes what the stack has still to show.
+/// Writes what the stack has still to show. It keeps what is left of each object on the way down.
 fn go_on<'a, S: Sink>(
     machine: &'a Machine,
     stack: &mut Vec<Content<'a>>,
@@ -128,7 +128,7 @@ fn walk_from<'a, S: Sink>(
     go_on(machine, stack, seen, sink)
 }
 
-/// The marks of so many objects of which none was seen. An error where memory is wanting.
+/// The marks of so many objects of which none was seen. An error where memory runs out.
 fn none_seen(alloc: Global, count: usize) -> Result<Vec<bool>, TextStop>
     ensures ok { IfOk result (λ seen. seen.items ≡ replicate count false) }
     ensures memory { IfErr result (λ e. e ≡ TextStop.Memory) }
@@ -156,6 +156,7 @@ pub fn write_show<S: Sink>(
     ensures failed { result ≡ Err TextStop.Failed → Broke (S.told sink.old) (S.told sink.new) (show_text machine.now.state.heap id) }
     ensures memory { result ≡ Err TextStop.Memory → sink.new ≡ sink.old }
 {
+    // All memory is asked for here, so that out of memory is one line, before anything of the object.
     let mut stack = Vec::with_capacity(alloc, machine.objects())?;
     let mut seen = none_seen(alloc, machine.objects())?;
     walk_from(machine, id, &mut stack, &mut seen, sink)?;

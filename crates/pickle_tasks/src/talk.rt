@@ -218,6 +218,7 @@ fn go_on<P: Past, S: Source, K: Sink>(
         }
         match feed(alloc, session, pending, &block[..count], sink)? {
             Flow::GoesOn => {}
+            // Bytes read together with `quit` are lost: a source cannot take them back.
             Flow::Quits => return Ok(pending.status()),
         }
     }

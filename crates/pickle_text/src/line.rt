@@ -17,7 +17,8 @@ pub enum Query {
     Stack,
     /// `memo`: the entries of the memo.
     Memo,
-    /// `show N`: the object of this number, with all that it contains.
+    /// `show N`: the object of this number, with all that it contains. A number that names no object is no fault of the
+    /// line: the answer says so (V1).
     Show(u64),
     /// `where`: where the cursor stands.
     Where,
@@ -32,7 +33,8 @@ pub enum Place {
     Offset(u64),
 }
 
-/// What is done at a place. Each is the command of the same name.
+/// What is done at a place. Each is the command of the same name. The place is read apart from it: a command generic
+/// over its place would carry that parameter through the session.
 #[derive(Debug, Drop)]
 pub enum Action {
     /// `goto K`
@@ -41,7 +43,7 @@ pub enum Action {
     Break,
     /// `clear K`
     Clear,
-    /// `replace K NAME HEX`
+    /// `replace K NAME HEX`, where HEX is the whole argument: no text of an argument has to be read.
     Replace(Op),
     /// `insert K NAME HEX`
     Insert(Op),

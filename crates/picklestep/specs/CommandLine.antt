@@ -89,7 +89,7 @@ IsBounded (task.Objects input) = ⊤
 IsBounded (task.Calls input) = ⊤
 IsBounded (task.Debug input options) = IfSome options.window (λ n. (1 ≤ n) × (n ≤ most_records))
 
--- the words are refused for want of memory
+-- the words are refused where memory runs out
 abbrev pub IsMemory : Usage → Type 0
 IsMemory usage.Memory = ⊤
 IsMemory (usage.Words e) = kind_of e ≡ kind.OutOfMemory

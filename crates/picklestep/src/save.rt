@@ -18,6 +18,7 @@ const FILE_ROOM: usize = 65_536;
 const MOST_LINKS: u32 = 40;
 
 /// The most names that are tried for a new file: each run that was killed while it saved may have left a file.
+/// Nothing removes such a file: another run may be writing it.
 const MOST_NAMES: u32 = 1_000;
 
 /// A new file, in the folder of the file that it is to replace.
@@ -56,7 +57,8 @@ impl NewFile {
         }
     }
 
-    /// Waits until the bytes are stored, and then gives the file this name.
+    /// Waits until the bytes are stored, and then gives the file this name. A mount point is not replaced:
+    /// `Stop::Write`.
     fn move_to(&self, rt: &HostRuntime, target: &PathBuf) -> Result<(), Stop> {
         if self.file.sync_all().is_err() || fs::rename(rt, &self.path, target).is_err() {
             return Err(Stop::Write);
@@ -66,7 +68,8 @@ impl NewFile {
     }
 }
 
-/// Waits until the names in the folder of a path are stored. Where the system does not permit it, a crash may bring the old file back.
+/// Waits until the names in the folder of a path are stored. Where the system does not permit it nothing is said, and a
+/// crash may bring the old file back.
 fn sync_folder(rt: &HostRuntime, path: &PathBuf) {
     let folder = match path.parent() {
         Some(folder) if !folder.as_str().is_empty() => folder,
@@ -78,6 +81,7 @@ fn sync_folder(rt: &HostRuntime, path: &PathBuf) {
 }
 
 /// The path to which the symbolic links of a path lead, where there need not be a file. A path that is no link leads to itself.
+/// A link that is no UTF-8 is `Stop::Write`, since paths are text.
 fn target_of(rt: &HostRuntime, path: &str) -> Result<PathBuf, Stop> {
     let mut target = PathBuf::from_str(rt.alloc(), path)?;
     for _ in 0..MOST_LINKS {
@@ -173,6 +177,7 @@ fn save_over(rt: &HostRuntime, document: &Document, path: &str, file: &File) -> 
 /// Saves a document to a path. `Stop::Write` where the file, or a new one beside it, cannot be written, `Stop::Memory` where there is no room;
 /// a regular file is then as it was. A device or a pipe may have taken a beginning of the bytes.
 pub fn save_document(rt: &HostRuntime, document: &Document, path: &str) -> Result<(), Stop> {
+    // The file is opened first, and left unchanged, so that one that may not be written is not replaced.
     match OpenOptions::new().write(true).open(rt, path) {
         Ok(file) => save_over(rt, document, path, &file),
         Err(error) if error.kind() == ErrorKind::NotFound => {

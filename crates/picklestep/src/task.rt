@@ -44,7 +44,8 @@ pub struct Options {
 /// Why the words are no task.
 #[derive(Drop, Debug)]
 pub enum Usage {
-    /// What clap says of them; its text is for the user.
+    /// What clap says of them; its text is for the user. A call for help is no task either: the text goes to standard
+    /// error, with status 2.
     Words(Error),
     /// There was not enough memory.
     Memory,
@@ -168,7 +169,7 @@ pub fn task_of(alloc: Global, words: &[&str]) -> Result<Task, Usage>
     ensures named { IfOk result (IsNamed (subcommand_of program (map (λ w. w.now) words.now))) }
     ensures bounded { IfOk result IsBounded }
 
-    // Words that clap's definition takes, and whose matches name a task, are refused for want of memory alone.
+    // Words that clap's definition takes, and whose matches name a task, are refused only where memory runs out.
     ensures refuses { (task : Task) → takes program (map (λ w. w.now) words.now) ≡ true → IsNamed (subcommand_of program (map (λ w. w.now) words.now)) task → IfErr result IsMemory }
 {
     let mut command = command_line(alloc)?;

@@ -118,8 +118,8 @@ fn is_noted<P: Past>(session: &Session<P>, note: Option<&Note>) -> bool {
     }
 }
 
-/// Whether a command may be refused for want of memory: one that goes forth or edits, and one that goes back further than
-/// limited records lead.
+/// Whether a command may be refused where memory runs out: one that goes forth or edits, and one that goes back further
+/// than limited records lead.
 fn may_lack<P: Past>(session: &Session<P>, k: usize) -> bool {
     match k {
         1 | 4 => session.kept() < session.cursor(),

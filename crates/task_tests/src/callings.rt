@@ -70,7 +70,7 @@ fn nested(rt: HostRuntime) -> Result<(), Fail> {
     Ok(())
 }
 
-/// Run with each request for memory refused in turn: the answer is want of memory, or a write that failed where the
+/// Run with each request for memory refused in turn: the answer is out of memory, or a write that failed where the
 /// sink's own growth was refused; what was written is a beginning, and asked again it succeeds.
 #[test]
 fn refused_memory(rt: HostRuntime) -> Result<(), Fail> {

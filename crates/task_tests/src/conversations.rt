@@ -445,7 +445,7 @@ fn failing_sink(rt: HostRuntime) -> Result<(), Fail> {
 }
 
 /// Run with each request for memory refused in turn: the line is not obeyed and nothing is read or written, or the line
-/// is answered by want of memory, and asked again it is obeyed; or the sink's own growth was refused.
+/// is answered by out of memory, and asked again it is obeyed; or the sink's own growth was refused.
 #[test]
 fn refused_memory(rt: HostRuntime) -> Result<(), Fail> {
     let mut session = match opened(rt.alloc(), PAIR) {

@@ -18,7 +18,7 @@ pub enum Fault {
     Memory,
     /// The machine refused the operation, or `check` did.
     Refused(usize, Refusal),
-    /// A free step met want of memory.
+    /// A free step ran out of memory.
     NotFree(usize),
     /// The state is not what was written down.
     Differs(usize),
@@ -144,7 +144,7 @@ pub struct Noted {
     pub notes: Vec<Vec<u8>>,
 }
 
-/// The operations that the bytes spell, and the states of a machine that has done nothing before. Want of memory is
+/// The operations that the bytes spell, and the states of a machine that has done nothing before. Out of memory is
 /// `Fault::Memory`, also where the machine met it.
 pub fn note_down(alloc: Global, pickles: Pickles, bytes: &[u8]) -> Result<Noted, Fault> {
     let ops = ops_of(alloc, bytes)?;
@@ -195,8 +195,8 @@ impl Way<'_> {
     }
 }
 
-/// One step of the way. Where it is refused for want of memory, the machine shows what it showed before and has counted
-/// no move; and asked again it succeeds.
+/// One step of the way. Where it is refused where memory runs out, the machine shows what it showed before and has
+/// counted no move; and asked again it succeeds.
 fn insist_on_step(
     machine: &mut Machine,
     alloc: Global,

@@ -52,8 +52,8 @@ fn readers(rt: HostRuntime) {
     assert!(rt; came_to(empty, Ok(b"")));
 }
 
-/// With each allocation refused in turn: a source with bytes may meet want of memory and has then given them, and one without
-/// bytes never does.
+/// With each allocation refused in turn: a source with bytes may meet out of memory and has then given them, and one
+/// without bytes never does.
 #[test]
 fn refused_memory(rt: HostRuntime) {
     let empty = read_limited(rt.alloc(), &mut Drip::new(b"", 4, 9), 6);
