@@ -8,7 +8,7 @@ use pickle_doc::{DocFault, LIMIT};
 use pickle_machine::Machine;
 use pickle_ops::{Failed, Op, OpFault, Opcode, ToWrite, op_of};
 use pickle_session::{Command, Reply, Session, Whole};
-use session_notes::{ScriptFault, follow_whole, follow_window, note_whole, note_window};
+use test_equipment::{ScriptFault, follow_whole, follow_window, note_whole, note_window};
 use std::alloc::{AllocError, Global};
 use std::fs::File;
 use std::io::Read;
