@@ -14,9 +14,9 @@ use crate::session::script::{
 };
 use pickle_ops::{Opcode, ToWrite};
 use pickle_session::{Command, Past, Reply, Session, Whole, Why};
-use test_equipment::{Beside, shows, write_session};
 use std::alloc::{AllocError, Global};
 use std::test::Fail;
+use test_equipment::{Beside, shows, write_session};
 
 /// Follows a script and goes all the way back, where one request for memory may be refused; the number of rows that are as
 /// they should be, and whether the opened bytes are there again.

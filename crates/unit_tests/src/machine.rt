@@ -5,10 +5,10 @@ mod rows;
 
 use crate::machine::path::{Fault, Noted, Pickles, Way, note_down, notes_of, ops_of, run, walk};
 use crate::machine::rows::{ALL_SHAPES, FURTHER, OPCODES, Row, SEVERAL, WORKED};
-use test_equipment::stands;
 use pickle_machine::{Machine, Refusal};
 use std::alloc::Global;
 use std::test::Fail;
+use test_equipment::stands;
 
 /// Goes a whole way forwards and back, twice, and compares what is shown at each place with what is written down.
 fn walk_twice(alloc: Global, noted: &Noted) -> Result<(), Fault> {

@@ -4,8 +4,8 @@ ghost use Rattle.std.specs.Prelude.{◌≡◌, [], IfOk, IfSome};
 
 use pickle_ops::{Opcode, op_of};
 use pickle_session::{Command, Fault, Past, Reply, Session, Whole, Window};
-use test_equipment::{Beside, shows};
 use std::alloc::Global;
+use test_equipment::{Beside, shows};
 
 /// A command without an `Op` of its own: an opcode and an argument in its place.
 #[derive(Clone, Copy, Debug, PartialEq, Eq)]

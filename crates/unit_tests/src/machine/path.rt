@@ -4,10 +4,10 @@ ghost use Rattle.std.specs.Prelude.{◌≡◌, IfOk, OnOk, OnErr};
 ghost use Rattle.pickle_machine.specs.Held.{KeepsRooms, Fits};
 ghost use Rattle.pickle_machine.specs.Back.{Leads};
 
-use test_equipment::{stands, write_state};
 use pickle_machine::{Machine, Refusal, StepRecord};
 use pickle_ops::{Failed, Op, OpFault, Opcode, ToWrite, read_op};
 use std::alloc::{AllocError, AllocFailed, Global};
+use test_equipment::{stands, write_state};
 
 /// What was seen that should not be, and at which place.
 #[derive(Clone, Copy, Debug, PartialEq, Eq)]
