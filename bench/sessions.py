@@ -54,7 +54,7 @@ def near_places(program, path, middle):
 
 def edits_row(tests, what, name, bar, base):
     """A line of the table of edits; the tests also open and write the document, which takes as long as the base."""
-    seconds = min(measure([tests, 'tests::' + name])[0] for _ in range(3)) - base
+    seconds = min(measure([tests, 'document::' + name])[0] for _ in range(3)) - base
     return '| %s | %.2f s | %s s | %s |' % (what, seconds, bar, verdict(seconds <= bar))
 
 
@@ -81,7 +81,7 @@ def main():
             beside, BYTES_AN_OPCODE, verdict(beside <= BYTES_AN_OPCODE)))
     print('\n| Edits of a document of a million items | processor | bar | |')
     print('|---|---|---|---|')
-    base = min(measure([tests, 'tests::a_million_items'])[0] for _ in range(3))
+    base = min(measure([tests, 'document::a_million_items'])[0] for _ in range(3))
     print(edits_row(tests, '10,000 in its middle', 'edits_at_one_place', ONE_PLACE, base))
     print(edits_row(tests, '10,000 in its middle, each swapped back and forth', 'edits_and_swaps_at_one_place', ONE_PLACE, base))
     print(edits_row(tests, '1,000 at random places', 'edits_at_random_places', RANDOM_PLACES, base))

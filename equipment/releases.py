@@ -264,7 +264,7 @@ def release_again(releases: Releases) -> str:
 def builds(releases: Releases) -> str:
     """From nothing what earlier runs kept of the program's crates is taken away; else it stays."""
     at = releases.copy("built")
-    of_product, of_tests = at / "crates/pickle_io/out/kept", at / "crates/plain_tests/out/kept"
+    of_product, of_tests = at / "crates/pickle_io/out/kept", at / "crates/unit_tests/out/kept"
     same = {"BUILT": str(releases.clone / DIST / "picklestep")}
     ways: list[tuple[list[str], bool]] = [(["--kept"], True), ([], False)]
     for words, stays in ways:

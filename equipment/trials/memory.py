@@ -61,23 +61,23 @@ COMMANDS = (
 
 # Tests of crates that take 'out of memory' for an answer, and look at what is left then.
 TESTS = (
-    ("plain_tests", "tests::whole::refused_memory"),
-    ("plain_tests", "tests::opcodes::refused_memory"),
-    ("plain_tests", "tests::lists::refused_memory"),
-    ("task_tests", "listings::refused_memory"),
-    ("task_tests", "callings::refused_memory"),
-    ("task_tests", "conversations::refused_memory"),
-    ("task_tests", "several::refused_memory"),
-    ("document_tests", "tests::refused_memory"),
-    ("document_tests", "tests::refused_memory_of_many"),
-    ("machine_tests", "tests::refused_memory"),
-    ("session_tests", "tests::refused_memory"),
-    ("session_tests", "tests::refused_memory_of_many"),
-    ("report_tests", "tests::refused_memory"),
-    ("report_tests", "tests::refused_memory_of_many"),
-    ("script_tests", "tests::refused_memory"),
-    ("script_tests", "tests::refused_memory_of_many"),
-    ("script_tests", "tests::refused_memory_of_objects"),
+    ("unit_tests", "plain::whole::refused_memory"),
+    ("unit_tests", "plain::opcodes::refused_memory"),
+    ("unit_tests", "plain::lists::refused_memory"),
+    ("script_tests", "listings::refused_memory"),
+    ("script_tests", "callings::refused_memory"),
+    ("script_tests", "conversations::refused_memory"),
+    ("script_tests", "several::refused_memory"),
+    ("document_tests", "document::refused_memory"),
+    ("document_tests", "document::refused_memory_of_many"),
+    ("unit_tests", "machine::refused_memory"),
+    ("session_tests", "session::refused_memory"),
+    ("session_tests", "session::refused_memory_of_many"),
+    ("document_tests", "report::refused_memory"),
+    ("document_tests", "report::refused_memory_of_many"),
+    ("script_tests", "scripts::refused_memory"),
+    ("script_tests", "scripts::refused_memory_of_many"),
+    ("script_tests", "scripts::refused_memory_of_objects"),
 )
 # Real pickles under a script, with what is shown after each line written down before.
 SCRIPTS = ("sklearn_tree_protocol_4", "sklearn_pipeline_protocol_4", "sklearn_encoder_protocol_0")
@@ -85,13 +85,13 @@ SCRIPTS = ("sklearn_tree_protocol_4", "sklearn_pipeline_protocol_4", "sklearn_en
 ALIKE = (
     (
         "no step back and no free step asks for memory",
-        "machine_tests",
-        ("tests::forwards", "tests::there_and_back_again"),
+        "unit_tests",
+        ("machine::forwards", "machine::there_and_back_again"),
     ),
     (
         "no free step and no way back of a session asks for memory",
         "session_tests",
-        ("tests::forwards", "tests::no_memory_for_free_steps"),
+        ("session::forwards", "session::no_memory_for_free_steps"),
     ),
 )
 

@@ -8,12 +8,12 @@ use pickle_doc::{DocFault, LIMIT};
 use pickle_machine::Machine;
 use pickle_ops::{Failed, Op, OpFault, Opcode, ToWrite, op_of};
 use pickle_session::{Command, Reply, Session, Whole};
-use session_notes::{ScriptFault, follow_whole, follow_window, note_whole, note_window};
 use std::alloc::{AllocError, Global};
 use std::fs::File;
 use std::io::Read;
 use std::process::ExitCode;
 use std::{env, io};
+use test_equipment::{ScriptFault, follow_whole, follow_window, note_whole, note_window};
 
 /// How many commands are told over each file.
 const COMMANDS: u32 = 300;

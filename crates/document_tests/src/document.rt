@@ -1,0 +1,322 @@
+//! What documents show before edits and after them.
+
+mod cost;
+mod hostile;
+mod many;
+mod memory;
+mod nest;
+mod rows;
+mod shown;
+mod worked;
+
+use crate::document::cost::edit_many;
+use crate::document::hostile::{CUTS, LENGTHS, end_of, first_wrong_cut, single_bytes};
+use crate::document::many::{MANY, MANY_EDITS, MANY_REFUSED};
+use crate::document::memory::edit_with_little;
+use crate::document::nest::put_and_back;
+use crate::document::rows::{
+    BESIDE_FRAMES, EMPTY_FRAMES, FRAMES, FRAMES_THAT_LIE, IN_FRAMES, NO_FRAMES, REFUSED,
+};
+use crate::document::shown::{
+    Edit, Row, Wrong, are_alike, have_same_ids, make, open, place_of, shows, turn, written,
+};
+use pickle_doc::{Document, EditFault, End, there_and_back};
+use pickle_ops::Opcode;
+use std::alloc::Global;
+use std::test::Fail;
+
+/// Makes the edit of a row, takes it back, makes it again and takes it back again.
+fn try_row(alloc: Global, many: bool, row: &Row) -> Result<(), Wrong> {
+    let mut document = open(alloc, many, row.before.bytes)?;
+    shows(alloc, &document, &row.before)?;
+    let mut record = make(alloc, &mut document, &row.edit)?;
+    if record.place() != place_of(&row.edit) {
+        return Err(Wrong::Place);
+    }
+    shows(alloc, &document, &row.after)?;
+    turn(alloc, &mut document, &mut record, &row.before)?;
+    turn(alloc, &mut document, &mut record, &row.after)?;
+    turn(alloc, &mut document, &mut record, &row.before)
+}
+
+/// Tries a row of one pickle, and of many where that is the same: where no byte follows STOP.
+fn try_in_both(alloc: Global, row: &Row) -> Result<(), Wrong> {
+    try_row(alloc, false, row)?;
+    if row.before.end == End::Stopped && !row.before.tail.is_empty() {
+        return Ok(());
+    }
+    try_row(alloc, true, row)
+}
+
+/// The first row that does not hold, by its bytes, and what is wrong there.
+fn first_wrong<'a>(alloc: Global, rows: &'a [Row]) -> Option<(&'a [u8], Wrong)> {
+    for row in rows {
+        if let Err(wrong) = try_in_both(alloc, row) {
+            return Some((row.before.bytes, wrong));
+        }
+    }
+    None
+}
+
+/// The first row of many pickles that does not hold, by its bytes, and what is wrong there.
+fn first_wrong_of_many<'a>(alloc: Global, rows: &'a [Row]) -> Option<(&'a [u8], Wrong)> {
+    for row in rows {
+        if let Err(wrong) = try_row(alloc, true, row) {
+            return Some((row.before.bytes, wrong));
+        }
+    }
+    None
+}
+
+#[test]
+fn edits_in_frames(rt: HostRuntime) {
+    assert_eq!(rt; first_wrong(rt.alloc(), &IN_FRAMES), None);
+}
+
+#[test]
+fn edits_beside_frames(rt: HostRuntime) {
+    assert_eq!(rt; first_wrong(rt.alloc(), &BESIDE_FRAMES), None);
+}
+
+#[test]
+fn edits_beside_frames_that_lie(rt: HostRuntime) {
+    assert_eq!(rt; first_wrong(rt.alloc(), &FRAMES_THAT_LIE), None);
+}
+
+#[test]
+fn frames_come_and_go(rt: HostRuntime) {
+    assert_eq!(rt; first_wrong(rt.alloc(), &FRAMES), None);
+}
+
+#[test]
+fn empty_frames(rt: HostRuntime) {
+    assert_eq!(rt; first_wrong(rt.alloc(), &EMPTY_FRAMES), None);
+}
+
+#[test]
+fn edits_without_frames(rt: HostRuntime) {
+    assert_eq!(rt; first_wrong(rt.alloc(), &NO_FRAMES), None);
+}
+
+#[test]
+fn edits_of_many_pickles(rt: HostRuntime) {
+    assert_eq!(rt; first_wrong_of_many(rt.alloc(), &MANY_EDITS), None);
+}
+
+#[test]
+fn many_pickles(rt: HostRuntime) -> Result<(), Fail> {
+    for (k, want) in MANY.iter().enumerate() {
+        let document = Document::read_many(rt.alloc(), want.bytes)?;
+        assert_eq!(rt; shows(rt.alloc(), &document, want), Ok(()), "row {k}");
+    }
+    Ok(())
+}
+
+/// Why an edit is refused, which leaves the document as it was read.
+fn refusal_of(
+    alloc: Global,
+    many: bool,
+    bytes: &[u8],
+    edit: &Edit,
+) -> Result<Option<EditFault>, Wrong> {
+    let opened = open(alloc, many, bytes)?;
+    let mut document = open(alloc, many, bytes)?;
+    let found = make(alloc, &mut document, edit).err();
+    are_alike(&document, &opened)?;
+    if !have_same_ids(&document, &opened) {
+        return Err(Wrong::Ids);
+    }
+    if written(alloc, &document)?.as_slice() != bytes {
+        return Err(Wrong::Bytes);
+    }
+    Ok(found)
+}
+
+#[test]
+fn refused_edits(rt: HostRuntime) {
+    for (k, (bytes, edit, fault)) in REFUSED.iter().enumerate() {
+        assert_eq!(rt;
+            refusal_of(rt.alloc(), false, bytes, edit),
+            Ok(Some(*fault)),
+            "row {k}"
+        );
+        assert_eq!(rt;
+            refusal_of(rt.alloc(), true, bytes, edit),
+            Ok(Some(*fault)),
+            "row {k}, of many pickles"
+        );
+    }
+}
+
+#[test]
+fn refused_edits_of_many_pickles(rt: HostRuntime) {
+    for (k, (bytes, edit, fault)) in MANY_REFUSED.iter().enumerate() {
+        assert_eq!(rt;
+            refusal_of(rt.alloc(), true, bytes, edit),
+            Ok(Some(*fault)),
+            "row {k}"
+        );
+    }
+}
+
+/// The identities of the first two items after an edit, which is taken back.
+fn ids_behind(
+    alloc: Global,
+    document: &mut Document,
+    edit: &Edit,
+) -> Result<[Option<u32>; 2], Wrong> {
+    let mut record = make(alloc, document, edit)?;
+    let ids = [document.id(0), document.id(1)];
+    document.swap(&mut record);
+    Ok(ids)
+}
+
+/// The identity of an item that was put in and taken out again is not given to another.
+#[test]
+fn identities_are_given_once(rt: HostRuntime) -> Result<(), Fail> {
+    let mut document = Document::read(rt.alloc(), b".")?;
+    let edits = [
+        (Edit::Insert(0, Opcode::None, b""), 1),
+        (Edit::Frame(0, 1), 2),
+        (Edit::Insert(0, Opcode::None, b""), 3),
+    ];
+    for (edit, id) in &edits {
+        let found = ids_behind(rt.alloc(), &mut document, edit);
+        assert_eq!(rt; found, Ok([Some(*id), Some(0)]));
+        assert_eq!(rt; [document.id(0), document.id(1)], [Some(0), None]);
+    }
+    Ok(())
+}
+
+/// The bytes of a frame, with a deletion at its end, back and again a thousand times.
+#[test]
+fn deletion_back_and_again(rt: HostRuntime) -> Result<(), Fail> {
+    let opened: &[u8] = b"\x80\x04\x95\x04\0\0\0\0\0\0\0N0N0N.";
+    let mut document = Document::read(rt.alloc(), opened)?;
+    let mut record = document.delete(5)?;
+    for _ in 0..1000 {
+        there_and_back(&mut document, &mut record);
+    }
+    let gone: &[u8] = b"\x80\x04\x95\x03\0\0\0\0\0\0\0N0NN.";
+    let found = written(rt.alloc(), &document);
+    assert!(rt; found.is_ok_and(|bytes| bytes.as_slice() == gone));
+    document.swap(&mut record);
+    let found = written(rt.alloc(), &document);
+    assert!(rt; found.is_ok_and(|bytes| bytes.as_slice() == opened));
+    Ok(())
+}
+
+/// A thousand opcodes are put in at the front, and taken back one after another.
+#[test]
+fn insertions_back_and_again(rt: HostRuntime) -> Result<(), Fail> {
+    let mut document = Document::read(rt.alloc(), b".")?;
+    let found = put_and_back(rt.alloc(), &mut document, 0, 1000);
+    assert_eq!(rt; found, Ok(()));
+    assert_eq!(rt; document.len(), 1);
+    Ok(())
+}
+
+/// How many bytes a large document has.
+const LARGE: usize = 268_435_456;
+
+/// A large document: one BINBYTES and STOP.
+fn large(alloc: Global) -> Result<Vec<u8>, Wrong> {
+    let Ok(mut bytes) = vec![in alloc; 0u8; LARGE] else {
+        return Err(Wrong::Memory);
+    };
+    let front: &[u8] = b"B\xfa\xff\xff\x0f";
+    for (byte, want) in bytes.iter_mut().zip(front) {
+        *byte = *want;
+    }
+    if let Some(last) = bytes.last_mut() {
+        *last = b'.';
+    }
+    Ok(bytes)
+}
+
+/// How many bytes there are after an edit, which is taken back.
+fn total_behind(alloc: Global, document: &mut Document, edit: &Edit) -> Result<u64, Wrong> {
+    let mut record = make(alloc, document, edit)?;
+    let total = document.total();
+    document.swap(&mut record);
+    Ok(total)
+}
+
+/// Edits of a large document make it a little larger, or small.
+#[test]
+fn large_input(rt: HostRuntime) -> Result<(), Fail> {
+    let bytes = large(rt.alloc())?;
+    let mut document = Document::read(rt.alloc(), &bytes)?;
+    let edits = [
+        (Edit::Insert(0, Opcode::None, b""), Ok(LARGE as u64 + 1)),
+        (Edit::Frame(0, 2), Ok(LARGE as u64 + 9)),
+        (Edit::Replace(0, Opcode::None, b""), Ok(2)),
+    ];
+    for (edit, total) in &edits {
+        assert_eq!(rt; total_behind(rt.alloc(), &mut document, edit), *total);
+        assert_eq!(rt; document.len(), 2);
+        assert_eq!(rt; document.total(), LARGE as u64);
+    }
+    Ok(())
+}
+
+/// Worked pickles, cut at each of their bytes.
+#[test]
+fn cut_short(rt: HostRuntime) {
+    for (k, cuts) in CUTS.iter().enumerate() {
+        assert_eq!(rt; first_wrong_cut(rt.alloc(), cuts), Ok(None), "row {k}");
+    }
+}
+
+/// Each byte alone: 188 are no opcode, 34 are one with an argument, 33 one without, and one is STOP.
+#[test]
+fn one_byte_alone(rt: HostRuntime) {
+    assert_eq!(rt; single_bytes(rt.alloc()), Ok([188, 34, 33, 1, 0]));
+}
+
+#[test]
+fn largest_lengths(rt: HostRuntime) {
+    for (k, (bytes, end)) in LENGTHS.iter().enumerate() {
+        assert_eq!(rt; end_of(rt.alloc(), bytes), Ok((0, end.end())), "row {k}");
+    }
+}
+
+/// Run with each request for memory refused in turn.
+#[test]
+fn refused_memory(rt: HostRuntime) {
+    let bytes: &[u8] = b"\x95\x04\0\0\0\0\0\0\0N0N0N.";
+    assert_eq!(rt; edit_with_little(rt.alloc(), false, bytes, 1), Ok(()));
+}
+
+/// The same of two pickles, with the edits behind the first STOP.
+#[test]
+fn refused_memory_of_many(rt: HostRuntime) {
+    let bytes: &[u8] = b"N.\x95\x04\0\0\0\0\0\0\0N0N0N.";
+    assert_eq!(rt; edit_with_little(rt.alloc(), true, bytes, 3), Ok(()));
+}
+
+/// A million items are opened and written, and no more: what the four tests below have in common.
+#[test]
+fn a_million_items(rt: HostRuntime) {
+    assert_eq!(rt; edit_many(rt.alloc(), 0, false, false), Ok(()));
+}
+
+#[test]
+fn edits_at_one_place(rt: HostRuntime) {
+    assert_eq!(rt; edit_many(rt.alloc(), 10_000, false, false), Ok(()));
+}
+
+#[test]
+fn edits_and_swaps_at_one_place(rt: HostRuntime) {
+    assert_eq!(rt; edit_many(rt.alloc(), 10_000, false, true), Ok(()));
+}
+
+#[test]
+fn edits_at_random_places(rt: HostRuntime) {
+    assert_eq!(rt; edit_many(rt.alloc(), 1000, true, false), Ok(()));
+}
+
+#[test]
+fn edits_and_swaps_at_random_places(rt: HostRuntime) {
+    assert_eq!(rt; edit_many(rt.alloc(), 1000, true, true), Ok(()));
+}

@@ -1,0 +1,111 @@
+//! Texts that go to sinks which fail at each of their calls in turn.
+
+use crate::report::opened;
+use pickle_machine::Machine;
+use pickle_ops::{Failed, Sink, Sip};
+use pickle_report::{
+    TextStop, write_document_report, write_memo, write_object, write_objects, write_show,
+    write_stack,
+};
+use std::alloc::Global;
+
+/// A text of a machine, or of some bytes.
+#[derive(Clone, Copy)]
+pub enum Text<'a> {
+    Objects,
+    Object(u32),
+    Stack,
+    Memo,
+    Show(u32),
+    Report { bytes: &'a [u8], many: bool },
+}
+
+/// Writes the report of some bytes.
+fn write_report_of<S: Sink>(
+    alloc: Global,
+    many: bool,
+    bytes: &[u8],
+    sink: &mut S,
+) -> Result<(), TextStop> {
+    let Ok(document) = opened(alloc, many, bytes) else {
+        return Err(TextStop::Memory);
+    };
+    write_document_report(alloc, &document, sink)?;
+    Ok(())
+}
+
+/// Writes an object that is there.
+fn write_one<S: Sink>(machine: &Machine, id: u32, sink: &mut S) -> Result<(), Failed> {
+    match machine.object(id) {
+        Some(object) => write_object(u64::from(id), object, sink),
+        None => Ok(()),
+    }
+}
+
+/// Writes a text.
+fn write_text<S: Sink>(
+    alloc: Global,
+    machine: &Machine,
+    text: Text<'_>,
+    sink: &mut S,
+) -> Result<(), TextStop> {
+    match text {
+        Text::Objects => write_objects(machine, sink)?,
+        Text::Object(id) => write_one(machine, id, sink)?,
+        Text::Stack => write_stack(machine, sink)?,
+        Text::Memo => write_memo(machine, sink)?,
+        Text::Show(id) => write_show(alloc, machine, id, sink)?,
+        Text::Report { bytes, many } => write_report_of(alloc, many, bytes, sink)?,
+    }
+    Ok(())
+}
+
+/// What a sink is left with that takes at most so many bytes a call and fails after so many calls: whether it has all of the
+/// text, or nothing where it has no beginning of it, was called again after its failure, or failed without being told.
+fn is_whole(
+    alloc: Global,
+    machine: &Machine,
+    text: Text<'_>,
+    wanted: &[u8],
+    most: usize,
+    calls: u64,
+) -> Option<bool> {
+    let mut sink = Sip::new(alloc, most.max(1), calls);
+    let answer = write_text(alloc, machine, text, &mut sink);
+    let is_whole = sink.taken().len() == wanted.len();
+    let told = if is_whole {
+        Ok(())
+    } else {
+        Err(TextStop::Failed)
+    };
+    if wanted.starts_with(sink.taken())
+        && answer == told
+        && sink.failures() == u64::from(!is_whole)
+    {
+        Some(is_whole)
+    } else {
+        None
+    }
+}
+
+/// How many sinks took a beginning of the text and failed, and were not called again; 0 where one was left otherwise. There is
+/// one that fails at each call, of those that take 1, 2 and 7 bytes a call, and then one that takes all.
+pub fn every_break(alloc: Global, machine: &Machine, text: Text<'_>, wanted: &[u8]) -> usize {
+    let mut broken = 0usize;
+    for most in [1, 2, 7] {
+        let mut is_done = false;
+        for calls in 0..=wanted.len() as u64 {
+            if !is_done {
+                match is_whole(alloc, machine, text, wanted, most, calls) {
+                    Some(found) => is_done = found,
+                    None => return 0,
+                }
+                broken = broken.saturating_add(1);
+            }
+        }
+        if !is_done {
+            return 0;
+        }
+    }
+    broken
+}

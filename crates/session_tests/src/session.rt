@@ -1,0 +1,487 @@
+//! What a session shows after commands.
+
+ghost use Rattle.std.specs.Prelude.{◌≡◌, []};
+
+mod further;
+mod many;
+mod rows;
+mod script;
+
+use crate::session::many::{IN_A_WINDOW, MANY, MANY_WALKED, MANY_WAYS, WINDOWED};
+use crate::session::rows::{CYCLE, DUMP, PAIR, SCRIPTS, WALKED};
+use crate::session::script::{
+    Counts, Script, Told, command, follow, go_home, open_whole, open_window,
+};
+use pickle_ops::{Opcode, ToWrite};
+use pickle_session::{Command, Past, Reply, Session, Whole, Why};
+use std::alloc::{AllocError, Global};
+use std::test::Fail;
+use test_equipment::{Beside, shows, write_session};
+
+/// Follows a script and goes all the way back, where one request for memory may be refused; the number of rows that are as
+/// they should be, and whether the opened bytes are there again.
+fn try_whole(alloc: Global, many: bool, script: &Script) -> Option<(usize, bool)> {
+    let mut session = open_whole(alloc, many, script.bytes)?;
+    let rows = follow(&mut session, alloc, script, None);
+    Some((rows, go_home(&mut session, alloc, script.bytes)))
+}
+
+/// The same with so many of the latest records alone.
+fn try_window(alloc: Global, many: bool, count: usize, script: &Script) -> Option<(usize, bool)> {
+    let mut session = open_window(alloc, many, count, script.bytes)?;
+    let rows = follow(&mut session, alloc, script, Some(count));
+    Some((rows, go_home(&mut session, alloc, script.bytes)))
+}
+
+/// Follows scripts over one pickle or many and goes back, with all records or with so many of the latest; the first script that
+/// is answered in another way, if one is.
+fn first_wrong(
+    alloc: Global,
+    many: bool,
+    scripts: &[Script],
+    window: Option<usize>,
+) -> Option<usize> {
+    for (k, script) in scripts.iter().enumerate() {
+        let found = match window {
+            Some(count) => try_window(alloc, many, count, script),
+            None => try_whole(alloc, many, script),
+        };
+        if found != Some((script.rows.len(), true)) {
+            return Some(k);
+        }
+    }
+    None
+}
+
+/// Run also with each request for memory refused in turn: a command that is refused so leaves every reader as it was, and
+/// told again it is answered as with ample memory. Then comes the way back to the bytes that were opened.
+#[test]
+fn refused_memory(rt: HostRuntime) {
+    assert_eq!(rt; first_wrong(rt.alloc(), false, &SCRIPTS, None), None);
+    assert_eq!(rt; first_wrong(rt.alloc(), false, &SCRIPTS, Some(2)), None);
+}
+
+/// The same over several pickles.
+#[test]
+fn refused_memory_of_many(rt: HostRuntime) {
+    assert_eq!(rt; first_wrong(rt.alloc(), true, &MANY, None), None);
+    assert_eq!(rt; first_wrong(rt.alloc(), true, &MANY, Some(2)), None);
+}
+
+/// Every script is answered alike whatever the window, and one over one pickle also where many are read.
+#[test]
+fn in_every_window(rt: HostRuntime) {
+    for count in [1, 2, 3, 1000] {
+        let found = first_wrong(rt.alloc(), false, &SCRIPTS, Some(count));
+        assert_eq!(rt; found, None, "a window of {count}");
+        let found = first_wrong(rt.alloc(), true, &SCRIPTS, Some(count));
+        assert_eq!(rt; found, None, "read as many, a window of {count}");
+        let found = first_wrong(rt.alloc(), true, &MANY, Some(count));
+        assert_eq!(rt; found, None, "over many, a window of {count}");
+    }
+}
+
+/// What a session shows, as a text.
+fn note_of<P: Past>(alloc: Global, session: &Session<P>) -> Result<Vec<u8>, Fail> {
+    let mut sink = ToWrite::new(Vec::new(alloc));
+    write_session(session, &mut sink)?;
+    Ok(sink.into_inner())
+}
+
+/// What is shown at each place of some bytes that are stepped over to their end; nothing where there is no memory.
+fn notes_of(alloc: Global, many: bool, bytes: &[u8]) -> Result<Vec<Vec<u8>>, Fail> {
+    let mut notes = Vec::new(alloc);
+    let Some(mut session) = open_whole(alloc, many, bytes) else {
+        return Ok(notes);
+    };
+    notes.push(note_of(alloc, &session)?)?;
+    for _ in 0..session.document().len() {
+        let _reply = session.obey(alloc, &Command::Step);
+        notes.push(note_of(alloc, &session)?)?;
+    }
+    Ok(notes)
+}
+
+/// Whether a session stands at a place, and shows what is written down.
+fn stands<P: Past>(session: &Session<P>, place: usize, notes: &[Vec<u8>], bytes: &[u8]) -> bool {
+    match notes.get(place) {
+        Some(note) => session.cursor() == place && shows(session, note, bytes),
+        None => false,
+    }
+}
+
+/// Goes from one place to another, step by step.
+fn walk<P: Past>(
+    session: &mut Session<P>,
+    alloc: Global,
+    to: usize,
+    notes: &[Vec<u8>],
+    bytes: &[u8],
+) -> bool {
+    let from = session.cursor();
+    let command = if from < to {
+        Command::Step
+    } else {
+        Command::Back
+    };
+    for k in 1..=from.abs_diff(to) {
+        let place = if from < to {
+            from.saturating_add(k)
+        } else {
+            from.saturating_sub(k)
+        };
+        let reply = session.obey(alloc, &command);
+        if reply != Reply::At(place) || !stands(session, place, notes, bytes) {
+            return false;
+        }
+    }
+    true
+}
+
+/// Goes from every place to every place at once and step by step; the first pair that differs, if one does.
+fn go_everywhere<P: Past>(
+    session: &mut Session<P>,
+    alloc: Global,
+    notes: &[Vec<u8>],
+    bytes: &[u8],
+) -> Option<(usize, usize)> {
+    for from in 0..notes.len() {
+        for to in 0..notes.len() {
+            let first = session.obey(alloc, &Command::Goto(from));
+            let there = session.obey(alloc, &Command::Goto(to));
+            let is_there = stands(session, to, notes, bytes);
+            let again = session.obey(alloc, &Command::Goto(from));
+            let is_walked = walk(session, alloc, to, notes, bytes);
+            if (first, there, again) != (Reply::At(from), Reply::At(to), Reply::At(from))
+                || !is_there
+                || !is_walked
+            {
+                return Some((from, to));
+            }
+        }
+    }
+    None
+}
+
+/// Whether every place of some bytes is reached from every other, with all records and with the latest two.
+fn is_walked(alloc: Global, many: bool, bytes: &[u8]) -> Result<bool, Fail> {
+    let notes = notes_of(alloc, many, bytes)?;
+    let Some(mut session) = open_whole(alloc, many, bytes) else {
+        return Ok(false);
+    };
+    let Some(mut window) = open_window(alloc, many, 2, bytes) else {
+        return Ok(false);
+    };
+    Ok(
+        notes.len() == session.document().len().saturating_add(1)
+            && go_everywhere(&mut session, alloc, &notes, bytes).is_none()
+            && go_everywhere(&mut window, alloc, &notes, bytes).is_none(),
+    )
+}
+
+#[test]
+fn from_every_place_to_every_place(rt: HostRuntime) -> Result<(), Fail> {
+    for (k, bytes) in WALKED.iter().enumerate() {
+        assert!(rt; is_walked(rt.alloc(), false, bytes)?, "row {k}");
+    }
+    for (k, bytes) in MANY_WALKED.iter().enumerate() {
+        assert!(rt; is_walked(rt.alloc(), true, bytes)?, "row {k} of many");
+    }
+    Ok(())
+}
+
+/// Windows, and commands in each of them.
+const WINDOWS: [(usize, &[Counts]); 3] = [
+    (
+        2,
+        &[
+            (Told::Goto(4), Reply::At(4), 4, 2, 4),
+            (Told::Back, Reply::At(3), 3, 1, 1),
+            (Told::Back, Reply::At(2), 2, 0, 1),
+            (Told::Back, Reply::At(1), 1, 1, 1),
+            (Told::Goto(5), Reply::At(5), 5, 2, 4),
+            (Told::Goto(0), Reply::At(0), 0, 0, 0),
+        ],
+    ),
+    (
+        1,
+        &[
+            (Told::Goto(4), Reply::At(4), 4, 1, 4),
+            (Told::Back, Reply::At(3), 3, 0, 1),
+            (Told::Back, Reply::At(2), 2, 1, 2),
+        ],
+    ),
+    (
+        1,
+        &[
+            (Told::Goto(2), Reply::At(2), 2, 1, 2),
+            (Told::Back, Reply::At(1), 1, 0, 1),
+            (Told::Back, Reply::At(0), 0, 0, 0),
+        ],
+    ),
+];
+
+/// Whether a command has this reply, and these counts stand after it.
+fn is_answered<P: Past>(session: &mut Session<P>, alloc: Global, row: &Counts) -> bool {
+    let (told, reply, cursor, kept, work) = *row;
+    let Some(command) = command(alloc, told) else {
+        return false;
+    };
+    let found = session.obey(alloc, &command);
+    found == reply && session.cursor() == cursor && session.kept() == kept && session.work() == work
+}
+
+#[test]
+fn counts_in_a_window(rt: HostRuntime) {
+    for (w, (count, rows)) in WINDOWS.iter().enumerate() {
+        let mut session = open_window(rt.alloc(), false, *count, PAIR).expect(&rt, "room");
+        for (k, row) in rows.iter().enumerate() {
+            let is_answered = is_answered(&mut session, rt.alloc(), row);
+            assert!(rt; is_answered, "row {k} of window {w}");
+        }
+    }
+}
+
+#[test]
+fn counts_over_two_pickles(rt: HostRuntime) {
+    let mut session = open_window(rt.alloc(), true, 2, WINDOWED).expect(&rt, "room");
+    for (k, row) in IN_A_WINDOW.iter().enumerate() {
+        let is_answered = is_answered(&mut session, rt.alloc(), row);
+        assert!(rt; is_answered, "row {k}");
+    }
+}
+
+/// How many objects stand on the stack at a place of a mark, a thousand objects, the opcode that drops them and the mark, one
+/// more object and its end.
+fn height_at(place: usize) -> usize {
+    match place {
+        1..=1001 => place.saturating_sub(1),
+        1003 => 1,
+        _ => 0,
+    }
+}
+
+#[test]
+fn a_thousand_heights(rt: HostRuntime) -> Result<(), Fail> {
+    let mut bytes = vec![in rt.alloc(); b'N'; 1001]?;
+    bytes[0] = b'(';
+    bytes.extend_from_slice(b"1N.")?;
+    let mut session = Session::open(rt.alloc(), Whole::new(rt.alloc()), &bytes)?;
+    let reply = session.obey(rt.alloc(), &Command::Run);
+    assert_eq!(rt; reply, Reply::Ran(1004, Why::End));
+    assert_eq!(rt; session.work(), 1004);
+    for k in 1..=1004usize {
+        let place = 1004usize.saturating_sub(k);
+        let reply = session.obey(rt.alloc(), &Command::Back);
+        assert_eq!(rt; reply, Reply::At(place));
+        let found = (
+            session.work(),
+            session.kept(),
+            session.machine().stack_len(),
+        );
+        assert_eq!(rt; found, (1, place, height_at(place)), "at {place}");
+    }
+    assert_eq!(rt; session.machine().moves(), 2008);
+    assert_eq!(rt; session.machine().objects(), 0);
+    Ok(())
+}
+
+/// Whether a session's document has these bytes.
+fn has_bytes<P: Past>(session: &Session<P>, bytes: &[u8]) -> bool {
+    let mut written = Beside::new(bytes);
+    session.document().write_bytes(&mut written).is_ok() && written.is_whole()
+}
+
+#[test]
+fn undone_and_made_again_a_thousand_times(rt: HostRuntime) -> Result<(), Fail> {
+    let less: &[u8] = b"\x80\x04\x95\x05\x00\x00\x00\x00\x00\x00\x00]K\x01a.";
+    let mut session = Session::open(rt.alloc(), Whole::new(rt.alloc()), DUMP)?;
+    let reply = session.obey(rt.alloc(), &Command::Delete(3));
+    assert_eq!(rt; reply, Reply::Edited(3));
+    for k in 0..1000 {
+        assert!(rt; has_bytes(&session, less), "turn {k}");
+        let undone = session.obey(rt.alloc(), &Command::Undo);
+        assert_eq!(rt; undone, Reply::Undone(3), "turn {k}");
+        assert!(rt; has_bytes(&session, DUMP), "turn {k}");
+        let redone = session.obey(rt.alloc(), &Command::Redo);
+        assert_eq!(rt; redone, Reply::Redone(3), "turn {k}");
+    }
+    Ok(())
+}
+
+/// Undoes or makes again a thousand edits at the start; how many were refused.
+fn turn_a_thousand<P: Past>(session: &mut Session<P>, alloc: Global, is_undo: bool) -> usize {
+    let mut refused = 0usize;
+    for _ in 0..1000 {
+        let (command, wanted) = if is_undo {
+            (Command::Undo, Reply::Undone(0))
+        } else {
+            (Command::Redo, Reply::Redone(0))
+        };
+        if session.obey(alloc, &command) != wanted {
+            refused = refused.saturating_add(1);
+        }
+    }
+    refused
+}
+
+#[test]
+fn a_thousand_insertions(rt: HostRuntime) -> Result<(), Fail> {
+    let mut bytes = vec![in rt.alloc(); b'N'; 1000]?;
+    bytes.push(b'.')?;
+    let mut session = Session::open(rt.alloc(), Whole::new(rt.alloc()), b".")?;
+    for k in 0..1000 {
+        let insert = command(rt.alloc(), Told::Insert(0, Opcode::None, b"")).expect(&rt, "room");
+        let reply = session.obey(rt.alloc(), &insert);
+        assert_eq!(rt; reply, Reply::Edited(0), "insertion {k}");
+    }
+    assert!(rt; has_bytes(&session, &bytes));
+    assert_eq!(rt; turn_a_thousand(&mut session, rt.alloc(), true), 0);
+    assert!(rt; has_bytes(&session, b"."));
+    assert_eq!(rt; turn_a_thousand(&mut session, rt.alloc(), false), 0);
+    assert!(rt; has_bytes(&session, &bytes));
+    assert_eq!(rt; (session.undos(), session.redos()), (1000, 0));
+    Ok(())
+}
+
+/// How many bytes a large pickle has.
+const LARGE: usize = 268_435_456;
+
+/// A large pickle: one BINBYTES and STOP.
+fn large(alloc: Global) -> Result<Vec<u8>, AllocError> {
+    let mut bytes = vec![in alloc; 0u8; LARGE]?;
+    let front: &[u8] = b"B\xfa\xff\xff\x0f";
+    for (byte, want) in bytes.iter_mut().zip(front) {
+        *byte = *want;
+    }
+    if let Some(last) = bytes.last_mut() {
+        *last = b'.';
+    }
+    Ok(bytes)
+}
+
+/// A session over a large pickle goes to its end, and an opcode more is taken in and out again.
+#[test]
+fn large_input(rt: HostRuntime) -> Result<(), Fail> {
+    let bytes = large(rt.alloc())?;
+    let mut session = Session::open(rt.alloc(), Whole::new(rt.alloc()), &bytes)?;
+    let insert = (
+        Told::Insert(0, Opcode::None, b""),
+        Reply::Edited(0),
+        0,
+        0,
+        0,
+    );
+    assert!(rt; is_answered(&mut session, rt.alloc(), &insert));
+    assert_eq!(rt; session.document().total(), LARGE as u64 + 1);
+    let undo = (Told::Undo, Reply::Undone(0), 0, 0, 0);
+    assert!(rt; is_answered(&mut session, rt.alloc(), &undo));
+    assert_eq!(rt;
+        (session.undos(), session.redos(), session.offset()),
+        (0, 1, 0)
+    );
+    let run = (Told::Run, Reply::Ran(2, Why::End), 2, 2, 2);
+    assert!(rt; is_answered(&mut session, rt.alloc(), &run));
+    assert_eq!(rt; session.offset(), LARGE as u64);
+    assert!(rt; has_bytes(&session, &bytes));
+    Ok(())
+}
+
+/// Many marks are passed on the way there and on the way back, and none is left at the start.
+#[test]
+fn many_marks(rt: HostRuntime) -> Result<(), Fail> {
+    let mut bytes = vec![in rt.alloc(); b'('; 100_000]?;
+    bytes.extend_from_slice(b"N.")?;
+    let mut session = Session::open(rt.alloc(), Whole::new(rt.alloc()), &bytes)?;
+    let there = session.obey(rt.alloc(), &Command::Goto(100_002));
+    assert_eq!(rt; there, Reply::At(100_002));
+    assert_eq!(rt; session.machine().marks_len(), 100_000);
+    assert_eq!(rt; session.machine().mark(99_999), Some((99_999, 0)));
+    assert_eq!(rt; session.machine().result(), Some(0));
+    let home = session.obey(rt.alloc(), &Command::Goto(0));
+    assert_eq!(rt; home, Reply::At(0));
+    assert!(rt; shows(&session, b"at 0 of 100002: stack", &bytes));
+    Ok(())
+}
+
+/// The commands of a way; those after the first few ask for no memory, and are left out where so is said.
+fn go(alloc: Global, many: bool, bytes: &[u8], told: &[Told], most: usize) -> bool {
+    let Some(mut session) = open_whole(alloc, many, bytes) else {
+        return false;
+    };
+    for (k, told) in told.iter().enumerate() {
+        if k < most {
+            let reply = match command(alloc, *told) {
+                Some(command) => session.obey(alloc, &command),
+                None => return false,
+            };
+            if matches!(reply, Reply::Refused(_)) {
+                return false;
+            }
+        }
+    }
+    true
+}
+
+/// Ways, and how many of their commands may ask for memory: the first step over a dump is free, and so is a step that is
+/// taken again, and each way back.
+const WAYS: [(&[u8], &[Told], usize); 4] = [
+    (DUMP, &[Told::Step, Told::Back, Told::Step], 0),
+    (
+        CYCLE,
+        &[Told::Goto(3), Told::Back, Told::Back, Told::Step],
+        1,
+    ),
+    (
+        DUMP,
+        &[
+            Told::Run,
+            Told::Goto(3),
+            Told::Back,
+            Told::Goto(2),
+            Told::Clear(0),
+            Told::Goto(0),
+        ],
+        1,
+    ),
+    (
+        DUMP,
+        &[
+            Told::Delete(3),
+            Told::Undo,
+            Told::Redo,
+            Told::Undo,
+            Told::Delete(2),
+            Told::Undo,
+        ],
+        0,
+    ),
+];
+
+/// Goes the ways as far as they may ask for memory.
+#[test]
+fn forwards(rt: HostRuntime) {
+    for (k, (bytes, told, most)) in WAYS.iter().enumerate() {
+        assert!(rt; go(rt.alloc(), false, bytes, told, *most), "way {k}");
+    }
+    for (k, (bytes, told, most)) in MANY_WAYS.iter().enumerate() {
+        assert!(rt;
+            go(rt.alloc(), true, bytes, told, *most),
+            "way {k} over many"
+        );
+    }
+}
+
+/// Goes the ways to their end, and asks for memory as often as `forwards`.
+#[test]
+fn no_memory_for_free_steps(rt: HostRuntime) {
+    for (k, (bytes, told, _)) in WAYS.iter().enumerate() {
+        assert!(rt; go(rt.alloc(), false, bytes, told, told.len()), "way {k}");
+    }
+    for (k, (bytes, told, _)) in MANY_WAYS.iter().enumerate() {
+        assert!(rt;
+            go(rt.alloc(), true, bytes, told, told.len()),
+            "way {k} over many"
+        );
+    }
+}

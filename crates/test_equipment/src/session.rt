@@ -1,0 +1,57 @@
+//! What a session shows as a text, by its readers.
+
+use crate::state::{Beside, write_state};
+use pickle_ops::{Failed, Sink, write_all, write_decimal};
+use pickle_session::{Past, Session};
+
+/// Writes a blank and a number.
+fn write_number<S: Sink>(number: usize, sink: &mut S) -> Result<(), Failed> {
+    write_all(sink, b" ")?;
+    write_decimal(number as u64, sink)
+}
+
+/// Writes what a session shows, but for its bytes, records and counters: the cursor and the number of items, how many edits
+/// can be undone and made again, the places with a breakpoint, and the state of the machine.
+pub fn write_session<P: Past, S: Sink>(session: &Session<P>, sink: &mut S) -> Result<(), Failed> {
+    write_all(sink, b"at")?;
+    write_number(session.cursor(), sink)?;
+    write_all(sink, b" of")?;
+    write_number(session.document().len(), sink)?;
+    if session.undos() > 0 || session.redos() > 0 {
+        write_all(sink, b", edits")?;
+        write_number(session.undos(), sink)?;
+        write_number(session.redos(), sink)?;
+    }
+    write_breaks(session, sink)?;
+    write_all(sink, b": ")?;
+    write_state(session.machine(), sink)
+}
+
+/// Writes the places with a breakpoint. There is none at the end.
+fn write_breaks<P: Past, S: Sink>(session: &Session<P>, sink: &mut S) -> Result<(), Failed> {
+    let mut is_first = true;
+    for place in 0..=session.document().len() {
+        if session.has_break(place) {
+            if is_first {
+                write_all(sink, b", breaks")?;
+            }
+            is_first = false;
+            write_number(place, sink)?;
+        }
+    }
+    Ok(())
+}
+
+/// Whether a session shows this, and has these bytes. It takes no memory.
+pub fn shows<P: Past>(session: &Session<P>, shown: &[u8], bytes: &[u8]) -> bool {
+    let mut beside = Beside::new(shown);
+    let mut written = Beside::new(bytes);
+    let is_told = write_session(session, &mut beside).is_ok();
+    let is_written = session.document().write_bytes(&mut written).is_ok();
+    let offset = session.document().offset(session.cursor());
+    offset == Some(session.offset())
+        && is_told
+        && is_written
+        && beside.is_whole()
+        && written.is_whole()
+}
