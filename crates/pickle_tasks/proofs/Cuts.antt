@@ -78,7 +78,7 @@ cut_newline b bs c h p = record {
   is_cut = record { whole = rw h (ap (λ (t : List ℕ). 10 ∷ t) p.whole); lines = (tt, p.lines); rest = p.rest };
 }
 
-is_newline : (b : ℕ) → (b == 10) ≡ true → b ≡ 10
+pub is_newline : (b : ℕ) → (b == 10) ≡ true → b ≡ 10
 is_newline b h = grind arith
 
 is_other : (b : ℕ) → (b == 10) ≡ false → b ≢ 10

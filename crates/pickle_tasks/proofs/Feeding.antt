@@ -81,7 +81,7 @@ Runs-push s m t (k ∷ ls) (u ∷ ts) l x r g = (r.0, r.1, Runs-push r.0 m t ls 
 Runs-push s m t [] (u ∷ ts) l x r g = absurd r
 Runs-push s m t (k ∷ ls) [] l x r g = absurd r
 
-concat-push : (ts : List (List ℕ)) (t : List ℕ) → concat (ts ++ t ∷ []) ≡ concat ts ++ t
+pub concat-push : (ts : List (List ℕ)) (t : List ℕ) → concat (ts ++ t ∷ []) ≡ concat ts ++ t
 concat-push ts t = concat-append ts (t ∷ []) ∙ ap (λ (x : List ℕ). concat ts ++ x) (append-nil t)
 
 or_false : (b : Bool) → (b || false) ≡ b
@@ -120,7 +120,7 @@ neither : (a b : Bool) → (a || b) ≡ false → Neither a b
 neither true b h = absurd cc
 neither false b h = record { first = refl; second = h }
 
-up_to-last : (quit : Bool) (l : List ℕ) (more : List (List ℕ)) → more ≡ [] → l ∷ (cond quit [] more) ≡ l ∷ []
+pub up_to-last : (quit : Bool) (l : List ℕ) (more : List (List ℕ)) → more ≡ [] → l ∷ (cond quit [] more) ≡ l ∷ []
 up_to-last true l more e = refl
 up_to-last false l more e = rw e refl
 

@@ -5,3 +5,4 @@ pub mod Cuts
 pub mod Feeding
 pub mod Endings
 pub mod Outputs
+pub mod Flushes

@@ -1,7 +1,7 @@
 -- A command at the place that a line names.
-use Rattle.std.proofs.Common.{◌≡◌, ℕ, None, Some, Option, Result, Ok, Err, refl}
+use Rattle.std.proofs.Common.{ℕ, None, Some, Result, Ok, Err, refl}
 use Rattle.pickle_io.specs.declared.sink.Failed.{Failed}
-use Rattle.pickle_io.specs.Device.{Told, Writes, Wrote, Broke}
+use Rattle.pickle_io.specs.Device.{Told, Wrote, Broke}
 use Rattle.pickle_doc.specs.Place.{IsPlaceAt}
 use Rattle.pickle_session.specs.Allowed.{Standing}
 use Rattle.pickle_text.specs.declared.line.Line.TheVariants as line

@@ -1,5 +1,5 @@
 -- What is told of a session.
-use Rattle.std.proofs.Common.{◌≡◌, ℕ, ◌^◌, ◌<◌, ◌≤◌, Bool, true, false, List, length, Some, Result, Ok, Err, refl, inl, inr, arith}
+use Rattle.std.proofs.Common.{◌≡◌, ℕ, ◌^◌, ◌<◌, ◌≤◌, true, List, length, Some, Result, Ok, Err, refl, inl, inr, arith}
 use Rattle.std.proofs.lemmas.Bool.{lt-ltb, le-ltb}
 use Rattle.pickle_io.specs.declared.sink.Failed.{Failed}
 use Rattle.pickle_io.specs.Device.{Told, Wrote, Broke}

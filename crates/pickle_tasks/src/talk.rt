@@ -156,7 +156,8 @@ fn feed_byte<P: Past, K: Sink>(
     Ok(Flow::GoesOn)
 }
 
-/// Takes bytes of the script: obeys each line that ends in them, up to one that quits.
+/// Takes bytes of the script: obeys each line that ends in them, up to one that quits, and lets the sink hand on what it holds of
+/// their texts. Without such a line there is nothing to hand on.
 fn feed<P: Past, K: Sink>(
     alloc: Global,
     session: &mut Session<P>,
@@ -169,13 +170,19 @@ fn feed<P: Past, K: Sink>(
     for byte in bytes {
         match feed_byte(alloc, session, pending, *byte, sink)? {
             Flow::GoesOn => {}
-            Flow::Quits => return Ok(Flow::Quits),
+            Flow::Quits => {
+                sink.flush()?;
+                return Ok(Flow::Quits);
+            }
         }
+    }
+    if bytes.contains(&b'\n') {
+        sink.flush()?;
     }
     Ok(Flow::GoesOn)
 }
 
-/// Obeys the last line, if it has a byte, and answers the status.
+/// Obeys the last line, if it has a byte, and answers the status. The texts of the lines before it were handed on before.
 fn finish<P: Past, K: Sink>(
     alloc: Global,
     session: &mut Session<P>,
@@ -189,6 +196,7 @@ fn finish<P: Past, K: Sink>(
     }
     let outcome = obey_line(alloc, session, pending.says(alloc), sink)?;
     pending.end_line(outcome);
+    sink.flush()?;
     Ok(pending.status())
 }
 
@@ -225,7 +233,8 @@ fn go_on<P: Past, S: Source, K: Sink>(
 }
 
 /// Obeys the lines of the source one by one, until one quits or the source ends, and answers the status: 1 where a line
-/// was refused, else 0. The text of each line is written before the next line is obeyed and before more is read.
+/// was refused, else 0. The text of each line is written before the next line is obeyed, and before more is read, and at
+/// the end, the sink hands on what it holds.
 ///
 /// `Memory` comes only before anything was read. `Read` and `Write` come where the source or the sink fails: the
 /// session is that of the lines obeyed so far, a line of which only a part was read is not among them, and of the text
