@@ -2,8 +2,12 @@
 
 from __future__ import annotations
 
+import os
+import pty
 import select
 import subprocess
+import tty
+from collections.abc import Sequence
 
 from .room import SECONDS, Room, Run, Word, beginning
 from .row import CLOSED, CUT, FULL, SMALL_STACK, UNPRIVILEGED, Row, fails, is_usage, trials_of
@@ -193,36 +197,81 @@ def leaves_early(room: Room) -> str:
     return ""
 
 
+# Lines that are typed, and the answer to each.
 TALK = (
     ("step", "at 1"),
     ("stack", "stack #0"),
     ("fly", UNKNOWN.rstrip("\n")),
     ("back", "at 0"),
 )
+TEN = (("step", "at 1"), ("back", "at 0")) * 4 + (("fly", UNKNOWN.rstrip("\n")), ("step", "at 1"))
+
+Exchange = Sequence[tuple[str, str]]
 
 
-def talks(room: Room) -> str:
-    """A person types a line, and the next when the answer has come."""
-    words: list[Word] = ["timeout", str(SECONDS), room.start, "debug", "doubled.pickle"]
+def debugger(room: Room) -> list[Word]:
+    return ["timeout", str(SECONDS), room.start, "debug", "doubled.pickle"]
+
+
+def heard(device: int, lines: int) -> bytes:
+    """What a device gives until there are so many lines, or nothing comes for a while."""
+    text = b""
+    while text.count(b"\n") < lines and select.select([device], [], [], SECONDS / 2)[0]:
+        part = os.read(device, 65_536)
+        if not part:
+            break
+        text += part
+    return text
+
+
+def difference_in(exchanges: Sequence[Exchange], typed: int, shown: int) -> str:
+    """Types the lines of each exchange at once, and waits for their answers before the next."""
+    for exchange in exchanges:
+        os.write(typed, "".join(f"{line}\n" for line, _ in exchange).encode())
+        answer = heard(shown, len(exchange))
+        if answer != "".join(f"{wanted}\n" for _, wanted in exchange).encode():
+            return f"the answer to {exchange[0][0]} is: {beginning(answer)}"
+    return ""
+
+
+def talks(exchanges: Sequence[Exchange], room: Room) -> str:
+    """Over pipes, which stay open until all answers have come."""
     pipe = subprocess.PIPE
-    with subprocess.Popen(words, cwd=room.files, stdin=pipe, stdout=pipe, stderr=pipe, bufsize=0) as talker:
+    with subprocess.Popen(debugger(room), cwd=room.files, stdin=pipe, stdout=pipe, stderr=pipe, bufsize=0) as talker:
         assert talker.stdin and talker.stdout
-        for line, wanted in TALK:
-            talker.stdin.write(f"{line}\n".encode())
-            answer = b""
-            if select.select([talker.stdout], [], [], SECONDS / 2)[0]:
-                answer = talker.stdout.readline()
-            if answer != f"{wanted}\n".encode():
-                talker.terminate()
-                return f"the answer to {line} is: {beginning(answer)}"
+        why = difference_in(exchanges, talker.stdin.fileno(), talker.stdout.fileno())
+        if why:
+            talker.terminate()
+            return why
         output, errors = talker.communicate()
         return Run(talker.returncode, output, errors).difference(1, "", "")
+
+
+def talks_at_a_terminal(room: Room) -> str:
+    """A person at a terminal types a line, and the next when the answer has come."""
+    person, terminal = pty.openpty()
+    try:
+        # (a raw terminal neither shows what is typed nor changes the ends of lines)
+        tty.setraw(terminal)
+        with subprocess.Popen(
+            debugger(room), cwd=room.files, stdin=terminal, stdout=terminal, stderr=subprocess.PIPE
+        ) as talker:
+            assert talker.stderr
+            why = difference_in([[exchange] for exchange in TALK], person, person)
+            os.write(person, b"quit\n")
+            errors = talker.stderr.read()
+            return why or Run(talker.wait(), b"", errors).difference(1, "", "")
+    finally:
+        os.close(person)
+        os.close(terminal)
 
 
 def trials(room: Room) -> list[Trial]:
     return [
         *trials_of((*LISTINGS, *OBJECTS, *CALLS, *CONVERSATIONS), room),
-        Trial("a conversation line by line", lambda: talks(room)),
+        Trial("a conversation line by line", lambda: talks([[exchange] for exchange in TALK], room)),
+        Trial("ten lines at once, and ten answers", lambda: talks([TEN], room)),
+        Trial("a conversation at a terminal", lambda: talks_at_a_terminal(room)),
         *trials_of(FAULTS, room),
         Trial("a reader that leaves early", lambda: leaves_early(room)),
         *trials_of(WORDS, room),

@@ -15,7 +15,7 @@ fn held(document: &Document) -> Option<([u8; 1024], usize)> {
     }
 }
 
-/// Makes an edit. Where it is refused where memory runs out the document is as before, and asked again it succeeds.
+/// Makes an edit. Where memory runs out the document is as before, and asked again it succeeds.
 fn insist(alloc: Global, document: &mut Document, edit: &Edit) -> Result<(), Wrong> {
     let before = held(document);
     match make(alloc, document, edit) {
@@ -31,7 +31,7 @@ fn insist(alloc: Global, document: &mut Document, edit: &Edit) -> Result<(), Wro
     }
 }
 
-/// Reads bytes. Where this is refused where memory runs out it succeeds when it is asked again.
+/// Reads bytes. Where memory runs out, it succeeds when it is asked again.
 fn insist_on_reading(alloc: Global, many: bool, bytes: &[u8]) -> Result<Document, Wrong> {
     match open(alloc, many, bytes) {
         Err(DocFault::Memory) => Ok(open(alloc, many, bytes)?),

@@ -195,7 +195,7 @@ impl Way<'_> {
     }
 }
 
-/// One step of the way. Where it is refused where memory runs out, the machine shows what it showed before and has
+/// One step of the way. Where memory runs out, the machine shows what it showed before and has
 /// counted no move; and asked again it succeeds.
 fn insist_on_step(
     machine: &mut Machine,

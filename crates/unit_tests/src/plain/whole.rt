@@ -52,7 +52,7 @@ fn readers(rt: HostRuntime) {
     assert!(rt; came_to(empty, Ok(b"")));
 }
 
-/// With each allocation refused in turn: a source with bytes may meet out of memory and has then given them, and one
+/// With each allocation refused in turn: where memory runs out, a source has then given its bytes, and one
 /// without bytes never does.
 #[test]
 fn refused_memory(rt: HostRuntime) {
