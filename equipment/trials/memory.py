@@ -197,7 +197,7 @@ class Memory:
 def trials(room: Room) -> list[Trial]:
     memory = Memory(room)
     commands = [Trial(command.name, functools.partial(memory.tried_once, command)) for command in COMMANDS]
-    commands.insert(1, Trial("the line of want of memory", memory.line_is_written))
+    commands.insert(1, Trial("the line of out of memory", memory.line_is_written))
     tests = [Trial(f"test {crate} {test}", functools.partial(memory.of_test, crate, test)) for crate, test in TESTS]
     scripts = [Trial(f"a script over {pickle}", functools.partial(memory.of_script, pickle)) for pickle in SCRIPTS]
     alike = [Trial(name, functools.partial(memory.ask_alike, crate, tests)) for name, crate, tests in ALIKE]

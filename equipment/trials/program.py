@@ -140,6 +140,8 @@ CONVERSATIONS = (
     fails(
         "a conversation with a full device", "cannot write", "debug", "doubled.pickle", given="step\n", through=FULL
     ),
+    fails("a full device, and a line that quits", "cannot write", "debug", "doubled.pickle", given="step\nquit\n", through=FULL),
+    fails("a full device, and a line without its end", "cannot write", "debug", "doubled.pickle", given="step", through=FULL),
     fails(
         "a conversation with closed standard output",
         "cannot write",
@@ -260,7 +262,9 @@ def talks_at_a_terminal(room: Room) -> str:
             why = difference_in([[exchange] for exchange in TALK], person, person)
             os.write(person, b"quit\n")
             errors = talker.stderr.read()
-            return why or Run(talker.wait(), b"", errors).difference(1, "", "")
+            status = talker.wait()
+            more = os.read(person, 65_536) if select.select([person], [], [], 0)[0] else b""
+            return why or Run(status, more, errors).difference(1, "", "")
     finally:
         os.close(person)
         os.close(terminal)

@@ -233,8 +233,8 @@ pub fn list_items<'a, I: ItemSource<'a>, S: Sink>(
             NextRef::Item(op) => {
                 let row = Row::of_ref(&op);
                 highest.raise(op.opcode().protocol());
-                // The machine is asked before it takes the item: its line is written first, and has no note where it is
-                // refused.
+                // The machine is asked before it takes the item, whose line is written first. The line of a refused item
+                // has no note.
                 if let Some(refusal) = lean.refusal(row) {
                     let marks = lean.marks_len();
                     let most = highest.get();

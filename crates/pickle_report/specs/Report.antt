@@ -26,7 +26,7 @@ result_line id = codes "result" ⧺ next_text id ⧺ newline
 unfoldable pub refused_line : ℕ → Refusal → List ℕ
 refused_line place r = codes "refused: " ⧺ item_refused place r ⧺ newline
 
--- after STOP there is no closing line
+-- where STOP ends the run there is no closing line
 unfoldable pub closing_line : Closing → List ℕ
 closing_line closing.Stopped = []
 closing_line (closing.Refused place r) = refused_line place r

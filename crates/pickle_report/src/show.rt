@@ -144,7 +144,7 @@ fn none_seen(alloc: Global, count: usize) -> Result<Vec<bool>, TextStop>
 /// object stands the object, and after it come its parts and what was put into it, one deeper; a later place is only its number.
 /// It takes time linear in the lines, and does not recurse. A number that names no object is one short line.
 ///
-/// All memory is asked for before anything is written, some bytes for each object of the machine: `Memory` where it is wanting,
+/// All memory is asked for before anything is written, some bytes for each object of the machine: `Memory` where it runs out,
 /// and then nothing was written. `Failed` where the sink fails; a front of the text was written then.
 pub fn write_show<S: Sink>(
     alloc: Global,
@@ -156,7 +156,6 @@ pub fn write_show<S: Sink>(
     ensures failed { result ≡ Err TextStop.Failed → Broke (S.told sink.old) (S.told sink.new) (show_text machine.now.state.heap id) }
     ensures memory { result ≡ Err TextStop.Memory → sink.new ≡ sink.old }
 {
-    // All memory is asked for here, so that out of memory is one line, before anything of the object.
     let mut stack = Vec::with_capacity(alloc, machine.objects())?;
     let mut seen = none_seen(alloc, machine.objects())?;
     walk_from(machine, id, &mut stack, &mut seen, sink)?;

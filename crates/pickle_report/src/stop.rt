@@ -8,7 +8,7 @@ use std::alloc::AllocError;
 pub enum TextStop {
     /// The sink failed: a front of the text was written.
     Failed,
-    /// Memory is wanting (M): nothing was written, or a front of the text, as the writer says.
+    /// Memory ran out (M): nothing was written, or a front of the text, as the writer says.
     Memory,
 }
 

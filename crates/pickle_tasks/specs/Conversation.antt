@@ -54,7 +54,7 @@ abbrev pub AreGiven : Cut → Option (List ℕ) → List (List ℕ) → Type 0
 AreGiven cut source' lines = (lines ≡ cut.complete) ⊎ (IsAtEnd source' × (lines ≡ lines_of cut))
 
 -- The sink failed in the text of some line. That line and those before it were obeyed, the texts of those before it
--- were written whole, and none after it was obeyed.
+-- were taken whole, and none after it was obeyed.
 pub record StopsWriting (s after : Standing) (source source' : Option (List ℕ)) (sink sink' : Told) : Type 0 where
   pub given : List ℕ
   pub gave : Consumes source source' given

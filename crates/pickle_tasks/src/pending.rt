@@ -57,7 +57,7 @@ impl Pending {
         self.line.is_empty()
     }
 
-    /// What the line says. The bytes of an opcode are read into memory; for want of it that line says `Syntax::Memory`.
+    /// What the line says. The bytes of an opcode are read into memory; where there is none the line says `Syntax::Memory`.
     pub fn says(&self, alloc: Global) -> Result<Line, Syntax>
         ensures { IsRead self.now.line result }
     {

@@ -182,7 +182,7 @@ fn feed<P: Past, K: Sink>(
     Ok(Flow::GoesOn)
 }
 
-/// Obeys the last line, if it has a byte, and answers the status. The texts of the lines before it were handed on before.
+/// Obeys the last line, if it has a byte, and answers the status. The texts of the lines before it are handed on already.
 fn finish<P: Past, K: Sink>(
     alloc: Global,
     session: &mut Session<P>,
@@ -226,19 +226,19 @@ fn go_on<P: Past, S: Source, K: Sink>(
         }
         match feed(alloc, session, pending, &block[..count], sink)? {
             Flow::GoesOn => {}
-            // Bytes read together with `quit` are lost: a source cannot take them back.
+            // What this block has after `quit` is lost: a source cannot take it back.
             Flow::Quits => return Ok(pending.status()),
         }
     }
 }
 
 /// Obeys the lines of the source one by one, until one quits or the source ends, and answers the status: 1 where a line
-/// was refused, else 0. The text of each line is written before the next line is obeyed, and before more is read, and at
-/// the end, the sink hands on what it holds.
+/// was refused, else 0. The text of each line is written before the next line is obeyed. Before more is read, and at the
+/// end, the sink hands on what it holds.
 ///
 /// `Memory` comes only before anything was read. `Read` and `Write` come where the source or the sink fails: the
 /// session is that of the lines obeyed so far, a line of which only a part was read is not among them, and of the text
-/// of the last line alone a part may be missing.
+/// of the last line alone a part may be missing from what the sink took. What the sink itself still held is lost.
 pub fn converse<P: Past, S: Source, K: Sink>(
     alloc: Global,
     session: &mut Session<P>,

@@ -118,7 +118,7 @@ fn is_noted<P: Past>(session: &Session<P>, note: Option<&Note>) -> bool {
     }
 }
 
-/// Whether a command may be refused where memory runs out: one that goes forth or edits, and one that goes back further
+/// Whether a command may be answered by out of memory: one that goes forth or edits, and one that goes back further
 /// than limited records lead.
 fn may_lack<P: Past>(session: &Session<P>, k: usize) -> bool {
     match k {

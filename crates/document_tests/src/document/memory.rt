@@ -46,8 +46,8 @@ fn make_room(alloc: Global, document: &mut Document) -> Result<(), Wrong> {
     Ok(())
 }
 
-/// Puts in an opcode before item k and an empty frame, of which the frame is taken off again. An edit that takes no memory finds
-/// it never wanting.
+/// Puts in an opcode before item k and an empty frame, of which the frame is taken off again. An edit that takes no memory
+/// never lacks it.
 fn insert_and_frame(alloc: Global, document: &mut Document, k: usize) -> Result<(), Wrong> {
     insist(alloc, document, &Edit::Insert(k, Opcode::None, b""))?;
     insist(alloc, document, &Edit::Frame(0, 0))?;

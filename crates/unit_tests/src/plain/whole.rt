@@ -52,8 +52,8 @@ fn readers(rt: HostRuntime) {
     assert!(rt; came_to(empty, Ok(b"")));
 }
 
-/// With each allocation refused in turn: where memory runs out, a source has then given its bytes, and one
-/// without bytes never does.
+/// With each allocation refused in turn: memory runs out only after a source has given its bytes, and never where it
+/// has none.
 #[test]
 fn refused_memory(rt: HostRuntime) {
     let empty = read_limited(rt.alloc(), &mut Drip::new(b"", 4, 9), 6);
