@@ -140,8 +140,22 @@ CONVERSATIONS = (
     fails(
         "a conversation with a full device", "cannot write", "debug", "doubled.pickle", given="step\n", through=FULL
     ),
-    fails("a full device, and a line that quits", "cannot write", "debug", "doubled.pickle", given="step\nquit\n", through=FULL),
-    fails("a full device, and a line without its end", "cannot write", "debug", "doubled.pickle", given="step", through=FULL),
+    fails(
+        "a full device, and a line that quits",
+        "cannot write",
+        "debug",
+        "doubled.pickle",
+        given="step\nquit\n",
+        through=FULL,
+    ),
+    fails(
+        "a full device, and a line without its end",
+        "cannot write",
+        "debug",
+        "doubled.pickle",
+        given="step",
+        through=FULL,
+    ),
     fails(
         "a conversation with closed standard output",
         "cannot write",
