@@ -1,6 +1,5 @@
 -- The definitions that contracts cite.
 pub mod Device
 pub mod Wrapped
-pub mod Trial
 pub mod Whole
 pub mod Text

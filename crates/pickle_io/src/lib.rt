@@ -1,20 +1,16 @@
 //! Where bytes come from and where texts go: sources, sinks, their wrappers round readers and writers of the standard library,
-//! devices on trial, the writers of plain texts, and a source read whole.
+//! the writers of plain texts, and a source read whole.
 #![tactic(auto)]
 
-mod drip;
 mod from_read;
 mod sink;
-mod sip;
 mod source;
 mod text;
 mod to_write;
 mod whole;
 
-pub use drip::Drip;
 pub use from_read::FromRead;
 pub use sink::{Failed, Sink, write_all};
-pub use sip::Sip;
 pub use source::Source;
 pub use text::{write_decimal, write_hex, write_quoted, write_signed};
 pub use to_write::ToWrite;

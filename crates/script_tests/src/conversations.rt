@@ -1,11 +1,12 @@
 //! Conversations over memory, and over devices that fail; the objects of an input; the words of stops.
 
 use pickle_doc::DocFault;
-use pickle_ops::{Drip, FromRead, Sip, ToWrite};
+use pickle_ops::{FromRead, ToWrite};
 use pickle_session::{Session, Whole};
 use pickle_tasks::{Stop, converse, line_of, objects, one_cut};
 use std::alloc::{AllocError, Global};
 use std::test::Fail;
+use test_equipment::{Drip, Sip};
 
 /// 1, twice, and the pair of both.
 const PAIR: &[u8] = b"K\x012\x86.";

@@ -7,11 +7,12 @@ use crate::scripts::rows::{
     MARK_LEFT_BEHIND, REPORTS, SCRIPTS, Script,
 };
 use pickle_doc::DocFault;
-use pickle_ops::{Drip, FromRead, Sip, ToWrite};
+use pickle_ops::{FromRead, ToWrite};
 use pickle_session::{Past, Session, Whole, Window};
 use pickle_tasks::{Stop, converse, objects};
 use std::alloc::{AllocError, Global};
 use std::test::Fail;
+use test_equipment::{Drip, Sip};
 
 /// A session with all records.
 fn opened(alloc: Global, script: &Script) -> Result<Session<Whole>, DocFault> {

@@ -4,7 +4,7 @@ mod rows;
 
 use crate::text::rows::{MANY, REPLIES, SCRIPTS, Script};
 use pickle_doc::{DocFault, End};
-use pickle_ops::{Failed, Sink, Sip, ToWrite};
+use pickle_ops::{Failed, Sink, ToWrite};
 use pickle_session::{Command, Past, Reply, Session, Whole};
 use pickle_text::{
     Line, Place, Query, Syntax, read_command, write_items, write_no_item_at, write_no_such_object,
@@ -12,6 +12,7 @@ use pickle_text::{
 };
 use std::alloc::Global;
 use std::test::Fail;
+use test_equipment::Sip;
 
 /// A session of the bytes, as many pickles or as one, with all records kept.
 fn opened(alloc: Global, many: bool, bytes: &[u8]) -> Result<Session<Whole>, DocFault> {

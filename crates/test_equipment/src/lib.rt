@@ -1,11 +1,16 @@
-//! What sessions and machines show, as texts made by their readers alone, for tests to write down and to compare; and a script
-//! that is compared so where a request for memory may be refused. Test equipment.
+//! What sessions and machines show, as texts made by their readers alone, for tests to write down and to compare; a script that
+//! is compared so where a request for memory may be refused; and a source and a sink that fail after so many calls. Test
+//! equipment.
 #![tactic(auto)]
 
+mod drip;
 mod script;
 mod session;
+mod sip;
 mod state;
 
+pub use drip::Drip;
 pub use script::{Note, ScriptFault, follow_whole, follow_window, note_whole, note_window};
 pub use session::{shows, write_session};
+pub use sip::Sip;
 pub use state::{Beside, stands, write_state};

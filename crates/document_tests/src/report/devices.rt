@@ -2,12 +2,13 @@
 
 use crate::report::opened;
 use pickle_machine::Machine;
-use pickle_ops::{Failed, Sink, Sip};
+use pickle_ops::{Failed, Sink};
 use pickle_report::{
     TextStop, write_document_report, write_memo, write_object, write_objects, write_show,
     write_stack,
 };
 use std::alloc::Global;
+use test_equipment::Sip;
 
 /// A text of a machine, or of some bytes.
 #[derive(Clone, Copy)]

@@ -1,7 +1,8 @@
 //! Sources that are read whole.
 
-use pickle_io::{Drip, FromRead, ReadStop, Source, read_limited};
+use pickle_io::{FromRead, ReadStop, Source, read_limited};
 use std::io::Cursor;
+use test_equipment::Drip;
 
 /// A limit, how many calls a source answers that gives the six bytes `abcdef` and at most four a call, what comes of it, and
 /// what the source has yet to give then.

@@ -4,8 +4,7 @@ ghost use Rattle.std.specs.Prelude.{◌≡◌, ◌+◌, ◌<◌, ◌≤◌, ◌�
 ghost use Rattle.std.specs.Io.KnownBytes.{Consumes, IsAtEnd};
 ghost use Rattle.pickle_io.specs.Device.{KeepsOrForgets, HasFailed};
 
-use crate::sink::Failed;
-use crate::source::Source;
+use pickle_io::{Failed, Source};
 
 /// A source over bytes in memory, for trials of what is read from it: it gives at most so many bytes a call, answers
 /// so many calls, and fails at each later one, for good.
@@ -19,7 +18,7 @@ pub struct Drip<'a> {
 }
 
 impl<'a> Drip<'a> {
-    ghost use Rattle.pickle_io.specs.Trial.{drip_rest, drip_most, drip_calls, drip_failures};
+    ghost use Rattle.test_equipment.specs.Trial.{drip_rest, drip_most, drip_calls, drip_failures};
 
     /// The source that gives these bytes, at most `most` a call, and fails once it has answered `calls` calls.
     pub fn new(bytes: &'a [u8], most: usize, calls: u64) -> Drip<'a>
@@ -46,7 +45,7 @@ impl<'a> Drip<'a> {
 }
 
 impl<'a> Source for Drip<'a> {
-    ghost use Rattle.pickle_io.specs.Trial.{drip_rest, drip_most, drip_calls, drip_failures};
+    ghost use Rattle.test_equipment.specs.Trial.{drip_rest, drip_most, drip_calls, drip_failures};
 
     ghost remaining = { λ d. Some (drip_rest d) };
 

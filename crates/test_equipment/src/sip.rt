@@ -3,7 +3,7 @@
 ghost use Rattle.std.specs.Prelude.{◌≡◌, ◌+◌, ◌<◌, ◌≤◌, [], length, take, min, IfOk, IsErr, OnOk, OnErr};
 ghost use Rattle.pickle_io.specs.Device.{Wrote, Broke};
 
-use crate::sink::{Failed, Sink};
+use pickle_io::{Failed, Sink};
 use std::alloc::Global;
 
 /// A sink that keeps its bytes in memory, for trials of what is written to it: it takes at most so many bytes a call,
@@ -19,7 +19,7 @@ pub struct Sip {
 }
 
 impl Sip {
-    ghost use Rattle.pickle_io.specs.Trial.{sip_taken, sip_most, sip_calls, sip_failures};
+    ghost use Rattle.test_equipment.specs.Trial.{sip_taken, sip_most, sip_calls, sip_failures};
 
     /// The sink that has taken nothing, takes at most `most` bytes a call, and fails once it has answered `calls` calls.
     pub fn new(alloc: Global, most: usize, calls: u64) -> Sip
@@ -53,7 +53,7 @@ impl Sip {
 }
 
 impl Sink for Sip {
-    ghost use Rattle.pickle_io.specs.Trial.{sip_told, sip_most, sip_calls};
+    ghost use Rattle.test_equipment.specs.Trial.{sip_told, sip_most, sip_calls};
 
     ghost told = { λ s. sip_told s };
 

@@ -2,8 +2,8 @@
 -- at each, and how often they have failed.
 use Rattle.std.specs.Prelude.{ℕ, List, Some}
 use Rattle.pickle_io.specs.Device.{Told}
-use Rattle.pickle_io.specs.declared.drip.Drip.{Drip}
-use Rattle.pickle_io.specs.declared.sip.Sip.{Sip}
+use Rattle.test_equipment.specs.declared.drip.Drip.{Drip}
+use Rattle.test_equipment.specs.declared.sip.Sip.{Sip}
 
 -- the bytes that it has yet to give
 abbrev pub drip_rest : Drip → List ℕ
