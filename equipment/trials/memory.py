@@ -175,7 +175,7 @@ class Memory:
 
     def of_script(self, pickle: str) -> Noted:
         """Requests before the first text, which open the document, pass."""
-        runs = self.room.built("session_runs", "session_runs")
+        runs = self.room.built("session_tests", "session_tests")
         return self.each("as noted", True, runs, "memory", self.room.pickles / f"{pickle}.pickle")
 
     def requests_of(self, crate: str, test: str) -> int:

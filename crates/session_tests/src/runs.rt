@@ -1,6 +1,5 @@
 //! Random commands to sessions over files: forwards and back to the start, and all edits undone, which gives the opened bytes, and
-//! made again. After the word `memory`, a script over each file where a request for memory may be refused. Test equipment.
-#![tactic(auto)]
+//! made again. After the word `memory`, a script over each file where a request for memory may be refused.
 
 ghost use Rattle.std.specs.Prelude.{◌≡◌, []};
 
@@ -11,7 +10,6 @@ use pickle_session::{Command, Reply, Session, Whole};
 use std::alloc::{AllocError, Global};
 use std::fs::File;
 use std::io::Read;
-use std::process::ExitCode;
 use std::{env, io};
 use test_equipment::{ScriptFault, follow_whole, follow_window, note_whole, note_window};
 
@@ -269,7 +267,7 @@ fn try_memory(rt: &HostRuntime, path: &str) -> Result<(), Stop> {
 }
 
 /// Tries each file that the words of the command line name.
-fn try_files(rt: &HostRuntime) -> Result<(), Stop> {
+pub fn try_files(rt: &HostRuntime) -> Result<(), Stop> {
     let mut chance = Chance { state: 1 };
     let mut is_memory = false;
     for word in env::args(rt)?.skip(1) {
@@ -282,14 +280,4 @@ fn try_files(rt: &HostRuntime) -> Result<(), Stop> {
         }
     }
     Ok(())
-}
-
-fn main(rt: HostRuntime) -> ExitCode {
-    match try_files(&rt) {
-        Ok(()) => ExitCode::SUCCESS,
-        Err(stop) => {
-            let _ = eprintln!(rt; "session_runs: {:?}", stop);
-            ExitCode::FAILURE
-        }
-    }
 }

@@ -1,0 +1,23 @@
+//! Tests of sessions and of their lines. `session`: worked commands with every reader compared, ways from every place to every
+//! place, and what is left where memory is refused, by what the session shows. `text`: lines and their answers, in scripts over
+//! memory that are told line by line. The program, `runs`: random commands to sessions over files. Test equipment.
+#![tactic(auto)]
+
+mod runs;
+#[cfg(test)]
+mod session;
+#[cfg(test)]
+mod text;
+
+use crate::runs::try_files;
+use std::process::ExitCode;
+
+fn main(rt: HostRuntime) -> ExitCode {
+    match try_files(&rt) {
+        Ok(()) => ExitCode::SUCCESS,
+        Err(stop) => {
+            let _ = eprintln!(rt; "session_tests: {:?}", stop);
+            ExitCode::FAILURE
+        }
+    }
+}
