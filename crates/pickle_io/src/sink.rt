@@ -21,7 +21,8 @@ pub trait Sink {
         ensures ok { IfOk result (λ n. Wrote (told self.old) (told self.new) (take n bytes.now)) }
         ensures err { OnErr result (Broke (told self.old) (told self.new) []) };
 
-    /// Hands on what it has taken and still holds, to whom it writes for. A sink that holds nothing does nothing.
+    /// Hands on what it has taken and still holds, to whom it writes for. A sink that holds nothing does nothing. `Failed`
+    /// where that fails: what it still holds may be lost then.
     fn flush(&mut self) -> Result<(), Failed>
         ensures { Writes (told self.old) (told self.new) result [] }
     {

@@ -22,17 +22,6 @@ use Rattle.pickle_tasks.proofs.Feeding.{concat-push, up_to-last, up_to_quit-none
 Wrote-flushed : (a b c : Told) (text : List ℕ) → Wrote a b text → Wrote b c [] → Wrote a c text
 Wrote-flushed a b c text p q = subst (λ (t : List ℕ). Wrote a c t) (append-nil text) (Wrote-trans a b c text [] p q)
 
-pub so_far_flushed : (s q : Standing) (old a b : Told) (given : List ℕ) (held : Pending) → SoFar s old given q a held → Wrote a b [] → SoFar s old given q b held
-so_far_flushed s q old a b given held w f = record {
-  cut = w.cut;
-  is_cut = w.is_cut;
-  texts = w.texts;
-  runs = w.runs;
-  no_quit = w.no_quit;
-  wrote = Wrote-flushed old a b (concat w.texts) w.wrote f;
-  holds = w.holds;
-}
-
 pub quit_flushed : (s q : Standing) (old a b : Told) (given : List ℕ) (held : Pending) → HasQuit s old given q a held → Wrote a b [] → HasQuit s old given q b held
 quit_flushed s q old a b given held w f = record {
   cut = w.cut;
