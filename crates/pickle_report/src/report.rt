@@ -52,7 +52,7 @@ fn write_results<S: Sink>(ids: &[ObjId], sink: &mut S) -> Result<(), Failed>
 
 /// Writes the line of an item that is refused. Where the sink fails, a front of the line was written.
 #[tactic(auto, using(pickle_io::proofs::Devices::text_steps), unfolding(crate::specs::Report::refused_line))]
-pub fn write_refused<S: Sink>(place: usize, refusal: Refusal, sink: &mut S) -> Result<(), Failed>
+fn write_refused<S: Sink>(place: usize, refusal: Refusal, sink: &mut S) -> Result<(), Failed>
     ensures { Writes (S.told sink.old) (S.told sink.new) result (refused_line place refusal) }
 {
     write_all(sink, b"refused: ")?;
@@ -96,11 +96,7 @@ fn write_lines<S: Sink>(machine: &Machine, closing: Closing, sink: &mut S) -> Re
 
 /// Writes the lines of all objects of a machine, one for each result, and a closing line where something is refused or at fault, and
 /// answers the status: 1 with such a line, else 0. It takes no memory. `Failed` where the sink fails; a front of the lines was written then.
-pub fn write_report<S: Sink>(
-    machine: &Machine,
-    closing: Closing,
-    sink: &mut S,
-) -> Result<u8, Failed>
+fn write_report<S: Sink>(machine: &Machine, closing: Closing, sink: &mut S) -> Result<u8, Failed>
     ensures text { Writes (S.told sink.old) (S.told sink.new) result (report_text machine.now.state.heap machine.now.state.results closing) }
     ensures status { IfOk result (λ status. status ≡ closing_status closing) }
 {
