@@ -21,8 +21,8 @@ pub use line::{write_fault, write_fault_text, write_refusal};
 pub use memo::write_memo;
 pub use object::{write_all_next, write_object, write_objects};
 pub use report::{
-    Closing, closing_at, is_stop, machine_of, report_of_bytes, report_of_items, status_of,
-    step_over, write_closing, write_document_report,
+    Closing, closing_at, machine_of, report_of_bytes, report_of_items, status_of, step_over,
+    write_closing, write_document_report,
 };
 pub use show::write_show;
 pub use stack::write_stack;

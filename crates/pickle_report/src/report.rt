@@ -1,7 +1,6 @@
 //! The report of a document.
 
 ghost use Rattle.std.specs.Prelude.{◌≡◌, ◌≢◌, ◌+◌, ◌-◌, ◌^◌, ◌<◌, ◌≤◌, ◌==◌, ◌&&◌, length, Ok, Err, OnOk, OnErr, IfOk, IfErr};
-ghost use Rattle.pickle_doc.specs.DocUnit.{is_stop};
 ghost use Rattle.pickle_doc.specs.Document.{Contents, ReadsAs, size_limit};
 ghost use Rattle.pickle_machine.specs.State.{start};
 ghost use Rattle.pickle_machine.specs.Move.{move, refusal_at};
@@ -12,10 +11,12 @@ ghost use Rattle.pickle_report.specs.Inside.Ending.{EndsIn};
 use crate::line::{write_fault, write_item_refused};
 use crate::object::{write_next, write_objects};
 use crate::stop::TextStop;
-use pickle_doc::{Document, DocumentItems, ItemSource, Items, NextRef, TailFault, ends_reading};
+use pickle_doc::{
+    Document, DocumentItems, ItemSource, Items, NextRef, TailFault, ends_reading, is_stop,
+};
 use pickle_machine::{Machine, Refusal};
 use pickle_objects::ObjId;
-use pickle_ops::{Failed, OpRef, Opcode, Sink, write_all};
+use pickle_ops::{Failed, OpRef, Sink, write_all};
 use std::alloc::Global;
 
 /// How a run over the items of a document ended.
@@ -123,13 +124,6 @@ pub fn step_over(
     };
     machine.step(alloc, &op, place)?;
     Ok(())
-}
-
-/// Whether an opcode is STOP.
-pub fn is_stop(opcode: Opcode) -> bool
-    ensures { result ≡ is_stop opcode }
-{
-    matches!(opcode, Opcode::Stop)
 }
 
 /// How a run ends that went over all items: `stop` says whether the last of them is STOP, and the tail has `left` bytes, this fault
