@@ -8,11 +8,11 @@ use crate::end::write_end;
 use crate::event::{Before, event_of};
 use crate::line::write_line;
 use crate::totals::Totals;
-use pickle_doc::{ItemSource, Items, NextRef, ends_reading};
+use pickle_doc::{ItemSource, Items, NextRef, ends_reading, is_stop};
 use pickle_machine::Refusal;
 use pickle_objects::Row;
 use pickle_ops::Sink;
-use pickle_report::{Closing, TextStop, closing_at, is_stop, machine_of, step_over};
+use pickle_report::{Closing, TextStop, closing_at, machine_of, step_over};
 use std::alloc::Global;
 
 /// Writes what the items that a source gives from the first on would import and call, as several pickles or as one, and answers the

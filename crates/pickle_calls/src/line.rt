@@ -10,9 +10,9 @@ ghost use Rattle.pickle_calls.specs.Line.{inst_text, call_text, call_with_text, 
 use crate::brief::{write_briefs, write_value};
 use crate::event::{Event, part};
 use crate::name::{write_name, write_part_names_after};
-use pickle_listing::write_right;
 use pickle_objects::{Filling, Kind, ObjId, Object};
 use pickle_ops::{Failed, Sink, write_all};
+use pickle_page::write_right;
 use pickle_report::{
     write_id, write_with_id, write_with_number, write_with_signed, write_with_text,
     write_with_texts,

@@ -1,4 +1,4 @@
-pub mod Blanks
+pub mod Codes
 pub mod Names
 pub mod Moves
 pub mod Places

@@ -6,9 +6,7 @@ mod highest;
 mod line;
 mod list;
 mod note;
-mod number;
 mod put;
 
 pub use line::write_kept_line;
 pub use list::{list_bytes, list_items, write_listing};
-pub use number::write_right;

@@ -3,7 +3,6 @@
 ghost use Rattle.std.specs.Prelude.{◌≡◌, ◌≤◌, ◌<◌, ◌-◌, ◌^◌, ◌==◌, ◌||◌, [], if◌then◌else◌, length, not, None, OnOk, IfOk, IfErr};
 ghost use Rattle.pickle_io.specs.Device.{Writes};
 ghost use Rattle.pickle_io.specs.Text.{◌⧺◌};
-ghost use Rattle.pickle_doc.specs.DocUnit.{is_stop};
 ghost use Rattle.pickle_doc.specs.Document.{Contents, ReadsAs, size_limit};
 ghost use Rattle.pickle_machine.specs.State.{stack_size};
 ghost use Rattle.pickle_machine.specs.Move.{next_of, refusal_of, fresh};
@@ -19,10 +18,10 @@ ghost use Rattle.pickle_listing.specs.Written.{WroteListing, CutListing, IsListe
 use crate::highest::Highest;
 use crate::line::{write_kept_line, write_left_line, write_protocol, write_refused};
 use crate::put::{put_item, put_refused};
-use pickle_doc::{Document, DocumentItems, ItemSource, Items, NextRef, TailFault};
+use pickle_doc::{Document, DocumentItems, ItemSource, Items, NextRef, TailFault, is_stop};
 use pickle_machine::Refusal;
 use pickle_objects::Row;
-use pickle_ops::{Failed, OpRef, Opcode, Sink};
+use pickle_ops::{Failed, OpRef, Sink};
 use pickle_outline::{Class, Lean};
 use pickle_page::{Offset, Page};
 use pickle_report::{TextStop, write_fault};
@@ -57,13 +56,6 @@ fn write_last_end<S: Sink>(
     page.flush(sink)?;
     write_kept_line(kept, sink)?;
     write_protocol(highest, sink)
-}
-
-/// Whether an opcode is STOP.
-fn is_stop(opcode: Opcode) -> bool
-    ensures { result ≡ is_stop opcode }
-{
-    matches!(opcode, Opcode::Stop)
 }
 
 /// Whether a STOP ends the listing, with this many bytes behind it.

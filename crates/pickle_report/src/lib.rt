@@ -17,17 +17,17 @@ mod words;
 
 pub use kind::write_kind;
 pub use laws::one_report;
-pub use line::{write_fault, write_fault_text, write_item_refused, write_refusal};
+pub use line::{write_fault, write_fault_text, write_refusal};
 pub use memo::write_memo;
 pub use object::{write_all_next, write_object, write_objects};
 pub use report::{
-    Closing, closing_at, is_stop, machine_of, report_of_bytes, report_of_items, status_of,
-    step_over, write_closing, write_document_report, write_refused, write_report,
+    Closing, closing_at, machine_of, report_of_bytes, report_of_items, status_of, step_over,
+    write_closing, write_document_report,
 };
 pub use show::write_show;
 pub use stack::write_stack;
 pub use stop::TextStop;
 pub use words::{
-    write_id, write_with_float, write_with_id, write_with_long, write_with_number,
-    write_with_signed, write_with_text, write_with_texts,
+    write_id, write_with_id, write_with_number, write_with_signed, write_with_text,
+    write_with_texts,
 };

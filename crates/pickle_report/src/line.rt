@@ -61,7 +61,7 @@ pub fn write_refusal<S: Sink>(refusal: Refusal, sink: &mut S) -> Result<(), Fail
 
 /// Writes which item is refused, by its place, and why. Where the sink fails, a front of the text was written.
 #[tactic(auto, using(pickle_io::proofs::Devices::text_steps), unfolding(crate::specs::Line::item_refused))]
-pub fn write_item_refused<S: Sink>(
+pub(crate) fn write_item_refused<S: Sink>(
     place: usize,
     refusal: Refusal,
     sink: &mut S,

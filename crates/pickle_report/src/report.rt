@@ -1,7 +1,6 @@
 //! The report of a document.
 
 ghost use Rattle.std.specs.Prelude.{◌≡◌, ◌≢◌, ◌+◌, ◌-◌, ◌^◌, ◌<◌, ◌≤◌, ◌==◌, ◌&&◌, length, Ok, Err, OnOk, OnErr, IfOk, IfErr};
-ghost use Rattle.pickle_doc.specs.DocUnit.{is_stop};
 ghost use Rattle.pickle_doc.specs.Document.{Contents, ReadsAs, size_limit};
 ghost use Rattle.pickle_machine.specs.State.{start};
 ghost use Rattle.pickle_machine.specs.Move.{move, refusal_at};
@@ -12,10 +11,12 @@ ghost use Rattle.pickle_report.specs.Inside.Ending.{EndsIn};
 use crate::line::{write_fault, write_item_refused};
 use crate::object::{write_next, write_objects};
 use crate::stop::TextStop;
-use pickle_doc::{Document, DocumentItems, ItemSource, Items, NextRef, TailFault, ends_reading};
+use pickle_doc::{
+    Document, DocumentItems, ItemSource, Items, NextRef, TailFault, ends_reading, is_stop,
+};
 use pickle_machine::{Machine, Refusal};
 use pickle_objects::ObjId;
-use pickle_ops::{Failed, OpRef, Opcode, Sink, write_all};
+use pickle_ops::{Failed, OpRef, Sink, write_all};
 use std::alloc::Global;
 
 /// How a run over the items of a document ended.
@@ -52,7 +53,7 @@ fn write_results<S: Sink>(ids: &[ObjId], sink: &mut S) -> Result<(), Failed>
 
 /// Writes the line of an item that is refused. Where the sink fails, a front of the line was written.
 #[tactic(auto, using(pickle_io::proofs::Devices::text_steps), unfolding(crate::specs::Report::refused_line))]
-pub fn write_refused<S: Sink>(place: usize, refusal: Refusal, sink: &mut S) -> Result<(), Failed>
+fn write_refused<S: Sink>(place: usize, refusal: Refusal, sink: &mut S) -> Result<(), Failed>
     ensures { Writes (S.told sink.old) (S.told sink.new) result (refused_line place refusal) }
 {
     write_all(sink, b"refused: ")?;
@@ -96,11 +97,7 @@ fn write_lines<S: Sink>(machine: &Machine, closing: Closing, sink: &mut S) -> Re
 
 /// Writes the lines of all objects of a machine, one for each result, and a closing line where something is refused or at fault, and
 /// answers the status: 1 with such a line, else 0. It takes no memory. `Failed` where the sink fails; a front of the lines was written then.
-pub fn write_report<S: Sink>(
-    machine: &Machine,
-    closing: Closing,
-    sink: &mut S,
-) -> Result<u8, Failed>
+fn write_report<S: Sink>(machine: &Machine, closing: Closing, sink: &mut S) -> Result<u8, Failed>
     ensures text { Writes (S.told sink.old) (S.told sink.new) result (report_text machine.now.state.heap machine.now.state.results closing) }
     ensures status { IfOk result (λ status. status ≡ closing_status closing) }
 {
@@ -127,13 +124,6 @@ pub fn step_over(
     };
     machine.step(alloc, &op, place)?;
     Ok(())
-}
-
-/// Whether an opcode is STOP.
-pub fn is_stop(opcode: Opcode) -> bool
-    ensures { result ≡ is_stop opcode }
-{
-    matches!(opcode, Opcode::Stop)
 }
 
 /// How a run ends that went over all items: `stop` says whether the last of them is STOP, and the tail has `left` bytes, this fault

@@ -75,7 +75,11 @@ pub fn write_with_number<S: Sink>(word: &[u8], number: u64, sink: &mut S) -> Res
 
 /// Writes a word and a long number, whose bytes are given as its opcode has them.
 #[tactic(auto, using(pickle_io::proofs::Devices::text_steps))]
-pub fn write_with_long<S: Sink>(word: &[u8], bytes: &[u8], sink: &mut S) -> Result<(), Failed>
+pub(crate) fn write_with_long<S: Sink>(
+    word: &[u8],
+    bytes: &[u8],
+    sink: &mut S,
+) -> Result<(), Failed>
     ensures { Writes (S.told sink.old) (S.told sink.new) result (word.now ⧺ long_text bytes.now) }
 {
     write_all(sink, word)?;
@@ -84,7 +88,11 @@ pub fn write_with_long<S: Sink>(word: &[u8], bytes: &[u8], sink: &mut S) -> Resu
 
 /// Writes a word and a floating point number, whose eight bytes are given.
 #[tactic(auto, using(pickle_io::proofs::Devices::text_steps))]
-pub fn write_with_float<S: Sink>(word: &[u8], bytes: &[u8], sink: &mut S) -> Result<(), Failed>
+pub(crate) fn write_with_float<S: Sink>(
+    word: &[u8],
+    bytes: &[u8],
+    sink: &mut S,
+) -> Result<(), Failed>
     ensures { Writes (S.told sink.old) (S.told sink.new) result (word.now ⧺ float_text bytes.now) }
 {
     write_all(sink, word)?;

@@ -10,7 +10,7 @@ use pickle_report::write_fault_text;
 
 /// Writes why a document ends.
 #[tactic(auto, using(pickle_io::proofs::Devices::text_steps), unfolding(crate::specs::FaultText::end_text))]
-pub fn write_end<S: Sink>(end: End, sink: &mut S) -> Result<(), Failed>
+pub(crate) fn write_end<S: Sink>(end: End, sink: &mut S) -> Result<(), Failed>
     ensures { Writes (S.told sink.old) (S.told sink.new) result (end_text end) }
 {
     match end {
@@ -25,7 +25,7 @@ pub fn write_end<S: Sink>(end: End, sink: &mut S) -> Result<(), Failed>
 
 /// Writes why bytes are no opcode, or no argument of an opcode.
 #[tactic(auto, unfolding(crate::specs::FaultText::op_fault_text))]
-pub fn write_op_fault<S: Sink>(fault: OpFault, sink: &mut S) -> Result<(), Failed>
+pub(crate) fn write_op_fault<S: Sink>(fault: OpFault, sink: &mut S) -> Result<(), Failed>
     ensures { Writes (S.told sink.old) (S.told sink.new) result (op_fault_text fault) }
 {
     match fault {

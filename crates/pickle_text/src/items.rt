@@ -5,8 +5,8 @@ ghost use Rattle.pickle_io.specs.Device.{Writes};
 ghost use Rattle.pickle_doc.specs.Place.{offset_of};
 ghost use Rattle.pickle_text.specs.PlaceText.{sign_if, signs, op_text, place_columns, item_line, line_at, items_text};
 
-use pickle_listing::write_right;
 use pickle_ops::{Failed, Op, Sink, write_all, write_arg_text};
+use pickle_page::write_right;
 use pickle_session::{Past, Session};
 
 /// A sign where something holds, else a blank.

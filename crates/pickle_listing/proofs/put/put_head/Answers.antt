@@ -3,7 +3,7 @@ use Rattle.pickle_io.specs.Text.{◌⧺◌}
 use Rattle.pickle_page.specs.Column.{blanks}
 use Rattle.pickle_page.proofs.Puts.{page_more, puts_next}
 use Rattle.pickle_listing.specs.Line.{offset_column, code_column}
-use Rattle.pickle_listing.proofs.Blanks.{cells_taken}
+use Rattle.pickle_listing.proofs.Codes.{cells_taken}
 use Rattle.pickle_listing.proofs.PageLines.{head_there}
 use Rattle.pickle_listing.proofs.put.put_head.Goals as goal
 

@@ -23,7 +23,7 @@ fn write_blanks<S: Sink>(count: usize, sink: &mut S) -> Result<(), Failed>
 }
 
 /// Writes a text at the right of a column.
-#[tactic(auto, using(pickle_io::proofs::Devices::text_steps), unfolding(pickle_page::specs::Column::right_aligned))]
+#[tactic(auto, using(pickle_io::proofs::Devices::text_steps), unfolding(crate::specs::Column::right_aligned))]
 fn write_right_text<S: Sink>(text: &[u8], sink: &mut S) -> Result<(), Failed>
     ensures { Writes (S.told sink.old) (S.told sink.new) result (right_aligned 5 text.now) }
 {

@@ -1,16 +1,12 @@
--- Blanks, and a code in its column.
-use Rattle.std.proofs.Common.{◌≡◌, ℕ, ◌≤◌, Bool, true, false, ◌&&◌, nat_lt, take, replicate, refl}
-use Rattle.std.proofs.lemmas.List.{take-replicate}
+-- A code in its column.
+use Rattle.std.proofs.Common.{◌≡◌, Bool, true, false, ◌&&◌, nat_lt, take, refl}
 use Rattle.pickle_ops.specs.declared.opcode.Opcode.{Opcode}
 use Rattle.pickle_ops.specs.Table.{code_of}
 use Rattle.pickle_io.specs.Text.{◌⧺◌}
 use Rattle.hex.specs.Hex.{encode_with}
-use Rattle.pickle_page.specs.Column.{blanks, left_aligned}
+use Rattle.pickle_page.specs.Column.{left_aligned}
 use Rattle.pickle_listing.specs.Column.{code_cells}
 use Rattle.pickle_listing.specs.Line.{code_column}
-
-pub blanks_cut : (count : ℕ) → count ≤ 5 → take count (replicate 5 32) ≡ blanks count
-blanks_cut count h = take-replicate {X = ℕ} count 5 32 h
 
 cells_by : (o : Opcode) (visible : Bool) → (nat_lt 32 (code_of o) && nat_lt (code_of o) 127) ≡ visible → take 7 (code_cells (code_of o)) ≡ code_column o
 unfolding code_column left_aligned ◌⧺◌ encode_with
