@@ -1,4 +1,4 @@
--- Why a document ends, and why bytes are no opcode, in words. The words of the faults of a tail are `pickle_report`'s.
+-- Why a document ends, and why bytes are no opcode, in words. The words of the faults of a tail are `pickle_show`'s.
 -- Source: own.
 use Rattle.std.specs.Prelude.{ℕ, List, codes, decimal}
 use Rattle.pickle_ops.specs.declared.fault.OpFault.{OpFault}

@@ -81,7 +81,8 @@ fn sync_folder(rt: &HostRuntime, path: &PathBuf) {
 }
 
 /// The path to which the symbolic links of a path lead, where there need not be a file. A path that is no link leads to itself.
-/// A link whose text is not UTF-8 is `Stop::Write`, since paths are text.
+/// A link whose text is not UTF-8 is `Stop::Write`, since paths are text. Who exchanges one of the links during a save may
+/// redirect it.
 fn target_of(rt: &HostRuntime, path: &str) -> Result<PathBuf, Stop> {
     let mut target = PathBuf::from_str(rt.alloc(), path)?;
     for _ in 0..MOST_LINKS {
