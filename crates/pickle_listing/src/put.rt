@@ -18,7 +18,7 @@ use pickle_ops::{Failed, OpRef, Opcode, Sink};
 use pickle_outline::Lean;
 use pickle_page::{Offset, Page};
 
-/// Puts where an item stands, a colon, the code of its opcode and four blanks for each open mark.
+/// Puts where an item is, a colon, the code of its opcode and four blanks for each open mark.
 #[inline(always)]
 fn put_head<S: Sink>(
     page: &mut Page,

@@ -50,7 +50,7 @@ fn write_results<S: Sink>(ids: &[ObjId], sink: &mut S) -> Result<(), Failed>
     Ok(())
 }
 
-/// Writes the line of an item that is refused. Where the sink fails, a front of the line was written.
+/// Writes the line of an item that is refused. Where the sink fails, a beginning of the line was written.
 #[tactic(auto, using(pickle_io::proofs::Devices::text_steps), unfolding(crate::specs::Report::refused_line))]
 pub fn write_refused<S: Sink>(place: usize, refusal: Refusal, sink: &mut S) -> Result<(), Failed>
     ensures { Writes (S.told sink.old) (S.told sink.new) result (refused_line place refusal) }
@@ -61,7 +61,7 @@ pub fn write_refused<S: Sink>(place: usize, refusal: Refusal, sink: &mut S) -> R
 }
 
 /// Writes how a run ended: nothing where it stopped, else the line of the refused item or of the fault. It takes no memory.
-/// `Failed` where the sink fails; a front of the line was written then.
+/// `Failed` where the sink fails; a beginning of the line was written then.
 #[tactic(auto, unfolding(crate::specs::Report::closing_line))]
 pub fn write_closing<S: Sink>(closing: Closing, sink: &mut S) -> Result<(), Failed>
     ensures { Writes (S.told sink.old) (S.told sink.new) result (closing_line closing) }
@@ -95,7 +95,7 @@ fn write_lines<S: Sink>(machine: &Machine, closing: Closing, sink: &mut S) -> Re
 }
 
 /// Writes the lines of all objects of a machine, one for each result, and a closing line where something is refused or at fault, and
-/// answers the status: 1 with such a line, else 0. It takes no memory. `Failed` where the sink fails; a front of the lines was written then.
+/// answers the status: 1 with such a line, else 0. It takes no memory. `Failed` where the sink fails; a beginning of the lines was written then.
 pub fn write_report<S: Sink>(
     machine: &Machine,
     closing: Closing,
@@ -207,7 +207,7 @@ pub fn machine_of(alloc: Global, many: bool) -> Machine
 /// fault one line more: `refused: item K: ` and why, or `fault: ` and why with the offset of the tail. The status is 1 with such a
 /// line, else 0. The source is to give a document that is not too large.
 ///
-/// `Memory` where there is no memory for a step, and then nothing was written. `Failed` where the sink fails; a front of the report
+/// `Memory` where there is no memory for a step, and then nothing was written. `Failed` where the sink fails; a beginning of the report
 /// was written then.
 pub fn report_of_items<'a, I: ItemSource<'a>, S: Sink>(
     alloc: Global,
@@ -246,7 +246,7 @@ pub fn report_of_bytes<S: Sink>(
 
 /// Writes the report of a document, in its mode, and answers its status, as `report_of_items` does.
 ///
-/// `Memory` where there is no memory for a step, and then nothing was written. `Failed` where the sink fails; a front of the report
+/// `Memory` where there is no memory for a step, and then nothing was written. `Failed` where the sink fails; a beginning of the report
 /// was written then.
 pub fn write_document_report<S: Sink>(
     alloc: Global,

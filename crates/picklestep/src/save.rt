@@ -175,7 +175,7 @@ fn save_over(rt: &HostRuntime, document: &Document, path: &str, file: &File) -> 
     write_to(rt, document, file)
 }
 
-/// Saves a document to a path. `Stop::Write` where the file, or a new one beside it, cannot be written, `Stop::Memory` where there is no room;
+/// Saves a document to a path. `Stop::Write` where the file, or a new one next to it, cannot be written, `Stop::Memory` where there is no room;
 /// a regular file is then as it was. A device or a pipe may have taken a beginning of the bytes.
 pub fn save_document(rt: &HostRuntime, document: &Document, path: &str) -> Result<(), Stop> {
     // The file is opened first, and left unchanged, so that one that may not be written is not replaced.
