@@ -1,5 +1,5 @@
 //! Where bytes come from and where texts go: sources, sinks, their wrappers round readers and writers of the standard library,
-//! devices on trial, the writers of plain texts, and a source read whole.
+//! the writers of plain texts, and a source read whole.
 #![tactic(auto)]
 
 mod drip;

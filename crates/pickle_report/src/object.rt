@@ -110,7 +110,7 @@ fn write_object_line<S: Sink>(id: u64, object: &Object, sink: &mut S) -> Result<
     write_all(sink, b"\n")
 }
 
-/// Writes the lines of all objects of a machine, by rising number. It takes no memory. `Failed` where the sink fails; a front
+/// Writes the lines of all objects of a machine, by rising number. It takes no memory. `Failed` where the sink fails; a beginning
 /// of the lines was written then.
 #[tactic(auto, unfolding(crate::specs::ObjectText::objects_text))]
 pub fn write_objects<S: Sink>(machine: &Machine, sink: &mut S) -> Result<(), Failed>

@@ -59,7 +59,7 @@ fn no_such_object() -> &'static str
 }
 
 /// Writes the line that `show` is answered with where there is no such object. It takes no memory. Where the sink fails, a
-/// front of the line was written.
+/// beginning of the line was written.
 pub fn write_no_such_object<S: Sink>(sink: &mut S) -> Result<(), Failed>
     ensures { Writes (S.told sink.old) (S.told sink.new) result no_object_line }
 {

@@ -1,5 +1,5 @@
 //! What sessions and machines show, as texts made by their readers alone, for tests to write down and to compare; and a script
-//! that is compared so where a request for memory may be refused. Test equipment.
+//! that is compared so where a request for memory may be refused. Devices on trial. Test equipment.
 #![tactic(auto)]
 
 mod script;
