@@ -178,7 +178,7 @@ class Devices:
 
 
 def trials(devices: Devices) -> list[Trial]:
-    """Each script and each task, with each read and with each write failing after this many bytes."""
+    """Each script and each task, with each read and each write of this many bytes failing."""
     attempts: list[tuple[str, bytes, Callable[..., str], tuple[object, ...]]]
     attempts = [(name, pickled, devices.fault_of_script, (words, script, text)) for name, words, (pickled, script, text, _) in SCRIPTS]
     attempts += [(" ".join(words), pickled, devices.fault_of_task, (words, text)) for words, pickled, text in TASKS]

@@ -14,7 +14,7 @@ unfoldable pub end_text : End → List ℕ
 end_text end.Stopped = codes "stopped"
 end_text (end.Fault f offset) = fault_text f ⧺ codes " at " ⧺ decimal offset
 
--- faults of an opcode: those that a tail has too are told likewise
+-- faults of an opcode: those that a tail has too are printed likewise
 unfoldable pub op_fault_text : OpFault → List ℕ
 op_fault_text fault.Ended = fault_text tail.Ended
 op_fault_text (fault.UnknownOpcode byte) = fault_text (tail.UnknownOpcode byte)

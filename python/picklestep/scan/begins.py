@@ -34,7 +34,7 @@ _IMPORTS = frozenset({'GLOBAL', 'INST'})
 # Opcodes whose argument is a number in a line.
 _NUMBERS = frozenset({'INT', 'LONG', 'FLOAT', 'GET', 'PUT'})
 
-# What is said where the bytes at hand do not show how it goes on.
+# Used where the bytes at hand do not show how it goes on.
 _UNKNOWN = ''
 
 
