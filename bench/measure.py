@@ -16,7 +16,7 @@ import tempfile
 INSTRUCTIONS = {'a': 450, 'b': 450, 'c': 280, 'e': 350}
 TWICE = 2.05
 # how many times as long as the bare loop at most, how many times faster than pickletools at least, bytes of memory for each
-# opcode beside the file, how many times as long as a copy of the text for one long string
+# opcode besides the file, how many times as long as a copy of the text for one long string
 AS_LONG, FASTER, BYTES_AN_OPCODE, AS_COPY = 2, 80, 3, 2.5
 # how many times as long as `objects` `calls` may take
 AS_OBJECTS = 1.5
@@ -24,11 +24,11 @@ AS_OBJECTS = 1.5
 MOST_MEMORY = 700_000_000
 # instructions are counted on files of a twenty-fifth of the size
 SMALL = fractions.Fraction(1, 25)
-# the shortest of so many runs counts
+# the shortest of this many runs counts
 RUNS = 3
 
 
-# --- The files, each of so many items or bytes ---
+# --- The files, each of this many items or bytes ---
 
 def numbers_and_strings(file, count):
     """A list of small integers and short strings at protocol 4."""
@@ -91,7 +91,7 @@ FILES = [
     ('e', 'nested dictionaries with memo', dictionaries, 252_500),
 ]
 LONG_STRING, MARKED, FULL, CALLED = 50_000_000, 30_000, 134_217_728, 1_000_000
-# small pickles in one input, how many times as long twice that may take, and how many bytes of memory for each beside the file
+# small pickles in one input, how many times as long twice that may take, and how many bytes of memory for each besides the file
 SEVERAL, SEVERAL_TWICE, BYTES_A_PICKLE = 1_000_000, 2.1, 3
 
 
@@ -176,7 +176,7 @@ def timed_row(folder, program, plain, letter, what, write, count):
 
 
 def called_row(folder, program, letter, what, write, count):
-    """A line of the table of `calls` beside `objects`."""
+    """A line of the table of `calls` against `objects`."""
     small = int(count * SMALL)
     once, twice, whole = (made(folder, letter, write, many) for many in (small, 2 * small, count))
     told, objects = instructions([program, 'calls', once]), instructions([program, 'objects', once])
@@ -190,7 +190,7 @@ def called_row(folder, program, letter, what, write, count):
 
 
 def long_string(folder, program, count):
-    """What is said of one long string, beside a copy of the listing's own text."""
+    """What is said of one long string, against a copy of the listing's own text."""
     path, listed = made(folder, 'd', one_string, count), os.path.join(folder, 'listed')
     listing = shortest([program, 'list', path])
     with open(listed, 'wb') as file:

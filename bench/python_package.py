@@ -1,7 +1,7 @@
 #!/usr/bin/env python3
 """Measures the Python package: PYTHONPATH=python bench/python_package.py
 
-The shortest of several runs is told, of the wall's time.
+The shortest of several runs is printed, of the wall's time.
 """
 
 from __future__ import annotations

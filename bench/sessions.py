@@ -6,7 +6,7 @@ import sys
 import tempfile
 
 # commands a second, how many times as long for twice the way, how many times as long for places by offset, seconds for 10,000 edits at
-# one place and 1,000 at random ones, bytes of memory for each opcode beside the file
+# one place and 1,000 at random ones, bytes of memory for each opcode besides the file
 A_SECOND, TWICE, BY_OFFSET, ONE_PLACE, RANDOM_PLACES, BYTES_AN_OPCODE = 500_000, 2.3, 2, 0.1, 5, 160
 
 
@@ -26,7 +26,7 @@ def measure(command, script=b''):
 
 
 def one_byte_opcodes(folder, count):
-    """A pickle of so many opcodes: NONE and POP in turn, then NONE and STOP."""
+    """A pickle of this many opcodes: NONE and POP in turn, then NONE and STOP."""
     path = os.path.join(folder, 'n-%d.pickle' % count)
     with open(path, 'wb') as file:
         file.write(b'N0' * (count // 2 - 1) + b'N.')

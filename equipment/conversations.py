@@ -2,11 +2,11 @@
 
 A conversation on the page is a block of lines, indented or not, that begins with `pickle` and the bytes of a pickle in
 hexadecimal. After `pickles` they are of several pickles, and every command has the option --many. Then comes a line of the
-script after `debug> `, then the lines that answer it, and so on. `$ list`, `$ objects` or `$ calls` stands before what that command
+script after `debug> `, then the lines that answer it, and so on. `$ list`, `$ objects` or `$ calls` comes before what that command
 writes. A last line `saved` has the bytes that the pickle is saved as. The block ends at an empty line, or at the end of the page.
 
 Each script is run with all records and in windows of 1 and 2. The status has to be 1 just where an answer refuses. What is shown of one
-pickle is also tried with --many, where no byte stands after its STOP: the answers are the same then.
+pickle is also tried with --many, where no byte is after its STOP: the answers are the same then.
 """
 
 from __future__ import annotations
@@ -29,7 +29,7 @@ OPTIONS: dict[str, list[str]] = {"pickle": [], "pickles": ["--many"]}
 
 @dataclass
 class Block:
-    """A conversation on a page: its line there, the options of every command, and what is told and answered."""
+    """A conversation on a page: its line there, the options of every command, and what is asked and answered."""
 
     number: int
     options: list[str]
@@ -121,7 +121,7 @@ def fault_in(program: str, block: Block, mode: list[str], folder: pathlib.Path) 
 
 
 def keeps_bytes(program: str, block: Block, folder: pathlib.Path) -> bool:
-    """Whether bytes stand after STOP."""
+    """Whether there are bytes after STOP."""
     file = folder / "shown.pickle"
     file.write_bytes(block.pickle)
     done, _ = run(program, ["list", str(file)], b"")

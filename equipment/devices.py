@@ -10,7 +10,7 @@ from collections.abc import Callable
 
 from trials.trial import Trial
 
-# The bytes, and the lines that are told; what they are answered stands in the pages of the program (README, docs/USING.md).
+# The bytes, and the lines that are given; what they are answered is in the pages of the program (README, docs/USING.md).
 BREAKPOINTS = (
     bytes.fromhex("80049506000000000000005d944b01612e"),
     "break 4\nrun\nrun\nrun\ngoto 0\nclear 4\nrun\n",
@@ -178,7 +178,7 @@ class Devices:
 
 
 def trials(devices: Devices) -> list[Trial]:
-    """Each script and each task, with each read and with each write failing of so many bytes."""
+    """Each script and each task, with each read and each write of this many bytes failing."""
     attempts: list[tuple[str, bytes, Callable[..., str], tuple[object, ...]]]
     attempts = [(name, pickled, devices.fault_of_script, (words, script, text)) for name, words, (pickled, script, text, _) in SCRIPTS]
     attempts += [(" ".join(words), pickled, devices.fault_of_task, (words, text)) for words, pickled, text in TASKS]

@@ -10,7 +10,7 @@ the pickles in that folder. The last line says how many cases there were, or whi
 
 The laws:
 - the bytes that are saved after no line are those that were opened;
-- the listing of a beginning of the bytes begins the listing of the bytes, as far as opcodes are listed, and its fault stands
+- the listing of a beginning of the bytes begins the listing of the bytes, as far as opcodes are listed, and its fault is
   where the beginning ends or where the whole has one;
 - the report of the objects is what a conversation shows at the end, or before the opcode that is refused;
 - what `calls` says is made are the objects of the report that come from elsewhere or from a call, and it counts its lines;
@@ -18,7 +18,7 @@ The laws:
   wherever one comes from;
 - a line that is refused changes nothing that is shown; an edit that is undone or made again shows the items that were there;
 - the cursor is where the reply says, and a line that is no command writes what it always does;
-- a script is answered alike with all records kept and with a few, and alike where more lines stand after `quit`;
+- a script is answered alike with all records kept and with a few, and alike where more lines come after `quit`;
 - after a script, what is shown is what a new conversation over the saved bytes shows at that place, and the saved bytes are
   listed as these items;
 - after a script, going to the start and undoing every edit gives the bytes that were opened, and making them again the bytes

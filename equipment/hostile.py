@@ -1,7 +1,7 @@
 """Gives the program inputs that are cut short, deep or long, with a stack of 256 KiB.
 
 Each real pickle is cut at each of its first 2,000 bytes and listed. What a listing of a cut says follows from the listing of the whole:
-the opcodes that stand whole in it, and the fault of what is left, by the sizes that pickletools gives.
+the opcodes that are whole in it, and the fault of what is left, by the sizes that pickletools gives.
 """
 
 from __future__ import annotations
@@ -61,11 +61,11 @@ class Listing:
         return "".join(f"{line}\n" for line in self.lines[:count] + lines)
 
     def of_cut(self, cut: int) -> list[tuple[str, int]]:
-        """What may be listed of the first `cut` bytes, with the status; more than one where the whole listing does not tell."""
+        """What may be listed of the first `cut` bytes, with the status; more than one where the whole listing does not decide."""
         ends = self.starts[1:] + [self.end]
         for k, start in enumerate(self.starts):
             if self.refused and k + 1 == len(self.starts):
-                # (the sizes of what stands after it are not listed)
+                # (the sizes of what comes after it are not listed)
                 whole = self.closed(len(self.lines), self.refused)
                 return [(whole, 1), *((self.closed(k, [f"fault: {why} at {start}"]), 1) for why in self.cut_faults(start, cut))]
             if cut < ends[k]:

@@ -1,7 +1,7 @@
 #!/usr/bin/python3
 """What CPython's two unpicklers do with pickles that picklestep ends at, before their STOP.
 
-Nothing is imported: every global is the one class below, which takes any call. What loads is told with its value, since the C
+Nothing is imported: every global is the one class below, which takes any call. What loads is printed with its value, since the C
 unpickler may make another of a file, which it reads ahead of, than of a BytesIO.
 """
 import io

@@ -129,7 +129,7 @@ def install(python: str, program: str, folder: Path) -> Tuple[str, str]:
     shutil.copytree(SOURCES, folder / 'sources', ignore=shutil.ignore_patterns('__pycache__', 'tests', 'build', '*.egg-info'))
     environment = {} if RELEASED.is_file() else {'PICKLESTEP_PROGRAM': program}
     if not environment:
-        # The wheel looks for the released program beside its sources.
+        # The wheel looks for the released program next to its sources.
         shutil.copytree(RELEASED.parent, folder / 'dist' / 'linux-x86_64')
     installed = str(folder / 'environment' / 'bin' / 'python')
     wheels = folder / 'wheels'

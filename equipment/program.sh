@@ -11,7 +11,7 @@ complain() {
     echo "picklestep: $1" >&2
 }
 
-# The lines of crates.txt for the program and for each crate that it stands on, sorted. No crate of tests is among them: it
+# The lines of crates.txt for the program and for each crate that it uses, sorted. No crate of tests is among them: it
 # changes nothing of the program.
 product_lines() {
     local -A libraries=() seen=()
@@ -52,7 +52,7 @@ sum_of_sources() {
 }
 
 # newer_source FILE [FOLDER]: a source, or a file of FOLDER, that is newer than FILE; nothing where there is none. The folders
-# count too: their times tell that a file was taken away.
+# count too: their times show that a file was taken away.
 newer_source() {
     shopt -s nullglob
     find "$root"/crates.txt "$root"/crates/*/{src,specs,proofs} "${@:2}" -newer "$1" -print -quit 2>/dev/null

@@ -27,7 +27,7 @@ LISTING = """\
 highest protocol among opcodes = 1
 """
 DIST = "dist/linux-x86_64"
-# What stands on the path in the place of the toolchain: it writes down that it was called, and builds what it is told to.
+# What is on the path instead of the toolchain: it writes down that it was called, and builds what it is asked to.
 STAND_IN = """\
 #!/bin/bash
 echo "$*" >>"$CALLED"
@@ -203,7 +203,7 @@ def program_changed(releases: Releases) -> str:
 
 
 def crates_changed(releases: Releases) -> str:
-    """A crate of tests does not count, and one that the program stands on does."""
+    """A crate of tests does not count, and one that the program uses does."""
     at = releases.copy("crates")
     text = (at / "crates.txt").read_text()
     for part in ("src", "specs"):

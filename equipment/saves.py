@@ -1,4 +1,4 @@
-"""Saves documents where something stands in the way, from outside: no file may be lost."""
+"""Saves documents where something is in the way, from outside: no file may be lost."""
 
 from __future__ import annotations
 
@@ -65,7 +65,7 @@ class Saves:
         limit: int | None = None,
         **environment: str,
     ) -> Run:
-        """Saves `source` to `out`. With a limit no file may grow past so many bytes, and the signal of that is ignored."""
+        """Saves `source` to `out`. With a limit no file may grow past this many bytes, and the signal of that is ignored."""
 
         def hold() -> None:
             if limit is not None:

@@ -1,10 +1,10 @@
 """Gives the program real pickles one after another in one input, with --many, and goes there and back.
 
-Every pickle stands twice in a row, and three at random stand in a row. What is listed follows from the stored listings, which come from
+Every pickle comes twice in a row, and three at random come in a row. What is listed follows from the stored listings, which come from
 Python's pickletools: each up to its STOP with its offsets moved, up to the first refusal or fault.
 Of some files twice in a row no stored listing says what is listed: those that are cut, so that the first goes on in the second, those with
-bytes after STOP, and one with a frame that goes on after its STOP. They stand twice in a row as they are. Their items are those of Python's
-pickletools, and the conversation ends as the listing does. The cut ones stand behind a whole one, too.
+bytes after STOP, and one with a frame that goes on after its STOP. They come twice in a row as they are. Their items are those of Python's
+pickletools, and the conversation ends as the listing does. The cut ones come after a whole one, too.
 A conversation goes to the end of each pickle, and back over the same places, where the same has to be shown.
 """
 
@@ -123,7 +123,7 @@ def broken_line(broken: str, base: int, objects: int) -> str:
 
 
 def expect(pickles: Sequence[Pickle], objects: Sequence[int]) -> Expected:
-    """What is expected of pickles that make so many objects each."""
+    """What is expected of pickles that make this many objects each."""
     lines: list[str] = []
     ends: list[tuple[int, int]] = []
     base = place = 0

@@ -33,7 +33,7 @@ def platform_tag() -> str:
 
 
 class BuildWithProgram(build_py):
-    """Puts the program beside the modules."""
+    """Puts the program next to the modules."""
 
     def run(self) -> None:
         super().run()

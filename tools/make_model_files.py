@@ -4,7 +4,7 @@
     /usr/bin/python3 tools/make_model_files.py [FOLDER]
 
 Needs torch, numpy, joblib, scikit-learn and pandas (Debian: python3-torch python3-numpy python3-joblib python3-sklearn
-python3-pandas). The files stand in the repository, so that the tests need none of these. `WRITTEN_BY.txt` is written
+python3-pandas). The files are in the repository, so that the tests need none of these. `WRITTEN_BY.txt` is written
 with them: the versions, and for each file the call that made it and the names that Python's `pickletools` finds in its
 pickles where these can be cut out with the standard library alone.
 """
@@ -74,7 +74,7 @@ def tensors() -> dict[str, Any]:
 
 
 def trained() -> dict[str, Any]:
-    """A checkpoint as training scripts write it: the model, the optimizer, and where training stood."""
+    """A checkpoint as training scripts write it: the model, the optimizer, and where training was."""
     model = layers()
     optimizer = torch.optim.Adam(model.parameters(), lr=0.01)
     model(torch.ones(3, 4)).sum().backward()
@@ -256,7 +256,7 @@ def names_in(content: bytes) -> set[str]:
             last = value if isinstance(value, str) else None
             if last is not None:
                 texts.append(last)
-    except Exception:  # raw storages and arrays stand among or after the opcodes
+    except Exception:  # raw storages and arrays are among or after the opcodes
         pass
     return names
 

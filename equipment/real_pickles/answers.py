@@ -8,7 +8,7 @@ import io
 import pickletools
 import re
 
-# the words of each rule stand in equipment/real_pickles/TABLE.md
+# the words of each rule are in equipment/real_pickles/TABLE.md
 RULES = {
     'payloads': 'Payloads are not interpreted. Python reads lines and texts as numbers, escapes, ASCII or UTF-8 and refuses what '
                 'is none; here the argument only has its shape.',
@@ -17,7 +17,7 @@ RULES = {
     'decimal': 'The key of GET and PUT is one or more decimal digits, at most 18446744073709551615. Python takes whatever its '
                '`int` takes: signs, blanks, underscores, carriage returns, any size.',
     'quotes': 'The line of a STRING has a quote at both ends, which are two bytes; Python takes one quote for both.',
-    'frames': 'An opcode stands whole inside one frame or whole outside all frames, and a frame ends with the file at the '
+    'frames': 'An opcode is whole inside one frame or whole outside all frames, and a frame ends with the file at the '
               'latest. `pickletools` reads FRAME as any number.',
     'marks': 'No opcode reaches below the topmost mark unless it takes the mark; in `pickletools.dis` a mark counts as an object '
              'there. OBJ asks for an object above its mark.',
@@ -30,7 +30,7 @@ RULES = {
 # those by which this project may stop before Python does
 EARLIER = {'decimal', 'quotes', 'frames', 'marks', 'pairs', 'kinds', 'numbers'}
 
-# refusals that no answer of Python tells: the pickle's name, the opcode that is refused (the first one), the rule, the text
+# refusals that no answer of Python shows: the pickle's name, the opcode that is refused (the first one), the rule, the text
 OWN_REFUSALS = {
     'objects_under_a_mark': ('TUPLE2', 'marks', 'S2 stack underflow'),
     'double_of_a_mark': ('DUP', 'marks', 'S2 stack underflow'),
@@ -149,7 +149,7 @@ def without_interpretation():
 
 
 class Overwritten(dict):
-    """A memo for dis that has an entry only where an opcode gets it: so dis stores entries anew."""
+    """A memo for dis that has an entry only where an opcode gets it: so dis stores entries again."""
 
     def __init__(self, reads):
         super().__init__()

@@ -1,4 +1,4 @@
-"""Pickles that stand in CPython's own tests; Python 2 wrote many of them. They are copied and not loaded."""
+"""Pickles from CPython's own tests; Python 2 wrote many of them. They are copied and not loaded."""
 import ast
 import os.path
 import test.pickletester as tester
@@ -25,7 +25,7 @@ FILES = [
     ('randv3.pck', 'python_3_random', 'a random generator, by Python 3'),
 ]
 
-# methods of test/pickletester.py: the first bytes that stand in each
+# methods of test/pickletester.py: the first bytes that are in each
 METHODS = [
     ('test_load_python2_str_as_bytes', 'python_2_string', 'a string, by Python 2'),
     ('test_load_python2_unicode_as_str', 'python_2_unicode', 'a text, by Python 2'),
@@ -47,7 +47,7 @@ METHODS = [
 
 
 def bytes_of(method, tree):
-    """The first bytes that stand in a method."""
+    """The first bytes that are in a method."""
     for node in ast.walk(tree):
         if isinstance(node, ast.FunctionDef) and node.name == method:
             # by its place in the text, since a walk does not keep the order

@@ -53,7 +53,7 @@ def pickles():
         yield 'numpy_arrays_protocol_%d' % protocol, pickle.dumps(arrays(), protocol), 'numpy arrays'
     for protocol in (3, 4):
         yield 'numpy_records_protocol_%d' % protocol, pickle.dumps(records(), protocol), 'numpy records and a masked array'
-    yield 'numpy_arrays_out_of_band_protocol_5', out_of_band(), 'numpy arrays beside the pickle'
+    yield 'numpy_arrays_out_of_band_protocol_5', out_of_band(), 'numpy arrays outside the pickle'
     for protocol in (2, 4, 5):
         yield 'pandas_frame_protocol_%d' % protocol, pickle.dumps(frame(), protocol), 'a pandas frame'
     yield 'pandas_series_protocol_4', pickle.dumps(series(), 4), 'a pandas series'

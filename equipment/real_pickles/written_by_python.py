@@ -245,7 +245,7 @@ def with_extension_codes():
 
 
 def with_persistent_ids(protocol):
-    """Points stand outside the pickle, under a line at protocol 0 and else under an object."""
+    """Points are outside the pickle, under a line at protocol 0 and else under an object."""
     output = io.BytesIO()
     pickler = PersistentPickler(output, protocol)
     pickler.lines = protocol == 0
@@ -254,7 +254,7 @@ def with_persistent_ids(protocol):
 
 
 def with_buffers(out_of_band):
-    """Buffers, in the pickle or beside it."""
+    """Buffers, in the pickle or outside it."""
     views = [pickle.PickleBuffer(b'read only'), pickle.PickleBuffer(bytearray(b'writable')), pickle.PickleBuffer(b'')]
     beside = []
     return pickle.dumps(['buffers', views, views[0]], 5, buffer_callback=beside.append if out_of_band else None)
@@ -294,7 +294,7 @@ def pickles():
     for protocol in (0, 2, 4):
         yield 'persistent_ids_protocol_%d' % protocol, with_persistent_ids(protocol), 'persistent ids'
     yield 'extension_codes_protocol_2', with_extension_codes(), 'codes of one, two and four bytes instead of names'
-    yield 'buffers_out_of_band_protocol_5', with_buffers(True), 'buffers beside the pickle'
+    yield 'buffers_out_of_band_protocol_5', with_buffers(True), 'buffers outside the pickle'
     yield 'buffers_in_band_protocol_5', with_buffers(False), 'buffers in the pickle'
     yield 'fast_mode_protocol_2', in_fast_mode(), 'a pickler without a memo'
     yield 'optimized_protocol_4', pickletools.optimize(pickle.dumps(nested(), 4)), 'without the memo entries that nothing gets'

@@ -20,7 +20,7 @@ BLOCK = re.compile(r"^ *pickles?( [0-9a-f ]+)?$", re.MULTILINE)
 
 
 def examples_of(page: str) -> Iterator[tuple[str, str]]:
-    """Each command of a page, which stands after `$ `, with what it has to write."""
+    """Each command of a page, which comes after `$ `, with what it has to write."""
     command, wanted = "", ""
     for line in [*page.splitlines(), ""]:
         if command and (line.startswith(COMMAND) or not line.startswith(MARGIN)):

@@ -1,4 +1,4 @@
-"""All groups of trials, in the order in which they are told."""
+"""All groups of trials, in the order in which they are printed."""
 
 from __future__ import annotations
 
@@ -21,7 +21,7 @@ from . import examples, large, listings, memory, options, program
 from .room import Room, Word
 from .trial import Group, Noted, Trial, Verdict
 
-# Random cases end with what comes first. They run beside the other groups, which take longer.
+# Random cases end with what comes first. They run together with the other groups, which take longer.
 CASES = 1000
 SECONDS = 110
 

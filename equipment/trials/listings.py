@@ -1,4 +1,4 @@
-"""What the program lists of the real pickles, beside the stored listings, which are made from Python's pickletools.
+"""What the program lists of the real pickles, against the stored listings, which are made from Python's pickletools.
 
 A stored listing has no texts of arguments. Of each line that the program writes the text of the argument is left out too; a note
 `(MARK at n)` or `(as n)` stays. An argument's text ends in a quote, a digit or a letter, so that no argument looks like a note.

@@ -230,7 +230,7 @@ def debugger(room: Room) -> list[Word]:
 
 
 def heard(device: int, lines: int) -> bytes:
-    """What a device gives until there are so many lines, or nothing comes for a while."""
+    """What a device gives until there are this many lines, or nothing comes for a while."""
     text = b""
     while text.count(b"\n") < lines and select.select([device], [], [], SECONDS / 2)[0]:
         part = os.read(device, 65_536)

@@ -25,7 +25,7 @@ class Unknown(Exception):
 
 
 class Aside:
-    """A group that runs in a process of its own, beside the others."""
+    """A group that runs in a process of its own, together with the others."""
 
     def __init__(self, group: AnyGroup, wanted: Optional[Set[str]]) -> None:
         context = multiprocessing.get_context("fork")
@@ -58,7 +58,7 @@ def choose(room: Room, names: Sequence[str]) -> Chosen:
     chosen: dict[str, Optional[Set[str]]] = {group.name: None for group in groups if group.name in names}
     rest = set(names) - set(chosen)
     known: set[str] = set()
-    # A name may stand in two groups, and means both trials then.
+    # A name may be in two groups, and means both trials then.
     for group in groups if rest else []:
         wanted = rest.intersection(group.names())
         if wanted:
@@ -77,7 +77,7 @@ def run_groups(chosen: Chosen, report: Report) -> None:
         try:
             for verdict in found:
                 report.tell(verdict)
-        except Exception as fault:  # (what tells the trials of a group apart has failed, and the next group still runs)
+        except Exception as fault:  # (what lists the trials of a group has failed, and the next group still runs)
             report.tell(Verdict(group.name, group.name, f"{type(fault).__name__}: {fault}"[:600]))
 
 
@@ -98,7 +98,7 @@ def count_proofs(report: Report, log: Path, status: int) -> None:
 
 
 def run_all(room: Room, log: Path, status: int, seconds: int) -> int:
-    """Runs all groups, if the proofs passed, and tells what the whole took. Returns the status."""
+    """Runs all groups, if the proofs passed, and prints what the whole took. Returns the status."""
     report = Report()
     begin = tried = time.monotonic()
     count_proofs(report, log, status)
@@ -110,7 +110,7 @@ def run_all(room: Room, log: Path, status: int, seconds: int) -> int:
         chosen = choose(room, [])
         run_groups([pair for pair in chosen if pair[0].name != MEMORY], report)
         tried = time.monotonic()
-        # Nothing runs beside these trials, so that none of them lacks memory by chance.
+        # Nothing else runs during these trials, so that none of them runs out of memory by chance.
         run_groups([pair for pair in chosen if pair[0].name == MEMORY], report)
     print(f"memory: {room.requests} requests refused")
     of_memory = time.monotonic() - tried if tried > begin else 0

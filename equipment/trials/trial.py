@@ -1,4 +1,4 @@
-"""Trials, the groups that they come in, and what is told of them."""
+"""Trials, the groups that they come in, and what is printed of them."""
 
 from __future__ import annotations
 
@@ -14,7 +14,7 @@ class Skip(Exception):
 
 @dataclass(frozen=True)
 class Noted:
-    """What is wrong, or an empty text, with words that are told after the trial's name."""
+    """What is wrong, or an empty text, with words that are printed after the trial's name."""
 
     why: str
     note: str
@@ -55,8 +55,8 @@ def judge(trial: Trial) -> Verdict:
 class Group:
     """Trials under one name. They are made only when they are needed, since some read many files.
 
-    `closing` says at the end how much was tried, and is told as one more trial. A group with `aside`
-    runs in a process of its own beside the others; `aside` is called there first.
+    `closing` says at the end how much was tried, and is printed as one more trial. A group with `aside`
+    runs in a process of its own together with the others; `aside` is called there first.
     """
 
     name: str
@@ -81,7 +81,7 @@ class Group:
 
 @dataclass
 class Report:
-    """Tells each verdict as it comes, and counts."""
+    """Prints each verdict as it comes, and counts."""
 
     passed: int = 0
     failed: int = 0
@@ -98,13 +98,13 @@ class Report:
             self.fail(f"FAIL {verdict.told}: {verdict.why}{again}", 1)
 
     def fail(self, text: str, count: int) -> None:
-        """Counts failures, and keeps what is told of them for the end."""
+        """Counts failures, and keeps what is printed of them for the end."""
         print(text, flush=True)
         self.failures.append(text)
         self.failed += count
 
     def close(self) -> int:
-        """Tells the failures again, where nobody has to look for them, and returns the status."""
+        """Prints the failures again, where nobody has to look for them, and returns the status."""
         for text in self.failures:
             print(text)
         print(f"{self.passed} passed, {self.failed} failed", flush=True)

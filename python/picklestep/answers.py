@@ -35,10 +35,10 @@ class Answer(Sequence[Line]):
 
     def __init__(self, text: str, refused_at: Optional[int] = None) -> None:
         self.text = text
-        self._refused_at = refused_at  # the offset of a refused opcode, where the text does not tell it
+        self._refused_at = refused_at  # the offset of a refused opcode, where the text does not show it
 
     def _read(self, match: 're.Match[str]') -> Line:
-        """What a line of the text tells."""
+        """What a line of the text says."""
         raise NotImplementedError
 
     @cached_property
@@ -128,7 +128,7 @@ class Listing(Answer[Opcode]):
 
     @property
     def kept(self) -> int:
-        """How many bytes stand after STOP. With `many` there are none.
+        """How many bytes are after STOP. With `many` there are none.
 
         >>> import picklestep
         >>> picklestep.listing(b'N.N.').kept, picklestep.listing(b'N.N.', many=True).kept
@@ -243,7 +243,7 @@ class Calls(Answer[Reach]):
 
     @property
     def kept(self) -> int:
-        """How many bytes stand after STOP. With `many` there are none.
+        """How many bytes are after STOP. With `many` there are none.
 
         >>> import picklestep
         >>> picklestep.calls(b'N.cos\\ngetcwd\\n.').kept

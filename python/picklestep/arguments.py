@@ -1,7 +1,7 @@
 """Arguments of opcodes, made from values.
 
 Which form an argument has is asked of the standard library (`pickletools`). A value is written as Python's own picklers write it. Bytes
-are taken as they stand: as the payload of a form with a length, and as the line (without its newline) of a form that is a line. So the
+are taken as they are: as the payload of a form with a length, and as the line (without its newline) of a form that is a line. So the
 `argument` of an `Opcode` can be given back.
 """
 
@@ -45,7 +45,7 @@ def _fixed(layout: str) -> Callable[[ArgumentValue], bytes]:
 
 
 def _counted(width: int) -> Callable[[ArgumentValue], bytes]:
-    """A writer of texts and bytes behind a length of so many bytes."""
+    """A writer of texts and bytes after a length of this many bytes."""
 
     def write(value: ArgumentValue) -> bytes:
         data = _bytes_of(value)
@@ -55,7 +55,7 @@ def _counted(width: int) -> Callable[[ArgumentValue], bytes]:
 
 
 def _counted_long(width: int) -> Callable[[ArgumentValue], bytes]:
-    """A writer of whole numbers behind a length of so many bytes."""
+    """A writer of whole numbers after a length of this many bytes."""
 
     def write(value: ArgumentValue) -> bytes:
         data = value if isinstance(value, bytes) else pickle.encode_long(_whole(value))
@@ -104,7 +104,7 @@ def _float(value: ArgumentValue) -> bytes:
 
 
 def _quoted(value: ArgumentValue) -> bytes:
-    """A text in quotes, with Python's escapes. Bytes are the line as it stands, with its quotes."""
+    """A text in quotes, with Python's escapes. Bytes are the line as it is, with its quotes."""
     return _line(repr(value.encode('utf-8', 'surrogatepass'))[1:]) if isinstance(value, str) else _line(value)
 
 

@@ -46,7 +46,7 @@ def find_program() -> str:
 
 
 def _command(words: Sequence[str], memory: Optional[int]) -> List[str]:
-    """The command that runs the program on these words, with at most so many bytes of memory."""
+    """The command that runs the program on these words, with at most this many bytes of memory."""
     command = [find_program(), *words]
     if memory is None:
         return command

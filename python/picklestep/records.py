@@ -21,7 +21,7 @@ class End:
 
     `how` is 'stopped' (STOP was read), 'refused' (the machine refused an opcode) or 'fault' (the bytes cannot be read on).
     `code` is the code of the refusal or fault ('S2', 'F1'), and `text` the program's words for it. `offset` is where the
-    refused opcode or the fault is in the bytes, and `item` the place of the refused opcode. (`picklestep.scan` tells its place alone.)
+    refused opcode or the fault is in the bytes, and `item` the place of the refused opcode. (`picklestep.scan` gives its place alone.)
 
     >>> import picklestep
     >>> picklestep.listing(b'N').end
@@ -102,7 +102,7 @@ class Object:
 
 @dataclass(frozen=True, **_SLOTS)
 class Ref:
-    r"""An object of which only the number is told.
+    r"""An object of which only the number is shown.
 
     >>> import picklestep
     >>> picklestep.calls(b'ca\nb\n]R.')[1].value

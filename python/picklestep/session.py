@@ -62,7 +62,7 @@ class _Talk:
         return text
 
     def edits(self) -> List[bytes]:
-        """The lines of the edits that stand now. Other threads may go on with the session."""
+        """The lines of the edits that are not undone. Other threads may go on with the session."""
         with self._lock:
             return list(self._edits)
 
@@ -84,7 +84,7 @@ class _Talk:
             raise
 
     def _note(self, line: bytes, answer: str) -> None:
-        """Keeps the edits that stand, each with the place that it was made at."""
+        """Keeps the edits that are not undone, each with the place that it was made at."""
         word, _, place = answer.partition(' ')
         if word == 'edited':
             words = line.split()
@@ -143,7 +143,7 @@ def _place_of(answer: str) -> int:
 
 
 class Session(contextlib.AbstractContextManager['Session']):
-    """A conversation with the program about one pickle, or with `many` about several that stand one after another.
+    """A conversation with the program about one pickle, or with `many` about several that follow one another.
 
     A place counts the opcodes before it; `at` names it by its offset in the pickle as it is. What the program refuses raises `Refused`,
     and the session is as it was before. With `window`, only that many steps are remembered to go back by; the answers are the same.
@@ -168,7 +168,7 @@ class Session(contextlib.AbstractContextManager['Session']):
         self._talk = talk
         self._finalizer = weakref.finalize(self, _close, talk, self._input)
         try:
-            self.where()  # a pickle that cannot be opened is told here
+            self.where()  # a pickle that cannot be opened is reported here
         except BaseException:
             self.close()
             raise
@@ -409,7 +409,7 @@ class Session(contextlib.AbstractContextManager['Session']):
     # --- The pickle as it is ---
 
     def bytes(self) -> _Bytes:
-        """The pickle with the edits that stand.
+        """The pickle with the edits that are not undone.
 
         >>> with Session(b'N.') as session:
         ...     session.replace(0, 'BININT1', 5), session.bytes()
@@ -421,7 +421,7 @@ class Session(contextlib.AbstractContextManager['Session']):
             return saved.read()
 
     def save(self, path: Union[str, 'os.PathLike[str]']) -> None:
-        """Writes the pickle with the edits that stand into a file, which may be the one that was opened.
+        """Writes the pickle with the edits that are not undone into a file, which may be the one that was opened.
 
         >>> import pathlib, tempfile
         >>> with tempfile.TemporaryDirectory() as folder, Session(b'N.') as session:

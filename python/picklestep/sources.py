@@ -14,11 +14,11 @@ class Readable(Protocol):
     """A binary file object, as far as it is needed."""
 
     def read(self, size: int, /) -> bytes:
-        """At most so many bytes more; none at the end."""
+        """At most this many bytes more; none at the end."""
         ...
 
 
-# A pickle: its bytes, the path of a file, or an open binary file (read from where it stands to its end).
+# A pickle: its bytes, the path of a file, or an open binary file (read from its position to its end).
 Source = Union[bytes, bytearray, memoryview, str, 'os.PathLike[str]', Readable]
 
 # The program refuses inputs above this many bytes.

@@ -55,7 +55,7 @@ def calls(source: Source, *, many: bool = False, timeout: Optional[float] = None
 
 
 def _report(kind: Type[_Report], word: str, source: Source, many: bool, timeout: Optional[float], memory: Optional[int]) -> _Report:
-    """An answer that counts opcodes and not bytes. Where one was refused, a listing tells its offset."""
+    """An answer that counts opcodes and not bytes. Where one was refused, a listing shows its offset."""
     with Input(source) as given:
         begun = time.monotonic()
         answer = kind(_answer(word, given, many, timeout, memory))

@@ -55,7 +55,7 @@ def number_of(text: str) -> Union[int, float]:
 
 
 def _argument(text: str, at: int) -> Tuple[Argument, int]:
-    """The argument that stands at a place, if one does, and where it ends."""
+    """The argument at a place, if there is one, and where it ends."""
     match = _ATOM.match(text, at)
     if match is None:
         return None, at
@@ -69,7 +69,7 @@ def _argument(text: str, at: int) -> Tuple[Argument, int]:
 
 
 def opcode_of(line: str) -> Opcode:
-    """The opcode that a line of a listing tells.
+    """The opcode that a line of a listing shows.
 
     >>> opcode_of("   11: c        GLOBAL     'os' 'getcwd'")
     Opcode(offset=11, code=b'c', name='GLOBAL', argument=(b'os', b'getcwd'), note='', marks=1)
@@ -94,7 +94,7 @@ def opcode_at(match: 're.Match[str]') -> Opcode:
     return Opcode(int(offset), _CODES[code], name, argument, note, (match.start(3) - match.end(1) - 7) >> 2)
 
 
-# The codes as a listing shows them: four blanks for each mark stand between them and the name, and one more.
+# The codes as a listing shows them: four blanks for each mark are between them and the name, and one more.
 _CODES = {**{f'\\x{code:02x}': bytes((code,)) for code in range(256)}, **{chr(code): bytes((code,)) for code in range(33, 127)}}
 OPCODE = re.compile(r'^ *([0-9]+): (\S+) +([A-Z][A-Z0-9_]*)(?: +(-?[0-9]+)$| +(.*))?$', re.MULTILINE)
 
@@ -106,7 +106,7 @@ def item_at(match: 're.Match[str]') -> Item:
 
 
 def object_of(line: str) -> Object:
-    """The object that a line tells.
+    """The object that a line shows.
 
     >>> object_of('#3 list (#1) +#4').changes
     (Change(how='append', value=4, key=None),)
@@ -123,7 +123,7 @@ def object_of(line: str) -> Object:
 
 
 def _numbers(text: str) -> Tuple[int, ...]:
-    """The numbers of objects that stand with blanks between them."""
+    """The numbers of objects, with blanks between them."""
     return tuple(int(word[1:]) for word in text.split())
 
 
@@ -133,7 +133,7 @@ def _change(match: 're.Match[str]') -> Change:
 
 
 def end_of(text: str, item: Optional[int] = None) -> End:
-    """The end that a text of the program tells: 'stopped', or a code with its words.
+    """The end that a text of the program shows: 'stopped', or a code with its words.
 
     >>> end_of('F1 ended at 3')
     End(how='fault', code='F1', text='F1 ended at 3', offset=3, item=None)
@@ -147,7 +147,7 @@ def end_of(text: str, item: Optional[int] = None) -> End:
 
 
 def where_of(line: str) -> Where:
-    """What the line of `where` tells.
+    """What the line of `where` says.
 
     >>> where_of('at 2 of 7, offset 11, buffers 0, result none, end stopped').place
     2
@@ -160,7 +160,7 @@ def where_of(line: str) -> Where:
 
 
 def stack_of(line: str) -> Tuple[Union[Ref, Mark], ...]:
-    """What the line of `stack` tells, from the bottom.
+    """What the line of `stack` says, from the bottom.
 
     >>> stack_of('stack #0 (2 #1')
     (Ref(number=0), Mark(place=2), Ref(number=1))
@@ -169,7 +169,7 @@ def stack_of(line: str) -> Tuple[Union[Ref, Mark], ...]:
 
 
 def memo_of(line: str) -> Dict[int, int]:
-    """What the line of `memo` tells: the number of the object under each key.
+    """What the line of `memo` says: the number of the object under each key.
 
     >>> memo_of('memo 0=#0 5=#3')
     {0: 0, 5: 3}
@@ -179,7 +179,7 @@ def memo_of(line: str) -> Dict[int, int]:
 
 
 class _Units:
-    """Reads what stands in a line of `calls`: units with blanks between them, up to the word that ends them."""
+    """Reads what is in a line of `calls`: units with blanks between them, up to the word that ends them."""
 
     _token = re.compile(rf"[ ,]*({QUOTED}|#[0-9]+|[()]|\+[0-9]+|{_NUMBER}|[a-z-]+)")
 
@@ -236,7 +236,7 @@ class _Units:
         return self.payload(word)
 
     def payload(self, kind: str) -> Brief:
-        """The value after the word that tells its kind. Of a number that was cut the first bytes are told."""
+        """The value after the word for its kind. Of a number that was cut the first bytes are shown."""
         text = self.take()
         more = self.more()
         if text[0] == "'":
@@ -293,7 +293,7 @@ def _name(what: str, units: List[Value]) -> Tuple[Name, List[Value]]:
 
 
 def reach_of(line: str) -> Reach:
-    """What a line of `calls` tells.
+    """What a line of `calls` says.
 
     >>> reach_of("   23: call 'posix' 'system' ('id') as #3").name
     Global(module=b'posix', name=b'system')

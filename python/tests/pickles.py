@@ -19,7 +19,7 @@ HOSTILE = b'cposix\nsystem\n(X\x02\x00\x00\x00idtR.'
 
 @dataclass(frozen=True)
 class Known:
-    """An opcode as Python's own `pickletools` reads it: its argument as the bytes that stand in the file."""
+    """An opcode as Python's own `pickletools` reads it: its argument as the bytes that are in the file."""
 
     offset: int
     name: str

@@ -1,4 +1,4 @@
-"""Listings, objects and calls: of the real pickles beside `pickletools`, and of small ones beside what the specification says."""
+"""Listings, objects and calls: of the real pickles against `pickletools`, and of small ones against what the specification says."""
 
 from __future__ import annotations
 
@@ -10,7 +10,7 @@ from picklestep import (Brief, Briefs, Change, End, Extension, Global, Object, O
 from picklestep.arguments import encoded
 from pickles import HOSTILE, LIST, Known, disassembled, known_opcodes, real_pickles
 
-# Arguments that the program tells as they stand in the file, without their newline.
+# Arguments that the program prints as they are in the file, without their newline.
 _LINES = ('INT', 'LONG', 'FLOAT', 'STRING', 'UNICODE', 'PERSID')
 # Opcodes whose argument becomes the text of an object.
 _NO_TEXT = ('PROTO', 'FRAME', 'GET', 'BINGET', 'LONG_BINGET', 'PUT', 'BINPUT', 'LONG_BINPUT')

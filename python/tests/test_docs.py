@@ -20,7 +20,7 @@ _APART = ('picklestep.scan', 'picklestep.view', 'picklestep.__main__')
 
 
 class Examples(unittest.TestCase):
-    """Each example gives what stands below it."""
+    """Each example gives what is below it."""
 
     def setUp(self) -> None:
         folder = tempfile.TemporaryDirectory()

@@ -27,7 +27,7 @@ from picklestep.scan.allow import Allowed, SETS, read_allowed
 from picklestep.scan.results import from_json, to_json
 from scan_support import HARMLESS, HOSTILE, MODELS, ScanCase, names_of, notes_of, places_of
 
-# Their arrays or storages stand between or after the opcodes, so reading ends there.
+# Their arrays or storages are between or after the opcodes, so reading ends there.
 NOT_WHOLE = {'joblib_arrays.joblib', 'joblib_arrays_zlib.joblib', 'sklearn_logistic.joblib', 'sklearn_logistic_zlib.joblib',
              'torch_state_legacy.pt', 'torch_module_legacy.pt'}
 
@@ -254,7 +254,7 @@ class Containers(ScanCase):
 
     def test_items_that_numpy_takes_for_objects(self) -> None:
         # numpy 1.24 runs the pickle behind each of these headers with `allow_pickle=True` but the last, which older ones take.
-        # (CPython goes on at p+1, where the program ends: nothing but the header tells that this is a pickle)
+        # (CPython goes on at p+1, where the program ends: nothing but the header shows that this is a pickle)
         hidden = b'Np+1\n0\x95\x00\x00' + HOSTILE
         for items in ("'O'", "'1O'", "'|O8'", "'i4,O'", "'object'", "'(2,)O'", "'O,'", "'M8[ns],O'", "[('a', '<i4'), ('b', '1O')]",
                       "[('a', [('b', 'O')])]", "[('a', 'i4,O')]", "[(('t', 'a'), 'O')]", "[('a', 'O', (2,))]", "('O', (2,))",

@@ -68,7 +68,7 @@ class HostileZip(ScanCase):
 
     def test_two_names_for_one_member(self) -> None:
         self.found(zip_of([Made(b'a.txt', HOSTILE, 8, local_name=b'data.pkl')]), "the name before its data is another one: 'data.pkl'")
-        # A pickle that nothing but its name tells: both names count.
+        # A pickle that nothing but its name shows: both names count.
         for one, other in ((b'a.txt', b'data.pkl'), (b'data.pkl', b'a.txt'), (b'data.pkl\0.txt', b'data.pkl\0.txt')):
             result = self.look('a.zip', zip_of([Made(one, b'\x00', 8, local_name=other)]))
             self.assertIn('data.pkl', places_of(result)[0])
@@ -286,7 +286,7 @@ class Bombs(ScanCase):
             result = self.look('a.pkl', b'N.', Options(Limits(seconds=1)))
         self.assertLess(time.monotonic() - begin, 10)
         self.assertIn('! : the program took more than 1 seconds: the rest of it is not looked at', notes_of(result))
-        self.assertEqual(names_of(result), ['os.x'])  # (what it said before is told)
+        self.assertEqual(names_of(result), ['os.x'])  # (what it said before is reported)
 
     def test_stored_members_that_share_their_bytes(self) -> None:
         data = shared(Made(b'name', HARMLESS * 1000), 100)
@@ -323,9 +323,9 @@ def shared(made: Made, count: int) -> bytes:
 
 def two_directories(hidden: Sequence[Made]) -> bytes:
     """An archive with one closing record and two directories. One ends at the record and names one member, which begins with ff. The record
-    tells the offset of the other one, which stands inside that member like the members that it names.
+    has the offset of the other one, which is inside that member like the members that it names.
 
-    Whoever counts the directory's size back adds the difference to all offsets, so bytes of no member stand before it.
+    Whoever counts the directory's size back adds the difference to all offsets, so bytes of no member are before it.
     """
     body = local(Made(b'archive/pad', bytes(2000)))
     first = len(body)
@@ -443,7 +443,7 @@ class HostileTar(ScanCase):
             self.assertIsNone(result.error)
 
     def test_sizes_that_readers_take_differently(self) -> None:
-        # tarfile takes the size of the records, and busybox that of the header. Behind the smaller one other members stand.
+        # tarfile takes the size of the records, and busybox that of the header. After the smaller one come other members.
         inner = self.tar(b=HOSTILE)[:1024]
         for kind in (b'x', b'X', b'g'):
             for told, size in ((1024, 0), (0, 1024), (1024, 5), (3, 1024)):
@@ -492,7 +492,7 @@ class HostileTar(ScanCase):
 
 
 class HostileFolders(ScanCase):
-    """What else may stand in a folder."""
+    """What else may be in a folder."""
 
     def test_each_ends_in_a_line_of_its_own(self) -> None:
         self.file('a.pkl', HOSTILE)

@@ -197,7 +197,7 @@ class Runs(RunCase):
             if python is None:
                 continue
             with self.subTest(python):
-                # (the line that counts is wiped out at the last file, the bar of `rich` stands with it)
+                # (the line that counts is wiped out at the last file, the bar of `rich` is with it)
                 self.assertRegex(re.sub(r'\x1b\[[0-9;?]*[a-zA-Z]', '', self.on_terminal(python)), '[45] of 5 files')
 
     def on_terminal(self, python: str) -> str:

@@ -228,7 +228,7 @@ class Edits(unittest.TestCase):
 
 
 class Walks(unittest.TestCase):
-    """Random walks over sessions of real pickles beside the program's own text of the same lines."""
+    """Random walks over sessions of real pickles against the program's own text of the same lines."""
 
     def test_walks(self) -> None:
         pickles = real_pickles()

@@ -1,4 +1,4 @@
-"""The page of a pickle: what it is told, who may ask, and how it ends. No browser is needed."""
+"""The page of a pickle: what it is given, who may ask, and how it ends. No browser is needed."""
 
 from __future__ import annotations
 
@@ -48,7 +48,7 @@ def opened(data: Any, many: bool = False) -> Iterator[Document]:
 
 
 class Documents(unittest.TestCase):
-    """What the page is told about a pickle."""
+    """What the page is given about a pickle."""
 
     def test_lines_are_those_of_pickletools(self) -> None:
         for path in sorted(DATA.glob('sklearn_*.pkl')):

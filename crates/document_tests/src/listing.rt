@@ -17,7 +17,7 @@ const ROWS: [(&[u8], &str, u8); 5] = [
         "    0: \\x80 PROTO      4\n    2: \\x95 FRAME      6\n   11: ]    EMPTY_LIST\n   12: \\x94 MEMOIZE    (as 0)\n   13: K    BININT1    1\n   15: a    APPEND\n   16: .    STOP\nhighest protocol among opcodes = 4\n",
         0,
     ),
-    // Something is left on the stack, and bytes stand after STOP.
+    // Something is left on the stack, and there are bytes after STOP.
     (
         b"(K\x01.XY",
         "    0: (    MARK\n    1: K        BININT1    1\n    3: .        STOP\nleft: 0 objects, 1 marks\nkept: 2 bytes after STOP\nhighest protocol among opcodes = 1\n",
@@ -106,7 +106,7 @@ const MANY: [(&[u8], &str, u8); 12] = [
     ),
 ];
 
-/// The dump with BININT2 in the place of BININT1.
+/// The dump with BININT2 instead of BININT1.
 const REPLACED: &str =
     "    0: \\x80 PROTO      4\n    2: \\x95 FRAME      7\n   11: ]    EMPTY_LIST\n   12: \\x94 MEMOIZE    (as 0)\n   13: M    BININT2    513\n   16: a    APPEND\n   17: .    STOP\nhighest protocol among opcodes = 4\n";
 

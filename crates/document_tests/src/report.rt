@@ -96,7 +96,7 @@ const MANY: [(&[u8], &str, u8); 8] = [
     (b".N.", "refused: item 0: S2 stack underflow\n", 1),
 ];
 
-/// What is shown of an object after so many opcodes.
+/// What is shown of an object after this many opcodes.
 const SHOWN: [(&[u8], usize, u32, &str); 5] = [
     // A list appended to itself by way of the memo.
     (
@@ -130,7 +130,7 @@ const SHOWN: [(&[u8], usize, u32, &str); 5] = [
     ),
 ];
 
-/// The stack after so many opcodes.
+/// The stack after this many opcodes.
 const STACKS: [(&[u8], usize, &str); 7] = [
     (b"]q\x00(h\x00h\x00e.", 5, "stack #0 (2 #0 #0\n"),
     (b"]q\x00(h\x00h\x00e.", 6, "stack #0\n"),
@@ -141,14 +141,14 @@ const STACKS: [(&[u8], usize, &str); 7] = [
     (b"N.", 0, "stack\n"),
 ];
 
-/// The memo after so many opcodes.
+/// The memo after this many opcodes.
 const MEMOS: [(&[u8], usize, &str); 3] = [
     (b"Nq\x05N\x94.", 4, "memo 1=#1 5=#0\n"),
     (b"K\x01q\x00K\x02q\x00h\x07.", 3, "memo 0=#0\n"),
     (b"N.", 1, "memo\n"),
 ];
 
-/// The machine after so many opcodes of a pickle, or nothing where memory is refused.
+/// The machine after this many opcodes of a pickle, or nothing where memory is refused.
 fn try_machine(alloc: Global, bytes: &[u8], count: usize) -> Option<Machine> {
     let document = Document::read(alloc, bytes).ok()?;
     let mut machine = Machine::new(alloc);
@@ -162,7 +162,7 @@ fn try_machine(alloc: Global, bytes: &[u8], count: usize) -> Option<Machine> {
     Some(machine)
 }
 
-/// The machine after so many opcodes of a pickle.
+/// The machine after this many opcodes of a pickle.
 fn machine_of(alloc: Global, bytes: &[u8], count: usize) -> Result<Machine, DocFault> {
     try_machine(alloc, bytes, count).ok_or(DocFault::Memory)
 }
@@ -325,7 +325,7 @@ fn insist_on_reading(alloc: Global, many: bool, bytes: &[u8]) -> Result<Document
     }
 }
 
-/// A machine after so many opcodes, where one request for memory may be refused.
+/// A machine after this many opcodes, where one request for memory may be refused.
 fn insist_on_running(alloc: Global, bytes: &[u8], count: usize) -> Result<Machine, DocFault> {
     match try_machine(alloc, bytes, count) {
         Some(machine) => Ok(machine),

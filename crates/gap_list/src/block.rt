@@ -30,7 +30,7 @@ impl<T, A: Allocator> Model for Block<T, A> {
     ghost also_shares = { λ b _ κ. block_lends T.row b.at b.slots κ };
 }
 
-/// A block of so many empty places.
+/// A block of this many empty places.
 pub(crate) fn allocate<T, A: Allocator>(
     alloc: &A,
     places: usize,

@@ -74,7 +74,7 @@ cut_long bytes = codes "int " ⧺ long_text (take most_bytes bytes) ⧺ over_tex
 
 -- ---- objects in brief
 
--- most as in the line of an object; a text stands alone
+-- most as in the line of an object; a text is alone
 unfoldable pub kind_brief : List Object → ℕ → Kind → List ℕ → List ℕ
 kind_brief heap id kind.None parts = kind_text kind.None
 kind_brief heap id kind.True parts = kind_text kind.True

@@ -55,7 +55,7 @@ pub record Changes (s t : State) : Type 0 where
   pub opaque : is_opaque old.kind ≡ true
   pub more : length old.changes < length new.changes
 
--- a line stands only where an opaque object, or a view of one, is made, where an opaque object gets changes, or at BUILD
+-- there is a line only where an opaque object, or a view of one, is made, where an opaque object gets changes, or at BUILD
 abbrev pub LinesReach : Type 0
 LinesReach = (d : Contents) (k : ℕ) (s t : State) → IsStep d k s t → (entry_at d k).text ≢ []
     → Makes s t ⊎ (Changes s t ⊎ ((o : Operation) × (item_at d k ≡ Some o) × (o.opcode ≡ op.Build)))

@@ -88,7 +88,7 @@ event_text heap (event.Made id) = made_at heap id
 event_text heap (event.State value target) = state_text heap value target
 event_text heap (event.Filled f count target) = filled_text f count target
 
--- the line of an event whose item stands at this offset
+-- the line of an event whose item is at this offset
 unfoldable pub event_line : ℕ → List Object → Event → List ℕ
 event_line offset heap e = right_aligned 5 (decimal offset) ⧺ codes ": " ⧺ event_text heap e ⧺ newline
 

@@ -12,7 +12,7 @@ pub fn no_line_no_reach()
     ensures { NoLineNoReach }
 {}
 
-/// A line stands only where such an object, or a view of one, is made, where such a one gets changes, or at BUILD.
+/// There is a line only where such an object, or a view of one, is made, where such a one gets changes, or at BUILD.
 pub fn lines_reach()
     ensures { LinesReach }
 {}

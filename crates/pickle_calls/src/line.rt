@@ -71,7 +71,7 @@ fn after_first(parts: &[ObjId]) -> &[ObjId]
     }
 }
 
-/// Writes a call whose arguments stand after the class.
+/// Writes a call whose arguments are after the class.
 #[tactic(auto, using(pickle_io::proofs::Devices::text_steps), unfolding(crate::specs::Line::obj_text))]
 fn write_obj<S: Sink>(heap: &[Object], parts: &[ObjId], sink: &mut S) -> Result<(), Failed>
     ensures { Writes (S.told sink.old) (S.told sink.new) result (obj_text heap.now parts.now) }
@@ -217,7 +217,7 @@ fn write_event<S: Sink>(heap: &[Object], event: Event, sink: &mut S) -> Result<(
     }
 }
 
-/// Writes the line of an event whose item stands at this offset.
+/// Writes the line of an event whose item is at this offset.
 #[tactic(auto, using(pickle_io::proofs::Devices::text_steps), unfolding(crate::specs::Line::event_line))]
 fn write_event_line<S: Sink>(
     offset: u64,

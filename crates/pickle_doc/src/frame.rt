@@ -15,7 +15,7 @@ impl Document {
     ghost use Rattle.pickle_doc.specs.Edit.{with_units, given_one, framed, frame_fault};
     ghost use Rattle.pickle_doc.specs.Turn.{Leads, place_of};
 
-    /// Why no frame can be put round so many items from item k on; none where one can, if there is memory. This takes none.
+    /// Why no frame can be put round this many items from item k on; none where one can, if there is memory. This takes none.
     pub fn frame_fault(&self, k: usize, count: usize) -> Option<EditFault>
         ensures { result ≡ frame_fault self.now.contents k count }
     {
@@ -45,7 +45,7 @@ impl Document {
         None
     }
 
-    /// What puts a frame round so many items from item k on.
+    /// What puts a frame round this many items from item k on.
     fn framing(&self, k: usize, count: usize) -> EditRecord
         requires { frame_fault self.now.contents k count ≡ None }
         ensures few { self.now.contents.next < 2 ^ 32 }
@@ -53,7 +53,7 @@ impl Document {
         ensures leads { Leads result (given_one self.now.contents) (given_one (with_units self.now.contents (framed k count self.now.contents.next self.now.contents.units))) }
         ensures room { length (flat (framed k count self.now.contents.next self.now.contents.units)) ≡ length (items_of self.now.contents) + 1 }
     {
-        // that there are so many items follows from the length alone
+        // that there are this many items follows from the length alone
         let _len = self.items.len();
         let first = total_size(&self.items, self.mark, k);
         let number = total_size(&self.items, self.mark, k + count) - first;
@@ -71,8 +71,8 @@ impl Document {
     /// 0 the frame is empty, and item k may be a FRAME. The record leads back.
     ///
     /// The first that applies: `NoSuchItem` (E1) where there are fewer items from item k on, `FrameItem` (E3) where one of them is
-    /// FRAME, `AfterStop` (E4) where the FRAME would stand after STOP, `AlreadyFramed` (E6) where one of them is a member, or
-    /// with count 0 where the FRAME would stand in a frame or in its bytes in the tail, `TooManyItems` (E7) where all identities
+    /// FRAME, `AfterStop` (E4) where the FRAME would be after STOP, `AlreadyFramed` (E6) where one of them is a member, or
+    /// with count 0 where the FRAME would be in a frame or in its bytes in the tail, `TooManyItems` (E7) where all identities
     /// are given, `TooLarge` (E8) where there would be more bytes than `LIMIT`; then `Memory` (M), only where there is no room
     /// and none could be had. Then nothing is changed.
     pub fn frame(&mut self, k: usize, count: usize) -> Result<EditRecord, EditFault>

@@ -65,7 +65,7 @@ impl Document {
     /// the frame that reaches into the tail. The record leads back.
     ///
     /// The first that applies: `NoSuchItem` (E1) where k is past the last place, `StopItem` (E2) and `FrameItem` (E3) where the
-    /// opcode is STOP or FRAME, `AfterStop` (E4) where it would stand after STOP, `TooManyItems` (E7) where all identities are
+    /// opcode is STOP or FRAME, `AfterStop` (E4) where it would be after STOP, `TooManyItems` (E7) where all identities are
     /// given, `TooLarge` (E8) where there would be more bytes than `LIMIT`; then `Memory` (M), only where there is no room and
     /// none could be had. Then nothing is changed.
     pub fn insert(&mut self, k: usize, op: Op) -> Result<EditRecord, EditFault>

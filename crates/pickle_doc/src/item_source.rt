@@ -11,7 +11,7 @@ pub trait ItemSource<'a>: Drop {
     // What is not read yet.
     ghost unread: { Self → Unread };
 
-    /// What stands next. An item is read; where there is none, no more is read.
+    /// What is next. An item is read; where there is none, no more is read.
     fn next(&mut self) -> NextRef<'a>
         ensures { Follows (unread self.old) (unread self.new) result };
 

@@ -1,5 +1,5 @@
 //! A place among items, and what is known there of the items before it. With it an edit goes over the items between the
-//! place of the last edit and its own, and not over all that stand before it.
+//! place of the last edit and its own, and not over all that are before it.
 
 ghost use Rattle.std.specs.Prelude.{◌≡◌, ◌+◌, ◌≤◌, if◌then◌else◌, Some, None, length, take};
 ghost use Rattle.pickle_doc.specs.Document.{size_limit};
@@ -11,10 +11,10 @@ use crate::next::is_frame;
 use gap_list::GapList;
 use pickle_ops::Op;
 
-/// Where a FRAME stands. Its number is left out, so that this stays right where the number changes.
+/// Where a FRAME is. Its number is left out, so that this stays right where the number changes.
 #[derive(Clone, Copy)]
 pub struct FrameMark {
-    /// How many items stand before it.
+    /// How many items are before it.
     pub place: usize,
     /// The offset after it, where its first member begins.
     pub behind: u64,
@@ -23,7 +23,7 @@ pub struct FrameMark {
 /// A place, and what is known of the items before it. An edit there or after it leaves it right.
 #[derive(Clone, Copy)]
 pub struct Mark {
-    /// How many items stand before it.
+    /// How many items are before it.
     pub place: usize,
     /// How many bytes spell the items before it.
     pub offset: u64,

@@ -1,4 +1,4 @@
-//! Putting an opcode in the place of an item.
+//! Replacing an item by an opcode.
 
 use crate::document::Document;
 use crate::edit::{EditFault, plain_size, resized};
@@ -15,7 +15,7 @@ impl Document {
     ghost use Rattle.pickle_doc.specs.Edit.{with_units, replaced, replace_fault};
     ghost use Rattle.pickle_doc.specs.Turn.{Leads, place_of};
 
-    /// Why an opcode cannot stand in the place of item k; none where it can. This takes no memory.
+    /// Why an opcode cannot replace item k; none where it can. This takes no memory.
     pub fn replace_fault(&self, k: usize, op: &Op) -> Option<EditFault>
         ensures { result ≡ replace_fault self.now.contents k op.now }
     {
@@ -41,7 +41,7 @@ impl Document {
         }
     }
 
-    /// What puts an opcode in the place of item k.
+    /// What replaces item k by an opcode.
     fn replacement(&self, k: usize, op: Op) -> EditRecord
         requires { replace_fault self.now.contents k op ≡ None }
         ensures place { place_of result ≡ k }
@@ -60,7 +60,7 @@ impl Document {
         }
     }
 
-    /// Puts an opcode in the place of item k, which keeps its identity and its frame. The record leads back. This takes no
+    /// Puts another opcode into item k, which keeps its identity and its frame. The record leads back. This takes no
     /// memory.
     ///
     /// The first that applies: `NoSuchItem` (E1) where there is no item k, `StopItem` (E2) where it or the opcode is STOP,

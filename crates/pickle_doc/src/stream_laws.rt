@@ -1,4 +1,4 @@
-//! Laws of reading item by item: where in the document of the bytes a reader stands. These functions do nothing: what they
+//! Laws of reading item by item: where in the document of the bytes a reader is. These functions do nothing: what they
 //! ensure holds of all documents.
 
 ghost use Rattle.pickle_doc.specs.Stream.{StandsFirst, ItemsStandNext, FaultsStandNext};
@@ -8,12 +8,12 @@ pub fn streams_stand_first()
     ensures { StandsFirst }
 {}
 
-/// Where k items of a document are read, an item that stands next is item k.
+/// Where k items of a document are read, an item that is next is item k.
 pub fn items_stand_next()
     ensures { ItemsStandNext }
 {}
 
-/// Where k items of a document are read, a fault that stands next is that of its tail, and there is no further item.
+/// Where k items of a document are read, a fault that is next is that of its tail, and there is no further item.
 pub fn faults_stand_next()
     ensures { FaultsStandNext }
 {}

@@ -11,7 +11,7 @@ pub record IsWhole (old new : Option (List ℕ)) (limit : ℕ) (bytes : List ℕ
   pub ended : IsAtEnd new
   pub within : length bytes ≤ limit
 
--- a source gave these bytes, and then it gave none: it has yet to give the rest, or tells no more what it has
+-- a source gave these bytes, and then it gave none: it has yet to give the rest, or no longer reports what it has
 abbrev pub GaveBefore : Option (List ℕ) → Option (List ℕ) → List ℕ → Type 0
 GaveBefore old new bytes = (between : Option (List ℕ)) × Consumes old between bytes × KeepsOrForgets between new
 

@@ -9,12 +9,12 @@ pub struct Failed;
 
 /// What takes bytes, as a file or a terminal does.
 pub trait Sink {
-    // The bytes that it has taken, where it tells them, and how often it has failed. The count may stop at
+    // The bytes that it has taken, where it reports them, and how often it has failed. The count may stop at
     // 18,446,744,073,709,551,615.
     ghost told: { Self → Told };
 
-    /// Takes a front of the bytes, at least one where one is offered, and answers how many. After a failure it has
-    /// taken nothing of them, or it tells no more what it has taken.
+    /// Takes a beginning of the bytes, at least one where one is offered, and answers how many. After a failure it has
+    /// taken nothing of them, or it no longer reports what it has taken.
     fn write(&mut self, bytes: &[u8]) -> Result<usize, Failed>
         ensures within { IfOk result (λ n. n ≤ length bytes.now) }
         ensures some { IfOk result (λ n. 0 < length bytes.now → 0 < n) }
@@ -30,7 +30,7 @@ pub trait Sink {
     }
 }
 
-/// Writes all of the text; after a failure a front of it was written, and the sink is not called again.
+/// Writes all of the text; after a failure a beginning of it was written, and the sink is not called again.
 #[tactic(auto, using(crate::proofs::Devices::device_steps))]
 pub fn write_all<S: Sink>(sink: &mut S, text: &[u8]) -> Result<(), Failed>
     ensures { Writes (S.told sink.old) (S.told sink.new) result text.now }

@@ -8,7 +8,7 @@ use crate::sink::Failed;
 
 /// What gives bytes, as a file or a terminal does.
 pub trait Source {
-    // The bytes that it has yet to give, where it tells them. None are left once it has said its end.
+    // The bytes that it has yet to give, where it reports them. None are left once it has said its end.
     ghost remaining: { Self → Option (List ℕ) };
 
     // How often it has failed. The count may stop at 18,446,744,073,709,551,615.
@@ -17,8 +17,8 @@ pub trait Source {
     // How many reads may still give a byte, so that a loop over reads ends.
     ghost turns: { Self → ℕ };
 
-    /// Fills a front of the buffer with the next bytes, and answers how many these are. None, where the buffer is not
-    /// empty, is the end. After a failure it has given none of them, or it tells no more what it has yet to give.
+    /// Fills a beginning of the buffer with the next bytes, and answers how many these are. None, where the buffer is not
+    /// empty, is the end. After a failure it has given none of them, or it no longer reports what it has yet to give.
     fn read(&mut self, buffer: &mut [u8]) -> Result<usize, Failed>
         ensures within { IfOk result (λ n. n ≤ length buffer.new) }
         ensures given { IfOk result (λ n. Consumes (remaining self.old) (remaining self.new) (take n buffer.new)) }

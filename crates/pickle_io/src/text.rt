@@ -1,4 +1,4 @@
-//! Texts, written piece by piece. Where the sink fails, a front of the text was written, as by `write_all`.
+//! Texts, written piece by piece. Where the sink fails, a beginning of the text was written, as by `write_all`.
 
 ghost use Rattle.std.specs.Prelude.{◌≡◌, ◌+◌, ◌≤◌, ◌∷◌, [], ◌++◌, OnOk, OnErr, decimal};
 ghost use Rattle.std.specs.Fmt.{signed_decimal};
@@ -10,14 +10,14 @@ use crate::sink::{Failed, Sink, write_all};
 use arrayvec::ArrayVec;
 use itoa::Buffer;
 
-/// Writes a number in decimal digits, without leading zeros. Where the sink fails, a front of them was written.
+/// Writes a number in decimal digits, without leading zeros. Where the sink fails, a beginning of them was written.
 pub fn write_decimal<S: Sink>(number: u64, sink: &mut S) -> Result<(), Failed>
     ensures { Writes (S.told sink.old) (S.told sink.new) result (decimal number) }
 {
     write_all(sink, Buffer::new().format(number).as_bytes())
 }
 
-/// Writes a number in decimal digits, after a minus where it is below 0. Where the sink fails, a front of the text was
+/// Writes a number in decimal digits, after a minus where it is below 0. Where the sink fails, a beginning of the text was
 /// written.
 pub fn write_signed<S: Sink>(number: i128, sink: &mut S) -> Result<(), Failed>
     ensures { Writes (S.told sink.old) (S.told sink.new) result (signed_decimal number) }
@@ -35,7 +35,7 @@ fn hex_digits(byte: u8) -> [u8; 2]
     digits
 }
 
-/// Writes bytes in hexadecimal, two lower case digits each. Where the sink fails, a front of the text was written.
+/// Writes bytes in hexadecimal, two lower case digits each. Where the sink fails, a beginning of the text was written.
 #[tactic(auto, using(crate::proofs::Devices::each_steps, crate::proofs::Blocks::hexadecimal_is_each))]
 pub fn write_hex<S: Sink>(bytes: &[u8], sink: &mut S) -> Result<(), Failed>
     ensures { Writes (S.told sink.old) (S.told sink.new) result (hexadecimal bytes.now) }
@@ -59,7 +59,7 @@ fn push_escaped(byte: u8, block: &mut Block)
     block.try_extend_from_slice(&hex_digits(byte)).unwrap();
 }
 
-/// Puts a byte as it stands between quotes after the text.
+/// Puts a byte as it is between quotes after the text.
 #[tactic(auto, unfolding(crate::specs::Text::quoted_byte))]
 fn push_quoted_byte(byte: u8, block: &mut Block)
     requires { array_vec_len block.old + 4 ≤ 256 }
@@ -89,7 +89,7 @@ fn make_room<S: Sink>(block: &mut Block, sink: &mut S) -> Result<(), Failed>
     Ok(())
 }
 
-/// Writes bytes as they stand between quotes.
+/// Writes bytes as they are between quotes.
 #[tactic(auto, using(crate::proofs::Blocks::block_steps))]
 fn write_quoted_bytes<S: Sink>(text: &[u8], sink: &mut S) -> Result<(), Failed>
     ensures { Writes (S.told sink.old) (S.told sink.new) result (quoted_bytes text.now) }
@@ -103,7 +103,7 @@ fn write_quoted_bytes<S: Sink>(text: &[u8], sink: &mut S) -> Result<(), Failed>
 }
 
 /// Writes a text in single quotes, on one line: `\\` for a backslash, `\'` for a quote, `\x` and two lower case
-/// digits for a byte outside 0x20 to 0x7e. Where the sink fails, a front of the text was written.
+/// digits for a byte outside 0x20 to 0x7e. Where the sink fails, a beginning of the text was written.
 #[tactic(auto, using(crate::proofs::Devices::text_steps), unfolding(crate::specs::Text::quoted))]
 pub fn write_quoted<S: Sink>(text: &[u8], sink: &mut S) -> Result<(), Failed>
     ensures { Writes (S.told sink.old) (S.told sink.new) result (quoted text.now) }

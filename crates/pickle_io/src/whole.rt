@@ -44,7 +44,7 @@ pub fn read_limited<S: Source>(
     let mut bytes = Vec::new(alloc);
     let mut block = [0u8; BLOCK];
     'reads: loop {
-        // One byte more than there is room for tells that there are too many.
+        // One byte more than there is room for shows that there are too many.
         let room = limit - bytes.len();
         let most = room.min(BLOCK - 1) + 1;
         let Ok(count) = source.read(&mut block[..most]) else {

@@ -15,7 +15,7 @@ use Rattle.pickle_listing.specs.Column.{code_text}
 
 -- ---- the line of an item
 
--- where it stands, at the right of five places
+-- where it is, at the right of five places
 unfoldable pub offset_column : ℕ → List ℕ
 offset_column offset = right_aligned 5 (decimal offset)
 
@@ -35,7 +35,7 @@ abbrev pub note_text : Note → List ℕ
 note_text (note.MarkAt offset) = mark_text offset
 note_text (note.As key) = as_text key
 
--- the name; where there is an argument text or a note, the name fills ten places and each stands after a blank
+-- the name; where there is an argument text or a note, the name fills ten places and each comes after a blank
 abbrev pub described : List ℕ → Option (List ℕ) → Option Note → List ℕ
 described name None None = name
 described name (Some arg) None = left_aligned 10 name ⧺ codes " " ⧺ arg

@@ -44,7 +44,7 @@ pub fn write_left_line<S: Sink>(objects: usize, marks: usize, sink: &mut S) -> R
     }
 }
 
-/// Writes how many bytes stand after STOP.
+/// Writes how many bytes are after STOP.
 #[tactic(auto, using(pickle_io::proofs::Devices::text_steps), unfolding(crate::specs::Line::kept_text, crate::specs::Line::kept_words))]
 fn write_kept_text<S: Sink>(count: u64, sink: &mut S) -> Result<(), Failed>
     ensures { Writes (S.told sink.old) (S.told sink.new) result (kept_text count) }
@@ -63,7 +63,7 @@ fn words_after_stop() -> &'static str
     " bytes after STOP"
 }
 
-/// Writes how many bytes stand after STOP, if any.
+/// Writes how many bytes are after STOP, if any.
 #[tactic(auto, using(pickle_io::proofs::Devices::text_steps), unfolding(crate::specs::Line::kept_line))]
 pub fn write_kept_line<S: Sink>(count: u64, sink: &mut S) -> Result<(), Failed>
     ensures { Writes (S.told sink.old) (S.told sink.new) result (kept_line count) }

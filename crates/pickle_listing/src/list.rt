@@ -189,7 +189,7 @@ fn end_pickle<S: Sink>(
 }
 
 /// Writes the listing of the items that a source gives from the first on, as many pickles or as one, and answers its status: 1 where an
-/// item is refused or the bytes have a fault, else 0. Lines stand on a page before they are written. The source is to give a document
+/// item is refused or the bytes have a fault, else 0. Lines are put on a page before they are written. The source is to give a document
 /// that is not too large.
 ///
 /// `Memory` (M) comes when memory runs out, `Failed` from the sink; what was written then is a beginning of the listing.
@@ -207,7 +207,7 @@ pub fn list_items<'a, I: ItemSource<'a>, S: Sink>(
 {
     let mut reader = source;
     let mut lean = Lean::new(alloc, many);
-    // The offsets of the open marks stand beside the machine, so that a note costs no search.
+    // The offsets of the open marks are kept besides the machine, so that a note costs no search.
     let mut opened = Vec::new(alloc);
     let mut page = Page::new();
     let mut highest = Highest::none();

@@ -18,7 +18,7 @@ use pickle_ops::{Failed, OpRef, Opcode, Sink};
 use pickle_outline::Lean;
 use pickle_page::{Offset, Page};
 
-/// Puts where an item stands, a colon, the code of its opcode and four blanks for each open mark.
+/// Puts where an item is, a colon, the code of its opcode and four blanks for each open mark.
 #[inline(always)]
 fn put_head<S: Sink>(
     page: &mut Page,
@@ -223,8 +223,7 @@ pub fn put_refused<S: Sink>(
     put_rest(page, op, None, sink)
 }
 
-/// The name of an opcode, filled to sixteen places. It is one list of cases with one answer each: cut in two it would
-/// be no easier to read.
+/// The name of an opcode, filled to sixteen places.
 #[inline(always)]
 fn filled_name(opcode: Opcode) -> &'static [u8; 16]
     ensures { result.now ≡ name_of opcode ++ blanks (16 - length (name_of opcode)) }

@@ -7,7 +7,7 @@ use Rattle.pickle_objects.specs.declared.object.Change.TheVariants as change
 use Rattle.pickle_objects.specs.Object.{Object}
 use Rattle.pickle_machine.specs.State.{Marked, Left, State}
 
--- each of these numbers names one of so many objects
+-- each of these numbers names one of this many objects
 abbrev pub AreNames : ℕ → List ℕ → Type 0
 AreNames count ids = All (λ id. id < count) ids
 

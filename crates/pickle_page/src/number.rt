@@ -31,7 +31,7 @@ fn write_right_text<S: Sink>(text: &[u8], sink: &mut S) -> Result<(), Failed>
     write_all(sink, text)
 }
 
-/// Writes a number at the right of a column of five places; a longer one is not cut. Where the sink fails, a front of the text was
+/// Writes a number at the right of a column of five places; a longer one is not cut. Where the sink fails, a beginning of the text was
 /// written.
 pub fn write_right<S: Sink>(number: u64, sink: &mut S) -> Result<(), Failed>
     ensures { Writes (S.told sink.old) (S.told sink.new) result (right_aligned 5 (decimal number)) }

@@ -1,4 +1,4 @@
-//! Where a line stands.
+//! The offset of a line.
 
 ghost use Rattle.std.specs.Prelude.{◌≡◌, ◌≤◌, ◌<◌, ◌^◌, ◌+◌, ◌/◌, ◌%◌, ◌∷◌, [], ◌++◌, length, take, decimal};
 ghost use Rattle.pickle_page.specs.Column.{right_aligned};
@@ -71,7 +71,7 @@ impl Offset {
         self.hundreds * 100 + self.rest
     }
 
-    /// Counts so many bytes.
+    /// Counts this many bytes.
     #[inline(always)]
     pub fn advance(&mut self, size: u64)
         requires { self.old + size < 2 ^ 40 }

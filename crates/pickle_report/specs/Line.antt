@@ -13,7 +13,7 @@ newline = 10 ∷ []
 
 -- ---- refusals
 
--- the words of a refusal, and the number that stands after them
+-- the words of a refusal, and the number that comes after them
 unfoldable pub refusal_words : Refusal → List ℕ
 refusal_words refusal.NoMark = codes "S1 no mark"
 refusal_words refusal.Underflow = codes "S2 stack underflow"

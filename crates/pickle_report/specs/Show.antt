@@ -37,12 +37,12 @@ again_line depth id = decimal depth ⧺ next_text id ⧺ newline
 
 -- ---- the walk
 
--- a place of the walk: how deep it is, and which object stands there
+-- a place of the walk: how deep it is, and which object is there
 pub record Place : Type 0 where
   pub depth : ℕ
   pub id : ℕ
 
--- objects that stand at one depth
+-- objects that are at one depth
 abbrev pub at_depth : ℕ → List ℕ → List Place
 at_depth depth [] = []
 at_depth depth (id ∷ ids) = record { depth = depth; id = id } ∷ at_depth depth ids
@@ -54,7 +54,7 @@ found heap seen id = if get_or seen id false then None else slice_get heap id
 abbrev pub again : Place → List ℕ
 again p = again_line p.depth p.id
 
--- The lines of the places that are still to be walked, the next one first. At its first place stands the object, and its
+-- The lines of the places that are still to be walked, the next one first. At its first place is the object, and its
 -- content is walked next, one deeper; a later place is one short line. The first number counts the objects that were not
 -- seen: where none is left, each place is a short line.
 unfoldable pub walk : ℕ → List Object → List Bool → List Place → List ℕ

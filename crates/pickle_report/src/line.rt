@@ -50,7 +50,7 @@ fn write_refusal_number<S: Sink>(refusal: Refusal, sink: &mut S) -> Result<(), F
     }
 }
 
-/// Writes why an item is refused: S1 to S11, or M. Where the sink fails, a front of the text was written.
+/// Writes why an item is refused: S1 to S11, or M. Where the sink fails, a beginning of the text was written.
 #[tactic(auto, using(pickle_io::proofs::Devices::text_steps), unfolding(crate::specs::Line::refusal_text))]
 pub fn write_refusal<S: Sink>(refusal: Refusal, sink: &mut S) -> Result<(), Failed>
     ensures { Writes (S.told sink.old) (S.told sink.new) result (refusal_text refusal) }
@@ -59,7 +59,7 @@ pub fn write_refusal<S: Sink>(refusal: Refusal, sink: &mut S) -> Result<(), Fail
     write_refusal_number(refusal, sink)
 }
 
-/// Writes which item is refused, by its place, and why. Where the sink fails, a front of the text was written.
+/// Writes which item is refused, by its place, and why. Where the sink fails, a beginning of the text was written.
 #[tactic(auto, using(pickle_io::proofs::Devices::text_steps), unfolding(crate::specs::Line::item_refused))]
 pub(crate) fn write_item_refused<S: Sink>(
     place: usize,
@@ -102,7 +102,7 @@ fn write_fault_byte<S: Sink>(fault: TailFault, sink: &mut S) -> Result<(), Faile
     }
 }
 
-/// Writes the fault of a tail, F1 to F8. Where the sink fails, a front of the text was written.
+/// Writes the fault of a tail, F1 to F8. Where the sink fails, a beginning of the text was written.
 #[tactic(auto, using(pickle_io::proofs::Devices::text_steps), unfolding(crate::specs::Line::fault_text))]
 pub fn write_fault_text<S: Sink>(fault: TailFault, sink: &mut S) -> Result<(), Failed>
     ensures { Writes (S.told sink.old) (S.told sink.new) result (fault_text fault) }
@@ -111,7 +111,7 @@ pub fn write_fault_text<S: Sink>(fault: TailFault, sink: &mut S) -> Result<(), F
     write_fault_byte(fault, sink)
 }
 
-/// Writes the line of the fault of a tail that begins at this offset, in bytes. Where the sink fails, a front of the line was
+/// Writes the line of the fault of a tail that begins at this offset, in bytes. Where the sink fails, a beginning of the line was
 /// written.
 #[tactic(auto, using(pickle_io::proofs::Devices::text_steps), unfolding(crate::specs::Line::fault_line))]
 pub fn write_fault<S: Sink>(fault: TailFault, offset: u64, sink: &mut S) -> Result<(), Failed>

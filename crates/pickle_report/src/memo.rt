@@ -32,7 +32,7 @@ fn write_entries<S: Sink>(memo: &BTreeMap<u64, ObjId>, sink: &mut S) -> Result<(
 }
 
 /// Writes the memo of a machine: `memo`, and ` key=#n` for each entry, by rising key. It takes no memory. `Failed` where the sink
-/// fails; a front of the line was written then.
+/// fails; a beginning of the line was written then.
 #[tactic(auto, using(pickle_io::proofs::Devices::text_steps), unfolding(crate::specs::MemoText::memo_text))]
 pub fn write_memo<S: Sink>(machine: &Machine, sink: &mut S) -> Result<(), Failed>
     ensures { Writes (S.told sink.old) (S.told sink.new) result (memo_text machine.now.state.memo) }

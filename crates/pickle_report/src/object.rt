@@ -89,7 +89,7 @@ fn write_changes<S: Sink>(changes: &[Change], sink: &mut S) -> Result<(), Failed
 
 /// Writes an object: `#` and its number, the word of its kind with what its opcode gave it, its parts in brackets, and what was
 /// done to it: ` +#v` for an item put after the others, ` [#k]=#v` for a key mapped to a value, ` &#v` for a member of a set,
-/// ` !#s` for a state. It takes no memory. `Failed` where the sink fails; a front of the text was written then.
+/// ` !#s` for a state. It takes no memory. `Failed` where the sink fails; a beginning of the text was written then.
 #[tactic(auto, using(pickle_io::proofs::Devices::text_steps), unfolding(crate::specs::ObjectText::object_text))]
 pub fn write_object<S: Sink>(id: u64, object: &Object, sink: &mut S) -> Result<(), Failed>
     ensures { Writes (S.told sink.old) (S.told sink.new) result (object_text id object.now) }
@@ -110,7 +110,7 @@ fn write_object_line<S: Sink>(id: u64, object: &Object, sink: &mut S) -> Result<
     write_all(sink, b"\n")
 }
 
-/// Writes the lines of all objects of a machine, by rising number. It takes no memory. `Failed` where the sink fails; a front
+/// Writes the lines of all objects of a machine, by rising number. It takes no memory. `Failed` where the sink fails; a beginning
 /// of the lines was written then.
 #[tactic(auto, unfolding(crate::specs::ObjectText::objects_text))]
 pub fn write_objects<S: Sink>(machine: &Machine, sink: &mut S) -> Result<(), Failed>

@@ -51,7 +51,7 @@ fn write_results<S: Sink>(ids: &[ObjId], sink: &mut S) -> Result<(), Failed>
     Ok(())
 }
 
-/// Writes the line of an item that is refused. Where the sink fails, a front of the line was written.
+/// Writes the line of an item that is refused. Where the sink fails, a beginning of the line was written.
 #[tactic(auto, using(pickle_io::proofs::Devices::text_steps), unfolding(crate::specs::Report::refused_line))]
 fn write_refused<S: Sink>(place: usize, refusal: Refusal, sink: &mut S) -> Result<(), Failed>
     ensures { Writes (S.told sink.old) (S.told sink.new) result (refused_line place refusal) }
@@ -62,7 +62,7 @@ fn write_refused<S: Sink>(place: usize, refusal: Refusal, sink: &mut S) -> Resul
 }
 
 /// Writes how a run ended: nothing where it stopped, else the line of the refused item or of the fault. It takes no memory.
-/// `Failed` where the sink fails; a front of the line was written then.
+/// `Failed` where the sink fails; a beginning of the line was written then.
 #[tactic(auto, unfolding(crate::specs::Report::closing_line))]
 pub fn write_closing<S: Sink>(closing: Closing, sink: &mut S) -> Result<(), Failed>
     ensures { Writes (S.told sink.old) (S.told sink.new) result (closing_line closing) }
@@ -96,7 +96,7 @@ fn write_lines<S: Sink>(machine: &Machine, closing: Closing, sink: &mut S) -> Re
 }
 
 /// Writes the lines of all objects of a machine, one for each result, and a closing line where something is refused or at fault, and
-/// answers the status: 1 with such a line, else 0. It takes no memory. `Failed` where the sink fails; a front of the lines was written then.
+/// answers the status: 1 with such a line, else 0. It takes no memory. `Failed` where the sink fails; a beginning of the lines was written then.
 fn write_report<S: Sink>(machine: &Machine, closing: Closing, sink: &mut S) -> Result<u8, Failed>
     ensures text { Writes (S.told sink.old) (S.told sink.new) result (report_text machine.now.state.heap machine.now.state.results closing) }
     ensures status { IfOk result (λ status. status ≡ closing_status closing) }
@@ -197,7 +197,7 @@ pub fn machine_of(alloc: Global, many: bool) -> Machine
 /// fault one line more: `refused: item K: ` and why, or `fault: ` and why with the offset of the tail. The status is 1 with such a
 /// line, else 0. The source is to give a document that is not too large.
 ///
-/// `Memory` where there is no memory for a step, and then nothing was written. `Failed` where the sink fails; a front of the report
+/// `Memory` where there is no memory for a step, and then nothing was written. `Failed` where the sink fails; a beginning of the report
 /// was written then.
 pub fn report_of_items<'a, I: ItemSource<'a>, S: Sink>(
     alloc: Global,
@@ -236,7 +236,7 @@ pub fn report_of_bytes<S: Sink>(
 
 /// Writes the report of a document, in its mode, and answers its status, as `report_of_items` does.
 ///
-/// `Memory` where there is no memory for a step, and then nothing was written. `Failed` where the sink fails; a front of the report
+/// `Memory` where there is no memory for a step, and then nothing was written. `Failed` where the sink fails; a beginning of the report
 /// was written then.
 pub fn write_document_report<S: Sink>(
     alloc: Global,

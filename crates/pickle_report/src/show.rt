@@ -128,7 +128,7 @@ fn walk_from<'a, S: Sink>(
     go_on(machine, stack, seen, sink)
 }
 
-/// The marks of so many objects of which none was seen. An error where memory runs out.
+/// The marks of this many objects, of which none was seen. An error where memory runs out.
 fn none_seen(alloc: Global, count: usize) -> Result<Vec<bool>, TextStop>
     ensures ok { IfOk result (λ seen. seen.items ≡ replicate count false) }
     ensures memory { IfErr result (λ e. e ≡ TextStop.Memory) }
@@ -141,11 +141,11 @@ fn none_seen(alloc: Global, count: usize) -> Result<Vec<bool>, TextStop>
 }
 
 /// Writes an object with all that it contains: a line for each place of a walk, with its depth. At the first place of an
-/// object stands the object, and after it come its parts and what was put into it, one deeper; a later place is only its number.
+/// object is the object, and after it come its parts and what was put into it, one deeper; a later place is only its number.
 /// It takes time linear in the lines, and does not recurse. A number that names no object is one short line.
 ///
 /// All memory is asked for before anything is written, some bytes for each object of the machine: `Memory` where it runs out,
-/// and then nothing was written. `Failed` where the sink fails; a front of the text was written then.
+/// and then nothing was written. `Failed` where the sink fails; a beginning of the text was written then.
 pub fn write_show<S: Sink>(
     alloc: Global,
     machine: &Machine,

@@ -21,7 +21,7 @@ fn write_mark<S: Sink>(place: usize, sink: &mut S) -> Result<(), Failed>
     write_decimal(place as u64, sink)
 }
 
-/// Writes the object that so many stand below on the stack, if there is one.
+/// Writes the object that has this many below it on the stack, if there is one.
 fn write_at<S: Sink>(machine: &Machine, below: usize, sink: &mut S) -> Result<(), Failed>
     ensures { Writes (S.told sink.old) (S.told sink.new) result (each next_text (option_to_list (slice_get (stack_of machine.now.state) below))) }
 {
@@ -77,7 +77,7 @@ fn write_marked<S: Sink>(machine: &Machine, sink: &mut S) -> Result<usize, Faile
     Ok(from)
 }
 
-/// Writes the objects of the top section, below which so many stand.
+/// Writes the objects of the top section, below which there are this many.
 fn write_top<S: Sink>(machine: &Machine, below: usize, sink: &mut S) -> Result<(), Failed>
     requires { below ≡ length (objects_below machine.now.state.marked) }
     ensures { Writes (S.told sink.old) (S.told sink.new) result (each next_text machine.now.state.top) }
@@ -86,7 +86,7 @@ fn write_top<S: Sink>(machine: &Machine, below: usize, sink: &mut S) -> Result<(
 }
 
 /// Writes the stack of a machine: `stack`, and from the bottom ` #n` for an object and ` (k` for a mark of item k. It takes no
-/// memory. `Failed` where the sink fails; a front of the line was written then.
+/// memory. `Failed` where the sink fails; a beginning of the line was written then.
 #[tactic(auto, using(pickle_io::proofs::Devices::text_steps), unfolding(crate::specs::StackText::stack_text))]
 pub fn write_stack<S: Sink>(machine: &Machine, sink: &mut S) -> Result<(), Failed>
     ensures { Writes (S.told sink.old) (S.told sink.new) result (stack_text machine.now.state) }

@@ -6,9 +6,9 @@ use std::alloc::AllocError;
 /// Why a text that asks for memory was not written to its end.
 #[derive(Clone, Copy, Debug, PartialEq, Eq)]
 pub enum TextStop {
-    /// The sink failed: a front of the text was written.
+    /// The sink failed: a beginning of the text was written.
     Failed,
-    /// Memory ran out (M): nothing was written, or a front of the text, as the writer says.
+    /// Memory ran out (M): nothing was written, or a beginning of the text, as the writer says.
     Memory,
 }
 

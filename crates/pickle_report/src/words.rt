@@ -1,5 +1,5 @@
-//! Small pieces of texts: a word, and what stands after it. They take no memory. Each answers `Failed` where the sink fails;
-//! a front of the piece was written then.
+//! Small pieces of texts: a word, and what comes after it. They take no memory. Each answers `Failed` where the sink fails;
+//! a beginning of the piece was written then.
 
 ghost use Rattle.std.specs.Prelude.{codes, decimal};
 ghost use Rattle.std.specs.Fmt.{signed_decimal};

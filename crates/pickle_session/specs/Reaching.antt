@@ -21,7 +21,7 @@ Reaches (c ∷ cs) p q = (r : Reply) × (m : Standing) × Answers c p r m.sessio
 abbrev pub IsReached : Bool → List ℕ → List Command → Standing → Type 0
 IsReached many bytes cs q = (p : Standing) × IsOpened many bytes p × Reaches cs p q
 
--- so many undos
+-- this many undos
 abbrev pub undos : ℕ → List Command
 undos zero = []
 undos (suc n) = command.Undo ∷ undos n

@@ -1,5 +1,5 @@
 -- What a conversation leaves: the bytes that the source gave, the session, what the sink took, and how often it failed.
--- The bytes of a device that does not tell them are not spoken of.
+-- The bytes of a device that does not report them are not spoken of.
 use Rattle.std.specs.Prelude.{◌≡◌, ℕ, ◌≤◌, List, [], ◌∷◌, ◌++◌, true, false, ◌⊎◌, Option, None, Some, ⊤}
 use Rattle.std.specs.List.{concat}
 use Rattle.std.specs.Io.KnownBytes.{Consumes, IsAtEnd}
@@ -20,7 +20,7 @@ pub record Finishes (s after : Standing) (status : ℕ) (source source' : Option
   pub status_is : status ≡ status_of texts
   pub ends : (has_quit cut.complete ≡ true) ⊎ IsAtEnd source'
 
--- the bytes that a source gave before it failed; after that it may tell no more what it has
+-- the bytes that a source gave before it failed; after that it may no longer report what it has
 abbrev pub Gave : Option (List ℕ) → Option (List ℕ) → List ℕ → Type 0
 Gave None new given = ⊤
 Gave (Some bytes) None given = IsFront given bytes
@@ -37,7 +37,7 @@ pub record StopsReading (s after : Standing) (source source' : Option (List ℕ)
   pub no_quit : has_quit cut.complete ≡ false
   pub wrote : Wrote sink sink' (concat texts)
 
--- a whole text was taken and then a front of another; a sink that has failed may tell no more what it took
+-- a whole text was taken and then a beginning of another; a sink that has failed may no longer report what it took
 abbrev pub AppendsPast : Option (List ℕ) → Option (List ℕ) → List ℕ → List ℕ → Type 0
 AppendsPast None new whole next = ⊤
 AppendsPast (Some bytes) None whole next = ⊤

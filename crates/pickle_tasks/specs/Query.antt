@@ -1,4 +1,4 @@
--- What is told of a session that is asked.
+-- What is shown of a session that is asked.
 -- Source: own.
 use Rattle.std.specs.Prelude.{◌≡◌, ℕ, List, length, Bool, true, false, nat_lt, if◌then◌else◌, ◌⊎◌}
 use Rattle.pickle_objects.specs.Object.{Object}
@@ -18,7 +18,7 @@ use Rattle.pickle_text.specs.ReplyText.{syntax_line, no_object_line}
 abbrev pub shown : List Object → ℕ → List ℕ
 shown heap n = if nat_lt n (length heap) then show_text heap n else no_object_line
 
--- what is told with ample memory of a session whose machine has this state
+-- what is shown with ample memory of a session whose machine has this state
 abbrev pub query_text : Query → Session → State → List ℕ
 query_text query.Items s t = items_text s
 query_text query.Objects s t = objects_text t.heap
@@ -36,6 +36,6 @@ asks_memory query.Memo t = false
 asks_memory (query.Show n) t = nat_lt n (length t.heap)
 asks_memory query.Where t = false
 
--- the texts that are allowed: what is told, or that memory runs out
+-- the texts that are allowed: what is shown, or that memory runs out
 abbrev pub IsTold : Query → Session → State → List ℕ → Type 0
 IsTold query s t text = (text ≡ query_text query s t) ⊎ ((asks_memory query t ≡ true) × (text ≡ syntax_line syntax.Memory))

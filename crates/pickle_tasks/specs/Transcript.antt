@@ -22,9 +22,9 @@ use Rattle.pickle_text.specs.Grammar as grammar
 use Rattle.pickle_text.specs.ReplyText.{reply_text, syntax_line, no_item_line}
 use Rattle.pickle_tasks.specs.Query.{IsTold}
 
--- ---- one line: the session as it stands before it, its text, and the session as it stands after it
+-- ---- one line: the session before it, its text, and the session after it
 
--- a text that tells of the session, which stays as it is
+-- a text about the session, which stays as it is
 pub record Tells (p : Standing) (says text : List ℕ) (q : Standing) : Type 0 where
   pub text_is : text ≡ says
   pub unchanged : q ≡ p
@@ -47,7 +47,7 @@ abbrev pub GivesAt : Place → Action → Standing → List ℕ → Standing →
 GivesAt (place.Number k) a p text q = Replies (grammar.command_at a k) p text q
 GivesAt (place.Offset offset) a p text q = RepliesAt offset a p text q
 
--- what is told of the session and of the state that the items before the cursor reach from nothing
+-- what is shown of the session and of the state that running the items before the cursor on an empty machine gives
 pub record Shows (query : Query) (p : Standing) (text : List ℕ) (q : Standing) : Type 0 where
   pub state : State
   pub reached : state_at p.session.document p.session.cursor ≡ Some state

@@ -5,7 +5,7 @@ use pickle_text::{LONGEST, Line, Syntax, read_command};
 use std::alloc::{AllocError, Global};
 use std::marker::Model;
 
-/// The line that has begun, and whether a line was refused. Of a line that is too long no more is held than tells so.
+/// The line that has begun, and whether a line was refused. Of a line that is too long no more is held than shows that it is.
 #[derive(Drop)]
 pub struct Pending {
     line: Vec<u8>,

@@ -1,4 +1,4 @@
-//! What is told of a session.
+//! What is shown of a session.
 
 ghost use Rattle.std.specs.Prelude.{◌≡◌, ◌<◌, ◌≤◌, length, MatchOption, Ok};
 ghost use Rattle.pickle_tasks.specs.Inside.Progress.{WritesTold, WritesLine};

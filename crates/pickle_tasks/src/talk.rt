@@ -232,7 +232,7 @@ fn go_on<P: Past, S: Source, K: Sink>(
     }
 }
 
-/// Obeys the lines of the source one by one, until one quits or the source ends, and answers the status: 1 where a line
+/// Reads commands from the source and obeys them one by one, until one quits or the source ends, and answers the status: 1 where a line
 /// was refused, else 0. The text of each line is written before the next line is obeyed. Before more is read, and at the
 /// end, the sink hands on what it holds.
 ///

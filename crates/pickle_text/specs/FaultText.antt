@@ -1,4 +1,4 @@
--- Why a document ends, and why bytes are no opcode, in words. The words of the faults of a tail are `pickle_report`'s.
+-- Why a document ends, and why bytes are no opcode, in words. The words of the faults of a tail are `pickle_show`'s.
 -- Source: own.
 use Rattle.std.specs.Prelude.{ℕ, List, codes, decimal}
 use Rattle.pickle_ops.specs.declared.fault.OpFault.{OpFault}
@@ -14,7 +14,7 @@ unfoldable pub end_text : End → List ℕ
 end_text end.Stopped = codes "stopped"
 end_text (end.Fault f offset) = fault_text f ⧺ codes " at " ⧺ decimal offset
 
--- faults of an opcode: those that a tail has too are told likewise
+-- faults of an opcode: those that a tail has too are printed likewise
 unfoldable pub op_fault_text : OpFault → List ℕ
 op_fault_text fault.Ended = fault_text tail.Ended
 op_fault_text (fault.UnknownOpcode byte) = fault_text (tail.UnknownOpcode byte)

@@ -1,4 +1,4 @@
--- The words of a line, and what the line says: the word that it begins with decides which words may stand after it.
+-- The words of a line, and what the line says: the word that it begins with decides which words may come after it.
 -- Source: own.
 use Rattle.std.specs.Prelude.{◌≡◌, ◌≢◌, ℕ, List, [], ◌∷◌, length, filter, codes, Bool, true, false, nat_lt, ◌==◌, ◌||◌, if◌then◌else◌, Option, Some, None, Result, Ok, Err, ⊤}
 use Rattle.std.specs.Option.{option_map, option_map_or}
@@ -41,7 +41,7 @@ abbrev pub has_byte : List ℕ → Bool
 has_byte [] = false
 has_byte (byte ∷ bytes) = true
 
--- what stands between the blanks, where that has a byte
+-- what is between the blanks, where that has a byte
 abbrev pub words_of : List ℕ → List (List ℕ)
 words_of bytes = filter has_byte (slice_split is_blank bytes)
 
@@ -56,7 +56,7 @@ bytes_of_word w = found_bytes (decode_of w)
 
 -- ---- first words
 
--- the first words that stand alone
+-- the first words without arguments
 abbrev pub plain_word : List ℕ → Option PlainWord
 plain_word w =
     if bytes_eq w (codes "step") then Some plain.Step
@@ -72,7 +72,7 @@ plain_word w =
     else if bytes_eq w (codes "quit") then Some plain.Quit
     else None
 
--- those after which a place stands
+-- those before a place
 abbrev pub place_word : List ℕ → Option PlaceWord
 place_word w =
     if bytes_eq w (codes "goto") then Some placed.Goto
@@ -82,14 +82,14 @@ place_word w =
     else if bytes_eq w (codes "unframe") then Some placed.Unframe
     else None
 
--- those after which a place, a name and bytes stand
+-- those before a place, a name and bytes
 abbrev pub op_word : List ℕ → Option OpWord
 op_word w =
     if bytes_eq w (codes "replace") then Some op.Replace
     else if bytes_eq w (codes "insert") then Some op.Insert
     else None
 
--- the first words: these; `show`, after which a number stands; and `frame`, after which a place and a count stand
+-- the first words: these; `show`, before a number; and `frame`, before a place and a count
 abbrev pub keyword : List ℕ → Option Word
 keyword w =
     if bytes_eq w (codes "show") then Some word.Show
@@ -140,7 +140,7 @@ abbrev pub and_then : {A B : Type 0} → Result A Syntax → (A → Result B Syn
 and_then (Ok x) f = f x
 and_then (Err e) f = Err e
 
--- a line whose words are all read; a word that stands after them is one too many
+-- a line whose words are all read; a word that comes after them is one too many
 abbrev pub alone : Line → List (List ℕ) → Result Line Syntax
 alone says [] = Ok says
 alone says (w ∷ words) = Err syntax.ExtraWord
@@ -183,7 +183,7 @@ abbrev pub name_first : List (List ℕ) → Result (Opcode × List (List ℕ)) S
 name_first [] = Err syntax.MissingWord
 name_first (w ∷ words) = option_map_or (λ (o : Opcode). Ok (o, words)) (opcode_named w) (Err syntax.UnknownOpcodeName)
 
--- bytes after which no word stands
+-- bytes with no word after them
 abbrev pub last_bytes : Option (List ℕ) → List (List ℕ) → Result (List ℕ) Syntax
 last_bytes None words = Err syntax.BadHex
 last_bytes (Some bytes) [] = Ok bytes
@@ -201,7 +201,7 @@ op_says w words =
     and_then (name_first p.1) (λ (q : Opcode × List (List ℕ)).
     and_then (arg_last q.1) (λ (arg : List ℕ). Ok (line.At p.0 (op_action w (record { opcode = q.0; arg = arg }))))))
 
--- by each kind of first word; an unknown one is a fault whatever stands after it
+-- by each kind of first word; an unknown one is a fault whatever comes after it
 abbrev pub word_says : Option Word → List (List ℕ) → Result Line Syntax
 word_says None words = Err syntax.UnknownWord
 word_says (Some (word.Plain w)) words = alone (plain_line w) words

@@ -1,4 +1,4 @@
--- Where a session stands, and the items of its document.
+-- Where a session is, and the items of its document.
 -- Source: own.
 use Rattle.std.specs.Prelude.{ℕ, List, [], ◌∷◌, codes, decimal, Bool, ◌==◌, if◌then◌else◌, Option, None, Some}
 use Rattle.std.specs.Option.{option_map_or}
@@ -15,7 +15,7 @@ use Rattle.pickle_report.specs.ObjectText.{id_text, next_text}
 use Rattle.pickle_page.specs.Column.{right_aligned, newline}
 use Rattle.pickle_text.specs.FaultText.{end_text}
 
--- ---- where the cursor stands: `at K of N, offset O, buffers B, result R, end E`
+-- ---- where the cursor is: `at K of N, offset O, buffers B, result R, end E`
 
 -- a place, and how many items there are
 unfoldable pub cursor_text : ℕ → ℕ → List ℕ

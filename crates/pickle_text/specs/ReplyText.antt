@@ -32,7 +32,7 @@ edit_words edit.TooManyItems = codes "E7 too many items"
 edit_words edit.TooLarge = codes "E8 too large"
 edit_words edit.Memory = codes "M out of memory"
 
--- why a command is refused: the words, and what stands after them
+-- why a command is refused: the words, and what comes after them
 unfoldable pub fault_words : Fault → List ℕ
 fault_words fault.AtStart = codes "C1 at the start"
 fault_words (fault.AtEnd e) = codes "C2 at the end, "

@@ -1,4 +1,4 @@
-//! Why a document ends, and why bytes are no opcode, in words. Each writer writes its text; where the sink fails, a front of
+//! Why a document ends, and why bytes are no opcode, in words. Each writer writes its text; where the sink fails, a beginning of
 //! it was written.
 
 ghost use Rattle.pickle_io.specs.Device.{Writes};

@@ -13,7 +13,7 @@ use crate::words::{LONGEST, first_word};
 use pickle_ops::{OpFault, Opcode, decimal_of, op_of};
 use std::alloc::Global;
 
-/// What a line says whose words are all read, unless one stands after them.
+/// What a line says whose words are all read, unless one comes after them.
 fn alone(says: Line, rest: &[u8]) -> Result<Line, Syntax>
     ensures { result ≡ alone says (words_of rest.now) }
 {
@@ -23,7 +23,7 @@ fn alone(says: Line, rest: &[u8]) -> Result<Line, Syntax>
     }
 }
 
-/// The number in front, and what stands after it.
+/// The number in front, and what comes after it.
 fn number_first(rest: &[u8]) -> Result<(u64, &[u8]), Syntax>
     ensures { MatchResult result (λ p. number_first (words_of rest.now) ≡ Ok (p.0, words_of p.1.now)) (λ f. number_first (words_of rest.now) ≡ Err f) }
 {
@@ -46,7 +46,7 @@ fn place_of(word: &[u8]) -> Option<Place>
     }
 }
 
-/// The place in front, and what stands after it.
+/// The place in front, and what comes after it.
 fn place_first(rest: &[u8]) -> Result<(Place, &[u8]), Syntax>
     ensures { MatchResult result (λ p. place_first (words_of rest.now) ≡ Ok (p.0, words_of p.1.now)) (λ f. place_first (words_of rest.now) ≡ Err f) }
 {
@@ -59,7 +59,7 @@ fn place_first(rest: &[u8]) -> Result<(Place, &[u8]), Syntax>
     }
 }
 
-/// What a line says whose first word stands alone.
+/// What a line says whose first word has no arguments.
 fn read_plain(word: PlainWord, rest: &[u8]) -> Result<Line, Syntax>
     ensures { result ≡ alone (plain_line word) (words_of rest.now) }
 {
@@ -91,7 +91,7 @@ fn read_frame(rest: &[u8]) -> Result<Line, Syntax>
     alone(Line::At(place, Action::Frame(count as usize)), rest)
 }
 
-/// The opcode in front, by its name, and what stands after it.
+/// The opcode in front, by its name, and what comes after it.
 fn name_first(rest: &[u8]) -> Result<(Opcode, &[u8]), Syntax>
     ensures { MatchResult result (λ p. name_first (words_of rest.now) ≡ Ok (p.0, words_of p.1.now)) (λ f. name_first (words_of rest.now) ≡ Err f) }
 {
@@ -126,7 +126,7 @@ fn is_hex(word: &[u8]) -> bool
     true
 }
 
-/// The digits of the whole argument, none where it is empty; nothing may stand after them. It takes no memory, so that
+/// The digits of the whole argument, none where it is empty; nothing may come after them. It takes no memory, so that
 /// running out of memory hides no fault of a word.
 fn hex_last(rest: &[u8]) -> Result<&[u8], Syntax>
     ensures { MatchResult result (λ text. (bytes : List ℕ) × (arg_last (words_of rest.now) ≡ Ok bytes) × (decode_of text.now ≡ Ok bytes)) (λ f. arg_last (words_of rest.now) ≡ Err f) }

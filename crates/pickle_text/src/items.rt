@@ -92,7 +92,7 @@ fn write_line_at<P: Past, S: Sink>(
 }
 
 /// Writes a line for each item: `>` at the cursor, `*` with a breakpoint, its place, its offset, its name, and the text of
-/// its argument where there is one. It takes no memory, and time linear in the items. Where the sink fails, a front of the
+/// its argument where there is one. It takes no memory, and time linear in the items. Where the sink fails, a beginning of the
 /// lines was written.
 #[tactic(auto, using(pickle_io::proofs::Devices::below_steps), unfolding(crate::specs::PlaceText::items_text))]
 pub fn write_items<P: Past, S: Sink>(session: &Session<P>, sink: &mut S) -> Result<(), Failed>

@@ -7,7 +7,7 @@ use crate::line::{Action, Line, Query};
 use pickle_ops::Op;
 use pickle_session::Command;
 
-/// A word that stands alone.
+/// A word without arguments.
 #[derive(Clone, Copy)]
 pub(crate) enum PlainWord {
     Step,
@@ -23,7 +23,7 @@ pub(crate) enum PlainWord {
     Quit,
 }
 
-/// A word after which a place stands.
+/// A word before a place.
 #[derive(Clone, Copy)]
 pub(crate) enum PlaceWord {
     Goto,
@@ -33,7 +33,7 @@ pub(crate) enum PlaceWord {
     Unframe,
 }
 
-/// A word after which a place, a name and bytes stand.
+/// A word before a place, a name and bytes.
 #[derive(Clone, Copy)]
 pub(crate) enum OpWord {
     Replace,
@@ -43,19 +43,19 @@ pub(crate) enum OpWord {
 /// A first word.
 #[derive(Clone, Copy)]
 pub(crate) enum Word {
-    /// It stands alone.
+    /// It has no arguments.
     Plain(PlainWord),
-    /// `show`, after which the number of an object stands.
+    /// `show`, before the number of an object.
     Show,
-    /// A place stands after it.
+    /// A place comes after it.
     Place(PlaceWord),
-    /// `frame`, after which a place and a count stand.
+    /// `frame`, before a place and a count.
     Frame,
-    /// A place, a name and bytes stand after it.
+    /// A place, a name and bytes come after it.
     Op(OpWord),
 }
 
-/// The first word of a line that stands alone.
+/// The first word of a line, which has no arguments.
 fn plain_word(word: &[u8]) -> Option<PlainWord>
     ensures { result ≡ plain_word word.now }
 {
@@ -86,7 +86,7 @@ fn plain_word(word: &[u8]) -> Option<PlainWord>
     }
 }
 
-/// The first word of a line after which a place stands.
+/// The first word of a line, before a place.
 fn place_word(word: &[u8]) -> Option<PlaceWord>
     ensures { result ≡ place_word word.now }
 {
@@ -105,7 +105,7 @@ fn place_word(word: &[u8]) -> Option<PlaceWord>
     }
 }
 
-/// The first word of a line after which a place, a name and bytes stand.
+/// The first word of a line, before a place, a name and bytes.
 fn op_word(word: &[u8]) -> Option<OpWord>
     ensures { result ≡ op_word word.now }
 {
@@ -140,7 +140,7 @@ pub(crate) fn keyword(word: &[u8]) -> Option<Word>
     }
 }
 
-/// What a word says that stands alone.
+/// What a word without arguments says.
 pub(crate) fn plain_line(word: PlainWord) -> Line
     ensures { result ≡ plain_line word }
 {

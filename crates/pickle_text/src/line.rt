@@ -20,7 +20,7 @@ pub enum Query {
     /// `show N`: the object of this number, with all that it contains. A number that names no object is no fault of the
     /// line: the answer says so (V1).
     Show(u64),
-    /// `where`: where the cursor stands.
+    /// `where`: where the cursor is.
     Where,
 }
 
@@ -101,7 +101,7 @@ pub enum Syntax {
     UnknownOpcodeName,
     /// X5: a word is no bytes in hexadecimal.
     BadHex,
-    /// X6: a word stands after those that are asked for.
+    /// X6: a word comes after those that are asked for.
     ExtraWord,
     /// X7: the line has more than 65,536 bytes.
     LineTooLong,

@@ -1,4 +1,4 @@
-//! Where a session stands.
+//! Where a session is.
 
 ghost use Rattle.pickle_io.specs.Device.{Writes};
 ghost use Rattle.pickle_text.specs.PlaceText.{cursor_text, offset_text, some_results, results_text, reached_text, ending_text, where_text};
@@ -71,8 +71,8 @@ fn write_ending<S: Sink>(end: End, sink: &mut S) -> Result<(), Failed>
     write_all(sink, b"\n")
 }
 
-/// Writes where a session stands: the cursor, how many items there are, the offset of the cursor, the count of buffers, the
-/// results of the machine, and why the document ends. It takes no memory. Where the sink fails, a front of the line was
+/// Writes where a session is: the cursor, how many items there are, the offset of the cursor, the count of buffers, the
+/// results of the machine, and why the document ends. It takes no memory. Where the sink fails, a beginning of the line was
 /// written.
 #[tactic(auto, using(pickle_io::proofs::Devices::text_steps), unfolding(crate::specs::PlaceText::where_text))]
 pub fn write_where<P: Past, S: Sink>(session: &Session<P>, sink: &mut S) -> Result<(), Failed>

@@ -1,4 +1,4 @@
-//! The lines that commands are answered with. Each writer writes its text; where the sink fails, a front of it was written.
+//! The lines that commands are answered with. Each writer writes its text; where the sink fails, a beginning of it was written.
 
 ghost use Rattle.std.specs.Prelude.{◌≡◌};
 ghost use Rattle.pickle_io.specs.Device.{Writes};
@@ -58,7 +58,7 @@ fn write_refused_item<S: Sink>(place: usize, refusal: Refusal, sink: &mut S) -> 
     write_refusal(refusal, sink)
 }
 
-/// What stands after the place of an edit that is before the cursor.
+/// What comes after the place of an edit that is before the cursor.
 #[tactic(auto, unfolding(crate::specs::ReplyText::behind_text))]
 fn behind_words() -> &'static str
     ensures { result.now ≡ behind_text }
@@ -66,7 +66,7 @@ fn behind_words() -> &'static str
     " behind the cursor"
 }
 
-/// Writes what stands after the words of a fault.
+/// Writes what comes after the words of a fault.
 #[tactic(auto, using(pickle_io::proofs::Devices::text_steps), unfolding(crate::specs::ReplyText::fault_rest))]
 fn write_fault_rest<S: Sink>(fault: Fault, sink: &mut S) -> Result<(), Failed>
     ensures { Writes (S.told sink.old) (S.told sink.new) result (fault_rest fault) }
@@ -138,7 +138,7 @@ fn write_placed<S: Sink>(word: &str, place: usize, sink: &mut S) -> Result<(), F
     write_all(sink, b"\n")
 }
 
-/// Writes the line of a reply of a session whose document ends so. It takes no memory. Where the sink fails, a front of the
+/// Writes the line of a reply of a session whose document ends so. It takes no memory. Where the sink fails, a beginning of the
 /// line was written.
 #[tactic(auto, unfolding(crate::specs::ReplyText::reply_text))]
 pub fn write_reply<S: Sink>(end: End, reply: Reply, sink: &mut S) -> Result<(), Failed>

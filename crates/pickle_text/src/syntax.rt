@@ -1,5 +1,5 @@
 //! The lines that a line of a script is answered with where nothing can be done for it. Each writer writes its text; where the
-//! sink fails, a front of it was written.
+//! sink fails, a beginning of it was written.
 
 ghost use Rattle.std.specs.Prelude.{◌≡◌};
 ghost use Rattle.pickle_io.specs.Device.{Writes};
@@ -38,7 +38,7 @@ fn write_syntax_rest<S: Sink>(syntax: Syntax, sink: &mut S) -> Result<(), Failed
     }
 }
 
-/// Writes the line that a line is answered with which says nothing. It takes no memory. Where the sink fails, a front of the
+/// Writes the line that a line is answered with which says nothing. It takes no memory. Where the sink fails, a beginning of the
 /// line was written.
 #[tactic(auto, using(pickle_io::proofs::Devices::text_steps), unfolding(crate::specs::ReplyText::syntax_line))]
 pub fn write_syntax<S: Sink>(syntax: Syntax, sink: &mut S) -> Result<(), Failed>
@@ -59,14 +59,14 @@ fn no_such_object() -> &'static str
 }
 
 /// Writes the line that `show` is answered with where there is no such object. It takes no memory. Where the sink fails, a
-/// front of the line was written.
+/// beginning of the line was written.
 pub fn write_no_such_object<S: Sink>(sink: &mut S) -> Result<(), Failed>
     ensures { Writes (S.told sink.old) (S.told sink.new) result no_object_line }
 {
     write_all(sink, no_such_object().as_bytes())
 }
 
-/// What stands before an offset that no place has.
+/// What comes before an offset that no place has.
 #[tactic(auto, unfolding(crate::specs::ReplyText::no_item_words))]
 fn no_item_words() -> &'static str
     ensures { result.now ≡ no_item_words }
@@ -75,7 +75,7 @@ fn no_item_words() -> &'static str
 }
 
 /// Writes the line that a command is answered with whose place is named by an offset that no place has. It takes no memory. Where
-/// the sink fails, a front of the line was written.
+/// the sink fails, a beginning of the line was written.
 #[tactic(auto, using(pickle_io::proofs::Devices::text_steps), unfolding(crate::specs::ReplyText::no_item_line))]
 pub fn write_no_item_at<S: Sink>(offset: u64, sink: &mut S) -> Result<(), Failed>
     ensures { Writes (S.told sink.old) (S.told sink.new) result (no_item_line offset) }

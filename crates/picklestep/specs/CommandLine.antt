@@ -15,7 +15,7 @@ use Rattle.picklestep.specs.declared.task.Usage.TheVariants as usage
 
 -- ---- the definition of the command line
 
--- the greatest number of step records that a conversation may be told to keep
+-- the greatest number of step records that a conversation may be asked to keep
 abbrev pub most_records : ℕ
 most_records = 1000000
 

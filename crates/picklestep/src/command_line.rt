@@ -7,7 +7,7 @@ ghost use Rattle.picklestep.specs.CommandLine.{file_rule, many_rule, window_rule
 use clap::{Arg, ArgAction, Command};
 use std::alloc::{AllocError, Global};
 
-/// The most step records that a conversation is told to keep.
+/// The most step records that a conversation may be asked to keep.
 pub const MOST_RECORDS: usize = 1_000_000;
 
 /// The argument of a task that is done on one file.

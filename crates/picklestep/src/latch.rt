@@ -6,7 +6,7 @@ ghost use Rattle.std.specs.Io.KnownBytes.{Keeps, WriteAppends};
 
 use std::io::{Error, ErrorKind, Result, Write};
 
-/// Hands what is written on to a writer, until that fails; from then on it fails without calling it. It stands between a device and
+/// Hands what is written on to a writer, until that fails; from then on it fails without calling it. It is between a device and
 /// the buffer in front of it, since a buffer writes out what it holds when it is let go, also after a failure. A write of nothing
 /// where bytes were offered is a failure; an interrupted write is none, since it is made again.
 #[derive(Drop)]

@@ -81,7 +81,8 @@ fn sync_folder(rt: &HostRuntime, path: &PathBuf) {
 }
 
 /// The path to which the symbolic links of a path lead, where there need not be a file. A path that is no link leads to itself.
-/// A link whose text is not UTF-8 is `Stop::Write`, since paths are text.
+/// A link whose text is not UTF-8 is `Stop::Write`, since paths are text. Who exchanges one of the links during a save may
+/// redirect it.
 fn target_of(rt: &HostRuntime, path: &str) -> Result<PathBuf, Stop> {
     let mut target = PathBuf::from_str(rt.alloc(), path)?;
     for _ in 0..MOST_LINKS {
@@ -174,7 +175,7 @@ fn save_over(rt: &HostRuntime, document: &Document, path: &str, file: &File) -> 
     write_to(rt, document, file)
 }
 
-/// Saves a document to a path. `Stop::Write` where the file, or a new one beside it, cannot be written, `Stop::Memory` where there is no room;
+/// Saves a document to a path. `Stop::Write` where the file, or a new one next to it, cannot be written, `Stop::Memory` where there is no room;
 /// a regular file is then as it was. A device or a pipe may have taken a beginning of the bytes.
 pub fn save_document(rt: &HostRuntime, document: &Document, path: &str) -> Result<(), Stop> {
     // The file is opened first, and left unchanged, so that one that may not be written is not replaced.

@@ -24,11 +24,11 @@ pub struct GivenFile {
 pub enum Task {
     /// List the opcodes.
     List(GivenFile),
-    /// Tell the objects that the opcodes make.
+    /// Print one line per object, in creation order.
     Objects(GivenFile),
-    /// Tell what the opcodes would import and call.
+    /// Print what the opcodes would import and call.
     Calls(GivenFile),
-    /// Obey the lines of standard input.
+    /// Read commands from standard input and answer each.
     Debug(GivenFile, Options),
 }
 

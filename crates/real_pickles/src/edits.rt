@@ -31,7 +31,7 @@ impl Dice {
     }
 }
 
-/// An edit; an opcode stands there by its number in `OPCODES`.
+/// An edit; an opcode is there by its number in `OPCODES`.
 #[derive(Clone, Copy)]
 enum Edit {
     Replace(usize, usize),
@@ -65,7 +65,7 @@ fn op_at(alloc: Global, number: usize) -> Result<Op, EditFault> {
     }
 }
 
-/// An edit by dice, of a list of so many items.
+/// An edit by dice, of a list of this many items.
 fn roll(dice: &mut Dice, len: usize) -> Edit {
     let place = dice.below(len.saturating_add(2));
     let number = dice.below(OPCODES.len());
@@ -78,7 +78,7 @@ fn roll(dice: &mut Dice, len: usize) -> Edit {
     }
 }
 
-/// Puts an opcode in the place of item k.
+/// Replaces item k by an opcode.
 fn replace_at(
     alloc: Global,
     document: &mut Document,
@@ -218,7 +218,7 @@ fn compare(alloc: Global, document: &Document, bytes: &[u8]) -> Result<(), Stop>
     }
 }
 
-/// Makes so many edits of both, and compares their bytes after each; then takes them back, the last one first, and compares
+/// Makes this many edits of both, and compares their bytes after each; then takes them back, the last one first, and compares
 /// again.
 fn go_on(
     alloc: Global,

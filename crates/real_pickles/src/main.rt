@@ -1,5 +1,5 @@
 //! Reads files as documents and prints what it finds of each: its name, the offset and the name of every item, how reading
-//! ended, and whether the document writes back the bytes that it was read from. Then each document is edited beside a plain
+//! ended, and whether the document writes back the bytes that it was read from. Then each document is edited together with a plain
 //! list, and the edits are taken back; and each beginning of the bytes is read and written back. Test equipment.
 #![tactic(auto)]
 
@@ -24,7 +24,7 @@ pub enum Stop {
     Room,
     /// A document and a plain list are not the same after an edit.
     Edits,
-    /// The first so many bytes are written back otherwise.
+    /// The first bytes, this many, are written back otherwise.
     Cut(usize),
 }
 

@@ -8,7 +8,7 @@ use std::alloc::Global;
 /// How STOP is spelled.
 const STOP: &[u8] = b".";
 
-/// Where an item stands.
+/// Where an item is.
 #[derive(Clone, Copy, Debug, PartialEq, Eq)]
 pub enum Kind {
     /// In no frame.
@@ -132,7 +132,7 @@ impl<'a> Plain<'a> {
         }
     }
 
-    /// Why no opcode that is spelled so can stand in the place of item k.
+    /// Why no opcode that is spelled so can replace item k.
     pub fn replace_fault(&self, k: usize, bytes: &[u8]) -> Option<EditFault> {
         let fault = fault_of(self.parts.get(k));
         if fault == Some(EditFault::NoSuchItem) {
@@ -147,7 +147,7 @@ impl<'a> Plain<'a> {
         fault
     }
 
-    /// Puts another opcode in the place of item k.
+    /// Replaces item k by another opcode.
     pub fn replace(&mut self, k: usize, bytes: &'a [u8]) {
         if let Some(part) = self.parts.get_mut(k) {
             part.bytes = bytes;
@@ -198,7 +198,7 @@ impl<'a> Plain<'a> {
         }
     }
 
-    /// Why no frame can be put round so many items from item k on.
+    /// Why no frame can be put round this many items from item k on.
     pub fn frame_fault(&self, k: usize, count: usize) -> Option<EditFault> {
         if k > self.parts.len() || count > self.parts.len().saturating_sub(k) {
             return Some(EditFault::NoSuchItem);

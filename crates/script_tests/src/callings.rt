@@ -49,7 +49,7 @@ fn told(alloc: Global, many: bool, bytes: &[u8]) -> Result<(Vec<u8>, u8), Stop> 
     Ok((sink.into_inner(), status))
 }
 
-/// How many tuples stand in one another.
+/// How many tuples are in one another.
 const DEPTH: usize = 20_000;
 
 /// An argument that is nested deeply, which is not gone into, and many open marks.

@@ -49,7 +49,7 @@ const LINES: [(&str, &str); COUNT] = [
     ("goto @2\n", "at 1\n"),
 ];
 
-/// A line whose argument does not fit beside its opcode.
+/// A line whose argument does not fit with its opcode.
 const LONG_LINE: &str = "insert 3 LONG1 0f000000000000000000000000000007\n";
 
 /// The lines that may find no memory.
@@ -64,7 +64,7 @@ const NEEDY: [&str; 6] = [
 
 /// Bytes, a script, its transcript and its status.
 const ROWS: [(&[u8], &str, &str, u8); 27] = [
-    // All that is told of a list that is appended to itself.
+    // All that is shown of a list that is appended to itself.
     (
         b"]2a.",
         "goto 3\nitems\nobjects\nstack\nmemo\nshow 0\nwhere\nback\nshow 0\nshow 1\n",
@@ -299,7 +299,7 @@ fn first_lines(alloc: Global, count: usize) -> Result<(Vec<u8>, Vec<u8>), AllocE
     Ok((script, text))
 }
 
-/// What a session tells of where it stands.
+/// What a session shows of where it is.
 fn standing(alloc: Global, session: &mut Session<Whole>) -> Result<Vec<u8>, Stop> {
     let mut source = FromRead::new(b"stack\nback\nstack\n".as_slice());
     let mut sink = ToWrite::new(Vec::new(alloc));
@@ -307,7 +307,7 @@ fn standing(alloc: Global, session: &mut Session<Whole>) -> Result<Vec<u8>, Stop
     Ok(sink.into_inner())
 }
 
-/// What a session of the pair tells that has obeyed the first lines.
+/// What a session of the pair shows that has obeyed the first lines.
 fn standing_after(alloc: Global, count: usize) -> Result<Vec<u8>, Stop> {
     let (script, _) = first_lines(alloc, count)?;
     let mut session = opened(alloc, PAIR)?;
@@ -380,7 +380,7 @@ fn count_lines(bytes: &[u8]) -> usize {
     bytes.iter().filter(|byte| **byte == b'\n').count()
 }
 
-/// A conversation whose source gives at most so many bytes a call and fails after so many calls: its answer and how often the
+/// A conversation whose source gives at most this many bytes a call and fails after this many calls: its answer and how often the
 /// source failed, or nothing where other lines were obeyed or answered than those that the source gave whole.
 fn read_with(
     alloc: Global,

@@ -65,7 +65,7 @@ fn status_of(script: &Script) -> u8 {
     u8::from(is_refused)
 }
 
-/// A conversation whose source gives at most so many bytes a call and fails after so many calls: whether it came to its end, or
+/// A conversation whose source gives at most this many bytes a call and fails after this many calls: whether it came to its end, or
 /// nothing where something else than the complete lines was answered, or the source was called again.
 fn is_read_to_its_end(
     alloc: Global,
@@ -91,7 +91,7 @@ fn is_read_to_its_end(
     })
 }
 
-/// How many calls give so many bytes, at most so many in each, and say the end.
+/// How many calls give this many bytes, at most this many in each, and say the end.
 fn calls_for(len: usize, most: usize) -> u64 {
     let whole = len.checked_div(most).unwrap_or(0) as u64;
     let rest = u64::from(len.checked_rem(most).unwrap_or(0) > 0);
@@ -123,7 +123,7 @@ fn failing_sources(rt: HostRuntime) -> Result<(), Fail> {
     Ok(())
 }
 
-/// What a session tells of where it stands.
+/// What a session shows of where it is.
 fn standing<P: Past>(alloc: Global, session: &mut Session<P>) -> Result<Vec<u8>, Stop> {
     let mut source = FromRead::new(b"where\nitems\nstack\nmemo\nobjects\n".as_slice());
     let mut sink = ToWrite::new(Vec::new(alloc));
@@ -131,7 +131,7 @@ fn standing<P: Past>(alloc: Global, session: &mut Session<P>) -> Result<Vec<u8>,
     Ok(sink.into_inner())
 }
 
-/// What a session tells that has obeyed the first lines.
+/// What a session shows that has obeyed the first lines.
 fn standing_after(alloc: Global, script: &Script, count: usize) -> Result<Vec<u8>, Fail> {
     let lines = first_lines(alloc, script, count)?;
     let mut session = opened(alloc, script)?;
@@ -154,7 +154,7 @@ fn answered_lines(script: &Script, taken: usize) -> usize {
     count
 }
 
-/// A conversation whose sink takes at most so many bytes a call and fails after so many calls: whether it came to its end, or
+/// A conversation whose sink takes at most this many bytes a call and fails after this many calls: whether it came to its end, or
 /// nothing where the sink has no beginning of the transcript, or was called again, or the session is not that of the line whose
 /// text is cut.
 fn is_written_to_its_end(
@@ -200,8 +200,8 @@ fn failing_sinks(rt: HostRuntime) -> Result<(), Fail> {
     Ok(())
 }
 
-/// Obeys one line where one request for memory may be refused: whether it is answered as with ample memory, at once or told
-/// again. A session whose line lacks memory is as it was.
+/// Obeys one line where one request for memory may be refused: whether it is answered as with ample memory, at once or given
+/// again. A session that runs out of memory for a line is as it was.
 fn insist_on_line<P: Past>(
     alloc: Global,
     session: &mut Session<P>,

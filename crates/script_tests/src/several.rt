@@ -131,7 +131,7 @@ const ALONE: [&[u8]; 8] = [
     b"K\x01q\x00K\x02q\x00h\x07.",
 ];
 
-/// Whether a pickle is listed, and its objects are told, as where one pickle is read.
+/// Whether a pickle is listed, and its objects are shown, as where one pickle is read.
 fn is_as_one(alloc: Global, bytes: &[u8]) -> Result<bool, Stop> {
     let mut listing = ToWrite::new(Vec::new(alloc));
     let listed = list(alloc, bytes, &mut listing)?;

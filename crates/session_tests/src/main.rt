@@ -1,6 +1,6 @@
 //! Tests of sessions and of their lines. `session`: worked commands with every reader compared, ways from every place to every
 //! place, and what is left where memory is refused, by what the session shows. `text`: lines and their answers, in scripts over
-//! memory that are told line by line. The program, `runs`: random commands to sessions over files. Test equipment.
+//! memory that are given line by line. The program, `runs`: random commands to sessions over files. Test equipment.
 #![tactic(auto)]
 
 mod runs;

@@ -13,7 +13,7 @@ use std::io::Read;
 use std::{env, io};
 use test_equipment::{ScriptFault, follow_whole, follow_window, note_whole, note_window};
 
-/// How many commands are told over each file.
+/// How many commands are given over each file.
 const COMMANDS: u32 = 300;
 
 /// Why a file was not tried, or nothing printed of it.
@@ -23,7 +23,7 @@ pub enum Stop {
     Device,
     /// The file is too large, or there was no memory.
     Room,
-    /// The session is not what it should be, after so many commands.
+    /// The session is not what it should be, after this many commands.
     Differs(u32),
 }
 
@@ -179,7 +179,7 @@ fn is_reached(alloc: Global, session: &Session<Whole>, bytes: &[u8]) -> Result<b
     )
 }
 
-/// Tells a session one command. Refused, it changes nothing.
+/// Gives a session one command. Refused, it changes nothing.
 fn tell(
     alloc: Global,
     session: &mut Session<Whole>,
@@ -241,7 +241,7 @@ fn bytes_at(rt: &HostRuntime, path: &str) -> Result<Vec<u8>, Stop> {
     Ok(bytes)
 }
 
-/// Tells a session over one file its commands.
+/// Gives a session over one file its commands.
 fn try_file(rt: &HostRuntime, path: &str, chance: &mut Chance) -> Result<(), Stop> {
     let bytes = bytes_at(rt, path)?;
     let mut session = Session::open(rt.alloc(), Whole::new(rt.alloc()), &bytes)?;

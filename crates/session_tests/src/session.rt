@@ -26,14 +26,14 @@ fn try_whole(alloc: Global, many: bool, script: &Script) -> Option<(usize, bool)
     Some((rows, go_home(&mut session, alloc, script.bytes)))
 }
 
-/// The same with so many of the latest records alone.
+/// The same with only this many of the latest records.
 fn try_window(alloc: Global, many: bool, count: usize, script: &Script) -> Option<(usize, bool)> {
     let mut session = open_window(alloc, many, count, script.bytes)?;
     let rows = follow(&mut session, alloc, script, Some(count));
     Some((rows, go_home(&mut session, alloc, script.bytes)))
 }
 
-/// Follows scripts over one pickle or many and goes back, with all records or with so many of the latest; the first script that
+/// Follows scripts over one pickle or many and goes back, with all records or with this many of the latest; the first script that
 /// is answered in another way, if one is.
 fn first_wrong(
     alloc: Global,
@@ -54,7 +54,7 @@ fn first_wrong(
 }
 
 /// Run also with each request for memory refused in turn: a command that is refused so leaves every reader as it was, and
-/// told again it is answered as with ample memory. Then comes the way back to the bytes that were opened.
+/// given again it is answered as with ample memory. Then comes the way back to the bytes that were opened.
 #[test]
 fn refused_memory(rt: HostRuntime) {
     assert_eq!(rt; first_wrong(rt.alloc(), false, &SCRIPTS, None), None);
@@ -102,7 +102,7 @@ fn notes_of(alloc: Global, many: bool, bytes: &[u8]) -> Result<Vec<Vec<u8>>, Fai
     Ok(notes)
 }
 
-/// Whether a session stands at a place, and shows what is written down.
+/// Whether a session is at a place, and shows what is written down.
 fn stands<P: Past>(session: &Session<P>, place: usize, notes: &[Vec<u8>], bytes: &[u8]) -> bool {
     match notes.get(place) {
         Some(note) => session.cursor() == place && shows(session, note, bytes),
@@ -221,7 +221,7 @@ const WINDOWS: [(usize, &[Counts]); 3] = [
     ),
 ];
 
-/// Whether a command has this reply, and these counts stand after it.
+/// Whether a command has this reply, and these counts hold after it.
 fn is_answered<P: Past>(session: &mut Session<P>, alloc: Global, row: &Counts) -> bool {
     let (told, reply, cursor, kept, work) = *row;
     let Some(command) = command(alloc, told) else {
@@ -251,7 +251,7 @@ fn counts_over_two_pickles(rt: HostRuntime) {
     }
 }
 
-/// How many objects stand on the stack at a place of a mark, a thousand objects, the opcode that drops them and the mark, one
+/// How many objects are on the stack at a place of a mark, a thousand objects, the opcode that drops them and the mark, one
 /// more object and its end.
 fn height_at(place: usize) -> usize {
     match place {

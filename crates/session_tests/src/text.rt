@@ -79,7 +79,7 @@ fn write_answer<P: Past, S: Sink>(
     }
 }
 
-/// The first line of a script, told to a session of many pickles or of one, that is answered otherwise, if one is.
+/// The first line of a script, given to a session of many pickles or of one, that is answered otherwise, if one is.
 fn first_wrong(alloc: Global, many: bool, script: &Script) -> Result<Option<&'static str>, Fail> {
     let mut session = opened(alloc, many, script.bytes)?;
     for (line, reply) in script.lines {
@@ -144,8 +144,8 @@ fn other_replies(rt: HostRuntime) -> Result<(), Fail> {
     Ok(())
 }
 
-/// What a sink is left with that takes at most so many bytes a call and fails after so many calls: whether it has all of the
-/// text, or nothing where it has no beginning of it, was called again after its failure, or failed without being told.
+/// What a sink is left with that takes at most this many bytes a call and fails after this many calls: whether it has all of the
+/// text, or nothing where it has no beginning of it, was called again after its failure, or failed and this was not reported.
 fn is_whole(
     alloc: Global,
     session: &Session<Whole>,
@@ -165,7 +165,7 @@ fn is_whole(
     }
 }
 
-/// Whether each sink that takes so many bytes a call and fails at one of its calls takes a beginning of an answer, and is not
+/// Whether each sink that takes this many bytes a call and fails at one of its calls takes a beginning of an answer, and is not
 /// called again, and the one that does not fail takes all.
 fn breaks_right(
     alloc: Global,

@@ -6,8 +6,8 @@ ghost use Rattle.pickle_io.specs.Device.{KeepsOrForgets, HasFailed};
 
 use pickle_io::{Failed, Source};
 
-/// A source over bytes in memory, for trials of what is read from it: it gives at most so many bytes a call, answers
-/// so many calls, and fails at each later one, for good.
+/// A source over bytes in memory, for trials of what is read from it: it gives at most this many bytes a call, answers
+/// this many calls, and fails at each later one, for good.
 #[derive(Drop)]
 pub struct Drip<'a> {
     rest: &'a [u8],

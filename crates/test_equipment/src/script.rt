@@ -14,7 +14,7 @@ use std::alloc::{AllocError, AllocFailed, Global};
 pub enum ScriptFault {
     /// Memory was refused where it should not be, or more than once.
     Memory,
-    /// Another thing is shown, after so many commands.
+    /// Another thing is shown, after this many commands.
     Differs(u32),
 }
 
@@ -51,7 +51,7 @@ impl From<Failed> for ScriptFault {
 /// The commands: to the end, half way back, an edit ahead, to the end again, to the start, and the edit undone.
 const COMMANDS: usize = 6;
 
-/// Command k over so many items.
+/// Command k over this many items.
 fn command(alloc: Global, k: usize, len: usize) -> Result<Command, OpFault> {
     Ok(match k {
         1 => Command::Goto(len / 2),
@@ -118,7 +118,7 @@ fn is_noted<P: Past>(session: &Session<P>, note: Option<&Note>) -> bool {
     }
 }
 
-/// Whether a command may be answered by out of memory: one that goes forth or edits, and one that goes back further
+/// Whether a command may be answered by out of memory: one that goes forward or edits, and one that goes back further
 /// than limited records lead.
 fn may_lack<P: Past>(session: &Session<P>, k: usize) -> bool {
     match k {
@@ -133,7 +133,7 @@ fn differs_at(k: usize) -> ScriptFault {
     ScriptFault::Differs(u32::try_from(k).unwrap_or(u32::MAX))
 }
 
-/// Obeys command k. Where memory is refused, everything is as it was; and told again it is obeyed.
+/// Obeys command k. Where memory is refused, everything is as it was; and given again it is obeyed.
 fn obey_noted<P: Past>(
     alloc: Global,
     session: &mut Session<P>,

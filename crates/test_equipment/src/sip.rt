@@ -6,8 +6,8 @@ ghost use Rattle.pickle_io.specs.Device.{Wrote, Broke};
 use pickle_io::{Failed, Sink};
 use std::alloc::Global;
 
-/// A sink that keeps its bytes in memory, for trials of what is written to it: it takes at most so many bytes a call,
-/// answers so many calls, and fails at each later one, or where it finds no room for the bytes. Once it has failed, it
+/// A sink that keeps its bytes in memory, for trials of what is written to it: it takes at most this many bytes a call,
+/// answers this many calls, and fails at each later one, or where it finds no room for the bytes. Once it has failed, it
 /// fails for good.
 #[derive(Drop)]
 pub struct Sip {

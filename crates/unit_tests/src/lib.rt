@@ -1,5 +1,5 @@
 //! Tests of what knows no document. `plain`: devices and plain texts, opcodes and their arguments, lists with a gap. `machine`:
-//! where it stands after each opcode, on the way forwards and on the way back, what it refuses, and what is left where memory
+//! where it is after each opcode, on the way forwards and on the way back, what it refuses, and what is left where memory
 //! is refused. Test equipment.
 #![tactic(auto)]
 

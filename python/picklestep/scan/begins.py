@@ -11,14 +11,14 @@ from .blobs import Blob, Budget, BytesBlob
 __all__ = ['HEAD', 'imports_something', 'is_dotted', 'is_pickle_name', 'is_storage_name', 'kind_of', 'may_be_pickle', 'tar_number',
            'tar_sum_fits', 'unread_kind_of']
 
-# The first bytes of a member, which tell what it is.
+# The first bytes of a member, which show what it is.
 HEAD = 16_384
 
 _PICKLE_NAME = re.compile(r'.*\.(pkl|pickle|pck|pcl|pk|p|joblib|pt|pth|ckpt|dill)', re.IGNORECASE | re.DOTALL)
 _STORAGE_NAME = re.compile(r'(.*/)?(data|constants)/[0-9]+', re.DOTALL)
 _ZLIB_METHOD = 8
 
-# Containers that this package does not open. They are told, since a loader may open them.
+# Containers that this package does not open. They are reported, since a loader may open them.
 _UNREAD = {
     b'\x28\xb5\x2f\xfd': 'zstd', b'\x04\x22\x4d\x18': 'lz4', b'7z\xbc\xaf\x27\x1c': '7z', b'Rar!\x1a\x07': 'rar',
 }
@@ -34,7 +34,7 @@ _IMPORTS = frozenset({'GLOBAL', 'INST'})
 # Opcodes whose argument is a number in a line.
 _NUMBERS = frozenset({'INT', 'LONG', 'FLOAT', 'GET', 'PUT'})
 
-# What stands where the bytes at hand do not show how it goes on.
+# Used where the bytes at hand do not show how it goes on.
 _UNKNOWN = ''
 
 
@@ -134,7 +134,7 @@ def may_be_pickle(head: bytes, size: int) -> bool:
 def imports_something(blob: Blob, budget: Budget) -> bool:
     """Whether a loader comes to an import of a plain name if it goes on wherever an opcode can be read.
 
-    The program ends in some pickles in which CPython goes on (docs/CODES.md). Where nothing else tells that the bytes are a pickle, this
+    The program ends in some pickles in which CPython goes on (docs/CODES.md). Where nothing else shows that the bytes are a pickle, this
     does. They count as one, too, where the budget of opcodes is used up.
 
     >>> from .blobs import Limits
@@ -238,7 +238,7 @@ def _argument(data: _Bytes, at: int, shape: 'pickletools.OpcodeInfo') -> Optiona
 
 
 def _is_taken(shape: 'pickletools.OpcodeInfo', argument: bytes) -> bool:
-    """Whether some loader goes on after an opcode with this argument. Numbers may stand between blanks, and end at a NUL byte; an id is
+    """Whether some loader goes on after an opcode with this argument. Numbers may be between blanks, and end at a NUL byte; an id is
     ASCII."""
     if shape.name in _NUMBERS:
         return len(argument) >= HEAD or len(argument.split(b'\0')[0].split()) <= 1

@@ -13,7 +13,7 @@ from .results import Result
 
 __all__ = ['NoCluster', 'look_on_cluster']
 
-# So many files are handed out before the first answers: enough for a large cluster, and few enough for the memory here.
+# This many files are handed out before the first answers: enough for a large cluster, and few enough for the memory here.
 AHEAD = 2_000
 
 

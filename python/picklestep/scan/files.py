@@ -63,7 +63,7 @@ def _urls(url: str) -> List[str]:
         system, path = fsspec.core.url_to_fs(url)
         if system.isdir(path):
             return [system.unstrip_protocol(name) for name in sorted(system.find(path))]
-    except Exception:  # whatever is wrong is told when it is opened
+    except Exception:  # whatever is wrong is reported when it is opened
         pass
     return [url]
 

@@ -26,7 +26,7 @@ _URL = re.compile(r'[A-Za-z][A-Za-z0-9+.-]*(::|://)')
 _PACKED_ENDING = re.compile(r'\.(gz|gzip|bz2|xz|lzma|z|zlib)$', re.IGNORECASE)
 # The program ends at a frame in a frame, and at an opcode that crosses the end of one. Raw numbers do not get there, and CPython goes on.
 _FRAME_FAULTS = ('F6', 'F8')
-# The bytes by which a member is told to be a container: its first ones, and where the record stands that closes a zip archive.
+# The bytes by which a member is known to be a container: its first ones, and where the record is that closes a zip archive.
 _GLANCE = HEAD + zips.TAIL
 # joblib before 0.10: the letters ZF, then the length as 19 characters, then a zlib stream, before which joblib skips a blank.
 _ZFILE_HEADER = 21
@@ -122,7 +122,7 @@ class Looker:
         return True
 
     def _open_packed(self, kind: str, blob: Blob, where: Place, names: Tuple[str, ...], depth: int) -> bool:
-        """Looks into a compressed file, and at what stands after its end."""
+        """Looks into a compressed file, and at what comes after its end."""
         offset = _ZFILE_HEADER + (blob.read(_ZFILE_HEADER, 1) == b' ') if kind == 'zfile' else 0
         unpacking = Unpacking(blob, METHODS['zlib' if kind == 'zfile' else kind], offset, kind != 'lzma')
         inner = where + (f'({kind})',)
@@ -138,7 +138,7 @@ class Looker:
         return True
 
     def _open_array(self, blob: Blob, where: Place, names: Tuple[str, ...], depth: int) -> None:
-        """Looks at what stands after the header of numpy's own layout: a pickle where the array holds objects, else raw numbers."""
+        """Looks at what comes after the header of numpy's own layout: a pickle where the array holds objects, else raw numbers."""
         start, has_objects = _array_header(blob)
         rest = blob.part(start, blob.size - start)
         if has_objects:
@@ -171,7 +171,7 @@ class Looker:
         self.look_at(sparse, where + ('(expanded)',), where[-1:], depth)
 
     def _note_name(self, name: str, where: Place, seen: 'Counter[str]') -> None:
-        """Tells a name that comes again, and one that leads elsewhere."""
+        """Reports a name that comes again, and one that leads elsewhere."""
         seen[name] += 1
         if seen[name] == 2:
             self.note(where, 'several members have this name: each is looked at')
@@ -327,7 +327,7 @@ class Looker:
 
     @staticmethod
     def _ends_in_zip(begin: List[bytes], pieces: Iterator[bytes]) -> bool:
-        """Whether the record that ends a zip archive may stand near the end."""
+        """Whether the record that ends a zip archive may be near the end."""
         tail = b''.join(begin)
         for piece in pieces:
             tail = (tail + piece)[-zips.TAIL:]
@@ -335,7 +335,7 @@ class Looker:
 
 
 def _begins_as_pickle(head: bytes, names: Tuple[str, ...]) -> bool:
-    """Whether bytes are told as a pickle whatever the program finds in them: by a name, or since they begin with PROTO."""
+    """Whether bytes are reported as a pickle whatever the program finds in them: by a name, or since they begin with PROTO."""
     begins = head[:1] == b'\x80' and head[1:2] <= b'\x05' and not any(is_storage_name(name) for name in names)
     return begins or any(is_pickle_name(name) for name in names)
 

@@ -52,7 +52,7 @@ def raw_deflate() -> Decompressor:
 
 
 def raw_lzma(properties: bytes) -> Decompressor:
-    """LZMA as a zip archive has it: its properties stand before the stream."""
+    """LZMA as a zip archive has it: its properties are before the stream."""
     dictionary = int.from_bytes(properties[1:5], 'little')
     number = properties[0]
     chain = [{'id': lzma.FILTER_LZMA1, 'dict_size': min(max(dictionary, 4096), LZMA_MEMORY), 'lc': number % 9, 'lp': number // 9 % 5,

@@ -15,7 +15,7 @@ __all__ = ['with_progress']
 
 
 def with_progress(results: Iterable[Result], total: int) -> Generator[Result, None, None]:
-    """The results as they come, with the progress told on standard error where that is a terminal."""
+    """The results as they come, with the progress shown on standard error where that is a terminal."""
     if not sys.stderr.isatty():
         return (result for result in results)
     if sys.stdout.isatty():

@@ -19,13 +19,13 @@ from .results import Call, Import, Pickle, Place
 
 __all__ = ['Summary', 'asks_program', 'held', 'offset_of_item', 'shown_name', 'why_unread']
 
-# These lines tell of an import.
+# These lines are about an import.
 _IMPORTS = ('import', 'inst')
 
 # These lines name what they import or call.
 _WITH_NAME = ('import', 'inst', 'call', 'new')
 
-# A line of the program, and the name in it where its first part stands in quotes.
+# A line of the program, and the name in it where its first part is in quotes.
 _LINE = re.compile(rf"(?m)^ *([0-9]+): ((\w+)(?: ({QUOTED} (?:{QUOTED}|#[0-9]+)))?.*)$")
 
 # These lines alone show no pickle: many texts begin with the letters P and Q, and what a loader does with such an id is its own.
@@ -51,7 +51,7 @@ class _Enough(Exception):
 class Summary:
     """What the program says of some bytes, summed up by name while it comes.
 
-    `is_sure` tells that they import something that can be there, or call something. `trouble` says why the answer is not whole, if it is
+    `is_sure` says that they import something that can be there, or call something. `trouble` says why the answer is not whole, if it is
     not.
     """
 
@@ -201,7 +201,7 @@ def _part(part: object) -> str:
 
 
 def shown_name(name: Optional[Name]) -> str:
-    """A name as it is told and compared: `os.path.join`, `ext 7`, or its two parts in quotes where one of them is no plain word.
+    """A name as it is printed and compared: `os.path.join`, `ext 7`, or its two parts in quotes where one of them is no plain word.
 
     >>> shown_name(Global(b'os', b'system')), shown_name(Global(b'os ', b'x')), shown_name(Global(b'os', Ref(5)))
     ('os.system', "'os ' 'x'", "'os' #5")

@@ -27,7 +27,7 @@ def _place(path: str, where: Place) -> str:
 
 
 def _end(end: End) -> str:
-    """How reading ended. The words of a fault tell its place; those of a refusal do not."""
+    """How reading ended. The words of a fault have its place; those of a refusal do not."""
     return shown(end.text if end.how != 'refused' or end.offset is None else f'{end.text} at {end.offset}')
 
 
@@ -109,7 +109,7 @@ class Report:
         return made
 
     def _lines(self, result: Result) -> Iterator[str]:
-        """A line for each thing that was found; `!` stands before those that ask for a closer look."""
+        """A line for each thing that was found; `!` is before those that ask for a closer look."""
         path = _place(result.path, ())
         if result.left is not None:
             yield f'  {path}: left out: {result.left}'

@@ -9,7 +9,7 @@ from ..records import End
 
 __all__ = ['Call', 'Import', 'Note', 'Pickle', 'Result', 'from_json', 'to_json']
 
-# Where something stands inside a file: the names of members, from the outermost container to the innermost.
+# Where something is inside a file: the names of members, from the outermost container to the innermost.
 Place = Tuple[str, ...]
 
 
@@ -63,7 +63,7 @@ class Result:
     """All that was found in a file.
 
     `others` counts what is no pickle. `error` says why the file cannot be read, `left` why it was left out (a FIFO, a link to a folder).
-    `size` and `modified` (nanoseconds) tell `--resume` whether the file is still the one that was looked at.
+    `size` and `modified` (nanoseconds) show `--resume` whether the file is still the one that was looked at.
     """
 
     path: str

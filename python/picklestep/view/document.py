@@ -1,4 +1,4 @@
-"""What the page shows of one pickle: a session, and what the program tells of the pickle as it is."""
+"""What the page shows of one pickle: a session, and what the program says of the pickle as it is."""
 
 from __future__ import annotations
 
@@ -57,7 +57,7 @@ class Reaches:
         return 'other' if kinds else ''
 
     def before(self, offset: int) -> Tuple[int, int]:
-        """How many imports and calls stand before an offset."""
+        """How many imports and calls are before an offset."""
         kinds = self.kinds[:bisect_left(self.offsets, offset)]
         return sum(map(_IMPORTS_COUNT, kinds)), sum(map(_CALLS_COUNT, kinds))
 
@@ -77,7 +77,7 @@ _CALLS_COUNT = _CALLS.__contains__
 
 
 class Document:
-    """A pickle that is looked at and edited; with `many`, several that stand one after another."""
+    """A pickle that is looked at and edited; with `many`, several that follow one another."""
 
     def __init__(self, source: Source, name: str, many: bool = False) -> None:
         self.name = name
@@ -188,7 +188,7 @@ class Document:
         return {'parts': shown, 'more': heap.text.count(b'#', after + 1, end) - len(shown)}
 
     def about(self, number: int) -> Fields:
-        """The opcode that made an object, and where the object stands: on the stack, in the memo, in other objects."""
+        """The opcode that made an object, and where the object is: on the stack, in the memo, in other objects."""
         maker = self._makers[number] if 0 <= number < self._made() else None
         stack = [at for at, word in enumerate(self.session.ask('stack').split()[1:]) if word == f'#{number}']
         memo = [key for key, other in self.session.memo().items() if other == number]
@@ -225,7 +225,7 @@ class Document:
     # --- Moving ---
 
     def move(self, what: str, place: int) -> str:
-        """Moves the cursor, and tells the program's words."""
+        """Moves the cursor, and returns the program's words."""
         if what == 'run':
             ran = self.session.run()
             return f'at {ran.place}: {ran.text}'
@@ -261,7 +261,7 @@ class Document:
     # --- Edits ---
 
     def edit(self, what: str, place: int, name: str, form: str, argument: str, count: int) -> str:
-        """Makes an edit, and tells the program's words."""
+        """Makes an edit, and returns the program's words."""
         if what in ('replace', 'insert'):
             values, raw = argument_of(name, form, argument)
             put = self.session.replace if what == 'replace' else self.session.insert
@@ -330,7 +330,7 @@ def argument_of(name: str, form: str, argument: str) -> Tuple[List[ArgumentValue
 
 
 def _last(answer: str) -> Fields:
-    """The last words of an answer of one line, and how many stand before them."""
+    """The last words of an answer of one line, and how many are before them."""
     words = answer.rstrip('\n').rsplit(' ', _MOST_ENTRIES)
     first, shown = (words[0], words[1:]) if len(words) > _MOST_ENTRIES else ('', words[1:])
     return {'words': shown, 'more': first.count(' ')}

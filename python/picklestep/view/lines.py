@@ -137,7 +137,7 @@ class _Cutter:
         self._grow(last)
 
     def _grow(self, part: bytes) -> None:
-        """Goes on with a line. Of a long text only its begin and what may stand after it is kept."""
+        """Goes on with a line. Of a long text only its beginning and what may come after it is kept."""
         self._length += len(part)
         self._head += part
         quote = self._head.find(b"'", 0, CUT)
@@ -147,7 +147,7 @@ class _Cutter:
 
 
 def _cut(line: bytes, dropped: int = 0) -> bytes:
-    """A line whose texts are cut. What stands after the last quote is kept, since it is the program's own."""
+    """A line whose texts are cut. What comes after the last quote is kept, since it is the program's own."""
     if len(line) + dropped <= CUT:
         return line
     if b"'" not in line[:CUT]:
@@ -179,7 +179,7 @@ def read_listing(given: Input, options: Sequence[str] = ()) -> OpcodeLines:
         listing.closing.insert(0, listing.drop_last())
     if not listing.closing:
         raise ProgramError('the program gave no whole listing')
-    if b'\nleft: ' in listing.text:  # (what a STOP left stands behind it, also where another pickle follows)
+    if b'\nleft: ' in listing.text:  # (what a STOP left comes after it, also where another pickle follows)
         whole = OpcodeLines()
         whole.add([line for line in listing.text.split(b'\n')[:-1] if not line.startswith(b'left: ')])
         whole.whole, whole.closing = listing.whole, listing.closing

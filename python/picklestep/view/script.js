@@ -264,7 +264,7 @@ async function reveal(number) {
   if (found) { found.scrollIntoView({ block: 'center' }); found.focus(); }
 }
 
-// Which opcode made an object, and where else it stands.
+// Which opcode made an object, and where else it is.
 async function point(number) {
   if (view.pointed === number && view.pointedIn === view.state) return;
   view.pointed = number;

@@ -21,7 +21,7 @@ from .lines import opcode_names
 
 __all__ = ['IDLE', 'Viewer']
 
-# After so many seconds without a word from a page the server ends. (A page in the background speaks once a minute.)
+# After this many seconds without a word from a page the server ends. (A page in the background speaks once a minute.)
 IDLE = 150.0
 # After a page was closed it waits for others, which may speak but once a minute.
 _CLOSED = 75.0
@@ -65,11 +65,11 @@ class Viewer(contextlib.AbstractContextManager['Viewer']):
         self._server.server_close()
 
     def heard(self, seconds: Optional[float] = None) -> None:
-        """Tells that a page is open, or that it was closed."""
+        """Reports that a page is open, or that it was closed."""
         self._until = time.monotonic() + (self._idle if seconds is None else min(seconds, self._idle))
 
     def answer(self, word: str, asked: Fields) -> Fields:
-        """Answers a question of the page. Refusals and what cannot be done are told in words."""
+        """Answers a question of the page. Refusals and what cannot be done are answered in words."""
         if word == 'closed':
             self.heard(_CLOSED)
             return {}

@@ -63,7 +63,7 @@ fn put_and_take(
     Ok(())
 }
 
-/// Opens a million items, makes so many edits, at one place or at places by dice, and writes the bytes, which are those
+/// Opens a million items, makes this many edits, at one place or at places by dice, and writes the bytes, which are those
 /// opened.
 pub fn edit_many(
     alloc: Global,

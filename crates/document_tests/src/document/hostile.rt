@@ -29,7 +29,7 @@ impl Stop {
     }
 }
 
-/// Bytes, and how the reading of their first so many ends, from each of these lengths on.
+/// Bytes, and how reading their first n ends, from each of these lengths n on.
 type Cuts = (&'static [u8], &'static [(usize, Stop)]);
 
 /// Worked pickles.
@@ -134,7 +134,7 @@ pub fn end_of(alloc: Global, bytes: &[u8]) -> Result<(usize, End), Wrong> {
     }
 }
 
-/// How the reading of so many bytes ends, as the table says.
+/// How the reading of this many bytes ends, as the table says.
 fn wanted(ends: &[(usize, Stop)], len: usize) -> Option<End> {
     let mut found = None;
     for (from, end) in ends {

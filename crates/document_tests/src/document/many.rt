@@ -88,7 +88,7 @@ pub const MANY: [Shown; 9] = [
 
 /// Edits, some of which change how the document ends.
 pub const MANY_EDITS: [Row; 6] = [
-    // what stands after the last STOP goes
+    // what is after the last STOP goes
     Row {
         before: Shown {
             bytes: b"N.N",

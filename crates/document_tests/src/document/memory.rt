@@ -47,7 +47,7 @@ fn make_room(alloc: Global, document: &mut Document) -> Result<(), Wrong> {
 }
 
 /// Puts in an opcode before item k and an empty frame, of which the frame is taken off again. An edit that takes no memory
-/// never lacks it.
+/// never runs out.
 fn insert_and_frame(alloc: Global, document: &mut Document, k: usize) -> Result<(), Wrong> {
     insist(alloc, document, &Edit::Insert(k, Opcode::None, b""))?;
     insist(alloc, document, &Edit::Frame(0, 0))?;
@@ -55,7 +55,7 @@ fn insert_and_frame(alloc: Global, document: &mut Document, k: usize) -> Result<
     Ok(())
 }
 
-/// Puts an opcode with a long argument in the place of item k, and takes it out.
+/// Replaces item k by an opcode with a long argument, and takes it out.
 fn replace_and_delete(alloc: Global, document: &mut Document, k: usize) -> Result<(), Wrong> {
     let long = Edit::Replace(k, Opcode::ShortBinBytes, b"\x14abcdefghijklmnopqrst");
     insist(alloc, document, &long)?;

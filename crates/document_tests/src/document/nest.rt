@@ -9,7 +9,7 @@ use pickle_doc::{Document, records_lead_on, there_and_back};
 use pickle_ops::{Opcode, op_of};
 use std::alloc::Global;
 
-/// Whether a document writes so many NONE and STOP.
+/// Whether a document writes this many NONE and STOP.
 fn is_row(alloc: Global, document: &Document, count: usize) -> Result<bool, Wrong> {
     let bytes = written(alloc, document)?;
     let Some((last, others)) = bytes.split_last() else {
@@ -18,7 +18,7 @@ fn is_row(alloc: Global, document: &Document, count: usize) -> Result<bool, Wron
     Ok(*last == b'.' && others.len() == count && others.iter().all(|byte| *byte == b'N'))
 }
 
-/// Puts so many opcodes in at the front, one after another, and takes them back, the last one first; each is made again
+/// Puts this many opcodes in at the beginning, one after another, and takes them back, the last one first; each is made again
 /// before that, and taken back.
 pub fn put_and_back(
     alloc: Global,

@@ -153,7 +153,7 @@ pub const IN_FRAMES: [Row; 5] = [
     },
 ];
 
-/// Opcodes beside a frame, and the only one in a frame.
+/// Opcodes next to a frame, and the only one in a frame.
 pub const BESIDE_FRAMES: [Row; 4] = [
     // after the last member of a frame
     Row {
@@ -264,7 +264,7 @@ pub const BESIDE_FRAMES: [Row; 4] = [
     },
 ];
 
-/// Opcodes beside frames that lie.
+/// Opcodes next to frames that lie.
 pub const FRAMES_THAT_LIE: [Row; 4] = [
     // frames that lie: before a frame past the end
     Row {

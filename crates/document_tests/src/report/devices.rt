@@ -61,8 +61,8 @@ fn write_text<S: Sink>(
     Ok(())
 }
 
-/// What a sink is left with that takes at most so many bytes a call and fails after so many calls: whether it has all of the
-/// text, or nothing where it has no beginning of it, was called again after its failure, or failed without being told.
+/// What a sink is left with that takes at most this many bytes a call and fails after this many calls: whether it has all of the
+/// text, or nothing where it has no beginning of it, was called again after its failure, or failed and this was not reported.
 fn is_whole(
     alloc: Global,
     machine: &Machine,

@@ -5,7 +5,7 @@ use Rattle.pickle_machine.specs.declared.stack.Bottom.{Bottom}
 use Rattle.pickle_machine.specs.State.{Marked, Left}
 use Rattle.pickle_machine.specs.Sections.{Sections, with_top}
 
--- objects stand on the top section, or on a new one above a mark
+-- objects are put on the top section, or on a new one above a mark
 abbrev pub given_to : Option ℕ → List ℕ → Sections → Sections
 given_to None items v = with_top v items
 given_to (Some place) items v = record v { top = items; marked = record { section = v.top; place = place } ∷ v.marked }
@@ -39,12 +39,12 @@ marks_in low depth row = reverse (drop low (take depth row))
 abbrev pub left_in : List ℕ → ℕ → ℕ → List Mark → Left
 left_in cells bottom height ms = record { top = drop (base_of bottom ms) (take height cells); marked = sections_of bottom ms cells }
 
--- the stacks that were left behind, the latest first: each stands on a bottom of its own and ends at the bottom above it
+-- the stacks that were left behind, the latest first: each has a bottom of its own and ends at the bottom above it
 abbrev pub left_of : Bottom → List Bottom → List ℕ → List Mark → List Left
 left_of b [] cells row = []
 left_of b (a ∷ older) cells row = left_in cells a.height b.height (marks_in a.depth b.depth row) ∷ left_of a older cells row
 
--- they stand there, and the lowest of all on the ground
+-- they are there, and the lowest of all is on the ground
 abbrev pub AreLeft : Bottom → List Bottom → List ℕ → List Mark → Type 0
 AreLeft b [] cells row = (b.height ≡ 0) × (b.depth ≡ 0)
 AreLeft b (a ∷ older) cells row = IsStack cells a.height b.height (marks_in a.depth b.depth row) × (a.depth ≤ b.depth) × AreLeft a older cells row

@@ -25,7 +25,7 @@ pub record Pending : Type 0 where
   pub line : List ℕ
   pub refused : Bool
 
--- of a line, as many bytes as tell that it is too long
+-- of a line, as many bytes as show that it is too long
 unfoldable pub shortened : List ℕ → List ℕ
 shortened line = take (longest + 1) line
 
@@ -37,7 +37,7 @@ abbrev pub is_refused : Outcome → Bool
 is_refused outcome.Accepted = false
 is_refused outcome.Refused = true
 
--- what a query is told was written, and the outcome is whether it refuses
+-- what a query is answered was written, and the outcome is whether it refuses
 pub record WritesTold (query : Query) (s : Session) (t : State) (old new : Told) (r : Result Outcome Failed) : Type 0 where
   pub text : List ℕ
   pub told : IsTold query s t text

@@ -66,7 +66,7 @@ pub const APPENDED_BY_MEMO: Script = Script {
 
 const PAIRED: &str = "at 4 of 5: #0 int 1; #1 int 2; #2 tuple (#0 #1); stack #2; memo 0=#2";
 
-/// Back further than the records of a window of two lead, forth to the end, and to the start.
+/// Back further than the records of a window of two lead, forward to the end, and to the start.
 pub const BOUNDED_WINDOW: Script = Script {
     bytes: PAIR,
     shown: "at 0 of 5: stack",

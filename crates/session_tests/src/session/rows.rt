@@ -531,7 +531,7 @@ const BREAKPOINTS_MOVE: Script = Script {
             "at 3 of 5, edits 1 1, breaks 3: #0 none; #1 none; stack #0",
             PLAIN_MORE,
         ),
-        // (it stands on the breakpoint, and runs on)
+        // (it is on the breakpoint, and runs on)
         (
             Told::Run,
             Reply::Ran(5, Why::End),

@@ -82,7 +82,7 @@ pub fn open_whole(alloc: Global, many: bool, bytes: &[u8]) -> Option<Session<Who
     }
 }
 
-/// A session that keeps so many of the latest records, or nothing where memory is refused.
+/// A session that keeps this many of the latest records, or nothing where memory is refused.
 fn try_window(alloc: Global, many: bool, count: usize, bytes: &[u8]) -> Option<Session<Window>> {
     if count < 1 || count > 1_000_000 {
         return None;
@@ -95,7 +95,7 @@ fn try_window(alloc: Global, many: bool, count: usize, bytes: &[u8]) -> Option<S
     }
 }
 
-/// A session of many pickles or of one that keeps so many of the latest records, where one request for memory may be refused.
+/// A session of many pickles or of one that keeps this many of the latest records, where one request for memory may be refused.
 pub fn open_window(
     alloc: Global,
     many: bool,
@@ -141,7 +141,7 @@ fn counters_of<P: Past>(session: &Session<P>) -> Counters {
     }
 }
 
-/// How many of so many records are kept.
+/// How many records are kept of a count of them.
 fn within(window: Option<usize>, count: usize) -> usize {
     match window {
         Some(most) => count.min(most),
@@ -159,7 +159,7 @@ fn is_counted<P: Past>(
     let new = counters_of(session);
     let back = old.cursor.saturating_sub(new.cursor);
     if old.kept < back {
-        // (a machine was built anew)
+        // (a machine was built again)
         let place = new.cursor as u64;
         return window.is_some()
             && new.kept == within(window, new.cursor)

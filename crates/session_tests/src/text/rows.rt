@@ -1,10 +1,10 @@
-//! Worked lines: what is told to a session of some bytes, and what it answers.
+//! Worked lines: what is given to a session of some bytes, and what it answers.
 
 use pickle_doc::EditFault;
 use pickle_machine::Refusal;
 use pickle_session::{Fault, Reply};
 
-/// Lines that are told one after another to a session of these bytes, each with its answer.
+/// Lines that are given one after another to a session of these bytes, each with its answer.
 #[derive(Clone, Copy, Debug)]
 pub struct Script {
     pub bytes: &'static [u8],
@@ -145,7 +145,7 @@ const BOTH_CASES: Script = Script {
     ],
 };
 
-/// Where the cursor stands at the end.
+/// Where the cursor is at the end.
 const AT_THE_END: Script = Script {
     bytes: DUMP,
     lines: &[
@@ -157,7 +157,7 @@ const AT_THE_END: Script = Script {
     ],
 };
 
-/// Where it stands before a refused item.
+/// Where it is before a refused item.
 const BEFORE_A_REFUSAL: Script = Script {
     bytes: b"K\x01q\x00K\x02q\x00h\x07.",
     lines: &[

@@ -127,7 +127,7 @@ pub enum Pickles {
 }
 
 impl Pickles {
-    /// The machine for so many that has done nothing.
+    /// The machine for this many pickles that has done nothing.
     pub fn machine(self, alloc: Global) -> Machine {
         match self {
             Pickles::One => Machine::new(alloc),

@@ -1,4 +1,4 @@
-//! Bytes, and how a machine stands at some places of them, always at the last. The worked states were given beforehand;
+//! Bytes, and the state of a machine at some places of them, always at the last. The worked states were given beforehand;
 //! the others are worked out from the table of opcodes, by a program that was written from that table alone, and read over.
 
 /// The bytes of operations, and the state at some places: how many operations were taken, and the text of the state.
@@ -549,7 +549,7 @@ pub const SEVERAL: [Row; 11] = [
             (4, "#0 none; #1 int 1; stack; result #1; results #0 #1"),
         ],
     ),
-    // buffers are counted anew
+    // buffers are counted again from 0
     (
         b"\x97.\x97.",
         &[

@@ -15,7 +15,7 @@ fn write_pieces<S: Sink>(sink: &mut S) -> Result<(), Failed> {
     write_all(sink, b".")
 }
 
-/// What a sink takes that has room for a part of the text: a front of it, and then it is not called again.
+/// What a sink takes that has room for a part of the text: a beginning of it, and then it is not called again.
 #[test]
 fn full_sinks(rt: HostRuntime) -> Result<(), Fail> {
     let mut sink = ToWrite::new(Vec::new(rt.alloc()));
