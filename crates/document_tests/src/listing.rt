@@ -2,8 +2,8 @@
 //! closing lines.
 
 use pickle_doc::{Document, LIMIT};
-use pickle_listing::{list_bytes, write_listing};
 use pickle_ops::{Opcode, ToWrite, op_of};
+use pickle_show::{list_bytes, write_listing};
 use std::alloc::Global;
 use std::test::Fail;
 

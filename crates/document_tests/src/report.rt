@@ -6,7 +6,7 @@ use crate::report::devices::{Text, every_break};
 use pickle_doc::{DocFault, Document};
 use pickle_machine::Machine;
 use pickle_ops::{Failed, ToWrite};
-use pickle_report::{TextStop, write_document_report, write_memo, write_show, write_stack};
+use pickle_show::{TextStop, write_document_report, write_memo, write_show, write_stack};
 use std::alloc::Global;
 use std::test::Fail;
 

@@ -1,9 +1,9 @@
 -- Why the first step of a further pickle is refused.
 use Rattle.std.proofs.Common.{◌≡◌, refl}
-use Rattle.pickle_objects.specs.declared.row.Row.{Row}
-use Rattle.pickle_objects.specs.declared.row.Row.TheVariants as row
-use Rattle.pickle_objects.specs.declared.row.Taking.TheVariants as taking
-use Rattle.pickle_objects.specs.declared.row.Filling.TheVariants as filling
+use Rattle.pickle_ops.specs.declared.row.Row.{Row}
+use Rattle.pickle_ops.specs.declared.row.Row.TheVariants as row
+use Rattle.pickle_ops.specs.declared.row.Taking.TheVariants as taking
+use Rattle.pickle_ops.specs.declared.row.Filling.TheVariants as filling
 use Rattle.pickle_machine.specs.State.{State}
 use Rattle.pickle_machine.specs.Move.{refusal_of, begun}
 use Rattle.pickle_machine.specs.Inside.Records.{first_refusal}

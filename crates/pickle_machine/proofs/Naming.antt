@@ -7,16 +7,16 @@ use Rattle.std.specs.Option.{option_map_or, is_some, unwrap_or}
 use Rattle.std.specs.List.{All, slice_get}
 use Rattle.std.specs.Ordering.{nat_cmp}
 use Rattle.std.specs.BTreeMap.{is_at}
-use Rattle.pickle_objects.specs.declared.kind.Kind.{Kind}
-use Rattle.pickle_objects.specs.declared.kind.Kind.TheVariants as kind
-use Rattle.pickle_objects.specs.declared.object.Change.{Change}
-use Rattle.pickle_objects.specs.declared.object.Change.TheVariants as change
-use Rattle.pickle_objects.specs.declared.row.Row.{Row}
-use Rattle.pickle_objects.specs.declared.row.Row.TheVariants as row
-use Rattle.pickle_objects.specs.declared.row.Filling.{Filling}
-use Rattle.pickle_objects.specs.declared.row.Filling.TheVariants as filling
-use Rattle.pickle_objects.specs.Object.{Object}
-use Rattle.pickle_objects.specs.Row.{count_of, values_of, change_of}
+use Rattle.pickle_ops.specs.declared.kind.Kind.{Kind}
+use Rattle.pickle_ops.specs.declared.kind.Kind.TheVariants as kind
+use Rattle.pickle_ops.specs.declared.object.Change.{Change}
+use Rattle.pickle_ops.specs.declared.object.Change.TheVariants as change
+use Rattle.pickle_ops.specs.declared.row.Row.{Row}
+use Rattle.pickle_ops.specs.declared.row.Row.TheVariants as row
+use Rattle.pickle_ops.specs.declared.row.Filling.{Filling}
+use Rattle.pickle_ops.specs.declared.row.Filling.TheVariants as filling
+use Rattle.pickle_ops.specs.Object.{Object}
+use Rattle.pickle_ops.specs.Row.{count_of, values_of, change_of}
 use Rattle.pickle_machine.specs.declared.refusal.Refusal.TheVariants as refusal
 use Rattle.pickle_machine.specs.State.{Marked, Left, State, start}
 use Rattle.pickle_machine.specs.Move.{deep, put, memo_at, change_top, changes_of, pairs_of, refusal_of, next_of, begun, fresh, changed, push, last_of, without, cut, put_on, under, deeper}

@@ -3,12 +3,12 @@ use Rattle.std.proofs.Common.{◌≡◌, ℕ, zero, suc, Bool, true, false, cond
 use Rattle.std.specs.List.{slice_get}
 use Rattle.std.specs.Result.{result_ok}
 use Rattle.pickle_ops.specs.Spelling.{Operation}
-use Rattle.pickle_objects.specs.declared.kind.Kind.{Kind}
-use Rattle.pickle_objects.specs.declared.kind.Kind.TheVariants as kind
-use Rattle.pickle_objects.specs.declared.kind.Demand.TheVariants as demand
-use Rattle.pickle_objects.specs.declared.row.Row.{Row}
-use Rattle.pickle_objects.specs.declared.row.Row.TheVariants as row
-use Rattle.pickle_objects.specs.Row.{row_of, kind_of}
+use Rattle.pickle_ops.specs.declared.kind.Kind.{Kind}
+use Rattle.pickle_ops.specs.declared.kind.Kind.TheVariants as kind
+use Rattle.pickle_ops.specs.declared.kind.Demand.TheVariants as demand
+use Rattle.pickle_ops.specs.declared.row.Row.{Row}
+use Rattle.pickle_ops.specs.declared.row.Row.TheVariants as row
+use Rattle.pickle_ops.specs.Row.{row_of, kind_of}
 use Rattle.pickle_machine.specs.declared.refusal.Refusal.{Refusal}
 use Rattle.pickle_machine.specs.State.{State, empty}
 use Rattle.pickle_machine.specs.Move.{deep, object_meets, push, last_of, without, cut, next_of, next, begun, fresh, refusal_at, outcome}

@@ -1,3 +1,4 @@
 -- What only proofs and the contracts of private functions cite. No contract of a public item needs it.
 pub mod Cells
 pub mod Records
+pub mod Memo

@@ -2,9 +2,9 @@
 use Rattle.std.specs.Prelude.{ℕ, ◌<◌, List, [], ◌∷◌, length}
 use Rattle.std.specs.List.{All}
 use Rattle.std.specs.Map.{values_of}
-use Rattle.pickle_objects.specs.declared.object.Change.{Change}
-use Rattle.pickle_objects.specs.declared.object.Change.TheVariants as change
-use Rattle.pickle_objects.specs.Object.{Object}
+use Rattle.pickle_ops.specs.declared.object.Change.{Change}
+use Rattle.pickle_ops.specs.declared.object.Change.TheVariants as change
+use Rattle.pickle_ops.specs.Object.{Object}
 use Rattle.pickle_machine.specs.State.{Marked, Left, State}
 
 -- each of these numbers names one of this many objects

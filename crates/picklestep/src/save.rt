@@ -4,7 +4,7 @@ use crate::file::stop_for;
 use crate::latch::Latch;
 use pickle_doc::Document;
 use pickle_ops::ToWrite;
-use pickle_tasks::Stop;
+use pickle_script::Stop;
 use std::fs;
 use std::fs::{File, Metadata, OpenOptions};
 use std::io::{BufWriter, ErrorKind, Write};

@@ -2,7 +2,7 @@
 
 use crate::listings::Failing;
 use pickle_ops::{Sink, ToWrite};
-use pickle_tasks::{Stop, calls, calls_many};
+use pickle_script::{Stop, calls, calls_many};
 use std::alloc::Global;
 use std::test::Fail;
 

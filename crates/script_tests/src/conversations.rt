@@ -2,8 +2,8 @@
 
 use pickle_doc::DocFault;
 use pickle_ops::{FromRead, ToWrite};
+use pickle_script::{Stop, converse, line_of, objects, one_cut};
 use pickle_session::{Session, Whole};
-use pickle_tasks::{Stop, converse, line_of, objects, one_cut};
 use std::alloc::{AllocError, Global};
 use std::test::Fail;
 use test_equipment::{Drip, Sip};

@@ -2,7 +2,7 @@
 //! of arguments, notes and closing lines.
 
 use pickle_ops::{Failed, Sink, ToWrite};
-use pickle_tasks::{Stop, list};
+use pickle_script::{Stop, list};
 use std::alloc::Global;
 use std::test::Fail;
 

@@ -8,8 +8,8 @@ use crate::scripts::rows::{
 };
 use pickle_doc::DocFault;
 use pickle_ops::{FromRead, ToWrite};
+use pickle_script::{Stop, converse, objects};
 use pickle_session::{Past, Session, Whole, Window};
-use pickle_tasks::{Stop, converse, objects};
 use std::alloc::{AllocError, Global};
 use std::test::Fail;
 use test_equipment::{Drip, Sip};

@@ -2,7 +2,7 @@
 
 use crate::listings::Failing;
 use pickle_ops::ToWrite;
-use pickle_tasks::{Stop, list, list_many, objects, objects_many};
+use pickle_script::{Stop, list, list_many, objects, objects_many};
 use std::alloc::Global;
 use std::test::Fail;
 

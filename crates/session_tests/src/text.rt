@@ -5,11 +5,11 @@ mod rows;
 use crate::text::rows::{MANY, REPLIES, SCRIPTS, Script};
 use pickle_doc::{DocFault, End};
 use pickle_ops::{Failed, Sink, ToWrite};
-use pickle_session::{Command, Past, Reply, Session, Whole};
-use pickle_text::{
+use pickle_script::{
     Line, Place, Query, Syntax, read_command, write_items, write_no_item_at, write_no_such_object,
     write_reply, write_syntax, write_where,
 };
+use pickle_session::{Command, Past, Reply, Session, Whole};
 use std::alloc::Global;
 use std::test::Fail;
 use test_equipment::Sip;

@@ -3,7 +3,7 @@
 use crate::report::opened;
 use pickle_machine::Machine;
 use pickle_ops::{Failed, Sink};
-use pickle_report::{
+use pickle_show::{
     TextStop, write_document_report, write_memo, write_object, write_objects, write_show,
     write_stack,
 };

@@ -1,5 +1,0 @@
-use Rattle.pickle_calls.proofs.Reaches.{no_line_no_reach as law}
-use Rattle.pickle_calls.proofs.laws.no_line_no_reach.Goals as goal
-
-pub returns : goal.returns
-returns c = law

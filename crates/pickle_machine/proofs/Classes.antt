@@ -1,0 +1,16 @@
+-- The class of what an opcode makes.
+use Rattle.std.proofs.Common.{◌≡◌, ℕ, Bool, true, false, List, refl, sym}
+use Rattle.std.specs.Prelude.{◌==◌, ◌&&◌, length, slice_index, if◌then◌else◌}
+use Rattle.pickle_ops.specs.declared.kind.Kind.TheVariants as kind
+use Rattle.pickle_ops.specs.Row.{int_kind}
+use Rattle.pickle_machine.specs.Outline.{plain}
+
+by_two : (b c : Bool) (text : List ℕ) → plain (if b then kind.False else if c then kind.True else kind.IntLine text) ≡ kind.None
+by_two true c text = refl
+by_two false true text = refl
+by_two false false text = refl
+
+pub plain_int : (text : List ℕ) → kind.None ≡ plain (int_kind text)
+plain_int text = sym (by_two (length text == 2 && slice_index text 0 == 48 && slice_index text 1 == 48) (length text == 2 && slice_index text 0 == 48 && slice_index text 1 == 49) text)
+
+pub ruleset class_rules = (plain_int)

@@ -1,0 +1,522 @@
+//! A machine that keeps an outline of the state.
+
+ghost use Rattle.std.specs.Prelude.{◌≡◌, None};
+ghost use Rattle.pickle_machine.specs.Move.{unless};
+
+use crate::class::Class;
+use crate::memo::Memo;
+use crate::refusal::Refusal;
+use crate::stack::Stack;
+use pickle_ops::{Cutting, Demand, Filling, ObjId, Row, Taking};
+use std::alloc::{AllocError, Global};
+use std::marker::Model;
+
+/// This refusal, unless something holds.
+fn unless(holds: bool, refusal: Refusal) -> Option<Refusal>
+    ensures { result ≡ unless holds refusal None }
+{
+    if holds { None } else { Some(refusal) }
+}
+
+/// A machine that keeps of its objects what an opcode may ask of them, and nothing to go back by. Its state is an outline.
+/// Where it runs several pickles, `refresh` is to be called before each move: it forgets what the pickle before left.
+#[derive(Drop)]
+pub struct Lean {
+    classes: Vec<Class>,
+    stack: Stack,
+    memo: Memo,
+    many: bool,
+    stopped: bool,
+}
+
+impl Model for Lean {
+    ghost use Rattle.std.specs.Prelude.{[], map};
+    ghost use Rattle.pickle_machine.specs.State.{State};
+    ghost use Rattle.pickle_machine.specs.Class.{sample_object};
+
+    ghost Value = { State };
+
+    ghost view = { λ m. record { heap = map sample_object m.classes.items; top = m.stack.top; marked = m.stack.marked; memo = m.memo; buffers = 0; results = []; many = m.many; stopped = m.stopped; left = [] } };
+}
+
+#[tactic(auto, using(crate::proofs::Leans::lean_rules))]
+impl Lean {
+    ghost use Rattle.std.specs.Prelude.{◌≡◌, ◌≢◌, ◌<◌, ◌≤◌, ◌-◌, ◌^◌, [], length, IfSome, IfOk, OnOk, OnErr, None, Some};
+    ghost use Rattle.std.specs.Option.{option_map};
+    ghost use Rattle.pickle_ops.specs.declared.kind.Kind.{Kind};
+    ghost use Rattle.pickle_ops.specs.Row.{count_of, values_of};
+    ghost use Rattle.pickle_machine.specs.State.{start, stack_size, Marked, place_of};
+    ghost use Rattle.pickle_machine.specs.Move.{deep, object_meets, refusal_of, next_of, taking_refusal, cutting_refusal, takes_mark, fresh, push, without, cut, put_on, put, last_of, change_top, changes_of};
+    ghost use Rattle.pickle_machine.specs.Outline.{outline, plain};
+    ghost use Rattle.pickle_machine.specs.Class.{sample};
+
+    /// The machine that has done nothing, for several pickles or for one.
+    pub fn new(alloc: Global, many: bool) -> Lean
+        ensures { result ≡ start many }
+    {
+        Lean {
+            classes: Vec::new(alloc),
+            stack: Stack::new(alloc),
+            memo: Memo::new(alloc),
+            many,
+            stopped: false,
+        }
+    }
+
+    /// Its state is an outline.
+    fn is_outline(&self)
+        ensures { self.now ≡ outline self.now }
+    {
+        let _entries = self.memo.len();
+    }
+
+    /// How many objects are on the stack, in all sections.
+    pub fn stack_len(&self) -> usize
+        ensures { result ≡ stack_size self.now }
+    {
+        self.stack.size()
+    }
+
+    /// How many marks are open.
+    pub fn marks_len(&self) -> usize
+        ensures { result ≡ length self.now.marked }
+    {
+        self.stack.depth()
+    }
+
+    /// How many entries the memo has.
+    pub fn memo_len(&self) -> usize
+        ensures { result ≡ length self.now.memo }
+    {
+        self.memo.len()
+    }
+
+    /// Whether a row that is not refused takes the topmost mark.
+    pub fn takes_mark(&self, row: Row) -> bool
+        ensures { result ≡ takes_mark row self.now }
+    {
+        match row {
+            Row::Cut(_) => true,
+            Row::CutChange(_) => true,
+            Row::PopMark => true,
+            Row::Pop => self.stack.top().is_empty(),
+            _ => false,
+        }
+    }
+
+    /// Whether the object of this number is there and meets a demand.
+    fn meets(&self, id: ObjId, demand: Demand) -> bool
+        ensures { result ≡ object_meets demand self.now id }
+    {
+        match self.classes.get(id as usize) {
+            Some(class) => class.meets(demand),
+            None => false,
+        }
+    }
+
+    /// The object at this depth of the top section, 0 for the top.
+    fn deep(&self, depth: usize) -> ObjId
+        requires { depth < length self.now.top }
+        ensures { result ≡ deep depth self.now.top }
+    {
+        let top = self.stack.top();
+        top[top.len() - 1 - depth]
+    }
+
+    /// What is asked of the object of which a view is made.
+    fn view_refusal(&self) -> Option<Refusal>
+        ensures first { result ≡ refusal_of Row.ReadOnly self.now }
+        ensures told { IfSome result (λ e. e ≢ Refusal.Memory) }
+    {
+        if self.stack.top().is_empty() {
+            return Some(Refusal::Underflow);
+        }
+        let id = self.deep(0);
+        if !self.meets(id, Demand::ReadOnly) && !self.meets(id, Demand::Writable) {
+            return Some(Refusal::WrongKind(id));
+        }
+        None
+    }
+
+    /// What is asked of two names, of the upper one first.
+    fn names_refusal(&self) -> Option<Refusal>
+        requires { 2 ≤ length self.now.top }
+        ensures first { result ≡ taking_refusal Taking.Names self.now }
+        ensures told { IfSome result (λ e. e ≢ Refusal.Memory) }
+    {
+        let name = self.deep(0);
+        if !self.meets(name, Demand::Text) {
+            return Some(Refusal::NotText(name));
+        }
+        let module = self.deep(1);
+        if !self.meets(module, Demand::Text) {
+            return Some(Refusal::NotText(module));
+        }
+        None
+    }
+
+    /// What is asked of what is called, and of its arguments.
+    fn call_refusal(&self) -> Option<Refusal>
+        requires { 2 ≤ length self.now.top }
+        ensures first { result ≡ taking_refusal Taking.Call self.now }
+        ensures told { IfSome result (λ e. e ≢ Refusal.Memory) }
+    {
+        let called = self.deep(1);
+        if !self.meets(called, Demand::Callable) {
+            return Some(Refusal::NotCallable(called));
+        }
+        let arguments = self.deep(0);
+        if !self.meets(arguments, Demand::Arguments) {
+            return Some(Refusal::NotArguments(arguments));
+        }
+        None
+    }
+
+    /// What is asked of what is called, of its arguments, and of those that have names.
+    fn call_with_refusal(&self) -> Option<Refusal>
+        requires { 3 ≤ length self.now.top }
+        ensures first { result ≡ taking_refusal Taking.CallWith self.now }
+        ensures told { IfSome result (λ e. e ≢ Refusal.Memory) }
+    {
+        let called = self.deep(2);
+        if !self.meets(called, Demand::Callable) {
+            return Some(Refusal::NotCallable(called));
+        }
+        let arguments = self.deep(1);
+        if !self.meets(arguments, Demand::Arguments) {
+            return Some(Refusal::NotArguments(arguments));
+        }
+        let keywords = self.deep(0);
+        if !self.meets(keywords, Demand::Keywords) {
+            return Some(Refusal::NotKeywords(keywords));
+        }
+        None
+    }
+
+    /// What is asked of the objects that are taken for a new one.
+    fn taking_refusal(&self, taking: Taking) -> Option<Refusal>
+        ensures first { result ≡ refusal_of (Row.Take taking) self.now }
+        ensures told { IfSome result (λ e. e ≢ Refusal.Memory) }
+    {
+        if self.stack.top().len() < taking.count() {
+            return Some(Refusal::Underflow);
+        }
+        match taking {
+            Taking::One | Taking::Two | Taking::Three => None,
+            Taking::Names => self.names_refusal(),
+            Taking::Call => self.call_refusal(),
+            Taking::CallWith => self.call_with_refusal(),
+        }
+    }
+
+    /// What is asked of the objects above the mark.
+    fn cutting_refusal(&self, cutting: Cutting) -> Option<Refusal>
+        ensures first { result ≡ refusal_of (Row.Cut cutting) self.now }
+        ensures told { IfSome result (λ e. e ≢ Refusal.Memory) }
+    {
+        if self.stack.depth() == 0 {
+            return Some(Refusal::NoMark);
+        }
+        let items = self.stack.top();
+        match cutting {
+            Cutting::Any => None,
+            Cutting::Pairs => {
+                if items.len() % 2 != 0 {
+                    return Some(Refusal::OddItems);
+                }
+                None
+            }
+            Cutting::Callable => {
+                if items.is_empty() {
+                    return Some(Refusal::Underflow);
+                }
+                if !self.meets(items[0], Demand::Callable) {
+                    return Some(Refusal::NotCallable(items[0]));
+                }
+                None
+            }
+        }
+    }
+
+    /// What is asked of the object into which those above it go.
+    fn change_refusal(&self, filling: Filling) -> Option<Refusal>
+        ensures first { result ≡ refusal_of (Row.Change filling) self.now }
+        ensures told { IfSome result (λ e. e ≢ Refusal.Memory) }
+    {
+        let values = filling.values();
+        if self.stack.top().len() < values + 1 {
+            return Some(Refusal::Underflow);
+        }
+        let target = self.deep(values);
+        if !self.meets(target, Demand::Target(filling)) {
+            return Some(Refusal::WrongKind(target));
+        }
+        None
+    }
+
+    /// What is asked of the object into which those above the mark go.
+    fn cut_change_refusal(&self, filling: Filling) -> Option<Refusal>
+        ensures first { result ≡ refusal_of (Row.CutChange filling) self.now }
+        ensures told { IfSome result (λ e. e ≢ Refusal.Memory) }
+    {
+        if self.stack.depth() == 0 {
+            return Some(Refusal::NoMark);
+        }
+        let below = self.stack.under();
+        if below.is_empty() {
+            return Some(Refusal::Underflow);
+        }
+        let items = self.stack.top();
+        if matches!(filling, Filling::SetItem) && items.len() % 2 != 0 {
+            return Some(Refusal::OddItems);
+        }
+        let target = below[below.len() - 1];
+        if !items.is_empty() && !self.meets(target, Demand::Target(filling)) {
+            return Some(Refusal::WrongKind(target));
+        }
+        None
+    }
+
+    /// What is asked where the top is taken, or the mark under it.
+    fn pop_refusal(&self) -> Option<Refusal>
+        ensures first { result ≡ refusal_of Row.Pop self.now }
+        ensures told { IfSome result (λ e. e ≢ Refusal.Memory) }
+    {
+        if self.stack.top().is_empty() && self.stack.depth() == 0 {
+            return Some(Refusal::Underflow);
+        }
+        None
+    }
+
+    /// The refusal of a row, if it has one.
+    pub fn refusal(&self, row: Row) -> Option<Refusal>
+        ensures first { result ≡ refusal_of row self.now }
+        ensures told { IfSome result (λ e. e ≢ Refusal.Memory) }
+    {
+        match row {
+            Row::Nothing => None,
+            Row::Protocol(n) => unless(n <= 5, Refusal::BadProtocol(n)),
+            Row::Extension(n) => unless(n > 0, Refusal::BadExtension(n)),
+            Row::Push => None,
+            Row::Buffer => None,
+            Row::ReadOnly => self.view_refusal(),
+            Row::Take(taking) => self.taking_refusal(taking),
+            Row::Cut(cutting) => self.cutting_refusal(cutting),
+            Row::Change(filling) => self.change_refusal(filling),
+            Row::CutChange(filling) => self.cut_change_refusal(filling),
+            Row::Pop => self.pop_refusal(),
+            Row::PopMark => unless(self.stack.depth() > 0, Refusal::NoMark),
+            Row::Mark => None,
+            Row::Get(key) => unless(self.memo.get(key).is_some(), Refusal::NoMemoEntry(key)),
+            Row::Dup | Row::Put(_) | Row::Memoize | Row::Stop => {
+                unless(!self.stack.top().is_empty(), Refusal::Underflow)
+            }
+        }
+    }
+
+    /// Puts a new object on the top section.
+    fn push(&mut self, class: Class) -> Result<(), AllocError>
+        requires { length self.old.heap < 2 ^ 32 - 1 }
+        ensures ok { OnOk result (self.new ≡ outline (push (sample class) [] self.old)) }
+    {
+        self.stack.make_room()?;
+        let id = self.classes.len() as u32;
+        self.classes.push(class)?;
+        self.stack.put(id);
+        Ok(())
+    }
+
+    /// The last n objects of the top section go, and a new one takes their place.
+    fn gather(&mut self, n: usize, class: Class) -> Result<(), AllocError>
+        requires heap { length self.old.heap < 2 ^ 32 - 1 }
+        requires deep { n ≤ length self.old.top }
+        ensures ok { OnOk result (self.new ≡ outline (push (sample class) (last_of n self.old) (without n self.old))) }
+    {
+        self.stack.make_room()?;
+        let id = self.classes.len() as u32;
+        self.classes.push(class)?;
+        self.stack.drop_last(n);
+        self.stack.put(id);
+        Ok(())
+    }
+
+    /// The topmost mark and the objects above it go, and a new one takes their place.
+    fn gather_cut(&mut self, class: Class) -> Result<(), AllocError>
+        requires heap { length self.old.heap < 2 ^ 32 - 1 }
+        requires marked { 0 < length self.old.marked }
+        ensures ok { OnOk result (self.new ≡ outline (push (sample class) self.old.top (cut self.old))) }
+    {
+        self.stack.make_room()?;
+        let id = self.classes.len() as u32;
+        self.classes.push(class)?;
+        self.stack.cut();
+        self.stack.put(id);
+        Ok(())
+    }
+
+    /// A new object is a view of the top, unless the top is read only already.
+    fn view(&mut self) -> Result<(), AllocError>
+        requires heap { length self.old.heap < 2 ^ 32 - 1 }
+        requires good { refusal_of Row.ReadOnly self.old ≡ None }
+        ensures ok { OnOk result (self.new ≡ outline (next_of Row.ReadOnly Kind.None 0 self.old)) }
+    {
+        let id = self.deep(0);
+        if self.meets(id, Demand::ReadOnly) {
+            self.is_outline();
+            Ok(())
+        } else {
+            self.gather(1, Class::ReadOnly)
+        }
+    }
+
+    /// Puts an object that is there on the top section.
+    fn repeat(&mut self, id: ObjId) -> Result<(), AllocError>
+        ensures ok { OnOk result (self.new ≡ outline (put_on id self.old)) }
+    {
+        self.stack.make_room()?;
+        self.stack.put(id);
+        Ok(())
+    }
+
+    /// A new section begins above a mark.
+    fn set_mark(&mut self, place: usize) -> Result<(), AllocError>
+        ensures ok { OnOk result (self.new ≡ outline (next_of Row.Mark Kind.None place self.old)) }
+    {
+        self.stack.make_mark_room()?;
+        self.stack.mark(place);
+        Ok(())
+    }
+
+    /// Takes the last n objects off the top section.
+    fn lose(&mut self, n: usize)
+        requires { n ≤ length self.old.top }
+        ensures { self.new ≡ outline (without n self.old) }
+    {
+        self.stack.drop_last(n);
+    }
+
+    /// Drops the topmost mark, and what is above it.
+    fn lose_cut(&mut self)
+        requires { 0 < length self.old.marked }
+        ensures { self.new ≡ outline (cut self.old) }
+    {
+        self.stack.cut();
+    }
+
+    /// The last objects of the top section go into the one below them.
+    fn fill(&mut self, filling: Filling)
+        requires { values_of filling ≤ length self.old.top }
+        ensures { self.new ≡ outline (change_top (changes_of filling (last_of (values_of filling) self.old)) (without (values_of filling) self.old)) }
+    {
+        self.lose(filling.values());
+    }
+
+    /// The objects above the topmost mark go into the one below it, and the mark goes.
+    fn fill_cut(&mut self, filling: Filling)
+        requires { 0 < length self.old.marked }
+        ensures { self.new ≡ outline (change_top (changes_of filling self.old.top) (cut self.old)) }
+    {
+        self.lose_cut();
+    }
+
+    /// Takes the top, or where the section is empty, the mark under it.
+    fn pop_or_mark(&mut self)
+        requires { refusal_of Row.Pop self.old ≡ None }
+        ensures { self.new ≡ outline (next_of Row.Pop Kind.None 0 self.old) }
+    {
+        if self.stack.top().is_empty() {
+            self.lose_cut();
+        } else {
+            self.lose(1);
+        }
+    }
+
+    /// Takes the top off. Where several pickles are run, this one has stopped.
+    fn stop(&mut self)
+        requires { 0 < length self.old.top }
+        ensures { self.new ≡ outline (next_of Row.Stop Kind.None 0 self.old) }
+    {
+        self.stack.drop_last(1);
+        self.stopped = self.many;
+    }
+
+    /// The memo maps the key to the top.
+    fn store(&mut self, key: u64) -> Result<(), AllocError>
+        requires { 0 < length self.old.top }
+        ensures ok { OnOk result (self.new ≡ outline (put key self.old)) }
+    {
+        let id = self.deep(0);
+        self.memo.put(key, id)
+    }
+
+    /// A row that is not refused: the outline of the next state. An error comes only where memory runs out.
+    pub fn perform(&mut self, row: Row, class: Class, place: usize) -> Result<(), AllocError>
+        requires heap { length self.old.heap < 2 ^ 32 - 1 }
+        requires good { refusal_of row self.old ≡ None }
+        ensures ok { OnOk result (self.new ≡ outline (next_of row (sample class) place self.old)) }
+    {
+        match row {
+            Row::Nothing => {
+                self.is_outline();
+                Ok(())
+            }
+            Row::Protocol(_) => {
+                self.is_outline();
+                Ok(())
+            }
+            Row::Extension(_) => self.push(class),
+            Row::Push => self.push(class),
+            Row::Buffer => self.push(Class::Opaque),
+            Row::ReadOnly => self.view(),
+            Row::Take(taking) => self.gather(taking.count(), class),
+            Row::Cut(_) => self.gather_cut(class),
+            Row::Change(filling) => {
+                self.fill(filling);
+                Ok(())
+            }
+            Row::CutChange(filling) => {
+                self.fill_cut(filling);
+                Ok(())
+            }
+            Row::Pop => {
+                self.pop_or_mark();
+                Ok(())
+            }
+            Row::PopMark => {
+                self.lose_cut();
+                Ok(())
+            }
+            Row::Dup => self.repeat(self.deep(0)),
+            Row::Mark => self.set_mark(place),
+            Row::Get(key) => {
+                let id = self.memo.get(key).unwrap();
+                self.repeat(id)
+            }
+            Row::Put(key) => self.store(key),
+            Row::Memoize => self.store(self.memo_len() as u64),
+            Row::Stop => {
+                self.stop();
+                Ok(())
+            }
+        }
+    }
+
+    /// Whether the last move was STOP, where several pickles are run.
+    pub fn has_stopped(&self) -> bool
+        ensures { result ≡ self.now.stopped }
+    {
+        self.stopped
+    }
+
+    /// The outline of the state on which the next move is taken: after STOP a further pickle begins, and what the one before left
+    /// is forgotten.
+    pub fn refresh(&mut self)
+        ensures { self.new ≡ outline (fresh self.old) }
+    {
+        if self.stopped {
+            self.stack.clear();
+            self.memo.clear();
+            self.stopped = false;
+        }
+    }
+}

@@ -1,0 +1,139 @@
+//! Objects, and what was done to them.
+
+use crate::kind::Kind;
+use std::alloc::{AllocError, Global};
+use std::marker::Model;
+
+/// The number of an object: its place in the heap.
+pub type ObjId = u32;
+
+/// What was done to an object after it was made.
+#[derive(Clone, Copy, Debug, PartialEq, Eq)]
+pub enum Change {
+    /// This object was put after its items.
+    Append(ObjId),
+    /// A key was mapped to a value in it.
+    SetItem(ObjId, ObjId),
+    /// This object was put among its members.
+    Add(ObjId),
+    /// This object was made its state.
+    Build(ObjId),
+}
+
+/// What an object is made of, and what was done to it.
+#[derive(Debug, Drop)]
+pub struct Content {
+    parts: Vec<ObjId>,
+    changes: Vec<Change>,
+}
+
+/// An object of the heap: its kind and its parts, which stay, and what was done to it since. Most objects have neither parts
+/// nor changes, so there is room for these only where there is one.
+#[derive(Debug, Drop)]
+pub struct Object {
+    kind: Kind,
+    content: Option<Box<Content>>,
+}
+
+const _: () = prove!(size_of::<Object>() == 48);
+
+impl Model for Object {
+    ghost use Rattle.pickle_ops.specs.Object.{Object};
+    ghost use Rattle.pickle_ops.specs.Inside.Content.{parts_of, changes_of};
+
+    ghost Value = { Object };
+
+    ghost view = { λ o. record { kind = o.kind; parts = parts_of o.content; changes = changes_of o.content } };
+}
+
+impl Object {
+    ghost use Rattle.std.specs.Prelude.{◌≡◌, ◌-◌, [], ◌++◌, length, take, IfOk, OnOk, OnErr};
+
+    /// A new object, which has no part and to which nothing was done. A machine makes one for each step that makes an
+    /// object of nothing.
+    pub fn new(kind: Kind) -> Object
+        ensures { result ≡ record { kind = kind; parts = []; changes = [] } }
+    {
+        Object {
+            kind,
+            content: None,
+        }
+    }
+
+    /// A new object of these parts, to which nothing was done. A machine makes one for each step that makes an object of
+    /// others. It fails only where memory runs out.
+    pub fn of_parts(alloc: Global, kind: Kind, parts: &[ObjId]) -> Result<Object, AllocError>
+        ensures { IfOk result (λ o. o ≡ record { kind = kind; parts = parts.now; changes = [] }) }
+    {
+        if parts.is_empty() {
+            return Ok(Object::new(kind));
+        }
+        let content = Content {
+            parts: Vec::from_slice(alloc, parts)?,
+            changes: Vec::new(alloc),
+        };
+        Ok(Object {
+            kind,
+            content: Some(Box::new(alloc, content)?),
+        })
+    }
+
+    /// What it is.
+    pub fn kind(&self) -> &Kind
+        ensures { result.now ≡ self.now.kind }
+    {
+        &self.kind
+    }
+
+    /// The objects that it was made of.
+    pub fn parts(&self) -> &[ObjId]
+        ensures { result.now ≡ self.now.parts }
+    {
+        match &self.content {
+            Some(content) => content.parts.as_slice(),
+            None => &[],
+        }
+    }
+
+    /// What was done to it, the earliest first.
+    pub fn changes(&self) -> &[Change]
+        ensures { result.now ≡ self.now.changes }
+    {
+        match &self.content {
+            Some(content) => content.changes.as_slice(),
+            None => &[],
+        }
+    }
+
+    /// Puts changes after the others, for a step that puts something into it. Where memory runs out, it stays as it
+    /// was.
+    pub fn change(&mut self, alloc: Global, more: &[Change]) -> Result<(), AllocError>
+        ensures ok { OnOk result (self.new ≡ record self.old { changes = self.old.changes ++ more.now }) }
+        ensures err { OnErr result (self.new ≡ self.old) }
+    {
+        if more.is_empty() {
+            return Ok(());
+        }
+        match &mut self.content {
+            Some(content) => content.changes.extend_from_slice(more)?,
+            None => {
+                let content = Content {
+                    parts: Vec::new(alloc),
+                    changes: Vec::from_slice(alloc, more)?,
+                };
+                self.content = Some(Box::new(alloc, content)?);
+            }
+        }
+        Ok(())
+    }
+
+    /// Takes the last changes away, where a step that put them there is taken back. It takes no memory.
+    pub fn shorten(&mut self, count: usize)
+        ensures { self.new ≡ record self.old { changes = take (length self.old.changes - count) self.old.changes } }
+    {
+        if let Some(content) = &mut self.content {
+            let left = content.changes.len().saturating_sub(count);
+            content.changes.truncate(left);
+        }
+    }
+}

@@ -1,0 +1,169 @@
+-- A sink that hands on what it holds, after lines that were obeyed: where it fails, it fails in the text of the last of them.
+use Rattle.std.proofs.Common.{◌≡◌, ◌≢◌, ℕ, Bool, true, false, ◌||◌, ◌==◌, List, [], ◌∷◌, ◌++◌, Option, Some, None, Result, Ok, Err, refl, sym, ap, subst, ◌∙◌, append-nil, if◌then◌else◌, arith}
+use Rattle.std.specs.List.{concat, list_any}
+use Rattle.std.specs.Io.KnownBytes.{Appends}
+use Rattle.std.proofs.lemmas.List.Folds.{list_any-append}
+use Rattle.pickle_io.specs.declared.sink.Failed.{Failed}
+use Rattle.pickle_io.specs.Device.{Told, AppendsFront, Wrote, Broke}
+use Rattle.pickle_io.proofs.Devices.{Wrote-trans, Broke-after}
+use Rattle.pickle_session.specs.Allowed.{Standing}
+use Rattle.pickle_script.specs.declared.line.Line.{Line}
+use Rattle.pickle_script.specs.declared.line.Syntax.{Syntax}
+use Rattle.pickle_script.specs.Script.{Cut, HasNoNewline, IsCut, joined}
+use Rattle.pickle_script.specs.Transcript.{Runs, IsTranscript, is_quit, has_quit, up_to_quit}
+use Rattle.pickle_script.specs.Conversation.{AppendsPast, BrokePast}
+use Rattle.pickle_script.specs.declared.outcome.Outcome.{Outcome}
+use Rattle.pickle_script.specs.Inside.Progress.{Pending, WritesLine, SoFar, HasQuit, Breaks, HasBroken}
+use Rattle.pickle_script.proofs.Cuts.{is_newline}
+use Rattle.pickle_script.proofs.Feeding.{concat-push, up_to-last, up_to_quit-none}
+
+-- ---- what was written stays written
+
+Wrote-flushed : (a b c : Told) (text : List ℕ) → Wrote a b text → Wrote b c [] → Wrote a c text
+Wrote-flushed a b c text p q = subst (λ (t : List ℕ). Wrote a c t) (append-nil text) (Wrote-trans a b c text [] p q)
+
+pub quit_flushed : (s q : Standing) (old a b : Told) (given : List ℕ) (held : Pending) → HasQuit s old given q a held → Wrote a b [] → HasQuit s old given q b held
+quit_flushed s q old a b given held w f = record {
+  cut = w.cut;
+  is_cut = w.is_cut;
+  texts = w.texts;
+  transcript = w.transcript;
+  quits = w.quits;
+  wrote = Wrote-flushed old a b (concat w.texts) w.wrote f;
+  refused = w.refused;
+}
+
+pub line_flushed : (says : Result Line Syntax) (q r : Standing) (a b c : Told) (this : Outcome) → WritesLine says q r a b (Ok this) → Wrote b c [] → WritesLine says q r a c (Ok this)
+line_flushed says q r a b c this x f = record { text = x.text; gives = x.gives; writes = Wrote-flushed a b c x.text x.writes f; refuses = x.refuses }
+
+-- ---- the sink fails
+
+pub line_unflushed : (says : Result Line Syntax) (q r : Standing) (a b c : Told) (this : Outcome) (e : Failed) → WritesLine says q r a b (Ok this) → Broke b c [] → WritesLine says q r a c (Err e)
+line_unflushed says q r a b c this e x f = record {
+  text = x.text;
+  gives = x.gives;
+  writes = subst (λ (t : List ℕ). Broke a c t) (append-nil x.text) (Broke-after a b c x.text [] x.writes f);
+  refuses = tt;
+}
+
+no_front : (front rest : List ℕ) → [] ≡ front ++ rest → front ≡ []
+no_front [] rest e = refl
+no_front (b ∷ bs) rest e = absurd cc
+
+AppendsPast-whole : (a b c : Option (List ℕ)) (whole text : List ℕ) → Appends a b (whole ++ text) → AppendsFront b c [] → AppendsPast a c whole text
+AppendsPast-whole None b c whole text p q = tt
+AppendsPast-whole (Some x) None c whole text p q = absurd p
+AppendsPast-whole (Some x) (Some y) None whole text p q = tt
+AppendsPast-whole (Some x) (Some y) (Some z) whole text p q =
+    (text, ([], sym (append-nil text)), q.2 ∙ ap (λ (t : List ℕ). y ++ t) (no_front q.0 q.1.0 q.1.1) ∙ append-nil y ∙ p)
+
+-- the last text was taken whole, as a front of itself
+BrokePast-whole : (a b c : Told) (whole text : List ℕ) → Wrote a b (whole ++ text) → Broke b c [] → BrokePast a c whole text
+BrokePast-whole a b c whole text p q = record {
+  taken = AppendsPast-whole a.taken b.taken c.taken whole text p.taken q.front;
+  rises = omega (arith, p.calm, q.rises);
+  failed = λ h. omega (arith, p.calm, q.failed (omega (arith, p.calm, h)));
+}
+
+record LastText (texts : List (List ℕ)) : Type 0 where
+  before : List (List ℕ)
+  last : List ℕ
+  are : texts ≡ before ++ last ∷ []
+
+last_of : (t : List ℕ) (ts : List (List ℕ)) → LastText (t ∷ ts)
+last_of t [] = record { before = []; last = t; are = refl }
+last_of t (u ∷ us) =
+    let r = last_of u us in
+    record { before = t ∷ r.before; last = r.last; are = ap (λ (x : List (List ℕ)). t ∷ x) r.are }
+
+-- where a line was obeyed there is a last text
+last_text : (s q : Standing) (l : List ℕ) (ls ts : List (List ℕ)) → Runs s (l ∷ ls) ts q → LastText ts
+last_text s q l ls [] r = absurd r
+last_text s q l ls (t ∷ ts) r = last_of t ts
+
+-- the last line that is obeyed, and those around it
+record LastLine (lines : List (List ℕ)) : Type 0 where
+  before : List (List ℕ)
+  last : List ℕ
+  later : List (List ℕ)
+  are : lines ≡ before ++ last ∷ later
+  obeyed : up_to_quit lines ≡ before ++ last ∷ []
+  no_quit : has_quit before ≡ false
+
+last_obeyed : (l : List ℕ) (ls : List (List ℕ)) → LastLine (l ∷ ls)
+last_obeyed l [] = record { before = []; last = l; later = []; are = refl; obeyed = up_to-last (is_quit l) l [] refl; no_quit = refl }
+last_obeyed l (k ∷ ks) = go (is_quit l) refl (last_obeyed k ks)
+  where
+    go : (t : Bool) → is_quit l ≡ t → LastLine (k ∷ ks) → LastLine (l ∷ k ∷ ks)
+    go true e r = record { before = []; last = l; later = k ∷ ks; are = refl; obeyed = rw e refl; no_quit = refl }
+    go false e r = record {
+      before = l ∷ r.before;
+      last = r.last;
+      later = r.later;
+      are = ap (λ (x : List (List ℕ)). l ∷ x) r.are;
+      obeyed = rw e (ap (λ (x : List (List ℕ)). l ∷ x) r.obeyed);
+      no_quit = rw (e, r.no_quit) refl;
+    }
+
+flush_breaks : (s q : Standing) (old a b : Told) (ls ts : List (List ℕ)) → ls ≢ [] → IsTranscript s ls ts q → Wrote old a (concat ts) → Broke a b [] → Breaks s old ls q b
+flush_breaks s q old a b [] ts some r w f = absurd (some refl)
+flush_breaks s q old a b (l ∷ ls) ts some r w f =
+    let o = last_obeyed l ls in
+    let x = last_text s q l (if is_quit l then [] else up_to_quit ls) ts r in
+    let obeyed : Runs s (o.before ++ o.last ∷ []) ts q = subst (λ (ks : List (List ℕ)). Runs s ks ts q) o.obeyed r in
+    let wrote : Wrote old a (concat x.before ++ x.last) = subst (λ (t : List ℕ). Wrote old a t) (ap concat x.are ∙ concat-push x.before x.last) w in
+    record {
+      before = o.before;
+      last = o.last;
+      later = o.later;
+      are = o.are;
+      texts = x.before;
+      text = x.last;
+      runs = subst (λ (us : List (List ℕ)). Runs s (o.before ++ o.last ∷ []) us q) x.are obeyed;
+      no_quit = o.no_quit;
+      broke = BrokePast-whole old a b (concat x.before) x.last wrote f;
+    }
+
+-- ---- a line was obeyed: one that quits, or the bytes have a newline
+
+some_quits : (ls : List (List ℕ)) → has_quit ls ≡ true → ls ≢ []
+some_quits [] h = absurd cc
+some_quits (l ∷ ls) h = λ (e : l ∷ ls ≡ []). absurd cc
+
+pub quit_unflushed : (s q : Standing) (old a b : Told) (given : List ℕ) (held : Pending) → HasQuit s old given q a held → Broke a b [] → HasBroken s old given q b
+quit_unflushed s q old a b given held w f = record {
+  cut = w.cut;
+  is_cut = w.is_cut;
+  breaks = flush_breaks s q old a b w.cut.complete w.texts (some_quits w.cut.complete w.quits) w.transcript w.wrote f;
+}
+
+abbrev pub has_newline : List ℕ → Bool
+has_newline bytes = list_any (λ b. b == 10) bytes
+
+no_newline : (bs : List ℕ) → HasNoNewline bs → has_newline bs ≡ true → ⊥
+no_newline [] p h = absurd cc
+no_newline (b ∷ bs) p h = go (b == 10) refl h (no_newline bs p.1)
+  where
+    go : (t : Bool) → (b == 10) ≡ t → (t || has_newline bs) ≡ true → (has_newline bs ≡ true → ⊥) → ⊥
+    go true e h more = p.0 (is_newline b e)
+    go false e h more = more h
+
+or_true : (b : Bool) → (b || true) ≡ true
+or_true true = refl
+or_true false = refl
+
+some_line : (given bytes : List ℕ) (c : Cut) → IsCut (given ++ bytes) c → has_newline bytes ≡ true → c.complete ≢ []
+some_line given bytes c p h = λ (e : c.complete ≡ []).
+    let rest : c.rest ≡ given ++ bytes = sym (ap (λ (ls : List (List ℕ)). joined ls ++ c.rest) e) ∙ p.whole in
+    let has : has_newline (given ++ bytes) ≡ true = list_any-append (λ b. b == 10) given bytes ∙ ap (λ (t : Bool). has_newline given || t) h ∙ or_true (has_newline given) in
+    no_newline (given ++ bytes) (subst HasNoNewline rest p.rest) has
+
+pub so_far_unflushed : (s q : Standing) (old a b : Told) (given bytes : List ℕ) (held : Pending) → SoFar s old (given ++ bytes) q a held → has_newline bytes ≡ true → Broke a b []
+    → HasBroken s old (given ++ bytes) q b
+so_far_unflushed s q old a b given bytes held w h f =
+    let runs = subst (λ (ls : List (List ℕ)). Runs s ls w.texts q) (sym (up_to_quit-none w.cut.complete w.no_quit)) w.runs in
+    record {
+      cut = w.cut;
+      is_cut = w.is_cut;
+      breaks = flush_breaks s q old a b w.cut.complete w.texts (some_line given bytes w.cut w.is_cut h) runs w.wrote f;
+    }

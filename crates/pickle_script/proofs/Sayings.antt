@@ -1,0 +1,71 @@
+-- Lines without an operation are answered as they are said.
+use Rattle.std.proofs.Common.{◌≡◌, ℕ, List, [], ◌∷◌, None, Result, Ok, Err, refl}
+use Rattle.pickle_script.specs.declared.line.Line.{Line}
+use Rattle.pickle_script.specs.declared.line.Line.TheVariants as line
+use Rattle.pickle_script.specs.declared.line.Query.TheVariants as query
+use Rattle.pickle_script.specs.declared.line.Place.{Place}
+use Rattle.pickle_script.specs.declared.line.Action.TheVariants as action
+use Rattle.pickle_script.specs.declared.line.Syntax.{Syntax}
+use Rattle.pickle_script.specs.declared.keyword.PlainWord.{PlainWord}
+use Rattle.pickle_script.specs.declared.keyword.PlainWord.TheVariants as plain
+use Rattle.pickle_script.specs.declared.keyword.PlaceWord.{PlaceWord}
+use Rattle.pickle_script.specs.declared.keyword.PlaceWord.TheVariants as placed
+use Rattle.pickle_script.specs.Grammar.{op_in, alone, plain_line, place_action, number_first, place_first, show_says, place_says, frame_says, and_then, Answers}
+
+-- a line without an operation
+abbrev IsFree : Result Line Syntax → Type 0
+IsFree (Ok l) = op_in l ≡ None
+IsFree (Err f) = Unit {0}
+
+answered : (says answer : Result Line Syntax) → IsFree says → answer ≡ says → Answers says answer
+answered (Ok l) answer free e = rw e (refl, rw free tt)
+answered (Err f) answer free e = e
+
+free_alone : (l : Line) (words : List (List ℕ)) → op_in l ≡ None → IsFree (alone l words)
+free_alone l [] h = h
+free_alone l (w ∷ words) h = tt
+
+free_plain : (w : PlainWord) → op_in (plain_line w) ≡ None
+free_plain plain.Step = refl
+free_plain plain.Back = refl
+free_plain plain.Run = refl
+free_plain plain.Undo = refl
+free_plain plain.Redo = refl
+free_plain plain.Items = refl
+free_plain plain.Objects = refl
+free_plain plain.Stack = refl
+free_plain plain.Memo = refl
+free_plain plain.Where = refl
+free_plain plain.Quit = refl
+
+free_place : (p : Place) (w : PlaceWord) → op_in (line.At p (place_action w)) ≡ None
+free_place p placed.Goto = refl
+free_place p placed.Break = refl
+free_place p placed.Clear = refl
+free_place p placed.Delete = refl
+free_place p placed.Unframe = refl
+
+free_then : {A : Type 0} (r : Result A Syntax) (f : A → Result Line Syntax) → ((x : A) → IsFree (f x)) → IsFree (and_then r f)
+free_then (Ok x) f h = h x
+free_then (Err e) f h = tt
+
+pub plain_answers : (w : PlainWord) (words : List (List ℕ)) (answer : Result Line Syntax) → answer ≡ alone (plain_line w) words → Answers (alone (plain_line w) words) answer
+plain_answers w words answer e = answered (alone (plain_line w) words) answer (free_alone (plain_line w) words (free_plain w)) e
+
+pub show_answers : (words : List (List ℕ)) (answer : Result Line Syntax) → answer ≡ show_says words → Answers (show_says words) answer
+show_answers words answer e =
+    answered (show_says words) answer
+    (free_then (number_first words) (λ (p : ℕ × List (List ℕ)). alone (line.Query (query.Show p.0)) p.1) (λ p. free_alone (line.Query (query.Show p.0)) p.1 refl)) e
+
+pub place_answers : (w : PlaceWord) (words : List (List ℕ)) (answer : Result Line Syntax) → answer ≡ place_says w words → Answers (place_says w words) answer
+place_answers w words answer e =
+    answered (place_says w words) answer
+    (free_then (place_first words) (λ (p : Place × List (List ℕ)). alone (line.At p.0 (place_action w)) p.1) (λ p. free_alone (line.At p.0 (place_action w)) p.1 (free_place p.0 w))) e
+
+pub frame_answers : (words : List (List ℕ)) (answer : Result Line Syntax) → answer ≡ frame_says words → Answers (frame_says words) answer
+frame_answers words answer e =
+    answered (frame_says words) answer
+    (free_then (place_first words) (λ (p : Place × List (List ℕ)). and_then (number_first p.1) (λ (q : ℕ × List (List ℕ)). alone (line.At p.0 (action.Frame q.0)) q.1))
+    (λ p. free_then (number_first p.1) (λ (q : ℕ × List (List ℕ)). alone (line.At p.0 (action.Frame q.0)) q.1) (λ q. free_alone (line.At p.0 (action.Frame q.0)) q.1 refl))) e
+
+pub ruleset saying_steps = (plain_answers, show_answers, place_answers, frame_answers)

@@ -1,0 +1,14 @@
+-- The offset after an item is one of the document's.
+use Rattle.std.proofs.Common.{◌≡◌, ◌≤◌, length, ap, Some, arith, rules}
+use Rattle.pickle_doc.specs.Document.{Contents, document_bytes, size_limit}
+use Rattle.pickle_doc.specs.Place.{item_at}
+use Rattle.pickle_script.proofs.PlaceLemmas.{offset_fits}
+use Rattle.pickle_script.proofs.items.write_line_at.Goals as goal
+
+pub overflow_add-next : goal.overflow_add-next
+overflow_add-next g c =
+    let small : length (document_bytes c.args.session.now.session.document) ≤ size_limit =
+    omega (arith, c.total-total.ensures.value, c.total-total.ensures.within, ap (λ (d : Contents). length (document_bytes d)) c.document-document.ensures) in
+    let there : item_at c.args.session.now.session.document c.args.place ≡ Some c.in-Some.op.now = search rules in
+    let fits = offset_fits c.args.session.now.session.document c.args.place c.args.offset c.in-Some.op.now small there c.requires in
+    omega (arith, fits, c.size.ensures)

@@ -1,0 +1,13 @@
+-- The definitions that contracts cite.
+pub mod Stop
+pub mod Output
+pub mod Objects
+pub mod Script
+pub mod Query
+pub mod Transcript
+pub mod Conversation
+pub mod Grammar
+pub mod FaultText
+pub mod ReplyText
+pub mod PlaceText
+pub mod Inside

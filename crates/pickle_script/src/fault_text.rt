@@ -1,0 +1,40 @@
+//! Why a document ends, and why bytes are no opcode, in words. Each writer writes its text; where the sink fails, a beginning of
+//! it was written.
+
+ghost use Rattle.pickle_io.specs.Device.{Writes};
+ghost use Rattle.pickle_script.specs.FaultText.{end_text, op_fault_text};
+
+use pickle_doc::{End, TailFault};
+use pickle_ops::{Failed, OpFault, Sink, write_all, write_decimal};
+use pickle_show::write_fault_text;
+
+/// Writes why a document ends.
+#[tactic(auto, using(pickle_io::proofs::Devices::text_steps), unfolding(crate::specs::FaultText::end_text))]
+pub(crate) fn write_end<S: Sink>(end: End, sink: &mut S) -> Result<(), Failed>
+    ensures { Writes (S.told sink.old) (S.told sink.new) result (end_text end) }
+{
+    match end {
+        End::Stopped => write_all(sink, b"stopped"),
+        End::Fault(fault, offset) => {
+            write_fault_text(fault, sink)?;
+            write_all(sink, b" at ")?;
+            write_decimal(offset, sink)
+        }
+    }
+}
+
+/// Writes why bytes are no opcode, or no argument of an opcode.
+#[tactic(auto, unfolding(crate::specs::FaultText::op_fault_text))]
+pub(crate) fn write_op_fault<S: Sink>(fault: OpFault, sink: &mut S) -> Result<(), Failed>
+    ensures { Writes (S.told sink.old) (S.told sink.new) result (op_fault_text fault) }
+{
+    match fault {
+        OpFault::Ended => write_fault_text(TailFault::Ended, sink),
+        OpFault::UnknownOpcode(byte) => write_fault_text(TailFault::UnknownOpcode(byte), sink),
+        OpFault::Truncated => write_fault_text(TailFault::Truncated, sink),
+        OpFault::NegativeLength => write_fault_text(TailFault::NegativeLength, sink),
+        OpFault::BadArgument => write_fault_text(TailFault::BadArgument, sink),
+        OpFault::TooLong => write_all(sink, b"F9 too long"),
+        OpFault::Memory => write_all(sink, b"M out of memory"),
+    }
+}

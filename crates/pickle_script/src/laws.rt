@@ -1,0 +1,8 @@
+//! Laws of the definitions. These functions do nothing: what they ensure holds of all bytes.
+
+ghost use Rattle.pickle_script.specs.Script.{OneCut};
+
+/// Each byte string is cut into lines, and in one way.
+pub fn one_cut()
+    ensures { OneCut }
+{}

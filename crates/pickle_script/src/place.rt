@@ -1,0 +1,85 @@
+//! Where a session is.
+
+ghost use Rattle.pickle_io.specs.Device.{Writes};
+ghost use Rattle.pickle_script.specs.PlaceText.{cursor_text, offset_text, some_results, results_text, reached_text, ending_text, where_text};
+
+use crate::fault_text::write_end;
+use pickle_doc::End;
+use pickle_machine::{Machine, ObjId};
+use pickle_ops::{Failed, Sink, write_all, write_decimal};
+use pickle_session::{Past, Session};
+use pickle_show::{write_all_next, write_id};
+
+/// Writes a place, and how many items there are.
+#[tactic(auto, using(pickle_io::proofs::Devices::text_steps), unfolding(crate::specs::PlaceText::cursor_text))]
+fn write_cursor<S: Sink>(place: usize, len: usize, sink: &mut S) -> Result<(), Failed>
+    ensures { Writes (S.told sink.old) (S.told sink.new) result (cursor_text place len) }
+{
+    write_all(sink, b"at ")?;
+    write_decimal(place as u64, sink)?;
+    write_all(sink, b" of ")?;
+    write_decimal(len as u64, sink)
+}
+
+/// Writes an offset.
+#[tactic(auto, using(pickle_io::proofs::Devices::text_steps), unfolding(crate::specs::PlaceText::offset_text))]
+fn write_offset<S: Sink>(offset: u64, sink: &mut S) -> Result<(), Failed>
+    ensures { Writes (S.told sink.old) (S.told sink.new) result (offset_text offset) }
+{
+    write_all(sink, b", offset ")?;
+    write_decimal(offset, sink)
+}
+
+/// Writes results, of which there is one at least.
+#[tactic(auto, using(pickle_io::proofs::Devices::text_steps), unfolding(crate::specs::PlaceText::some_results))]
+fn write_some_results<S: Sink>(first: ObjId, rest: &[ObjId], sink: &mut S) -> Result<(), Failed>
+    ensures { Writes (S.told sink.old) (S.told sink.new) result (some_results first rest.now) }
+{
+    write_id(u64::from(first), sink)?;
+    write_all_next(rest, sink)
+}
+
+/// Writes the results, or that there is none.
+#[tactic(auto, using(pickle_io::proofs::Devices::text_steps))]
+fn write_results<S: Sink>(ids: &[ObjId], sink: &mut S) -> Result<(), Failed>
+    ensures { Writes (S.told sink.old) (S.told sink.new) result (results_text ids.now) }
+{
+    match ids.split_first() {
+        None => write_all(sink, b"none"),
+        Some((first, rest)) => write_some_results(*first, rest, sink),
+    }
+}
+
+/// Writes the count of buffers and the results of a machine.
+#[tactic(auto, using(pickle_io::proofs::Devices::text_steps), unfolding(crate::specs::PlaceText::reached_text))]
+fn write_reached<S: Sink>(machine: &Machine, sink: &mut S) -> Result<(), Failed>
+    ensures { Writes (S.told sink.old) (S.told sink.new) result (reached_text machine.now.state) }
+{
+    write_all(sink, b", buffers ")?;
+    write_decimal(machine.buffers(), sink)?;
+    write_all(sink, b", result ")?;
+    write_results(machine.results(), sink)
+}
+
+/// Writes why a document ends, and ends the line.
+#[tactic(auto, using(pickle_io::proofs::Devices::text_steps), unfolding(crate::specs::PlaceText::ending_text))]
+fn write_ending<S: Sink>(end: End, sink: &mut S) -> Result<(), Failed>
+    ensures { Writes (S.told sink.old) (S.told sink.new) result (ending_text end) }
+{
+    write_all(sink, b", end ")?;
+    write_end(end, sink)?;
+    write_all(sink, b"\n")
+}
+
+/// Writes where a session is: the cursor, how many items there are, the offset of the cursor, the count of buffers, the
+/// results of the machine, and why the document ends. It takes no memory. Where the sink fails, a beginning of the line was
+/// written.
+#[tactic(auto, using(pickle_io::proofs::Devices::text_steps), unfolding(crate::specs::PlaceText::where_text))]
+pub fn write_where<P: Past, S: Sink>(session: &Session<P>, sink: &mut S) -> Result<(), Failed>
+    ensures { Writes (S.told sink.old) (S.told sink.new) result (where_text session.now.session session.now.machine.state) }
+{
+    write_cursor(session.cursor(), session.document().len(), sink)?;
+    write_offset(session.offset(), sink)?;
+    write_reached(session.machine(), sink)?;
+    write_ending(session.document().end(), sink)
+}

@@ -1,0 +1,113 @@
+//! What is shown of a session.
+
+ghost use Rattle.std.specs.Prelude.{◌≡◌, ◌<◌, ◌≤◌, length, MatchOption, Ok};
+ghost use Rattle.pickle_script.specs.Inside.Progress.{WritesTold, WritesLine};
+
+use crate::items::write_items;
+use crate::line::{Line, Query, Syntax};
+use crate::outcome::Outcome;
+use crate::place::write_where;
+use crate::syntax::{write_no_such_object, write_syntax};
+use pickle_ops::{Failed, ObjId, Sink};
+use pickle_session::{Past, Session};
+use pickle_show::{TextStop, write_memo, write_objects, write_show, write_stack};
+use std::alloc::Global;
+
+/// The object of this number, where there is one.
+fn object_of<P: Past>(session: &Session<P>, number: u64) -> Option<ObjId>
+    ensures { MatchOption result (length session.now.machine.state.heap ≤ number) (λ id. (id ≡ number) × (id < length session.now.machine.state.heap)) }
+{
+    let _cursor = session.cursor();
+    let _total = session.document().total();
+    if number < session.machine().objects() as u64 {
+        Some(number as ObjId)
+    } else {
+        None
+    }
+}
+
+/// Writes that there is no such object.
+#[tactic(auto, using(crate::proofs::Queries::told_steps))]
+fn write_missing<P: Past, K: Sink>(
+    session: &Session<P>,
+    number: u64,
+    sink: &mut K,
+) -> Result<Outcome, Failed>
+    requires { length session.now.machine.state.heap ≤ number }
+    ensures { WritesTold (Query.Show number) session.now.session session.now.machine.state (K.told sink.old) (K.told sink.new) result }
+{
+    write_no_such_object(sink)?;
+    Ok(Outcome::Refused)
+}
+
+/// Writes an object with all that it contains, or that memory runs out for it.
+#[tactic(auto, using(crate::proofs::Queries::told_steps))]
+fn write_object_of<P: Past, K: Sink>(
+    alloc: Global,
+    session: &Session<P>,
+    id: ObjId,
+    sink: &mut K,
+) -> Result<Outcome, Failed>
+    requires { id < length session.now.machine.state.heap }
+    ensures { WritesTold (Query.Show id) session.now.session session.now.machine.state (K.told sink.old) (K.told sink.new) result }
+{
+    match write_show(alloc, session.machine(), id, sink) {
+        Ok(()) => Ok(Outcome::Accepted),
+        Err(TextStop::Failed) => Err(Failed),
+        Err(TextStop::Memory) => {
+            write_syntax(Syntax::Memory, sink)?;
+            Ok(Outcome::Refused)
+        }
+    }
+}
+
+/// Writes the object of this number with all that it contains, or that there is none.
+fn write_shown<P: Past, K: Sink>(
+    alloc: Global,
+    session: &Session<P>,
+    number: u64,
+    sink: &mut K,
+) -> Result<Outcome, Failed>
+    ensures { WritesTold (Query.Show number) session.now.session session.now.machine.state (K.told sink.old) (K.told sink.new) result }
+{
+    match object_of(session, number) {
+        Some(id) => write_object_of(alloc, session, id, sink),
+        None => write_missing(session, number, sink),
+    }
+}
+
+/// Writes what is asked of a session. Memory is asked for to show an object that is there, and for nothing else.
+#[tactic(auto, using(crate::proofs::Refusals::telling_steps, crate::proofs::Queries::line_told))]
+pub fn write_query<P: Past, K: Sink>(
+    alloc: Global,
+    session: &Session<P>,
+    query: Query,
+    sink: &mut K,
+) -> Result<Outcome, Failed>
+    ensures { WritesLine (Ok (Line.Query query)) session.now session.now (K.told sink.old) (K.told sink.new) result }
+{
+    let machine = session.machine();
+    match query {
+        Query::Items => {
+            write_items(session, sink)?;
+            Ok(Outcome::Accepted)
+        }
+        Query::Objects => {
+            write_objects(machine, sink)?;
+            Ok(Outcome::Accepted)
+        }
+        Query::Stack => {
+            write_stack(machine, sink)?;
+            Ok(Outcome::Accepted)
+        }
+        Query::Memo => {
+            write_memo(machine, sink)?;
+            Ok(Outcome::Accepted)
+        }
+        Query::Show(number) => write_shown(alloc, session, number, sink),
+        Query::Where => {
+            write_where(session, sink)?;
+            Ok(Outcome::Accepted)
+        }
+    }
+}

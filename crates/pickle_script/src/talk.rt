@@ -1,0 +1,264 @@
+//! A conversation: the lines of a source, obeyed one by one, and their texts, written to a sink.
+
+ghost use Rattle.std.specs.Prelude.{◌≡◌, ◌≢◌, ◌∷◌, [], false, IfOk, Ok, Err};
+ghost use Rattle.pickle_io.specs.Device.{HasFailed};
+ghost use Rattle.pickle_doc.specs.declared.fault.End.{End};
+ghost use Rattle.pickle_script.specs.ReplyText.{reply_text};
+ghost use Rattle.pickle_script.specs.Transcript.{is_refusal, quits};
+ghost use Rattle.pickle_script.specs.Conversation.{Finishes, StopsReading, StopsWriting};
+ghost use Rattle.pickle_script.specs.Inside.Progress.{WritesLine, Feeds, Ends, is_refused};
+
+use crate::line::{Action, Line, Place, Syntax};
+use crate::outcome::{Flow, Outcome};
+use crate::pending::Pending;
+use crate::query::write_query;
+use crate::reply::write_reply;
+use crate::stop::Stop;
+use crate::syntax::{write_no_item_at, write_syntax};
+use pickle_ops::{Failed, Sink, Source};
+use pickle_session::{Command, Past, Reply, Session};
+use std::alloc::Global;
+
+/// The most bytes that are read at once.
+const BLOCK: usize = 65_536;
+
+/// Writes why a line says nothing.
+#[tactic(auto, using(crate::proofs::Refusals::refusal_steps))]
+fn refuse<P: Past, K: Sink>(
+    session: &Session<P>,
+    syntax: Syntax,
+    sink: &mut K,
+) -> Result<Outcome, Failed>
+    ensures { WritesLine (Err syntax) session.now session.now (K.told sink.old) (K.told sink.new) result }
+{
+    write_syntax(syntax, sink)?;
+    Ok(Outcome::Refused)
+}
+
+/// What a reply says became of its line.
+#[tactic(auto, using(crate::proofs::Refusals::refusal_steps))]
+fn outcome_of(reply: Reply) -> Outcome
+    ensures { (e : End) → is_refused result ≡ is_refusal (reply_text e reply) }
+{
+    match reply {
+        Reply::At(_) => Outcome::Accepted,
+        Reply::Ran(_, _) => Outcome::Accepted,
+        Reply::Broke(_) => Outcome::Accepted,
+        Reply::Cleared(_) => Outcome::Accepted,
+        Reply::Edited(_) => Outcome::Accepted,
+        Reply::Undone(_) => Outcome::Accepted,
+        Reply::Redone(_) => Outcome::Accepted,
+        Reply::Refused(_) => Outcome::Refused,
+    }
+}
+
+/// Obeys a command and writes the reply.
+fn obey_command<P: Past, K: Sink>(
+    alloc: Global,
+    session: &mut Session<P>,
+    command: &Command,
+    sink: &mut K,
+) -> Result<Outcome, Failed>
+    ensures { WritesLine (Ok (Line.Command command.now)) session.old session.new (K.told sink.old) (K.told sink.new) result }
+{
+    let reply = session.obey(alloc, command);
+    write_reply(session.document().end(), reply, sink)?;
+    Ok(outcome_of(reply))
+}
+
+/// Obeys a command at the place that a line names and writes the reply, or that there is none.
+#[tactic(auto, using(crate::proofs::Places::placing_steps))]
+fn obey_at<P: Past, K: Sink>(
+    alloc: Global,
+    session: &mut Session<P>,
+    place: Place,
+    action: Action,
+    sink: &mut K,
+) -> Result<Outcome, Failed>
+    ensures { WritesLine (Ok (Line.At place action)) session.old session.new (K.told sink.old) (K.told sink.new) result }
+{
+    let k = match place {
+        Place::Number(k) => k,
+        Place::Offset(offset) => match session.place_at(offset) {
+            Some(k) => k,
+            None => {
+                write_no_item_at(offset, sink)?;
+                return Ok(Outcome::Refused);
+            }
+        },
+    };
+    obey_command(alloc, session, &action.at(k), sink)
+}
+
+/// Obeys a line and writes its text.
+fn obey_line<P: Past, K: Sink>(
+    alloc: Global,
+    session: &mut Session<P>,
+    says: Result<Line, Syntax>,
+    sink: &mut K,
+) -> Result<Outcome, Failed>
+    ensures { WritesLine says session.old session.new (K.told sink.old) (K.told sink.new) result }
+{
+    match says {
+        Ok(Line::Nothing) => Ok(Outcome::Accepted),
+        Ok(Line::Command(command)) => obey_command(alloc, session, &command, sink),
+        Ok(Line::At(place, action)) => obey_at(alloc, session, place, action, sink),
+        Ok(Line::Query(query)) => write_query(alloc, session, query, sink),
+        Ok(Line::Quit) => Ok(Outcome::Accepted),
+        Err(syntax) => refuse(session, syntax, sink),
+    }
+}
+
+/// Whether nothing after a line is obeyed.
+fn quits(says: &Result<Line, Syntax>) -> bool
+    ensures { result ≡ quits says.now }
+{
+    match says {
+        Ok(Line::Quit) => true,
+        Ok(Line::Nothing) => false,
+        Ok(Line::Command(_)) => false,
+        Ok(Line::At(_, _)) => false,
+        Ok(Line::Query(_)) => false,
+        Err(_) => false,
+    }
+}
+
+/// Obeys the line that ends here.
+fn end_line<P: Past, K: Sink>(
+    alloc: Global,
+    session: &mut Session<P>,
+    pending: &mut Pending,
+    sink: &mut K,
+) -> Result<Flow, Failed>
+    ensures { Feeds (10 ∷ []) session.old (K.told sink.old) pending.old session.new (K.told sink.new) pending.new result }
+{
+    let says = pending.says(alloc);
+    if quits(&says) {
+        return Ok(Flow::Quits);
+    }
+    let outcome = obey_line(alloc, session, says, sink)?;
+    pending.end_line(outcome);
+    Ok(Flow::GoesOn)
+}
+
+/// Takes a byte of the script.
+fn feed_byte<P: Past, K: Sink>(
+    alloc: Global,
+    session: &mut Session<P>,
+    pending: &mut Pending,
+    byte: u8,
+    sink: &mut K,
+) -> Result<Flow, Failed>
+    ensures { Feeds (byte ∷ []) session.old (K.told sink.old) pending.old session.new (K.told sink.new) pending.new result }
+{
+    if byte == b'\n' {
+        return end_line(alloc, session, pending, sink);
+    }
+    pending.push(byte);
+    Ok(Flow::GoesOn)
+}
+
+/// Takes bytes of the script: obeys each line that ends in them, up to one that quits, and lets the sink hand on what it holds of
+/// their texts. Without such a line there is nothing to hand on.
+fn feed<P: Past, K: Sink>(
+    alloc: Global,
+    session: &mut Session<P>,
+    pending: &mut Pending,
+    bytes: &[u8],
+    sink: &mut K,
+) -> Result<Flow, Failed>
+    ensures { Feeds bytes.now session.old (K.told sink.old) pending.old session.new (K.told sink.new) pending.new result }
+{
+    for byte in bytes {
+        match feed_byte(alloc, session, pending, *byte, sink)? {
+            Flow::GoesOn => {}
+            Flow::Quits => {
+                sink.flush()?;
+                return Ok(Flow::Quits);
+            }
+        }
+    }
+    if bytes.contains(&b'\n') {
+        sink.flush()?;
+    }
+    Ok(Flow::GoesOn)
+}
+
+/// Obeys the last line, if it has a byte, and answers the status. The texts of the lines before it are handed on already.
+fn finish<P: Past, K: Sink>(
+    alloc: Global,
+    session: &mut Session<P>,
+    pending: &mut Pending,
+    sink: &mut K,
+) -> Result<u8, Failed>
+    ensures { Ends session.old (K.told sink.old) pending.old session.new (K.told sink.new) result }
+{
+    if pending.is_empty() {
+        return Ok(pending.status());
+    }
+    let outcome = obey_line(alloc, session, pending.says(alloc), sink)?;
+    pending.end_line(outcome);
+    sink.flush()?;
+    Ok(pending.status())
+}
+
+/// Goes on until a line quits, the source ends or a device fails.
+fn go_on<P: Past, S: Source, K: Sink>(
+    alloc: Global,
+    session: &mut Session<P>,
+    pending: &mut Pending,
+    source: &mut S,
+    sink: &mut K,
+) -> Result<u8, Stop>
+    requires { pending.old ≡ record { line = []; refused = false } }
+    ensures finishes { IfOk result (λ status. Finishes session.old session.new status (S.remaining source.old) (S.remaining source.new) (K.told sink.old) (K.told sink.new)) }
+    ensures reading { result ≡ Err Stop.Read → StopsReading session.old session.new (S.remaining source.old) (S.remaining source.new) (K.told sink.old) (K.told sink.new) }
+    ensures read { result ≡ Err Stop.Read → HasFailed (S.failures source.old) (S.failures source.new) }
+    ensures calm { result ≢ Err Stop.Read → S.failures source.new ≡ S.failures source.old }
+    ensures writing { result ≡ Err Stop.Write → StopsWriting session.old session.new (S.remaining source.old) (S.remaining source.new) (K.told sink.old) (K.told sink.new) }
+    ensures others { (result ≢ Err Stop.Memory) × (result ≢ Err Stop.TooLarge) }
+{
+    let mut block = [0u8; BLOCK];
+    'turns: loop {
+        let Ok(count) = source.read(&mut block) else {
+            return Err(Stop::Read);
+        };
+        if count == 0 {
+            return Ok(finish(alloc, session, pending, sink)?);
+        }
+        match feed(alloc, session, pending, &block[..count], sink)? {
+            Flow::GoesOn => {}
+            // What this block has after `quit` is lost: a source cannot take it back.
+            Flow::Quits => return Ok(pending.status()),
+        }
+    }
+}
+
+/// Reads commands from the source and obeys them one by one, until one quits or the source ends, and answers the status: 1 where a line
+/// was refused, else 0. The text of each line is written before the next line is obeyed. Before more is read, and at the
+/// end, the sink hands on what it holds.
+///
+/// `Memory` comes only before anything was read. `Read` and `Write` come where the source or the sink fails: the
+/// session is that of the lines obeyed so far, a line of which only a part was read is not among them, and of the text
+/// of the last line alone a part may be missing from what the sink took. What the sink itself still held is lost.
+pub fn converse<P: Past, S: Source, K: Sink>(
+    alloc: Global,
+    session: &mut Session<P>,
+    source: &mut S,
+    sink: &mut K,
+) -> Result<u8, Stop>
+    ensures finishes { IfOk result (λ status. Finishes session.old session.new status (S.remaining source.old) (S.remaining source.new) (K.told sink.old) (K.told sink.new)) }
+
+    // Read and Write come only where that device has failed.
+    ensures reading { result ≡ Err Stop.Read → StopsReading session.old session.new (S.remaining source.old) (S.remaining source.new) (K.told sink.old) (K.told sink.new) }
+    ensures read { result ≡ Err Stop.Read → HasFailed (S.failures source.old) (S.failures source.new) }
+    ensures calm { result ≢ Err Stop.Read → S.failures source.new ≡ S.failures source.old }
+    ensures writing { result ≡ Err Stop.Write → StopsWriting session.old session.new (S.remaining source.old) (S.remaining source.new) (K.told sink.old) (K.told sink.new) }
+
+    // Without memory nothing is read, obeyed or written.
+    ensures memory { result ≡ Err Stop.Memory → (session.new ≡ session.old) × (source.new ≡ source.old) × (sink.new ≡ sink.old) }
+    ensures no_other { result ≢ Err Stop.TooLarge }
+{
+    let mut pending = Pending::new(alloc)?;
+    go_on(alloc, session, &mut pending, source, sink)
+}

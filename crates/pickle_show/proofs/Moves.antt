@@ -1,0 +1,138 @@
+-- What a move does to the heap and to the marks.
+use Rattle.std.proofs.Common.{◌≡◌, ℕ, ◌+◌, ◌-◌, ◌<◌, ◌≤◌, Bool, true, false, cond, ltb, List, [], ◌∷◌, ◌++◌, length, Option, Some, None, Ok, Err, refl, ap, subst, length-append, arith}
+use Rattle.std.specs.Prelude.{slice_get, slice_set}
+use Rattle.std.specs.Option.{option_map_or}
+use Rattle.std.proofs.Math.ListN.{set, length-set}
+use Rattle.std.proofs.lemmas.Bool.{lt-ltb, le-ltb}
+use Rattle.std.proofs.lemmas.List.{take_at}
+use Rattle.pickle_ops.specs.Spelling.{Operation}
+use Rattle.pickle_ops.specs.declared.kind.Kind.{Kind}
+use Rattle.pickle_ops.specs.declared.row.Row.{Row}
+use Rattle.pickle_ops.specs.declared.row.Row.TheVariants as row
+use Rattle.pickle_ops.specs.declared.object.Change.{Change}
+use Rattle.pickle_ops.specs.declared.kind.Demand.TheVariants as demand
+use Rattle.pickle_ops.specs.Object.{Object}
+use Rattle.pickle_ops.specs.Row.{values_of, row_of, kind_of}
+use Rattle.pickle_machine.specs.declared.refusal.Refusal.{Refusal}
+use Rattle.pickle_machine.specs.declared.refusal.Refusal.TheVariants as refusal
+use Rattle.pickle_machine.specs.State.{Marked, State}
+use Rattle.pickle_machine.specs.Move.{next_of, refusal_of, refusal_at, next, outcome, move, cut, deeper, without, changed, unless, deep, object_meets, last_of as last_objects, change_top, changes_of, fresh}
+use Rattle.pickle_machine.proofs.HeapGrowth.{fresh_heap}
+use Rattle.pickle_doc.specs.Document.{Contents}
+use Rattle.pickle_doc.specs.Place.{offset_of}
+use Rattle.pickle_show.specs.Inside.Marks.{followed, mark_offsets}
+
+one_more : (x : Object) (xs : List Object) → length (xs ++ x ∷ []) ≤ length xs + 1
+one_more x xs = omega (arith, length-append xs (x ∷ []))
+
+changed_length : (heap : List Object) (id : ℕ) (more : List Change) → length (changed heap id more) ≡ length heap
+changed_length heap id more = go (slice_get heap id)
+  where
+    go : (o : Option Object) → length (option_map_or (λ (o : Object). slice_set heap id (record o { changes = o.changes ++ more })) o heap) ≡ length heap
+    go None = refl
+    go (Some o) = length-set heap id _
+
+change_heap : (more : List Change) (s : State) → length (change_top more s).heap ≡ length s.heap
+change_heap more s = changed_length s.heap (deep 0 s.top) more
+
+by_either : (b : Bool) (s t u : State) → length t.heap ≤ length s.heap + 1 → length u.heap ≤ length s.heap + 1 → length (cond b t u).heap ≤ length s.heap + 1
+by_either true s t u p q = p
+by_either false s t u p q = q
+
+next_heap : (r : Row) (k : Kind) (place : ℕ) (s : State) → length (next_of r k place s).heap ≤ length s.heap + 1
+next_heap row.Nothing k place s = omega arith
+next_heap (row.Protocol n) k place s = omega arith
+next_heap (row.Extension n) k place s = one_more _ s.heap
+next_heap row.Push k place s = one_more _ s.heap
+next_heap row.Buffer k place s = one_more _ s.heap
+next_heap row.ReadOnly k place s = by_either (object_meets demand.ReadOnly s (deep 0 s.top)) s s _ (omega arith) (one_more _ s.heap)
+next_heap (row.Take t) k place s = one_more _ s.heap
+next_heap (row.Cut c) k place s = one_more _ s.heap
+next_heap (row.Change f) k place s = omega (arith, change_heap (changes_of f (last_objects (values_of f) s)) (without (values_of f) s))
+next_heap (row.CutChange f) k place s = omega (arith, change_heap (changes_of f s.top) (cut s))
+next_heap row.Pop k place s = by_either (ltb 0 (length s.top)) s (without 1 s) (cut s) (omega arith) (omega arith)
+next_heap row.PopMark k place s = omega arith
+next_heap row.Dup k place s = omega arith
+next_heap row.Mark k place s = omega arith
+next_heap (row.Get key) k place s = omega arith
+next_heap (row.Put key) k place s = omega arith
+next_heap row.Memoize k place s = omega arith
+next_heap row.Stop k place s = omega arith
+
+moved : (r : Option Refusal) (t u : State) → outcome r t ≡ Ok u → (r ≡ None) × (t ≡ u)
+moved None t u e = (refl, cc)
+moved (Some r) t u e = cc
+
+pub move_heap : (o : Operation) (place : ℕ) (s t : State) → move o place s ≡ Ok t → length t.heap ≤ length s.heap + 1
+move_heap o place s t e =
+    let same = moved (refusal_at o s) (next o place s) t e in
+    let grows : length (next o place s).heap ≤ length s.heap + 1 = subst (λ (h : List Object). length (next o place s).heap ≤ length h + 1) (fresh_heap s) (next_heap (row_of o) (kind_of o) place (fresh s)) in
+    subst (λ (u : State). length u.heap ≤ length s.heap + 1) same.1 grows
+
+pub refused_move : (o : Operation) (place : ℕ) (s : State) (r : Refusal) → refusal_at o s ≡ Some r → move o place s ≡ Err r
+refused_move o place s r e = rw e refl
+
+-- ---- marks
+
+-- what becomes of the marks: they stay, one is set at this place, or the topmost goes
+pub data MarkStep (place : ℕ) (old new : List Marked) : Type 0 where
+  Stays : new ≡ old → MarkStep place old new
+  IsSet : (section : List ℕ) → new ≡ record { section = section; place = place } ∷ old → MarkStep place old new
+  Goes : (m : Marked) → old ≡ m ∷ new → MarkStep place old new
+
+no_mark : (ms : List Marked) (r : Refusal) (rest : Option Refusal) → unless (ltb 0 (length ms)) r rest ≡ None → (m : Marked) × (ms ≡ m ∷ deeper ms)
+no_mark [] r rest e = cc
+no_mark (m ∷ ms) r rest e = (m, refl)
+
+goes : (place : ℕ) (ms : List Marked) (r : Refusal) (rest : Option Refusal) → unless (ltb 0 (length ms)) r rest ≡ None → MarkStep place ms (deeper ms)
+goes place ms r rest e = let some = no_mark ms r rest e in Goes some.0 some.1
+
+view_marks : (b : Bool) (s t u : State) → t.marked ≡ s.marked → u.marked ≡ s.marked → (cond b t u).marked ≡ s.marked
+view_marks true s t u p q = p
+view_marks false s t u p q = q
+
+pop_marks : (b : Bool) (place : ℕ) (s : State) → cond b None (unless (ltb 0 (length s.marked)) refusal.Underflow None) ≡ None → MarkStep place s.marked (cond b (without 1 s) (cut s)).marked
+pop_marks true place s e = Stays refl
+pop_marks false place s e = goes place s.marked refusal.Underflow None e
+
+next_marks : (r : Row) (k : Kind) (place : ℕ) (s : State) → refusal_of r s ≡ None → MarkStep place s.marked (next_of r k place s).marked
+next_marks row.Nothing k place s e = Stays refl
+next_marks (row.Protocol n) k place s e = Stays refl
+next_marks (row.Extension n) k place s e = Stays refl
+next_marks row.Push k place s e = Stays refl
+next_marks row.Buffer k place s e = Stays refl
+next_marks row.ReadOnly k place s e = Stays (view_marks (object_meets demand.ReadOnly s (deep 0 s.top)) s s _ refl refl)
+next_marks (row.Take t) k place s e = Stays refl
+next_marks (row.Cut c) k place s e = goes place s.marked _ _ e
+next_marks (row.Change f) k place s e = Stays refl
+next_marks (row.CutChange f) k place s e = goes place s.marked _ _ e
+next_marks row.Pop k place s e = pop_marks (ltb 0 (length s.top)) place s e
+next_marks row.PopMark k place s e = goes place s.marked _ _ e
+next_marks row.Dup k place s e = Stays refl
+next_marks row.Mark k place s e = IsSet s.top refl
+next_marks (row.Get key) k place s e = Stays refl
+next_marks (row.Put key) k place s e = Stays refl
+next_marks row.Memoize k place s e = Stays refl
+next_marks row.Stop k place s e = Stays refl
+
+pub move_marks : (o : Operation) (place : ℕ) (s t : State) → move o place s ≡ Ok t → MarkStep place (fresh s).marked t.marked
+move_marks o place s t e =
+    let same = moved (refusal_at o s) (next o place s) t e in
+    subst (λ (u : State). MarkStep place (fresh s).marked u.marked) same.1 (next_marks (row_of o) (kind_of o) place (fresh s) same.0)
+
+pub marks_grow : (place : ℕ) (old new : List Marked) → MarkStep place old new → length new ≤ length old + 1
+marks_grow place old new (Stays e) = omega (arith, ap length e)
+marks_grow place old new (IsSet section e) = omega (arith, ap length e)
+marks_grow place old new (Goes m e) = omega (arith, ap length e)
+
+-- the offsets of the open marks follow
+pub offsets_follow : (d : Contents) (place : ℕ) (old new : List Marked) → MarkStep place old new
+    → followed (mark_offsets d old) (length old) (length new) (offset_of d place) ≡ mark_offsets d new
+offsets_follow d place old new (Stays e) = rw (e, le-ltb (length old) (length old) (omega arith)) refl
+offsets_follow d place old new (IsSet section e) =
+    let more : length old < length new = omega (arith, ap length e) in rw (lt-ltb (length old) (length new) more, e) refl
+offsets_follow d place old new (Goes m e) =
+    let less : length new < length old = omega (arith, ap length e) in
+    let none : length new ≤ length old = omega arith in
+    let len : length (mark_offsets d new) ≡ length (mark_offsets d new ++ offset_of d m.place ∷ []) - 1 = omega (arith, length-append (mark_offsets d new) (offset_of d m.place ∷ [])) in
+    rw (le-ltb (length old) (length new) none, lt-ltb (length new) (length old) less, e) (take_at (mark_offsets d new) (offset_of d m.place ∷ []) _ len)

@@ -1,0 +1,13 @@
+-- What the loop over the marks keeps.
+use Rattle.std.proofs.Common.{◌≡◌, length}
+use Rattle.pickle_machine.specs.State.{objects_below}
+use Rattle.pickle_io.specs.Device.{Wrote}
+use Rattle.pickle_show.specs.StackText.{marked_text}
+use Rattle.pickle_show.proofs.Stacks.{lowest}
+use Rattle.pickle_show.proofs.stack.write_marked.Given as goal
+
+abbrev pub invariant-loop-i : goal.invariant-loop-i
+invariant-loop-i g l = record {
+  wrote : Wrote (g.S.Sink.told l.initial.sink) (g.S.Sink.told l.sink) (marked_text (lowest l.i l.machine.state.marked));
+  from : l.from ≡ length (objects_below (lowest l.i l.machine.state.marked));
+}

@@ -1,0 +1,61 @@
+-- What the lines promise whoever reads them.
+use Rattle.std.specs.Prelude.{◌≡◌, ◌≢◌, ◌⊎◌, ℕ, suc, ◌<◌, ◌^◌, Bool, true, List, [], length, slice_get, Some, None}
+use Rattle.pickle_ops.specs.Spelling.{Operation}
+use Rattle.pickle_ops.specs.declared.opcode.Opcode.TheVariants as op
+use Rattle.pickle_doc.specs.Document.{Contents, ReadsAs, AreBytes}
+use Rattle.pickle_doc.specs.Place.{ops_of, item_at}
+use Rattle.pickle_ops.specs.Kind.{is_opaque}
+use Rattle.pickle_ops.specs.Object.{Object}
+use Rattle.pickle_machine.specs.State.{State, start}
+use Rattle.pickle_machine.specs.Run.{run}
+use Rattle.pickle_show.specs.Output.{Output}
+use Rattle.pickle_show.specs.Event.{is_view}
+use Rattle.pickle_show.specs.Calls.{calls, entry_at}
+
+-- ---- one text
+
+-- the text of the document that the bytes read as, as several pickles or as one
+abbrev pub IsCallsOf : Bool → List ℕ → Output → Type 0
+IsCallsOf many bytes c = (d : Contents) × ReadsAs many bytes d × (c ≡ calls d)
+
+-- in each mode a byte string has one text with one status, and no other
+abbrev pub OneText : Type 0
+OneText = (many : Bool) (bytes : List ℕ) → AreBytes bytes → length bytes < 2 ^ 64
+    → (c : Output) × IsCallsOf many bytes c × ((e : Contents) → ReadsAs many bytes e → c ≡ calls e)
+
+-- ---- no line, no reach
+
+-- item k is accepted: the items before it reach the one state, and it leads to the other
+pub record IsStep (d : Contents) (k : ℕ) (s t : State) : Type 0 where
+  pub before : run (start d.many) (ops_of d) k ≡ Some s
+  pub after : run (start d.many) (ops_of d) (suc k) ≡ Some t
+
+-- an accepted item without a line makes no opaque object and leaves every one as it was
+abbrev pub NoLineNoReach : Type 0
+NoLineNoReach = (d : Contents) (k : ℕ) (s t : State) → IsStep d k s t → (entry_at d k).text ≡ []
+    → (id : ℕ) (o : Object) → slice_get t.heap id ≡ Some o → is_opaque o.kind ≡ true → slice_get s.heap id ≡ Some o
+
+-- ---- no reach, no line
+
+-- an opaque object was made, or a view of one that is no buffer
+pub record Makes (s t : State) : Type 0 where
+  pub id : ℕ
+  pub object : Object
+  pub there : slice_get t.heap id ≡ Some object
+  pub fresh : slice_get s.heap id ≡ None
+  pub shown : (is_opaque object.kind ≡ true) ⊎ (is_view t.heap object ≡ true)
+
+-- an opaque object got changes
+pub record Changes (s t : State) : Type 0 where
+  pub id : ℕ
+  pub old : Object
+  pub new : Object
+  pub before : slice_get s.heap id ≡ Some old
+  pub after : slice_get t.heap id ≡ Some new
+  pub opaque : is_opaque old.kind ≡ true
+  pub more : length old.changes < length new.changes
+
+-- there is a line only where an opaque object, or a view of one, is made, where an opaque object gets changes, or at BUILD
+abbrev pub LinesReach : Type 0
+LinesReach = (d : Contents) (k : ℕ) (s t : State) → IsStep d k s t → (entry_at d k).text ≢ []
+    → Makes s t ⊎ (Changes s t ⊎ ((o : Operation) × (item_at d k ≡ Some o) × (o.opcode ≡ op.Build)))

@@ -1,0 +1,144 @@
+-- The lines: one for each event.
+-- Source: own.
+use Rattle.std.specs.Prelude.{ℕ, Bool, true, false, List, [], drop, slice_get, codes, decimal, Option, Some, None}
+use Rattle.std.specs.Option.{option_map_or}
+use Rattle.std.specs.Fmt.{signed_decimal}
+use Rattle.pickle_io.specs.Text.{◌⧺◌, quoted}
+use Rattle.pickle_ops.specs.declared.kind.Kind.{Kind}
+use Rattle.pickle_ops.specs.declared.kind.Kind.TheVariants as kind
+use Rattle.pickle_ops.specs.declared.row.Filling.{Filling}
+use Rattle.pickle_ops.specs.declared.row.Filling.TheVariants as filling
+use Rattle.pickle_ops.specs.Object.{Object}
+use Rattle.pickle_show.specs.Column.{right_aligned, newline}
+use Rattle.pickle_show.specs.declared.report.Closing.{Closing}
+use Rattle.pickle_show.specs.ObjectText.{id_text}
+use Rattle.pickle_show.specs.Report.{closing_line}
+use Rattle.pickle_show.specs.Line.{kept_line}
+use Rattle.pickle_show.specs.declared.event.Event.{Event}
+use Rattle.pickle_show.specs.declared.event.Event.TheVariants as event
+use Rattle.pickle_show.specs.Event.{part, object_is}
+use Rattle.pickle_show.specs.Brief.{part_names_text, name_text, briefs_text, value_text}
+
+-- ---- what was made
+
+unfoldable pub inst_text : List Object → List ℕ → List ℕ → List ℕ → List ℕ
+inst_text heap first second parts = codes "inst " ⧺ quoted first ⧺ codes " " ⧺ quoted second ⧺ codes " " ⧺ briefs_text heap parts
+
+-- a call or a new instance: what is called, and the arguments
+unfoldable pub call_text : List ℕ → List Object → List ℕ → List ℕ
+call_text keyword heap parts = keyword ⧺ name_text heap (part 0 parts) ⧺ codes " " ⧺ value_text heap (part 1 parts)
+
+-- the same with arguments that have names
+unfoldable pub call_with_text : List Object → List ℕ → List ℕ
+call_with_text heap parts = call_text (codes "new ") heap parts ⧺ codes " " ⧺ value_text heap (part 2 parts)
+
+-- the class, and the arguments after it
+unfoldable pub obj_text : List Object → List ℕ → List ℕ
+obj_text heap parts = codes "call " ⧺ name_text heap (part 0 parts) ⧺ codes " " ⧺ briefs_text heap (drop 1 parts)
+
+-- by its kind and its parts; other kinds have no line
+unfoldable pub made_words : List Object → Kind → List ℕ → List ℕ
+made_words heap (kind.Global names) parts = codes "import " ⧺ quoted names.first ⧺ codes " " ⧺ quoted names.second
+made_words heap kind.StackGlobal parts = codes "import " ⧺ part_names_text heap parts
+made_words heap (kind.Ext n) parts = codes "import ext " ⧺ signed_decimal n
+made_words heap (kind.Inst names) parts = inst_text heap names.first names.second parts
+made_words heap kind.Call parts = call_text (codes "call ") heap parts
+made_words heap kind.New parts = call_text (codes "new ") heap parts
+made_words heap kind.NewEx parts = call_with_text heap parts
+made_words heap kind.Obj parts = obj_text heap parts
+made_words heap (kind.PersistentLine q) parts = codes "persistent " ⧺ quoted q
+made_words heap kind.Persistent parts = codes "persistent " ⧺ value_text heap (part 0 parts)
+made_words heap (kind.Buffer n) parts = codes "buffer " ⧺ decimal n
+made_words heap kind.ReadOnly parts = codes "readonly " ⧺ id_text (part 0 parts)
+made_words heap _ parts = []
+
+unfoldable pub made_text : List Object → ℕ → Object → List ℕ
+made_text heap id o = made_words heap o.kind o.parts ⧺ codes " as " ⧺ id_text id
+
+abbrev pub made_at : List Object → ℕ → List ℕ
+made_at heap id = option_map_or (made_text heap id) (slice_get heap id) []
+
+-- ---- what was changed
+
+unfoldable pub state_text : List Object → ℕ → ℕ → List ℕ
+state_text heap value target = codes "state " ⧺ value_text heap value ⧺ codes " to " ⧺ id_text target
+
+-- the keyword of what goes into an object, and the word before that object. BUILD sets a state and fills nothing
+unfoldable pub fill_keyword : Filling → List ℕ
+fill_keyword filling.Append = codes "append "
+fill_keyword filling.SetItem = codes "set "
+fill_keyword filling.Add = codes "add "
+fill_keyword filling.Build = []
+
+unfoldable pub fill_link : Filling → List ℕ
+fill_link filling.Append = codes " to "
+fill_link filling.SetItem = codes " in "
+fill_link filling.Add = codes " to "
+fill_link filling.Build = []
+
+-- how many went into which object
+unfoldable pub filled_text : Filling → ℕ → ℕ → List ℕ
+filled_text f count target = fill_keyword f ⧺ decimal count ⧺ fill_link f ⧺ id_text target
+
+-- ---- lines
+
+-- an event, by the objects after the step
+unfoldable pub event_text : List Object → Event → List ℕ
+event_text heap (event.Made id) = made_at heap id
+event_text heap (event.State value target) = state_text heap value target
+event_text heap (event.Filled f count target) = filled_text f count target
+
+-- the line of an event whose item is at this offset
+unfoldable pub event_line : ℕ → List Object → Event → List ℕ
+event_line offset heap e = right_aligned 5 (decimal offset) ⧺ codes ": " ⧺ event_text heap e ⧺ newline
+
+-- a step without an event has no line
+abbrev pub line_of : ℕ → List Object → Option Event → List ℕ
+line_of offset heap None = []
+line_of offset heap (Some e) = event_line offset heap e
+
+-- ---- counts
+
+-- what is imported; INST imports and calls
+abbrev pub is_import : Kind → Bool
+is_import (kind.Global names) = true
+is_import kind.StackGlobal = true
+is_import (kind.Ext n) = true
+is_import (kind.Inst names) = true
+is_import _ = false
+
+-- what a call makes
+abbrev pub is_call : Kind → Bool
+is_call kind.Call = true
+is_call kind.New = true
+is_call kind.NewEx = true
+is_call (kind.Inst names) = true
+is_call kind.Obj = true
+is_call _ = false
+
+abbrev pub one_if : Bool → ℕ
+one_if true = 1
+one_if false = 0
+
+-- how many imports a step is
+abbrev pub imports_of : List Object → Option Event → ℕ
+imports_of heap (Some (event.Made id)) = one_if (object_is is_import heap id)
+imports_of heap (Some (event.State value target)) = 0
+imports_of heap (Some (event.Filled f count target)) = 0
+imports_of heap None = 0
+
+-- how many calls it is: what changes an object calls its methods
+abbrev pub calls_of : List Object → Option Event → ℕ
+calls_of heap (Some (event.Made id)) = one_if (object_is is_call heap id)
+calls_of heap (Some (event.State value target)) = 1
+calls_of heap (Some (event.Filled f count target)) = 1
+calls_of heap None = 0
+
+-- ---- the last lines
+
+unfoldable pub totals_line : ℕ → ℕ → List ℕ
+totals_line imports calls = decimal imports ⧺ codes " imports, " ⧺ decimal calls ⧺ codes " calls" ⧺ newline
+
+-- how many imports and calls there are, how many bytes STOP left, and how the reading ended
+unfoldable pub end_text : ℕ → ℕ → ℕ → Closing → List ℕ
+end_text imports calls kept c = totals_line imports calls ⧺ kept_line kept ⧺ closing_line c

@@ -1,0 +1,21 @@
+-- The definitions that contracts cite.
+pub mod Event
+pub mod Brief
+pub mod CallsLine
+pub mod Calls
+pub mod CallsWritten
+pub mod CallsLaws
+pub mod ListingColumn
+pub mod Line
+pub mod Listing
+pub mod Written
+pub mod Page
+pub mod Column
+pub mod ReportLine
+pub mod ObjectText
+pub mod Show
+pub mod StackText
+pub mod MemoText
+pub mod Report
+pub mod Output
+pub mod Inside

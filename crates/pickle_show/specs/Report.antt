@@ -1,0 +1,101 @@
+-- The report of a document: the objects that its items make, and how their run ended.
+-- Source: own.
+use Rattle.std.specs.Prelude.{◌≡◌, ℕ, Bool, true, false, List, [], length, codes, Option, Some, None}
+use Rattle.pickle_ops.specs.Spelling.{Operation}
+use Rattle.pickle_io.specs.Text.{◌⧺◌}
+use Rattle.pickle_doc.specs.declared.fault.End.TheVariants as end
+use Rattle.pickle_doc.specs.declared.fault.TailFault.{TailFault}
+use Rattle.pickle_doc.specs.Document.{Contents, items_of, ReadsAs}
+use Rattle.pickle_doc.specs.Place.{ops_of, item_at, end_of}
+use Rattle.pickle_ops.specs.Object.{Object}
+use Rattle.pickle_machine.specs.declared.refusal.Refusal.{Refusal}
+use Rattle.pickle_machine.specs.State.{State, start}
+use Rattle.pickle_machine.specs.Move.{refusal_at}
+use Rattle.pickle_machine.specs.Run.{run}
+use Rattle.pickle_io.specs.Device.{Told, Wrote, Broke, each}
+use Rattle.pickle_show.specs.declared.report.Closing.{Closing}
+use Rattle.pickle_show.specs.declared.report.Closing.TheVariants as closing
+use Rattle.pickle_show.specs.ReportLine.{newline, item_refused, fault_line}
+use Rattle.pickle_show.specs.ObjectText.{next_text, objects_text}
+
+-- ---- the results, and the closing line
+
+unfoldable pub result_line : ℕ → List ℕ
+result_line id = codes "result" ⧺ next_text id ⧺ newline
+
+unfoldable pub refused_line : ℕ → Refusal → List ℕ
+refused_line place r = codes "refused: " ⧺ item_refused place r ⧺ newline
+
+-- where STOP ends the run there is no closing line
+unfoldable pub closing_line : Closing → List ℕ
+closing_line closing.Stopped = []
+closing_line (closing.Refused place r) = refused_line place r
+closing_line (closing.Fault f offset) = fault_line f offset
+
+-- the status: 0 where nothing is refused and nothing is at fault
+abbrev pub closing_status : Closing → ℕ
+closing_status closing.Stopped = 0
+closing_status (closing.Refused place r) = 1
+closing_status (closing.Fault f offset) = 1
+
+-- the lines of all objects, one for each result, and the closing line
+unfoldable pub report_text : List Object → List ℕ → Closing → List ℕ
+report_text heap results c = objects_text heap ⧺ each result_line results ⧺ closing_line c
+
+-- how a run ends that went over all items: by STOP, or by the fault of the tail at this offset
+abbrev pub closing_at : Bool → TailFault → ℕ → Closing
+closing_at true f offset = closing.Stopped
+closing_at false f offset = closing.Fault f offset
+
+-- ---- the report of a document
+
+-- the state that the first n items reach from nothing, if each of them has a move
+abbrev pub state_at : Contents → ℕ → Option State
+state_at d n = run (start d.many) (ops_of d) n
+
+-- why the machine refuses an item, if it is there and is refused
+abbrev pub refused_on : Option Operation → State → Option Refusal
+refused_on (Some o) s = refusal_at o s
+refused_on None s = None
+
+-- how a run ends that has come to a place: the machine refuses the item there; or after the last item the document
+-- stops, or the tail has a fault
+abbrev pub Closes : Contents → ℕ → State → Closing → Type 0
+Closes d place s closing.Stopped = (place ≡ length (items_of d)) × (end_of d ≡ end.Stopped)
+Closes d place s (closing.Refused k r) = (k ≡ place) × (refused_on (item_at d place) s ≡ Some r)
+Closes d place s (closing.Fault f offset) = (place ≡ length (items_of d)) × (end_of d ≡ end.Fault f offset)
+
+-- the items are run from nothing, as one pickle or as several, as far as they have moves; the state that they reach and the closing of their run give
+-- the text and the status
+pub record IsReport (d : Contents) (text : List ℕ) (status : ℕ) : Type 0 where
+  pub place : ℕ
+  pub state : State
+  pub closing : Closing
+  pub reached : state_at d place ≡ Some state
+  pub closes : Closes d place state closing
+  pub lines : text ≡ report_text state.heap state.results closing
+  pub answers : status ≡ closing_status closing
+
+-- the report was written, and this is its status
+abbrev pub WroteReport : Contents → Told → Told → ℕ → Type 0
+WroteReport d old new status = (text : List ℕ) × IsReport d text status × Wrote old new text
+
+-- a front of it was written, and then a failure came
+abbrev pub BrokeReport : Contents → Told → Told → Type 0
+BrokeReport d old new = (text : List ℕ) × (status : ℕ) × IsReport d text status × Broke old new text
+
+-- ---- of bytes: the report of the document that they read as, as several pickles or as one
+
+-- the report was written, and this is its status
+abbrev pub IsReported : Bool → List ℕ → Told → Told → ℕ → Type 0
+IsReported many bytes old new status = (d : Contents) × ReadsAs many bytes d × WroteReport d old new status
+
+-- a front of it was written, and then a failure came
+abbrev pub BreaksReport : Bool → List ℕ → Told → Told → Type 0
+BreaksReport many bytes old new = (d : Contents) × ReadsAs many bytes d × BrokeReport d old new
+
+-- ---- laws
+
+-- a document has one report, with one status
+abbrev pub OneReport : Type 0
+OneReport = (d : Contents) (text other : List ℕ) (status last : ℕ) → IsReport d text status → IsReport d other last → (text ≡ other) × (status ≡ last)

@@ -1,0 +1,198 @@
+//! Objects in brief.
+
+ghost use Rattle.pickle_io.specs.Text.{◌⧺◌};
+ghost use Rattle.pickle_io.specs.Device.{Writes, each};
+ghost use Rattle.pickle_show.specs.Brief.{over_text, cut_quoted, cut_after, cut_long, kind_brief, brief_text, next_brief, joined, more_text, briefs_text, kind_value, value_text};
+
+use crate::front::front;
+use crate::kind::write_kind;
+use crate::name::write_part_names_after;
+use crate::words::{write_id, write_with_number};
+use pickle_ops::{Failed, Kind, ObjId, Object, Sink, write_all, write_long, write_quoted};
+
+/// How many bytes of a payload are shown. A name is shown whole, since names are what is looked for.
+const MOST_BYTES: usize = 64;
+
+/// How many objects of a list are shown.
+const MOST_OBJECTS: usize = 16;
+
+/// Writes how many bytes more there are, if any.
+#[tactic(auto, using(pickle_io::proofs::Devices::text_steps), unfolding(crate::specs::Brief::over_text))]
+fn write_over<S: Sink>(count: usize, sink: &mut S) -> Result<(), Failed>
+    ensures { Writes (S.told sink.old) (S.told sink.new) result (over_text count) }
+{
+    if count == 0 {
+        Ok(())
+    } else {
+        write_with_number(b"+", count as u64, sink)
+    }
+}
+
+/// Writes the first bytes of a payload in quotes, and how many more there are.
+#[tactic(auto, using(pickle_io::proofs::Devices::text_steps), unfolding(crate::specs::Brief::cut_quoted))]
+fn write_cut<S: Sink>(text: &[u8], sink: &mut S) -> Result<(), Failed>
+    ensures { Writes (S.told sink.old) (S.told sink.new) result (cut_quoted text.now) }
+{
+    write_quoted(front(text, MOST_BYTES), sink)?;
+    write_over(text.len().saturating_sub(MOST_BYTES), sink)
+}
+
+/// Writes a keyword, and the first bytes of a payload in quotes with how many more there are.
+#[tactic(auto, using(pickle_io::proofs::Devices::text_steps), unfolding(crate::specs::Brief::cut_after))]
+fn write_cut_after<S: Sink>(keyword: &[u8], text: &[u8], sink: &mut S) -> Result<(), Failed>
+    ensures { Writes (S.told sink.old) (S.told sink.new) result (cut_after keyword.now text.now) }
+{
+    write_all(sink, keyword)?;
+    write_cut(text, sink)
+}
+
+/// Writes a long number by its first bytes, and how many more there are.
+#[tactic(auto, using(pickle_io::proofs::Devices::text_steps), unfolding(crate::specs::Brief::cut_long))]
+fn write_cut_long<S: Sink>(bytes: &[u8], sink: &mut S) -> Result<(), Failed>
+    ensures { Writes (S.told sink.old) (S.told sink.new) result (cut_long bytes.now) }
+{
+    write_all(sink, b"int ")?;
+    write_long(front(bytes, MOST_BYTES), sink)?;
+    write_over(bytes.len().saturating_sub(MOST_BYTES), sink)
+}
+
+/// Writes an object of this kind with these parts in brief.
+#[tactic(auto, unfolding(crate::specs::Brief::kind_brief))]
+fn write_kind_brief<S: Sink>(
+    heap: &[Object],
+    id: ObjId,
+    kind: &Kind,
+    parts: &[ObjId],
+    sink: &mut S,
+) -> Result<(), Failed>
+    ensures { Writes (S.told sink.old) (S.told sink.new) result (kind_brief heap.now id kind.now parts.now) }
+{
+    match kind {
+        Kind::None => write_kind(kind, sink),
+        Kind::True => write_kind(kind, sink),
+        Kind::False => write_kind(kind, sink),
+        Kind::Int(_) => write_kind(kind, sink),
+        Kind::Long(bytes) => write_cut_long(bytes.as_slice(), sink),
+        Kind::IntLine(text) => write_cut_after(b"int-line ", text.as_slice(), sink),
+        Kind::LongLine(text) => write_cut_after(b"long-line ", text.as_slice(), sink),
+        Kind::FloatLine(text) => write_cut_after(b"float-line ", text.as_slice(), sink),
+        Kind::Float(_) => write_kind(kind, sink),
+        Kind::LegacyString(text) => write_cut_after(b"string ", text.as_slice(), sink),
+        Kind::LegacyLine(text) => write_cut_after(b"string-line ", text.as_slice(), sink),
+        Kind::Text(text) => write_cut(text.as_slice(), sink),
+        Kind::TextLine(text) => write_cut(text.as_slice(), sink),
+        Kind::Bytes(bytes) => write_cut_after(b"bytes ", bytes.as_slice(), sink),
+        Kind::ByteArray(bytes) => write_cut_after(b"bytearray ", bytes.as_slice(), sink),
+        Kind::Global(_) => write_kind(kind, sink),
+        Kind::StackGlobal => write_part_names_after(b"global ", heap, parts, sink),
+        Kind::Ext(_) => write_kind(kind, sink),
+        _ => write_id(u64::from(id), sink),
+    }
+}
+
+/// Writes the object of this number in brief.
+#[tactic(auto, unfolding(crate::specs::Brief::brief_text))]
+fn write_brief<S: Sink>(heap: &[Object], id: ObjId, sink: &mut S) -> Result<(), Failed>
+    ensures { Writes (S.told sink.old) (S.told sink.new) result (brief_text heap.now id) }
+{
+    match heap.get(id as usize) {
+        Some(object) => write_kind_brief(heap, id, object.kind(), object.parts(), sink),
+        None => write_id(u64::from(id), sink),
+    }
+}
+
+/// Writes one object more in brief, after a comma.
+#[tactic(auto, using(pickle_io::proofs::Devices::text_steps), unfolding(crate::specs::Brief::next_brief))]
+fn write_next<S: Sink>(heap: &[Object], id: ObjId, sink: &mut S) -> Result<(), Failed>
+    ensures { Writes (S.told sink.old) (S.told sink.new) result (next_brief heap.now id) }
+{
+    write_all(sink, b", ")?;
+    write_brief(heap, id, sink)
+}
+
+/// Writes objects in brief, each after a comma.
+#[tactic(auto, using(pickle_io::proofs::Devices::each_steps))]
+fn write_all_next<S: Sink>(heap: &[Object], ids: &[ObjId], sink: &mut S) -> Result<(), Failed>
+    ensures { Writes (S.told sink.old) (S.told sink.new) result (each (next_brief heap.now) ids.now) }
+{
+    for id in ids {
+        write_next(heap, *id, sink)?;
+    }
+    Ok(())
+}
+
+/// Writes an object in brief, and others after it.
+#[tactic(auto, using(pickle_io::proofs::Devices::text_steps))]
+fn write_some<S: Sink>(
+    heap: &[Object],
+    first: ObjId,
+    rest: &[ObjId],
+    sink: &mut S,
+) -> Result<(), Failed>
+    ensures { Writes (S.told sink.old) (S.told sink.new) result (brief_text heap.now first ⧺ each (next_brief heap.now) rest.now) }
+{
+    write_brief(heap, first, sink)?;
+    write_all_next(heap, rest, sink)
+}
+
+/// Writes objects in brief with commas between them.
+#[tactic(auto, using(pickle_io::proofs::Devices::text_steps))]
+fn write_joined<S: Sink>(heap: &[Object], ids: &[ObjId], sink: &mut S) -> Result<(), Failed>
+    ensures { Writes (S.told sink.old) (S.told sink.new) result (joined heap.now ids.now) }
+{
+    match ids.split_first() {
+        None => Ok(()),
+        Some((first, rest)) => write_some(heap, *first, rest, sink),
+    }
+}
+
+/// Writes how many objects more there are, if any.
+#[tactic(auto, using(pickle_io::proofs::Devices::text_steps), unfolding(crate::specs::Brief::more_text))]
+fn write_more<S: Sink>(count: usize, sink: &mut S) -> Result<(), Failed>
+    ensures { Writes (S.told sink.old) (S.told sink.new) result (more_text count) }
+{
+    if count == 0 {
+        Ok(())
+    } else {
+        write_with_number(b", +", count as u64, sink)
+    }
+}
+
+/// Writes the first objects in brackets, and how many more there are.
+#[tactic(auto, using(pickle_io::proofs::Devices::text_steps), unfolding(crate::specs::Brief::briefs_text))]
+pub fn write_briefs<S: Sink>(heap: &[Object], ids: &[ObjId], sink: &mut S) -> Result<(), Failed>
+    ensures { Writes (S.told sink.old) (S.told sink.new) result (briefs_text heap.now ids.now) }
+{
+    write_all(sink, b"(")?;
+    write_joined(heap, front(ids, MOST_OBJECTS), sink)?;
+    write_more(ids.len().saturating_sub(MOST_OBJECTS), sink)?;
+    write_all(sink, b")")
+}
+
+/// Writes an object of this kind with these parts as a value.
+#[tactic(auto, unfolding(crate::specs::Brief::kind_value))]
+fn write_kind_value<S: Sink>(
+    heap: &[Object],
+    id: ObjId,
+    kind: &Kind,
+    parts: &[ObjId],
+    sink: &mut S,
+) -> Result<(), Failed>
+    ensures { Writes (S.told sink.old) (S.told sink.new) result (kind_value heap.now id kind.now parts.now) }
+{
+    match kind {
+        Kind::Tuple => write_briefs(heap, parts, sink),
+        _ => write_kind_brief(heap, id, kind, parts, sink),
+    }
+}
+
+/// Writes the object of this number as a value: the parts of a tuple, or what it is in brief.
+#[tactic(auto, unfolding(crate::specs::Brief::value_text))]
+pub fn write_value<S: Sink>(heap: &[Object], id: ObjId, sink: &mut S) -> Result<(), Failed>
+    ensures { Writes (S.told sink.old) (S.told sink.new) result (value_text heap.now id) }
+{
+    match heap.get(id as usize) {
+        Some(object) => write_kind_value(heap, id, object.kind(), object.parts(), sink),
+        None => write_id(u64::from(id), sink),
+    }
+}

@@ -1,0 +1,249 @@
+//! The lines, one for each event.
+
+ghost use Rattle.pickle_io.specs.Text.{◌⧺◌};
+ghost use Rattle.std.specs.Prelude.{◌≡◌, drop};
+ghost use Rattle.pickle_io.specs.Device.{Writes};
+ghost use Rattle.pickle_show.specs.Brief.{value_text};
+ghost use Rattle.pickle_show.specs.Event.{part};
+ghost use Rattle.pickle_show.specs.CallsLine.{inst_text, call_text, call_with_text, obj_text, made_words, made_text, made_at, state_text, fill_keyword, fill_link, filled_text, event_text, event_line, line_of};
+
+use crate::brief::{write_briefs, write_value};
+use crate::event::{Event, part};
+use crate::name::{write_name, write_part_names_after};
+use crate::number::write_right;
+use crate::words::{
+    write_id, write_with_id, write_with_number, write_with_signed, write_with_text,
+    write_with_texts,
+};
+use pickle_ops::{Failed, Filling, Kind, ObjId, Object, Sink, write_all};
+
+/// Writes that a member of a module is imported and called.
+#[tactic(auto, using(pickle_io::proofs::Devices::text_steps), unfolding(crate::specs::CallsLine::inst_text))]
+fn write_inst<S: Sink>(
+    heap: &[Object],
+    first: &[u8],
+    second: &[u8],
+    parts: &[ObjId],
+    sink: &mut S,
+) -> Result<(), Failed>
+    ensures { Writes (S.told sink.old) (S.told sink.new) result (inst_text heap.now first.now second.now parts.now) }
+{
+    write_with_texts(b"inst ", first, second, sink)?;
+    write_all(sink, b" ")?;
+    write_briefs(heap, parts, sink)
+}
+
+/// Writes a call, or a new instance, after a keyword.
+#[tactic(auto, using(pickle_io::proofs::Devices::text_steps), unfolding(crate::specs::CallsLine::call_text))]
+fn write_call<S: Sink>(
+    keyword: &[u8],
+    heap: &[Object],
+    parts: &[ObjId],
+    sink: &mut S,
+) -> Result<(), Failed>
+    ensures { Writes (S.told sink.old) (S.told sink.new) result (call_text keyword.now heap.now parts.now) }
+{
+    let called = part(0, parts);
+    write_all(sink, keyword)?;
+    write_name(heap, called, sink)?;
+    write_all(sink, b" ")?;
+    write_value(heap, part(1, parts), sink)
+}
+
+/// Writes a new instance that is given arguments with names.
+#[tactic(auto, using(pickle_io::proofs::Devices::text_steps), unfolding(crate::specs::CallsLine::call_with_text))]
+fn write_call_with<S: Sink>(heap: &[Object], parts: &[ObjId], sink: &mut S) -> Result<(), Failed>
+    ensures { Writes (S.told sink.old) (S.told sink.new) result (call_with_text heap.now parts.now) }
+{
+    write_call(b"new ", heap, parts, sink)?;
+    write_all(sink, b" ")?;
+    write_value(heap, part(2, parts), sink)
+}
+
+/// The parts but the first.
+fn after_first(parts: &[ObjId]) -> &[ObjId]
+    ensures { result.now ≡ drop 1 parts.now }
+{
+    match parts.split_first() {
+        Some((_, rest)) => rest,
+        None => parts,
+    }
+}
+
+/// Writes a call whose arguments are after the class.
+#[tactic(auto, using(pickle_io::proofs::Devices::text_steps), unfolding(crate::specs::CallsLine::obj_text))]
+fn write_obj<S: Sink>(heap: &[Object], parts: &[ObjId], sink: &mut S) -> Result<(), Failed>
+    ensures { Writes (S.told sink.old) (S.told sink.new) result (obj_text heap.now parts.now) }
+{
+    write_all(sink, b"call ")?;
+    write_name(heap, part(0, parts), sink)?;
+    write_all(sink, b" ")?;
+    write_briefs(heap, after_first(parts), sink)
+}
+
+/// Writes a keyword and an object as a value.
+#[tactic(auto, using(pickle_io::proofs::Devices::text_steps))]
+fn write_value_after<S: Sink>(
+    keyword: &[u8],
+    heap: &[Object],
+    id: ObjId,
+    sink: &mut S,
+) -> Result<(), Failed>
+    ensures { Writes (S.told sink.old) (S.told sink.new) result (keyword.now ⧺ value_text heap.now id) }
+{
+    write_all(sink, keyword)?;
+    write_value(heap, id, sink)
+}
+
+/// Writes what made an object of this kind with these parts.
+#[tactic(auto, using(pickle_io::proofs::Devices::text_steps), unfolding(crate::specs::CallsLine::made_words))]
+fn write_made_words<S: Sink>(
+    heap: &[Object],
+    kind: &Kind,
+    parts: &[ObjId],
+    sink: &mut S,
+) -> Result<(), Failed>
+    ensures { Writes (S.told sink.old) (S.told sink.new) result (made_words heap.now kind.now parts.now) }
+{
+    match kind {
+        Kind::Global(names) => write_with_texts(b"import ", names.first(), names.second(), sink),
+        Kind::StackGlobal => write_part_names_after(b"import ", heap, parts, sink),
+        Kind::Ext(code) => write_with_signed(b"import ext ", *code, sink),
+        Kind::Inst(names) => write_inst(heap, names.first(), names.second(), parts, sink),
+        Kind::Call => write_call(b"call ", heap, parts, sink),
+        Kind::New => write_call(b"new ", heap, parts, sink),
+        Kind::NewEx => write_call_with(heap, parts, sink),
+        Kind::Obj => write_obj(heap, parts, sink),
+        Kind::PersistentLine(text) => write_with_text(b"persistent ", text.as_slice(), sink),
+        Kind::Persistent => write_value_after(b"persistent ", heap, part(0, parts), sink),
+        Kind::Buffer(number) => write_with_number(b"buffer ", *number, sink),
+        Kind::ReadOnly => write_with_id(b"readonly ", u64::from(part(0, parts)), sink),
+        _ => Ok(()),
+    }
+}
+
+/// Writes what made an object, and its number.
+#[tactic(auto, using(pickle_io::proofs::Devices::text_steps), unfolding(crate::specs::CallsLine::made_text))]
+fn write_made_object<S: Sink>(
+    heap: &[Object],
+    id: ObjId,
+    object: &Object,
+    sink: &mut S,
+) -> Result<(), Failed>
+    ensures { Writes (S.told sink.old) (S.told sink.new) result (made_text heap.now id object.now) }
+{
+    write_made_words(heap, object.kind(), object.parts(), sink)?;
+    write_all(sink, b" as ")?;
+    write_id(u64::from(id), sink)
+}
+
+/// Writes what made the object of this number.
+#[tactic(auto, using(pickle_io::proofs::Devices::text_steps))]
+fn write_made<S: Sink>(heap: &[Object], id: ObjId, sink: &mut S) -> Result<(), Failed>
+    ensures { Writes (S.told sink.old) (S.told sink.new) result (made_at heap.now id) }
+{
+    match heap.get(id as usize) {
+        Some(object) => write_made_object(heap, id, object, sink),
+        None => Ok(()),
+    }
+}
+
+/// Writes that an object becomes the state of another.
+#[tactic(auto, using(pickle_io::proofs::Devices::text_steps), unfolding(crate::specs::CallsLine::state_text))]
+fn write_state<S: Sink>(
+    heap: &[Object],
+    value: ObjId,
+    target: ObjId,
+    sink: &mut S,
+) -> Result<(), Failed>
+    ensures { Writes (S.told sink.old) (S.told sink.new) result (state_text heap.now value target) }
+{
+    write_value_after(b"state ", heap, value, sink)?;
+    write_all(sink, b" to ")?;
+    write_id(u64::from(target), sink)
+}
+
+/// The keyword of what goes into an object.
+#[tactic(auto, unfolding(crate::specs::CallsLine::fill_keyword))]
+fn fill_keyword(filling: Filling) -> &'static str
+    ensures { result.now ≡ fill_keyword filling }
+{
+    match filling {
+        Filling::Append => "append ",
+        Filling::SetItem => "set ",
+        Filling::Add => "add ",
+        Filling::Build => "",
+    }
+}
+
+/// The word before the object that something goes into.
+#[tactic(auto, unfolding(crate::specs::CallsLine::fill_link))]
+fn fill_link(filling: Filling) -> &'static str
+    ensures { result.now ≡ fill_link filling }
+{
+    match filling {
+        Filling::Append => " to ",
+        Filling::SetItem => " in ",
+        Filling::Add => " to ",
+        Filling::Build => "",
+    }
+}
+
+/// Writes how many go into which object.
+#[tactic(auto, using(pickle_io::proofs::Devices::text_steps), unfolding(crate::specs::CallsLine::filled_text))]
+fn write_filled<S: Sink>(
+    filling: Filling,
+    count: usize,
+    target: ObjId,
+    sink: &mut S,
+) -> Result<(), Failed>
+    ensures { Writes (S.told sink.old) (S.told sink.new) result (filled_text filling count target) }
+{
+    write_with_number(fill_keyword(filling).as_bytes(), count as u64, sink)?;
+    write_all(sink, fill_link(filling).as_bytes())?;
+    write_id(u64::from(target), sink)
+}
+
+/// Writes an event, by the objects after the step.
+#[tactic(auto, unfolding(crate::specs::CallsLine::event_text))]
+fn write_event<S: Sink>(heap: &[Object], event: Event, sink: &mut S) -> Result<(), Failed>
+    ensures { Writes (S.told sink.old) (S.told sink.new) result (event_text heap.now event) }
+{
+    match event {
+        Event::Made(id) => write_made(heap, id, sink),
+        Event::State(value, target) => write_state(heap, value, target, sink),
+        Event::Filled(filling, count, target) => write_filled(filling, count, target, sink),
+    }
+}
+
+/// Writes the line of an event whose item is at this offset.
+#[tactic(auto, using(pickle_io::proofs::Devices::text_steps), unfolding(crate::specs::CallsLine::event_line))]
+fn write_event_line<S: Sink>(
+    offset: u64,
+    heap: &[Object],
+    event: Event,
+    sink: &mut S,
+) -> Result<(), Failed>
+    ensures { Writes (S.told sink.old) (S.told sink.new) result (event_line offset heap.now event) }
+{
+    write_right(offset, sink)?;
+    write_all(sink, b": ")?;
+    write_event(heap, event, sink)?;
+    write_all(sink, b"\n")
+}
+
+/// Writes the line of a step, if it has an event.
+#[tactic(auto, using(pickle_io::proofs::Devices::text_steps))]
+pub fn write_line<S: Sink>(
+    offset: u64,
+    heap: &[Object],
+    event: Option<Event>,
+    sink: &mut S,
+) -> Result<(), Failed>
+    ensures { Writes (S.told sink.old) (S.told sink.new) result (line_of offset heap.now event) }
+{
+    match event {
+        Some(event) => write_event_line(offset, heap, event, sink),
+        None => Ok(()),
+    }
+}

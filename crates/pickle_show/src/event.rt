@@ -1,0 +1,191 @@
+//! What a step does that whoever reads a pickle is to know.
+
+ghost use Rattle.std.specs.Prelude.{◌≡◌, ◌&&◌, nat_lt};
+ghost use Rattle.pickle_ops.specs.Kind.{is_opaque};
+ghost use Rattle.pickle_show.specs.Event.{top_of, part, is_foreign, object_is, is_view, is_shown, made_event, filled_count, into, filled_event, taken_count, event_of};
+
+use pickle_machine::Machine;
+use pickle_ops::{Filling, Kind, ObjId, Object, Row};
+
+/// What a step does that whoever reads a pickle is to know.
+#[derive(Clone, Copy)]
+pub enum Event {
+    /// It makes this object, which comes from elsewhere or from a call, or is a view of such a one.
+    Made(ObjId),
+    /// It makes the first object the state of the second.
+    State(ObjId, ObjId),
+    /// It puts items, pairs or members into an object: how, how many, and into which. Never by BUILD, which sets a state.
+    Filled(Filling, usize, ObjId),
+}
+
+/// What is looked at of a machine before it steps. With the state after it these three say the event: the record of the
+/// step is not read, whose form is the machine's own.
+#[derive(Clone, Copy)]
+pub struct Before {
+    /// The number of the object that is made next: there are as many.
+    pub next: ObjId,
+    /// How many objects the stack has.
+    pub size: usize,
+    /// The top, or 0 where there is none. Only BUILD asks, and it is refused without a top.
+    pub top: ObjId,
+}
+
+/// The object on top of the stack, or 0 where there is none. After a step that fills an object there is one: that object.
+fn top_of(machine: &Machine) -> ObjId
+    ensures { result ≡ top_of machine.now.state }
+{
+    match machine.stack_at(machine.stack_len().saturating_sub(1)) {
+        Some(id) => id,
+        None => 0,
+    }
+}
+
+impl Before {
+    ghost use Rattle.std.specs.Prelude.{◌≡◌, ◌<◌, ◌^◌, length};
+    ghost use Rattle.pickle_show.specs.Event.{before_of};
+
+    /// What is looked at of this machine.
+    pub fn of(machine: &Machine) -> Before
+        requires { length machine.now.state.heap < 2 ^ 32 }
+        ensures { result ≡ before_of machine.now.state }
+    {
+        Before {
+            next: machine.objects() as ObjId,
+            size: machine.stack_len(),
+            top: top_of(machine),
+        }
+    }
+}
+
+/// The part of this number, or object 0 where there is none. An object has all the parts that are asked for: a call two or three, a
+/// persistent object or a view one, a global of the stack two.
+pub(crate) fn part(number: usize, parts: &[ObjId]) -> ObjId
+    ensures { result ≡ part number parts.now }
+{
+    match parts.get(number) {
+        Some(id) => *id,
+        None => 0,
+    }
+}
+
+/// Whether an object comes from elsewhere or from a call and is no buffer.
+fn is_foreign(kind: &Kind) -> bool
+    ensures { result ≡ is_foreign kind.now }
+{
+    match kind {
+        Kind::Buffer(_) => false,
+        _ => kind.is_opaque(),
+    }
+}
+
+/// Whether the object of this number is there and comes from elsewhere or from a call.
+fn is_opaque_at(heap: &[Object], id: ObjId) -> bool
+    ensures { result ≡ object_is is_opaque heap.now id }
+{
+    match heap.get(id as usize) {
+        Some(object) => object.kind().is_opaque(),
+        None => false,
+    }
+}
+
+/// Whether the object of this number is there and comes from elsewhere or from a call and is no buffer.
+fn is_foreign_at(heap: &[Object], id: ObjId) -> bool
+    ensures { result ≡ object_is is_foreign heap.now id }
+{
+    match heap.get(id as usize) {
+        Some(object) => is_foreign(object.kind()),
+        None => false,
+    }
+}
+
+/// Whether an object is a view of one that comes from elsewhere or from a call and is no buffer. It is shown, since a
+/// loader would make it, although nothing can be put into it. A buffer comes from the program, and has its line
+/// already.
+fn is_view(heap: &[Object], object: &Object) -> bool
+    ensures { result ≡ is_view heap.now object.now }
+{
+    match object.kind() {
+        Kind::ReadOnly => is_foreign_at(heap, part(0, object.parts())),
+        _ => false,
+    }
+}
+
+/// Whether the making of an object is shown.
+fn is_shown(heap: &[Object], object: &Object) -> bool
+    ensures { result ≡ is_shown heap.now object.now }
+{
+    object.kind().is_opaque() || is_view(heap, object)
+}
+
+/// The event of a step that made the object of this number, if it made one.
+fn made_event(heap: &[Object], id: ObjId) -> Option<Event>
+    ensures { result ≡ made_event heap.now id }
+{
+    match heap.get(id as usize) {
+        Some(object) => {
+            if is_shown(heap, object) {
+                Some(Event::Made(id))
+            } else {
+                None
+            }
+        }
+        None => None,
+    }
+}
+
+/// How many objects a step took off the stack.
+fn taken_count(before: Before, machine: &Machine) -> usize
+    ensures { result ≡ taken_count before machine.now.state }
+{
+    before.size.saturating_sub(machine.stack_len())
+}
+
+/// How many items, pairs or members these objects are.
+fn filled_count(filling: Filling, objects: usize) -> usize
+    ensures { result ≡ filled_count filling objects }
+{
+    match filling {
+        Filling::SetItem => objects / 2,
+        _ => objects,
+    }
+}
+
+/// Whether at least one went into the top, and that comes from elsewhere or from a call.
+fn fills_opaque(count: usize, machine: &Machine) -> bool
+    ensures { result ≡ (nat_lt 0 count && object_is is_opaque machine.now.state.heap (top_of machine.now.state)) }
+{
+    count > 0 && is_opaque_at(machine.heap(), top_of(machine))
+}
+
+/// The event of a step that put items, pairs or members of this count into the top, if that is opaque.
+fn into(filling: Filling, count: usize, machine: &Machine) -> Option<Event>
+    ensures { result ≡ into filling count machine.now.state }
+{
+    if fills_opaque(count, machine) {
+        Some(Event::Filled(filling, count, top_of(machine)))
+    } else {
+        None
+    }
+}
+
+/// The event of a step that put objects into another.
+fn filled_event(filling: Filling, before: Before, machine: &Machine) -> Option<Event>
+    ensures { result ≡ filled_event filling before machine.now.state }
+{
+    let count = filled_count(filling, taken_count(before, machine));
+    match filling {
+        Filling::Build => Some(Event::State(before.top, top_of(machine))),
+        _ => into(filling, count, machine),
+    }
+}
+
+/// The event of a step of this row, if any: this was looked at before it, and this is the machine after it.
+pub(crate) fn event_of(row: Row, before: Before, machine: &Machine) -> Option<Event>
+    ensures { result ≡ event_of row before machine.now.state }
+{
+    match row {
+        Row::Change(filling) => filled_event(filling, before, machine),
+        Row::CutChange(filling) => filled_event(filling, before, machine),
+        _ => made_event(machine.heap(), before.next),
+    }
+}

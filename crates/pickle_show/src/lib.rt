@@ -1,0 +1,68 @@
+//! What is shown of a pickle, as texts. Nothing is imported or called.
+//!
+//! - Pages: lines that are put together before they are written. Texts, blanks and columns go to the sink in blocks, since a call
+//!   of it for each byte would take most of the time.
+//! - What a machine shows: its objects, an object with all that it contains, the stack, the memo; and the report of a document,
+//!   which says what its items make and how their run ends.
+//! - Listings: the lines of a pickle's opcodes, one for each, and the closing lines, which say why it ended.
+//! - What a pickle would import and call: a line for each step that makes an object which comes from elsewhere or from a call, that
+//!   puts something into such an object, or that sets the state of an object.
+//!
+//! The texts are this project's own; in them `#n` is object n, by its place in the heap.
+#![tactic(auto)]
+
+mod argument;
+mod brief;
+mod calls;
+mod calls_laws;
+mod calls_line;
+mod column;
+mod content;
+mod end;
+mod event;
+mod front;
+mod highest;
+mod kind;
+mod laws;
+mod line;
+mod list;
+mod memo;
+mod name;
+mod note;
+mod number;
+mod object;
+mod offset;
+mod page;
+mod pieces;
+mod put;
+mod report;
+mod report_line;
+mod show;
+mod stack;
+mod stop;
+mod totals;
+mod words;
+
+pub use calls::{calls_of_bytes, calls_of_items};
+pub use calls_laws::{lines_reach, no_line_no_reach, one_text};
+pub use kind::write_kind;
+pub use laws::one_report;
+pub use line::write_kept_line;
+pub use list::{list_bytes, list_items, write_listing};
+pub use memo::write_memo;
+pub use number::write_right;
+pub use object::{write_all_next, write_object, write_objects};
+pub use offset::Offset;
+pub use page::Page;
+pub use report::{
+    Closing, closing_at, machine_of, report_of_bytes, report_of_items, status_of, step_over,
+    write_closing, write_document_report,
+};
+pub use report_line::{write_fault, write_fault_text, write_refusal};
+pub use show::write_show;
+pub use stack::write_stack;
+pub use stop::TextStop;
+pub use words::{
+    write_id, write_with_id, write_with_number, write_with_signed, write_with_text,
+    write_with_texts,
+};

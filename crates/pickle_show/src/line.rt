@@ -1,0 +1,105 @@
+//! The lines of a listing.
+
+ghost use Rattle.std.specs.Prelude.{◌≡◌};
+ghost use Rattle.pickle_io.specs.Device.{Writes};
+ghost use Rattle.pickle_io.specs.Text.{◌⧺◌};
+ghost use Rattle.pickle_show.specs.Line.{refused_line, left_text, left_line, kept_text, kept_line, kept_words, protocol_words, protocol_text, protocol_line};
+
+use crate::report_line::write_refusal;
+use pickle_machine::Refusal;
+use pickle_ops::{Failed, Sink, write_all, write_decimal};
+
+/// Writes the line of a refused step.
+#[tactic(auto, using(pickle_io::proofs::Devices::text_steps), unfolding(crate::specs::Line::refused_line))]
+pub fn write_refused<S: Sink>(refusal: Refusal, sink: &mut S) -> Result<(), Failed>
+    ensures { Writes (S.told sink.old) (S.told sink.new) result (refused_line refusal) }
+{
+    write_all(sink, b"refused: ")?;
+    write_refusal(refusal, sink)?;
+    write_all(sink, b"\n")
+}
+
+/// Writes how many objects and marks STOP left on the stack.
+#[tactic(auto, using(pickle_io::proofs::Devices::text_steps), unfolding(crate::specs::Line::left_text))]
+fn write_left_text<S: Sink>(objects: usize, marks: usize, sink: &mut S) -> Result<(), Failed>
+    ensures { Writes (S.told sink.old) (S.told sink.new) result (left_text objects marks) }
+{
+    write_all(sink, b"left: ")?;
+    write_decimal(objects as u64, sink)?;
+    write_all(sink, b" objects, ")?;
+    write_decimal(marks as u64, sink)?;
+    write_all(sink, b" marks")?;
+    write_all(sink, b"\n")
+}
+
+/// Writes what STOP left on the stack, if anything.
+#[tactic(auto, using(pickle_io::proofs::Devices::text_steps), unfolding(crate::specs::Line::left_line))]
+pub fn write_left_line<S: Sink>(objects: usize, marks: usize, sink: &mut S) -> Result<(), Failed>
+    ensures { Writes (S.told sink.old) (S.told sink.new) result (left_line objects marks) }
+{
+    if objects == 0 && marks == 0 {
+        Ok(())
+    } else {
+        write_left_text(objects, marks, sink)
+    }
+}
+
+/// Writes how many bytes are after STOP.
+#[tactic(auto, using(pickle_io::proofs::Devices::text_steps), unfolding(crate::specs::Line::kept_text, crate::specs::Line::kept_words))]
+fn write_kept_text<S: Sink>(count: u64, sink: &mut S) -> Result<(), Failed>
+    ensures { Writes (S.told sink.old) (S.told sink.new) result (kept_text count) }
+{
+    write_all(sink, b"kept: ")?;
+    write_decimal(count, sink)?;
+    write_all(sink, words_after_stop().as_bytes())?;
+    write_all(sink, b"\n")
+}
+
+/// Words of a line.
+#[tactic(auto, unfolding(crate::specs::Line::kept_words))]
+fn words_after_stop() -> &'static str
+    ensures { result.now ≡ kept_words }
+{
+    " bytes after STOP"
+}
+
+/// Writes how many bytes are after STOP, if any.
+#[tactic(auto, using(pickle_io::proofs::Devices::text_steps), unfolding(crate::specs::Line::kept_line))]
+pub fn write_kept_line<S: Sink>(count: u64, sink: &mut S) -> Result<(), Failed>
+    ensures { Writes (S.told sink.old) (S.told sink.new) result (kept_line count) }
+{
+    if count == 0 {
+        Ok(())
+    } else {
+        write_kept_text(count, sink)
+    }
+}
+
+/// Words of a line.
+#[tactic(auto, unfolding(crate::specs::Line::protocol_words))]
+fn words_of_protocol() -> &'static str
+    ensures { result.now ≡ protocol_words }
+{
+    "highest protocol among opcodes = "
+}
+
+/// Writes the line of a protocol.
+#[tactic(auto, using(pickle_io::proofs::Devices::text_steps), unfolding(crate::specs::Line::protocol_text))]
+fn write_protocol_text<S: Sink>(protocol: u32, sink: &mut S) -> Result<(), Failed>
+    ensures { Writes (S.told sink.old) (S.told sink.new) result (protocol_text protocol) }
+{
+    write_all(sink, words_of_protocol().as_bytes())?;
+    write_decimal(u64::from(protocol), sink)?;
+    write_all(sink, b"\n")
+}
+
+/// Writes the greatest protocol of the items that were listed, if any was.
+#[tactic(auto, using(pickle_io::proofs::Devices::text_steps), unfolding(crate::specs::Line::protocol_line))]
+pub fn write_protocol<S: Sink>(highest: Option<u32>, sink: &mut S) -> Result<(), Failed>
+    ensures { Writes (S.told sink.old) (S.told sink.new) result (protocol_line highest) }
+{
+    match highest {
+        None => Ok(()),
+        Some(protocol) => write_protocol_text(protocol, sink),
+    }
+}

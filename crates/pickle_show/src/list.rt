@@ -1,0 +1,286 @@
+//! The listing of items, one after another.
+
+ghost use Rattle.std.specs.Prelude.{◌≡◌, ◌≤◌, ◌<◌, ◌-◌, ◌^◌, ◌==◌, ◌||◌, [], if◌then◌else◌, length, not, None, OnOk, IfOk, IfErr};
+ghost use Rattle.pickle_io.specs.Device.{Writes};
+ghost use Rattle.pickle_io.specs.Text.{◌⧺◌};
+ghost use Rattle.pickle_doc.specs.Document.{Contents, ReadsAs, size_limit};
+ghost use Rattle.pickle_machine.specs.State.{stack_size};
+ghost use Rattle.pickle_machine.specs.Move.{next_of, refusal_of, fresh};
+ghost use Rattle.pickle_machine.specs.Class.{sample};
+ghost use Rattle.pickle_machine.specs.Outline.{outline};
+ghost use Rattle.pickle_show.specs.ReportLine.{fault_line};
+ghost use Rattle.pickle_show.specs.Page.{Puts};
+ghost use Rattle.pickle_show.specs.Line.{item_line, refused_line, left_line, kept_line, protocol_line};
+ghost use Rattle.pickle_show.specs.Inside.Marks.{followed};
+ghost use Rattle.pickle_show.specs.Inside.Answer.{IsAnswer};
+ghost use Rattle.pickle_show.specs.Written.{WroteListing, CutListing, IsListed, CutsListing};
+
+use crate::highest::Highest;
+use crate::line::{write_kept_line, write_left_line, write_protocol, write_refused};
+use crate::offset::Offset;
+use crate::page::Page;
+use crate::put::{put_item, put_refused};
+use crate::report_line::write_fault;
+use crate::stop::TextStop;
+use pickle_doc::{Document, DocumentItems, ItemSource, Items, NextRef, TailFault, is_stop};
+use pickle_machine::{Class, Lean, Refusal};
+use pickle_ops::{Failed, OpRef, Row, Sink};
+use std::alloc::{AllocError, Global};
+
+/// Writes out the page, and the lines after all items where bytes are left that are no further item.
+#[tactic(auto, using(pickle_io::proofs::Devices::text_steps))]
+fn write_fault_end<S: Sink>(
+    page: &mut Page,
+    fault: TailFault,
+    offset: u64,
+    highest: Option<u32>,
+    sink: &mut S,
+) -> Result<(), Failed>
+    ensures { Writes (S.told sink.old) (S.told sink.new) result (page.old ⧺ fault_line fault offset ⧺ protocol_line highest) }
+{
+    page.flush(sink)?;
+    write_fault(fault, offset, sink)?;
+    write_protocol(highest, sink)
+}
+
+/// Writes out the page, and the lines after the last STOP, behind which there are `kept` bytes.
+#[tactic(auto, using(pickle_io::proofs::Devices::text_steps))]
+fn write_last_end<S: Sink>(
+    page: &mut Page,
+    kept: u64,
+    highest: Option<u32>,
+    sink: &mut S,
+) -> Result<(), Failed>
+    ensures { Writes (S.told sink.old) (S.told sink.new) result (page.old ⧺ kept_line kept ⧺ protocol_line highest) }
+{
+    page.flush(sink)?;
+    write_kept_line(kept, sink)?;
+    write_protocol(highest, sink)
+}
+
+/// Whether a STOP ends the listing, with this many bytes behind it.
+fn is_last(many: bool, kept: u64) -> bool
+    ensures { result ≡ (not many || kept == 0) }
+{
+    !many || kept == 0
+}
+
+/// Puts what STOP left on the stack on the page, if anything.
+fn put_left_line<S: Sink>(
+    page: &mut Page,
+    objects: usize,
+    marks: usize,
+    sink: &mut S,
+) -> Result<(), Failed>
+    ensures { Puts (S.told sink.old) (S.told sink.new) page.old page.new result (left_line objects marks) }
+{
+    if objects == 0 && marks == 0 {
+        return Ok(());
+    }
+    page.flush(sink)?;
+    write_left_line(objects, marks, sink)
+}
+
+/// Writes out the page, and the lines after the line of an item that is refused.
+#[tactic(auto, using(pickle_io::proofs::Devices::text_steps))]
+fn write_refused_end<S: Sink>(
+    page: &mut Page,
+    refusal: Refusal,
+    highest: Option<u32>,
+    sink: &mut S,
+) -> Result<(), Failed>
+    ensures { Writes (S.told sink.old) (S.told sink.new) result (page.old ⧺ refused_line refusal ⧺ protocol_line highest) }
+{
+    page.flush(sink)?;
+    write_refused(refusal, sink)?;
+    write_protocol(highest, sink)
+}
+
+/// Puts the line of an item that is refused, writes out the page, and the lines after it. An item that is refused has no note.
+#[inline(never)]
+fn write_refused_item<S: Sink>(
+    page: &mut Page,
+    op: &OpRef<'_>,
+    offset: &Offset,
+    marks: usize,
+    refusal: Refusal,
+    highest: Option<u32>,
+    sink: &mut S,
+) -> Result<(), Failed>
+    requires { marks < 2 ^ 32 }
+    ensures { Writes (S.told sink.old) (S.told sink.new) result (page.old ⧺ item_line op.now offset.now marks None ⧺ (refused_line refusal ⧺ protocol_line highest)) }
+{
+    put_refused(page, op, offset, marks, sink)?;
+    write_refused_end(page, refusal, highest, sink)
+}
+
+/// The answer of a listing with this status whose last lines were written, or where the sink failed.
+fn answer(closed: Result<(), Failed>, status: u8) -> Result<u8, TextStop>
+    ensures { IsAnswer closed status result }
+{
+    closed?;
+    Ok(status)
+}
+
+/// What becomes of the offsets of the open marks when a step changes how many there are.
+#[inline(always)]
+fn follow_marks(
+    opened: &mut Vec<u64>,
+    before: usize,
+    after: usize,
+    offset: &Offset,
+) -> Result<(), AllocError>
+    ensures ok { OnOk result (opened.new.items ≡ followed opened.old.items before after offset.now) }
+{
+    if before < after {
+        opened.push(offset.number())?;
+    } else if after < before {
+        opened.pop();
+    }
+    Ok(())
+}
+
+/// Moves the outline by an item that is not refused, and follows its marks.
+#[inline(always)]
+fn perform(
+    lean: &mut Lean,
+    opened: &mut Vec<u64>,
+    row: Row,
+    class: Class,
+    place: usize,
+    offset: &Offset,
+) -> Result<(), AllocError>
+    requires heap { length lean.old.heap < 2 ^ 32 - 1 }
+    requires good { refusal_of row lean.old ≡ None }
+    ensures moved { OnOk result (lean.new ≡ outline (next_of row (sample class) place lean.old)) }
+    ensures marks { OnOk result (opened.new.items ≡ followed opened.old.items (length lean.old.marked) (length lean.new.marked) offset.now) }
+{
+    let marks = lean.marks_len();
+    lean.perform(row, class, place)?;
+    follow_marks(opened, marks, lean.marks_len(), offset)
+}
+
+/// Makes ready for the next move: after STOP, where several pickles are listed, the next one begins, and no mark is open.
+fn refresh(lean: &mut Lean, opened: &mut Vec<u64>)
+    ensures fresh { lean.new ≡ outline (fresh lean.old) }
+    ensures marks { opened.new.items ≡ (if lean.old.stopped then [] else opened.old.items) }
+{
+    if lean.has_stopped() {
+        opened.clear();
+    }
+    lean.refresh();
+}
+
+/// Puts what STOP left on the page. Where several pickles are listed, the next one begins, and no mark is open.
+#[inline(never)]
+fn end_pickle<S: Sink>(
+    page: &mut Page,
+    lean: &mut Lean,
+    opened: &mut Vec<u64>,
+    sink: &mut S,
+) -> Result<(), Failed>
+    ensures puts { Puts (S.told sink.old) (S.told sink.new) page.old page.new result (left_line (stack_size lean.old) (length lean.old.marked)) }
+    ensures fresh { OnOk result (lean.new ≡ outline (fresh lean.old)) }
+    ensures marks { OnOk result (opened.new.items ≡ (if lean.old.stopped then [] else opened.old.items)) }
+{
+    put_left_line(page, lean.stack_len(), lean.marks_len(), sink)?;
+    refresh(lean, opened);
+    Ok(())
+}
+
+/// Writes the listing of the items that a source gives from the first on, as many pickles or as one, and answers its status: 1 where an
+/// item is refused or the bytes have a fault, else 0. Lines are put on a page before they are written. The source is to give a document
+/// that is not too large.
+///
+/// `Memory` (M) comes when memory runs out, `Failed` from the sink; what was written then is a beginning of the listing.
+pub fn list_items<'a, I: ItemSource<'a>, S: Sink>(
+    alloc: Global,
+    many: bool,
+    source: I,
+    sink: &mut S,
+) -> Result<u8, TextStop>
+    requires first { (I.unread source).left ≡ 0 }
+    requires small { length (I.unread source).rest ≤ size_limit }
+    requires document { (d : Contents) × ReadsAs many (I.unread source).rest d }
+    ensures ok { IfOk result (IsListed many (I.unread source).rest (S.told sink.old) (S.told sink.new)) }
+    ensures err { IfErr result (CutsListing many (I.unread source).rest (S.told sink.old) (S.told sink.new)) }
+{
+    let mut reader = source;
+    let mut lean = Lean::new(alloc, many);
+    // The offsets of the open marks are kept besides the machine, so that a note costs no search.
+    let mut opened = Vec::new(alloc);
+    let mut page = Page::new();
+    let mut highest = Highest::none();
+    let mut offset = Offset::at(0);
+    let mut place = 0;
+    'items: loop {
+        match reader.next() {
+            NextRef::Tail(fault) => {
+                let at = offset.number();
+                return answer(
+                    write_fault_end(&mut page, fault, at, highest.get(), sink),
+                    1,
+                );
+            }
+            NextRef::Item(op) => {
+                let row = Row::of_ref(&op);
+                highest.raise(op.opcode().protocol());
+                // The machine is asked before it takes the item, whose line is written first. The line of a refused item
+                // has no note.
+                if let Some(refusal) = lean.refusal(row) {
+                    let marks = lean.marks_len();
+                    let most = highest.get();
+                    return answer(
+                        write_refused_item(&mut page, &op, &offset, marks, refusal, most, sink),
+                        1,
+                    );
+                }
+                let marks = opened.as_slice();
+                put_item(&mut page, &op, &offset, row, &lean, marks, sink)?;
+                let class = Class::of(op.opcode());
+                perform(&mut lean, &mut opened, row, class, place, &offset)?;
+                offset.advance(op.size() as u64);
+                place += 1;
+                if !is_stop(op.opcode()) {
+                    continue;
+                }
+                end_pickle(&mut page, &mut lean, &mut opened, sink)?;
+                let kept = reader.unread_len();
+                if is_last(many, kept) {
+                    return answer(write_last_end(&mut page, kept, highest.get(), sink), 0);
+                }
+            }
+        }
+    }
+}
+
+/// Writes the listing of the pickle that the bytes are, or of the several pickles, which are not too many, and answers its status, as
+/// `list_items` does. No item is kept.
+pub fn list_bytes<S: Sink>(
+    alloc: Global,
+    many: bool,
+    bytes: &[u8],
+    sink: &mut S,
+) -> Result<u8, TextStop>
+    requires { length bytes.now ≤ size_limit }
+    ensures ok { IfOk result (IsListed many bytes.now (S.told sink.old) (S.told sink.new)) }
+    ensures err { IfErr result (CutsListing many bytes.now (S.told sink.old) (S.told sink.new)) }
+{
+    list_items(alloc, many, Items::new(bytes), sink)
+}
+
+/// Writes the listing of a document, in its mode, and answers its status: 1 where an item is refused or the tail has a fault, else 0.
+/// The machine that it asks is its own.
+///
+/// `Memory` (M) comes when memory runs out, `Failed` from the sink; what was written then is a beginning of the listing.
+pub fn write_listing<S: Sink>(
+    alloc: Global,
+    document: &Document,
+    sink: &mut S,
+) -> Result<u8, TextStop>
+    ensures listed { IfOk result (WroteListing document.now.contents (S.told sink.old) (S.told sink.new)) }
+    ensures stopped { IfErr result (CutListing document.now.contents (S.told sink.old) (S.told sink.new)) }
+{
+    let items = DocumentItems::new(document);
+    list_items(alloc, document.is_many(), items, sink)
+}

@@ -1,0 +1,252 @@
+//! The report of a document.
+
+ghost use Rattle.std.specs.Prelude.{◌≡◌, ◌≢◌, ◌+◌, ◌-◌, ◌^◌, ◌<◌, ◌≤◌, ◌==◌, ◌&&◌, length, Ok, Err, OnOk, OnErr, IfOk, IfErr};
+ghost use Rattle.pickle_doc.specs.Document.{Contents, ReadsAs, size_limit};
+ghost use Rattle.pickle_machine.specs.State.{start};
+ghost use Rattle.pickle_machine.specs.Move.{move, refusal_at};
+ghost use Rattle.pickle_io.specs.Device.{Writes, each};
+ghost use Rattle.pickle_show.specs.Report.{result_line, refused_line, closing_line, closing_status, closing_at, report_text, WroteReport, BrokeReport, IsReported, BreaksReport};
+ghost use Rattle.pickle_show.specs.Inside.Ending.{EndsIn};
+
+use crate::object::{write_next, write_objects};
+use crate::report_line::{write_fault, write_item_refused};
+use crate::stop::TextStop;
+use pickle_doc::{
+    Document, DocumentItems, ItemSource, Items, NextRef, TailFault, ends_reading, is_stop,
+};
+use pickle_machine::{Machine, Refusal};
+use pickle_ops::{Failed, ObjId, OpRef, Sink, write_all};
+use std::alloc::Global;
+
+/// How a run over the items of a document ended.
+#[derive(Clone, Copy, Debug, PartialEq, Eq)]
+pub enum Closing {
+    /// STOP was the last item, and nothing follows that belongs to the document.
+    Stopped,
+    /// The machine refuses the item at this place, and why.
+    Refused(usize, Refusal),
+    /// After the last item the tail has this fault; the number is the offset of the tail in bytes.
+    Fault(TailFault, u64),
+}
+
+/// Writes the line of a result.
+#[tactic(auto, using(pickle_io::proofs::Devices::text_steps), unfolding(crate::specs::Report::result_line))]
+fn write_result<S: Sink>(id: ObjId, sink: &mut S) -> Result<(), Failed>
+    ensures { Writes (S.told sink.old) (S.told sink.new) result (result_line id) }
+{
+    write_all(sink, b"result")?;
+    write_next(id, sink)?;
+    write_all(sink, b"\n")
+}
+
+/// Writes the lines of results.
+#[tactic(auto, using(pickle_io::proofs::Devices::each_steps))]
+fn write_results<S: Sink>(ids: &[ObjId], sink: &mut S) -> Result<(), Failed>
+    ensures { Writes (S.told sink.old) (S.told sink.new) result (each result_line ids.now) }
+{
+    for id in ids {
+        write_result(*id, sink)?;
+    }
+    Ok(())
+}
+
+/// Writes the line of an item that is refused. Where the sink fails, a beginning of the line was written.
+#[tactic(auto, using(pickle_io::proofs::Devices::text_steps), unfolding(crate::specs::Report::refused_line))]
+fn write_refused<S: Sink>(place: usize, refusal: Refusal, sink: &mut S) -> Result<(), Failed>
+    ensures { Writes (S.told sink.old) (S.told sink.new) result (refused_line place refusal) }
+{
+    write_all(sink, b"refused: ")?;
+    write_item_refused(place, refusal, sink)?;
+    write_all(sink, b"\n")
+}
+
+/// Writes how a run ended: nothing where it stopped, else the line of the refused item or of the fault. It takes no memory.
+/// `Failed` where the sink fails; a beginning of the line was written then.
+#[tactic(auto, unfolding(crate::specs::Report::closing_line))]
+pub fn write_closing<S: Sink>(closing: Closing, sink: &mut S) -> Result<(), Failed>
+    ensures { Writes (S.told sink.old) (S.told sink.new) result (closing_line closing) }
+{
+    match closing {
+        Closing::Stopped => Ok(()),
+        Closing::Refused(place, refusal) => write_refused(place, refusal, sink),
+        Closing::Fault(fault, offset) => write_fault(fault, offset, sink),
+    }
+}
+
+/// The status of a run that ended so: 0 where it stopped, 1 where an item is refused or the tail has a fault.
+pub fn status_of(closing: Closing) -> u8
+    ensures { result ≡ closing_status closing }
+{
+    match closing {
+        Closing::Stopped => 0,
+        Closing::Refused(_, _) => 1,
+        Closing::Fault(_, _) => 1,
+    }
+}
+
+/// Writes all objects, the results, and how the run that made them ended.
+#[tactic(auto, using(pickle_io::proofs::Devices::text_steps), unfolding(crate::specs::Report::report_text))]
+fn write_lines<S: Sink>(machine: &Machine, closing: Closing, sink: &mut S) -> Result<(), Failed>
+    ensures { Writes (S.told sink.old) (S.told sink.new) result (report_text machine.now.state.heap machine.now.state.results closing) }
+{
+    write_objects(machine, sink)?;
+    write_results(machine.results(), sink)?;
+    write_closing(closing, sink)
+}
+
+/// Writes the lines of all objects of a machine, one for each result, and a closing line where something is refused or at fault, and
+/// answers the status: 1 with such a line, else 0. It takes no memory. `Failed` where the sink fails; a beginning of the lines was written then.
+fn write_report<S: Sink>(machine: &Machine, closing: Closing, sink: &mut S) -> Result<u8, Failed>
+    ensures text { Writes (S.told sink.old) (S.told sink.new) result (report_text machine.now.state.heap machine.now.state.results closing) }
+    ensures status { IfOk result (λ status. status ≡ closing_status closing) }
+{
+    write_lines(machine, closing, sink)?;
+    Ok(status_of(closing))
+}
+
+/// Steps a machine over an item, and keeps no record. Refused, it changes nothing. `Refusal::Memory` comes also where there is no
+/// memory for a copy of the item's argument.
+pub fn step_over(
+    alloc: Global,
+    op: &OpRef<'_>,
+    place: usize,
+    machine: &mut Machine,
+) -> Result<(), Refusal>
+    requires { length machine.old.state.heap < 2 ^ 32 - 1 }
+    ensures ok { OnOk result (move op.now place machine.old.state ≡ Ok machine.new.state) }
+    ensures objects { length machine.new.state.heap ≤ length machine.old.state.heap + 1 }
+    ensures err { OnErr result (machine.new.state ≡ machine.old.state) }
+    ensures refused { IfErr result (λ e. e ≢ Refusal.Memory → refusal_at op.now machine.old.state ≡ Some e) }
+{
+    let Ok(op) = op.copied(alloc) else {
+        return Err(Refusal::Memory);
+    };
+    machine.step(alloc, &op, place)?;
+    Ok(())
+}
+
+/// How a run ends that went over all items: `stop` says whether the last of them is STOP, and the tail has `left` bytes, this fault
+/// and this offset. It answers `Stopped` where STOP is last and nothing is left, else the fault with its offset.
+pub fn closing_at(stop: bool, left: u64, fault: TailFault, offset: u64) -> Closing
+    ensures { result ≡ closing_at (left == 0 && stop) fault offset }
+{
+    if left == 0 && stop {
+        Closing::Stopped
+    } else {
+        Closing::Fault(fault, offset)
+    }
+}
+
+/// Steps a machine that has done nothing over the items that a source gives from the first on, as far as they have moves, and says
+/// how the run ended. `Memory` where there is no memory for a step.
+fn run_items<'a, I: ItemSource<'a>>(
+    alloc: Global,
+    many: bool,
+    source: I,
+    machine: &mut Machine,
+) -> Result<Closing, TextStop>
+    requires start { machine.old.state ≡ start many }
+    requires first { (I.unread source).left ≡ 0 }
+    requires small { length (I.unread source).rest ≤ size_limit }
+    requires document { (d : Contents) × ReadsAs many (I.unread source).rest d }
+    ensures closes { IfOk result (EndsIn many (I.unread source).rest machine.new.state) }
+    ensures memory { IfErr result (λ e. e ≡ TextStop.Memory) }
+{
+    let mut reader = source;
+    let total = reader.unread_len();
+    let mut place = 0;
+    let mut stop = false;
+    'items: loop {
+        match reader.next() {
+            NextRef::Tail(fault) => {
+                let left = reader.unread_len();
+                return Ok(closing_at(stop, left, fault, total - left));
+            }
+            NextRef::Item(op) => {
+                if let Err(refusal) = step_over(alloc, &op, place, machine) {
+                    if refusal == Refusal::Memory {
+                        return Err(TextStop::Memory);
+                    }
+                    return Ok(Closing::Refused(place, refusal));
+                }
+                place += 1;
+                if ends_reading(many, op.opcode()) {
+                    return Ok(Closing::Stopped);
+                }
+                stop = is_stop(op.opcode());
+            }
+        }
+    }
+}
+
+/// A machine that has done nothing, for several pickles or for one.
+pub fn machine_of(alloc: Global, many: bool) -> Machine
+    ensures { result.state ≡ start many }
+{
+    if many {
+        Machine::new_many(alloc)
+    } else {
+        Machine::new(alloc)
+    }
+}
+
+/// Writes the report of the items that a source gives from the first on, as several pickles or as one, and answers its status. A
+/// machine of its own runs the items from nothing, to the end or to the first that is refused; no item and no step is kept. Then
+/// come the lines of all objects that they made, a line `result #n` for each result, and where an item is refused or the tail has a
+/// fault one line more: `refused: item K: ` and why, or `fault: ` and why with the offset of the tail. The status is 1 with such a
+/// line, else 0. The source is to give a document that is not too large.
+///
+/// `Memory` where there is no memory for a step, and then nothing was written. `Failed` where the sink fails; a beginning of the report
+/// was written then.
+pub fn report_of_items<'a, I: ItemSource<'a>, S: Sink>(
+    alloc: Global,
+    many: bool,
+    source: I,
+    sink: &mut S,
+) -> Result<u8, TextStop>
+    requires first { (I.unread source).left ≡ 0 }
+    requires small { length (I.unread source).rest ≤ size_limit }
+    requires document { (d : Contents) × ReadsAs many (I.unread source).rest d }
+    ensures ok { IfOk result (IsReported many (I.unread source).rest (S.told sink.old) (S.told sink.new)) }
+    ensures failed { result ≡ Err TextStop.Failed → BreaksReport many (I.unread source).rest (S.told sink.old) (S.told sink.new) }
+    ensures memory { result ≡ Err TextStop.Memory → sink.new ≡ sink.old }
+{
+    let mut machine = machine_of(alloc, many);
+    let closing = run_items(alloc, many, source, &mut machine)?;
+    let status = write_report(&machine, closing, sink)?;
+    Ok(status)
+}
+
+/// Writes the report of the pickle that the bytes are, or of the several pickles, and answers its status, as `report_of_items` does.
+/// There are to be no more bytes than the limit.
+pub fn report_of_bytes<S: Sink>(
+    alloc: Global,
+    many: bool,
+    bytes: &[u8],
+    sink: &mut S,
+) -> Result<u8, TextStop>
+    requires { length bytes.now ≤ size_limit }
+    ensures ok { IfOk result (IsReported many bytes.now (S.told sink.old) (S.told sink.new)) }
+    ensures failed { result ≡ Err TextStop.Failed → BreaksReport many bytes.now (S.told sink.old) (S.told sink.new) }
+    ensures memory { result ≡ Err TextStop.Memory → sink.new ≡ sink.old }
+{
+    report_of_items(alloc, many, Items::new(bytes), sink)
+}
+
+/// Writes the report of a document, in its mode, and answers its status, as `report_of_items` does.
+///
+/// `Memory` where there is no memory for a step, and then nothing was written. `Failed` where the sink fails; a beginning of the report
+/// was written then.
+pub fn write_document_report<S: Sink>(
+    alloc: Global,
+    document: &Document,
+    sink: &mut S,
+) -> Result<u8, TextStop>
+    ensures ok { IfOk result (WroteReport document.now.contents (S.told sink.old) (S.told sink.new)) }
+    ensures failed { result ≡ Err TextStop.Failed → BrokeReport document.now.contents (S.told sink.old) (S.told sink.new) }
+    ensures memory { result ≡ Err TextStop.Memory → sink.new ≡ sink.old }
+{
+    let _total = document.total();
+    let items = DocumentItems::new(document);
+    report_of_items(alloc, document.is_many(), items, sink)
+}

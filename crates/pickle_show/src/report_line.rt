@@ -1,0 +1,125 @@
+//! Why an item is refused, and why reading ended.
+
+ghost use Rattle.std.specs.Prelude.{◌≡◌};
+ghost use Rattle.pickle_io.specs.Device.{Writes};
+ghost use Rattle.pickle_show.specs.ReportLine.{refusal_words, refusal_number, refusal_text, item_refused, fault_words, fault_byte, fault_text, fault_line};
+
+use pickle_doc::TailFault;
+use pickle_machine::Refusal;
+use pickle_ops::{Failed, Sink, write_all, write_decimal, write_hex, write_signed};
+
+/// The words of a refusal.
+#[tactic(auto, unfolding(crate::specs::ReportLine::refusal_words))]
+fn words_of_refusal(refusal: Refusal) -> &'static str
+    ensures { result.now ≡ refusal_words refusal }
+{
+    match refusal {
+        Refusal::NoMark => "S1 no mark",
+        Refusal::Underflow => "S2 stack underflow",
+        Refusal::NoMemoEntry(_) => "S3 no memo entry ",
+        Refusal::OddItems => "S4 odd number of items",
+        Refusal::WrongKind(_) => "S5 wrong kind #",
+        Refusal::BadProtocol(_) => "S6 bad protocol ",
+        Refusal::BadExtension(_) => "S7 bad extension ",
+        Refusal::NotText(_) => "S8 not a text #",
+        Refusal::NotCallable(_) => "S9 not callable #",
+        Refusal::NotArguments(_) => "S10 not arguments #",
+        Refusal::NotKeywords(_) => "S11 not keywords #",
+        Refusal::Memory => "M out of memory",
+    }
+}
+
+/// Writes the number after the words of a refusal, if it has one.
+#[tactic(auto, using(pickle_io::proofs::Devices::text_steps), unfolding(crate::specs::ReportLine::refusal_number))]
+fn write_refusal_number<S: Sink>(refusal: Refusal, sink: &mut S) -> Result<(), Failed>
+    ensures { Writes (S.told sink.old) (S.told sink.new) result (refusal_number refusal) }
+{
+    match refusal {
+        Refusal::NoMark => Ok(()),
+        Refusal::Underflow => Ok(()),
+        Refusal::NoMemoEntry(key) => write_decimal(key, sink),
+        Refusal::OddItems => Ok(()),
+        Refusal::WrongKind(id) => write_decimal(u64::from(id), sink),
+        Refusal::BadProtocol(protocol) => write_decimal(protocol, sink),
+        Refusal::BadExtension(code) => write_signed(i128::from(code), sink),
+        Refusal::NotText(id) => write_decimal(u64::from(id), sink),
+        Refusal::NotCallable(id) => write_decimal(u64::from(id), sink),
+        Refusal::NotArguments(id) => write_decimal(u64::from(id), sink),
+        Refusal::NotKeywords(id) => write_decimal(u64::from(id), sink),
+        Refusal::Memory => Ok(()),
+    }
+}
+
+/// Writes why an item is refused: S1 to S11, or M. Where the sink fails, a beginning of the text was written.
+#[tactic(auto, using(pickle_io::proofs::Devices::text_steps), unfolding(crate::specs::ReportLine::refusal_text))]
+pub fn write_refusal<S: Sink>(refusal: Refusal, sink: &mut S) -> Result<(), Failed>
+    ensures { Writes (S.told sink.old) (S.told sink.new) result (refusal_text refusal) }
+{
+    write_all(sink, words_of_refusal(refusal).as_bytes())?;
+    write_refusal_number(refusal, sink)
+}
+
+/// Writes which item is refused, by its place, and why. Where the sink fails, a beginning of the text was written.
+#[tactic(auto, using(pickle_io::proofs::Devices::text_steps), unfolding(crate::specs::ReportLine::item_refused))]
+pub(crate) fn write_item_refused<S: Sink>(
+    place: usize,
+    refusal: Refusal,
+    sink: &mut S,
+) -> Result<(), Failed>
+    ensures { Writes (S.told sink.old) (S.told sink.new) result (item_refused place refusal) }
+{
+    write_all(sink, b"item ")?;
+    write_decimal(place as u64, sink)?;
+    write_all(sink, b": ")?;
+    write_refusal(refusal, sink)
+}
+
+/// The words of a fault.
+#[tactic(auto, unfolding(crate::specs::ReportLine::fault_words))]
+fn words_of_fault(fault: TailFault) -> &'static str
+    ensures { result.now ≡ fault_words fault }
+{
+    match fault {
+        TailFault::Ended => "F1 ended",
+        TailFault::UnknownOpcode(_) => "F2 unknown opcode 0x",
+        TailFault::Truncated => "F3 truncated",
+        TailFault::NegativeLength => "F4 negative length",
+        TailFault::BadArgument => "F5 bad argument",
+        TailFault::FrameInFrame => "F6 frame in a frame",
+        TailFault::FramePastEnd => "F7 frame past the end",
+        TailFault::FrameCrossed => "F8 frame crossed",
+    }
+}
+
+/// Writes the byte that is no opcode's code, where that is the fault.
+#[tactic(auto, using(pickle_io::proofs::Devices::text_steps), unfolding(crate::specs::ReportLine::fault_byte))]
+fn write_fault_byte<S: Sink>(fault: TailFault, sink: &mut S) -> Result<(), Failed>
+    ensures { Writes (S.told sink.old) (S.told sink.new) result (fault_byte fault) }
+{
+    match fault {
+        TailFault::UnknownOpcode(byte) => write_hex(&[byte], sink),
+        _ => Ok(()),
+    }
+}
+
+/// Writes the fault of a tail, F1 to F8. Where the sink fails, a beginning of the text was written.
+#[tactic(auto, using(pickle_io::proofs::Devices::text_steps), unfolding(crate::specs::ReportLine::fault_text))]
+pub fn write_fault_text<S: Sink>(fault: TailFault, sink: &mut S) -> Result<(), Failed>
+    ensures { Writes (S.told sink.old) (S.told sink.new) result (fault_text fault) }
+{
+    write_all(sink, words_of_fault(fault).as_bytes())?;
+    write_fault_byte(fault, sink)
+}
+
+/// Writes the line of the fault of a tail that begins at this offset, in bytes. Where the sink fails, a beginning of the line was
+/// written.
+#[tactic(auto, using(pickle_io::proofs::Devices::text_steps), unfolding(crate::specs::ReportLine::fault_line))]
+pub fn write_fault<S: Sink>(fault: TailFault, offset: u64, sink: &mut S) -> Result<(), Failed>
+    ensures { Writes (S.told sink.old) (S.told sink.new) result (fault_line fault offset) }
+{
+    write_all(sink, b"fault: ")?;
+    write_fault_text(fault, sink)?;
+    write_all(sink, b" at ")?;
+    write_decimal(offset, sink)?;
+    write_all(sink, b"\n")
+}

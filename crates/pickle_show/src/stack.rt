@@ -1,0 +1,98 @@
+//! The line of the stack.
+
+ghost use Rattle.std.specs.Prelude.{◌≡◌, length, slice_get, IfOk};
+ghost use Rattle.std.specs.Option.{option_to_list};
+ghost use Rattle.pickle_io.specs.Device.{Writes, each};
+ghost use Rattle.pickle_machine.specs.State.{objects_below, stack_of};
+ghost use Rattle.pickle_show.specs.ObjectText.{next_text};
+ghost use Rattle.pickle_show.specs.StackText.{mark_text, section_text, marked_text, stack_text};
+ghost use Rattle.pickle_show.specs.Inside.Between.{between};
+
+use crate::object::write_next;
+use pickle_machine::Machine;
+use pickle_ops::{Failed, Sink, write_all, write_decimal};
+
+/// Writes a mark, by the place of its item.
+#[tactic(auto, using(pickle_io::proofs::Devices::text_steps), unfolding(crate::specs::StackText::mark_text))]
+fn write_mark<S: Sink>(place: usize, sink: &mut S) -> Result<(), Failed>
+    ensures { Writes (S.told sink.old) (S.told sink.new) result (mark_text place) }
+{
+    write_all(sink, b" (")?;
+    write_decimal(place as u64, sink)
+}
+
+/// Writes the object that has this many below it on the stack, if there is one.
+fn write_at<S: Sink>(machine: &Machine, below: usize, sink: &mut S) -> Result<(), Failed>
+    ensures { Writes (S.told sink.old) (S.told sink.new) result (each next_text (option_to_list (slice_get (stack_of machine.now.state) below))) }
+{
+    match machine.stack_at(below) {
+        Some(id) => write_next(id, sink),
+        None => Ok(()),
+    }
+}
+
+/// Writes the objects of the stack from one height up to another.
+fn write_between<S: Sink>(
+    machine: &Machine,
+    from: usize,
+    to: usize,
+    sink: &mut S,
+) -> Result<(), Failed>
+    ensures { Writes (S.told sink.old) (S.told sink.new) result (each next_text (between from to (stack_of machine.now.state))) }
+{
+    for below in from..to {
+        write_at(machine, below, sink)?;
+    }
+    Ok(())
+}
+
+/// Writes the section of the stack from one height up to another, and the mark above it.
+#[tactic(auto, using(pickle_io::proofs::Devices::text_steps), unfolding(crate::specs::StackText::section_text))]
+fn write_section<S: Sink>(
+    machine: &Machine,
+    from: usize,
+    to: usize,
+    mark: usize,
+    sink: &mut S,
+) -> Result<(), Failed>
+    ensures { Writes (S.told sink.old) (S.told sink.new) result (section_text (between from to (stack_of machine.now.state)) mark) }
+{
+    write_between(machine, from, to, sink)?;
+    write_mark(mark, sink)
+}
+
+/// Writes the sections of the stack under the top one, from the lowest, and answers how many objects they have.
+fn write_marked<S: Sink>(machine: &Machine, sink: &mut S) -> Result<usize, Failed>
+    ensures text { Writes (S.told sink.old) (S.told sink.new) result (marked_text machine.now.state.marked) }
+    ensures below { IfOk result (λ n. n ≡ length (objects_below machine.now.state.marked)) }
+{
+    let mut from = 0;
+    for i in 0..machine.marks_len() {
+        let Some((mark, to)) = machine.mark(i) else {
+            unreachable!();
+        };
+        write_section(machine, from, to, mark, sink)?;
+        from = to;
+    }
+    Ok(from)
+}
+
+/// Writes the objects of the top section, below which there are this many.
+fn write_top<S: Sink>(machine: &Machine, below: usize, sink: &mut S) -> Result<(), Failed>
+    requires { below ≡ length (objects_below machine.now.state.marked) }
+    ensures { Writes (S.told sink.old) (S.told sink.new) result (each next_text machine.now.state.top) }
+{
+    write_between(machine, below, machine.stack_len(), sink)
+}
+
+/// Writes the stack of a machine: `stack`, and from the bottom ` #n` for an object and ` (k` for a mark of item k. It takes no
+/// memory. `Failed` where the sink fails; a beginning of the line was written then.
+#[tactic(auto, using(pickle_io::proofs::Devices::text_steps), unfolding(crate::specs::StackText::stack_text))]
+pub fn write_stack<S: Sink>(machine: &Machine, sink: &mut S) -> Result<(), Failed>
+    ensures { Writes (S.told sink.old) (S.told sink.new) result (stack_text machine.now.state) }
+{
+    write_all(sink, b"stack")?;
+    let below = write_marked(machine, sink)?;
+    write_top(machine, below, sink)?;
+    write_all(sink, b"\n")
+}

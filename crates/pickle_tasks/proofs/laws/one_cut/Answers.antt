@@ -1,5 +1,0 @@
-use Rattle.pickle_tasks.proofs.Cuts.{one_cut as law}
-use Rattle.pickle_tasks.proofs.laws.one_cut.Goals as goal
-
-pub returns : goal.returns
-returns c = law

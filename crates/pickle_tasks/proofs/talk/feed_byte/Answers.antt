@@ -1,5 +1,0 @@
-use Rattle.pickle_tasks.proofs.Feeding.{byte_goes_on}
-use Rattle.pickle_tasks.proofs.talk.feed_byte.Goals as goal
-
-pub returns : goal.returns
-returns g c = λ s old given w. byte_goes_on _ _ _ _ _ _ _ _ c.if-byte-eq10.false w c.push.ensures

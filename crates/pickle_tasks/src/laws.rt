@@ -1,8 +1,0 @@
-//! Laws of the definitions. These functions do nothing: what they ensure holds of all bytes.
-
-ghost use Rattle.pickle_tasks.specs.Script.{OneCut};
-
-/// Each byte string is cut into lines, and in one way.
-pub fn one_cut()
-    ensures { OneCut }
-{}
