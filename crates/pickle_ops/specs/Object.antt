@@ -9,3 +9,7 @@ pub record Object : Type 0 where
   pub kind : Kind
   pub parts : List ℕ
   pub changes : List Change
+
+-- an object of at most so many parts takes no memory of its own
+abbrev pub most_parts_beside : ℕ
+most_parts_beside = 3

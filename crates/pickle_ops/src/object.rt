@@ -22,20 +22,30 @@ pub enum Change {
 
 /// What an object is made of, and what was done to it.
 #[derive(Debug, Drop)]
-pub struct Content {
+pub(crate) struct Content {
     parts: Vec<ObjId>,
     changes: Vec<Change>,
 }
 
-/// An object of the heap: its kind and its parts, which stay, and what was done to it since. Most objects have neither parts
-/// nor changes, so there is room for these only where there is one.
+/// What an object is made of, and what was done to it: up to three parts of an object to which nothing was done stand in the value
+/// itself. Most objects are such.
+#[derive(Debug, Drop)]
+pub(crate) enum Made {
+    Nothing,
+    One([ObjId; 1]),
+    Two([ObjId; 2]),
+    Three([ObjId; 3]),
+    More(Box<Content>),
+}
+
+/// An object of the heap: its kind and its parts, which stay, and what was done to it since.
 #[derive(Debug, Drop)]
 pub struct Object {
     kind: Kind,
-    content: Option<Box<Content>>,
+    made: Made,
 }
 
-const _: () = prove!(size_of::<Object>() == 48);
+const _: () = prove!(size_of::<Object>() == 40);
 
 impl Model for Object {
     ghost use Rattle.pickle_ops.specs.Object.{Object};
@@ -43,11 +53,12 @@ impl Model for Object {
 
     ghost Value = { Object };
 
-    ghost view = { λ o. record { kind = o.kind; parts = parts_of o.content; changes = changes_of o.content } };
+    ghost view = { λ o. record { kind = o.kind; parts = parts_of o.made; changes = changes_of o.made } };
 }
 
 impl Object {
-    ghost use Rattle.std.specs.Prelude.{◌≡◌, ◌-◌, [], ◌++◌, length, take, IfOk, OnOk, OnErr};
+    ghost use Rattle.std.specs.Prelude.{◌≡◌, ◌-◌, ◌<◌, [], ◌++◌, length, take, IfOk, OnOk, OnErr};
+    ghost use Rattle.pickle_ops.specs.Object.{most_parts_beside};
 
     /// A new object, which has no part and to which nothing was done. A machine makes one for each step that makes an
     /// object of nothing.
@@ -56,26 +67,30 @@ impl Object {
     {
         Object {
             kind,
-            content: None,
+            made: Made::Nothing,
         }
     }
 
     /// A new object of these parts, to which nothing was done. A machine makes one for each step that makes an object of
-    /// others. It fails only where memory runs out.
+    /// others. It fails only where memory runs out, and only where there are more than three parts.
     pub fn of_parts(alloc: Global, kind: Kind, parts: &[ObjId]) -> Result<Object, AllocError>
-        ensures { IfOk result (λ o. o ≡ record { kind = kind; parts = parts.now; changes = [] }) }
+        ensures ok { IfOk result (λ o. o ≡ record { kind = kind; parts = parts.now; changes = [] }) }
+        ensures err { OnErr result (most_parts_beside < length parts.now) }
     {
-        if parts.is_empty() {
-            return Ok(Object::new(kind));
-        }
-        let content = Content {
-            parts: Vec::from_slice(alloc, parts)?,
-            changes: Vec::new(alloc),
+        let made = match *parts {
+            [] => Made::Nothing,
+            [first] => Made::One([first]),
+            [first, second] => Made::Two([first, second]),
+            [first, second, third] => Made::Three([first, second, third]),
+            _ => {
+                let content = Content {
+                    parts: Vec::from_slice(alloc, parts)?,
+                    changes: Vec::new(alloc),
+                };
+                Made::More(Box::new(alloc, content)?)
+            }
         };
-        Ok(Object {
-            kind,
-            content: Some(Box::new(alloc, content)?),
-        })
+        Ok(Object { kind, made })
     }
 
     /// What it is.
@@ -89,9 +104,12 @@ impl Object {
     pub fn parts(&self) -> &[ObjId]
         ensures { result.now ≡ self.now.parts }
     {
-        match &self.content {
-            Some(content) => content.parts.as_slice(),
-            None => &[],
+        match &self.made {
+            Made::Nothing => &[],
+            Made::One(parts) => parts,
+            Made::Two(parts) => parts,
+            Made::Three(parts) => parts,
+            Made::More(content) => content.parts.as_slice(),
         }
     }
 
@@ -99,9 +117,9 @@ impl Object {
     pub fn changes(&self) -> &[Change]
         ensures { result.now ≡ self.now.changes }
     {
-        match &self.content {
-            Some(content) => content.changes.as_slice(),
-            None => &[],
+        match &self.made {
+            Made::More(content) => content.changes.as_slice(),
+            _ => &[],
         }
     }
 
@@ -114,16 +132,15 @@ impl Object {
         if more.is_empty() {
             return Ok(());
         }
-        match &mut self.content {
-            Some(content) => content.changes.extend_from_slice(more)?,
-            None => {
-                let content = Content {
-                    parts: Vec::new(alloc),
-                    changes: Vec::from_slice(alloc, more)?,
-                };
-                self.content = Some(Box::new(alloc, content)?);
-            }
+        if let Made::More(content) = &mut self.made {
+            content.changes.extend_from_slice(more)?;
+            return Ok(());
         }
+        let content = Content {
+            parts: Vec::from_slice(alloc, self.parts())?,
+            changes: Vec::from_slice(alloc, more)?,
+        };
+        self.made = Made::More(Box::new(alloc, content)?);
         Ok(())
     }
 
@@ -131,7 +148,7 @@ impl Object {
     pub fn shorten(&mut self, count: usize)
         ensures { self.new ≡ record self.old { changes = take (length self.old.changes - count) self.old.changes } }
     {
-        if let Some(content) = &mut self.content {
+        if let Made::More(content) = &mut self.made {
             let left = content.changes.len().saturating_sub(count);
             content.changes.truncate(left);
         }

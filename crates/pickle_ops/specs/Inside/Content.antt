@@ -1,13 +1,16 @@
--- What the content of an object says, where it has some.
-use Rattle.std.specs.Prelude.{ℕ, List, [], Option, Some, None}
-use Rattle.std.specs.Global.{Box}
+-- What an object is made of and what was done to it, however it is kept.
+use Rattle.std.specs.Prelude.{ℕ, List, []}
 use Rattle.pickle_ops.specs.declared.object.Change.{Change}
-use Rattle.pickle_ops.specs.declared.object.Content.{Content}
+use Rattle.pickle_ops.specs.declared.object.Made.{Made}
+use Rattle.pickle_ops.specs.declared.object.Made.TheVariants as made
 
-abbrev pub parts_of : Option (Box Content) → List ℕ
-parts_of None = []
-parts_of (Some content) = content.value.parts.items
+abbrev pub parts_of : Made → List ℕ
+parts_of made.Nothing = []
+parts_of (made.One parts) = parts
+parts_of (made.Two parts) = parts
+parts_of (made.Three parts) = parts
+parts_of (made.More content) = content.value.parts.items
 
-abbrev pub changes_of : Option (Box Content) → List Change
-changes_of None = []
-changes_of (Some content) = content.value.changes.items
+abbrev pub changes_of : Made → List Change
+changes_of (made.More content) = content.value.changes.items
+changes_of _ = []
