@@ -21,7 +21,7 @@ pub mod Copies
 pub mod Offsets
 pub mod Plain
 pub mod Blanks
-pub mod Pieces
+pub mod ReportPieces
 pub mod Objects
 pub mod Walks
 pub mod Stacks

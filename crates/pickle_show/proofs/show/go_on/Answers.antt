@@ -3,7 +3,7 @@ use Rattle.std.proofs.Common.{◌≡◌, [], ◌+◌, length, ◌∙◌, ap, ari
 use Rattle.std.proofs.lemmas.List.{nil_from_length}
 use Rattle.pickle_show.specs.Inside.Walking.{left_text}
 use Rattle.pickle_io.proofs.Devices.{Writes-stop, WroteAllBut-all}
-use Rattle.pickle_show.proofs.Pieces.{WroteAllBut-same, WroteAllBut-piece, WroteAllBut-broke}
+use Rattle.pickle_show.proofs.ReportPieces.{WroteAllBut-same, WroteAllBut-piece, WroteAllBut-broke}
 use Rattle.pickle_show.proofs.Walks.{left-none, left-popped, left-stepped, smaller-popped, smaller-stepped}
 use Rattle.pickle_show.proofs.show.go_on.Goals as goal
 
