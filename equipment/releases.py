@@ -216,7 +216,7 @@ def crates_changed(releases: Releases) -> str:
     why = releases.lists("./picklestep", at=at)
     if why:
         return f"a crate of tests: {why}"
-    lines = re.sub(r"^(picklestep|pickle_tasks): ", r"\1: another ", text + "another: pickle_ops\n", flags=re.M)
+    lines = re.sub(r"^(picklestep|pickle_script): ", r"\1: another ", text + "another: pickle_ops\n", flags=re.M)
     (at / "crates.txt").write_text(lines)
     return is_refused(releases, at, "SOURCES")
 

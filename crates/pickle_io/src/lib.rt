@@ -2,6 +2,7 @@
 //! the writers of plain texts, and a source read whole.
 #![tactic(auto)]
 
+mod buffered;
 mod from_read;
 mod sink;
 mod source;
@@ -9,6 +10,7 @@ mod text;
 mod to_write;
 mod whole;
 
+pub use buffered::Buffered;
 pub use from_read::FromRead;
 pub use sink::{Failed, Sink, write_all};
 pub use source::Source;

@@ -1,14 +1,31 @@
 //! A writer of the standard library as a sink.
 
 ghost use Rattle.std.specs.Prelude.{◌≡◌, ◌≤◌};
+ghost use Rattle.std.specs.Io.{WritesAtMost};
+ghost use Rattle.std.specs.Io.KnownBytes.{WriteAppends};
 ghost use Rattle.pickle_io.specs.Device.{HasFailed};
 ghost use Rattle.pickle_io.specs.Wrapped.{writer_of, write_failures_of};
 
 use crate::sink::{Failed, Sink};
-use std::io::Write;
+use std::io;
+use std::io::{Error, ErrorKind, Write};
 
-/// A writer of the standard library as a sink. Each error of the writer counts as a failure, and so does a write of
-/// nothing where bytes were offered.
+/// One write, made again where a signal interrupted it.
+fn write_again<W: Write>(writer: &mut W, bytes: &[u8]) -> io::Result<usize>
+    ensures bound { WritesAtMost result bytes.now }
+    ensures bytes { WriteAppends (W.contents writer.old) (W.contents writer.new) result bytes.now }
+{
+    for _ in 0..u64::MAX {
+        match writer.write(bytes) {
+            Err(error) if error.kind() == ErrorKind::Interrupted => {}
+            written => return written,
+        }
+    }
+    Err(Error::from(ErrorKind::Interrupted))
+}
+
+/// A writer of the standard library as a sink. Each error of the writer counts as a failure, but for a write that a signal
+/// interrupted, which is made again; and so does a write of nothing where bytes were offered.
 #[derive(Drop)]
 pub struct ToWrite<W> {
     writer: W,
@@ -53,7 +70,7 @@ impl<W: Write> Sink for ToWrite<W> {
     ghost told = { λ s. record { taken = W.contents (writer_of s); failures = write_failures_of s } };
 
     fn write(&mut self, bytes: &[u8]) -> Result<usize, Failed> {
-        match self.writer.write(bytes) {
+        match write_again(&mut self.writer, bytes) {
             Ok(n) if n > 0 || bytes.is_empty() => Ok(n),
             _ => Err(self.fail()),
         }

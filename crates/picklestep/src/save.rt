@@ -1,18 +1,14 @@
 //! How a document is saved so that no file is lost: into a new file, which takes the name of the old one when all of it is stored.
 
 use crate::file::stop_for;
-use crate::latch::Latch;
 use pickle_doc::Document;
-use pickle_ops::ToWrite;
+use pickle_ops::{Buffered, Sink, ToWrite};
 use pickle_script::Stop;
 use std::fs;
 use std::fs::{File, Metadata, OpenOptions};
-use std::io::{BufWriter, ErrorKind, Write};
+use std::io::ErrorKind;
 use std::os::unix::fs::{MetadataExt, OpenOptionsExt, fchown};
 use std::path::{Path, PathBuf};
-
-/// The room for bytes of a file that are not yet written.
-const FILE_ROOM: usize = 65_536;
 
 /// The most symbolic links that are followed one after another, which is as many as Linux follows.
 const MOST_LINKS: u32 = 40;
@@ -112,16 +108,9 @@ fn has_name(rt: &HostRuntime, about: &Metadata, target: &PathBuf) -> bool {
 
 /// Writes the bytes of a document to a file.
 fn write_to(rt: &HostRuntime, document: &Document, file: &File) -> Result<(), Stop> {
-    let device = Latch::new(file);
-    let Ok(output) = BufWriter::with_capacity(rt.alloc(), FILE_ROOM, device) else {
-        return Err(Stop::Memory);
-    };
-    let mut sink = ToWrite::new(output);
+    let mut sink = Buffered::new(rt.alloc(), ToWrite::new(file))?;
     document.write_bytes(&mut sink)?;
-    match sink.into_inner().flush() {
-        Ok(()) => Ok(()),
-        Err(_) => Err(Stop::Write),
-    }
+    Ok(sink.flush()?)
 }
 
 /// Fills a new file and gives it its name.

@@ -1,0 +1,6 @@
+-- A failed write appends nothing.
+use Rattle.std.specs.Io.KnownBytes.{Keeps}
+use Rattle.pickle_io.proofs.to_write.write_again.Given as goal
+
+abbrev pub invariant-loop : goal.invariant-loop
+invariant-loop g l = Keeps (g.W.Write.contents l.initial.writer) (g.W.Write.contents l.writer)
