@@ -30,6 +30,11 @@ CHECKLISTS = [
         ["crates/*/src/**/*.rt", "crates/*/specs/**/*.antt", "share/**/*", "equipment/*.txt", "equipment/*.py", "python/picklestep/**/*", "python/tests/*.py"],
     ),
     (
+        "To add a question of the debugger",
+        r"(?m)\b(write_where|where_text|where_of)\b|\b(PlainWord|Query)::Where\b|\b(plain|query)\.Where\b|^debug> where$|Ic where\b|[\"']where(\\n)?[\"']|`where`: where",
+        ["crates/*/src/**/*.rt", "crates/*/specs/**/*.antt", "crates/*/proofs/**/*.antt", "share/**/*", "equipment/*.txt", "equipment/*.py", "python/picklestep/*.py", "python/tests/*.py"],
+    ),
+    (
         "To add a text or a command",
         r"\bcalls_many\b|[\"']calls[\"':]|\bTask::Calls\b|\bStopsCalls\b|Cm calls|objects calls",
         ["crates/*/src/**/*.rt", "crates/*/specs/**/*.antt", "share/**/*", "equipment/*.py", "python/picklestep/*.py"],
