@@ -35,4 +35,3 @@ pub use report::{objects, objects_as, objects_many};
 pub use stop::{Stop, line_of};
 pub use syntax::{write_no_item_at, write_no_such_object, write_syntax};
 pub use talk::converse;
-pub use words::LONGEST;

@@ -45,24 +45,14 @@ mod words;
 
 pub use calls::{calls_of_bytes, calls_of_items};
 pub use calls_laws::{lines_reach, no_line_no_reach, one_text};
-pub use kind::write_kind;
 pub use laws::one_report;
-pub use line::write_kept_line;
 pub use list::{list_bytes, list_items, write_listing};
 pub use memo::write_memo;
 pub use number::write_right;
 pub use object::{write_all_next, write_object, write_objects};
-pub use offset::Offset;
-pub use page::Page;
-pub use report::{
-    Closing, closing_at, machine_of, report_of_bytes, report_of_items, status_of, step_over,
-    write_closing, write_document_report,
-};
-pub use report_line::{write_fault, write_fault_text, write_refusal};
+pub use report::{report_of_bytes, report_of_items, write_document_report};
+pub use report_line::{write_fault_text, write_refusal};
 pub use show::write_show;
 pub use stack::write_stack;
 pub use stop::TextStop;
-pub use words::{
-    write_id, write_with_id, write_with_number, write_with_signed, write_with_text,
-    write_with_texts,
-};
+pub use words::write_id;
