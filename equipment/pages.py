@@ -138,6 +138,7 @@ def examples(text: str) -> Iterator[Example]:
 
 
 def fault_of_example(program: str, example: Example, file: Path) -> str:
+    file.parent.mkdir(parents=True, exist_ok=True)
     file.write_bytes(bytes.fromhex(example.pickle))
     # (an example without commands is listed; a pickle that refers to an earlier one needs --many)
     command = ["debug"] if example.commands else ["list", "--many"] if example.code == "S3 .." else ["list"]
@@ -200,7 +201,6 @@ def fault_of_index(root: Path) -> str:
 
 def trials(root: Path, program: str, folder: Path) -> list[Trial]:
     """What is checked. FOLDER gets the pickles of docs/CODES.md."""
-    folder.mkdir(parents=True, exist_ok=True)
     pages = [root / "README.md", *sorted((root / "docs").glob("*.md"))]
     others = [page for page in sorted(root.glob("*.md")) if page not in pages]
     found = [Trial(f"the links of {page.name}", functools.partial(fault_of_links, page)) for page in [*pages, *others]]

@@ -9,6 +9,7 @@ none, and so have those of a crate's own proofs (`specs/Inside`). The status is 
 
 from __future__ import annotations
 
+import signal
 import sys
 import textwrap
 from pathlib import Path
@@ -39,6 +40,7 @@ def files() -> Iterator[Path]:
 
 def main() -> int:
     """Prints the index; the status is 1 where a file has no head."""
+    signal.signal(signal.SIGPIPE, signal.SIG_DFL)  # (a reader such as `head` may stop)
     bare = []
     crate = ''
     for file in files():

@@ -16,6 +16,8 @@ from .room import Room
 from .trial import Report, Verdict
 
 CLOSING = re.compile(r"(\d+) passed, (\d+) failed")
+FAILED = re.compile(r"\S+(?: \((?:tests|run)\))?")
+UNPROVED = re.compile(r"rt: (\w+)(: its tests are)? NOT PROVED")
 MEMORY = "memory"
 Chosen = list[tuple[AnyGroup, Optional[Set[str]]]]
 
@@ -81,20 +83,30 @@ def run_groups(chosen: Chosen, report: Report) -> None:
             report.tell(Verdict(group.name, group.name, f"{type(fault).__name__}: {fault}"[:600]))
 
 
+def alone(name: str) -> str:
+    """How to try again what `rt ci` names as failed: a crate, its tests, its program, or an edit of it."""
+    crate, is_edit, _ = name.partition("/")
+    if is_edit:
+        return f"rt must-fail {crate}"
+    crate, _, part = name.partition(" ")
+    return f"cd crates/{crate} && {({'(tests)': 'rt test', '(run)': 'rt run'}).get(part, 'rt check')}"
+
+
 def count_proofs(report: Report, log: Path, status: int) -> None:
-    """Adds what `rt ci` counted in its closing line."""
+    """Adds what `rt ci` counted in its closing line. `./test` ends it without one at the first proof that fails."""
     lines = log.read_text("utf-8", "replace").splitlines()
     closing = CLOSING.fullmatch(lines[-1]) if lines else None
-    if closing is None:
-        report.tell(Verdict("", "rt ci", f"it ended with status {status} and without its closing line"))
-        return
-    report.passed += int(closing[1])
-    failed = int(closing[2])
-    if failed:
-        told = [line for line in lines if "FAILED: " in line][-1:] or [closing[0]]
-        report.fail(f"FAIL rt ci: {told[0]}", failed)
-    elif status != 0:
-        report.tell(Verdict("", "rt ci", f"it counts no failure and ended with status {status}"))
+    if closing is not None:
+        report.passed += int(closing[1])
+        told = [line.partition("FAILED: ")[2] for line in lines if "FAILED: " in line][-1:] if int(closing[2]) else []
+        failed = [name for names in told for name in FAILED.findall(names)]
+    else:
+        failed = [found[1] + (" (tests)" if found[2] else "") for found in map(UNPROVED.fullmatch, lines) if found]
+    for name in failed:
+        report.fail(f"FAIL rt ci: {name}\n    alone: {alone(name)}", 1)
+    if not failed and (closing is None or int(closing[2]) or status != 0):
+        ending = f"'{closing[0]}'" if closing else "no closing line"
+        report.tell(Verdict("", "rt ci", f"it ended with status {status} and {ending}, and names nothing that failed"))
 
 
 def run_all(room: Room, log: Path, status: int, seconds: int) -> int:

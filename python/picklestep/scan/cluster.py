@@ -26,7 +26,7 @@ def look_on_cluster(paths: Iterable[str], options: Options, address: str) -> Gen
     try:
         import distributed
     except ImportError:
-        raise NoCluster("a cluster needs dask.distributed: pip install 'picklestep[cluster]'") from None
+        raise NoCluster("a cluster needs dask.distributed: pip install distributed") from None
     try:
         client = distributed.Client(address, timeout='20s', set_as_default=False)
     except (OSError, ValueError) as error:
