@@ -7,7 +7,7 @@ import tempfile
 
 # commands a second, how many times as long for twice the way, how many times as long for places by offset, seconds for 10,000 edits at
 # one place and 1,000 at random ones, bytes of memory for each opcode besides the file
-A_SECOND, TWICE, BY_OFFSET, ONE_PLACE, RANDOM_PLACES, BYTES_AN_OPCODE = 500_000, 2.3, 2, 0.1, 5, 160
+A_SECOND, TWICE, BY_OFFSET, ONE_PLACE, RANDOM_PLACES, BYTES_AN_OPCODE = 500_000, 2.3, 2, 0.1, 5, 90
 
 
 def verdict(holds):
@@ -76,9 +76,9 @@ def main():
                                (two, ways.replace(b'%d', b'%d' % (2 * million))), 0), flush=True)
         print('\n' + near_places(program, one, half), flush=True)
         _, memory = measure([program, 'debug', one], b'run\n')
-        beside = (memory - os.path.getsize(one)) / million
-        print('\nMemory of `run` to the end: %.0f bytes for each opcode beside the file, bar %d: %s.' % (
-            beside, BYTES_AN_OPCODE, verdict(beside <= BYTES_AN_OPCODE)))
+        each = (memory - os.path.getsize(one)) / million
+        print('\nMemory of `run` to the end: %.0f bytes for each opcode besides the file, bar %d: %s.' % (
+            each, BYTES_AN_OPCODE, verdict(each <= BYTES_AN_OPCODE)))
     print('\n| Edits of a document of a million items | processor | bar | |')
     print('|---|---|---|---|')
     base = min(measure([tests, 'document::a_million_items'])[0] for _ in range(3))

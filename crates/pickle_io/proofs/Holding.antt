@@ -1,4 +1,4 @@
--- What is told of a sink with a text in front of it, which was taken and not handed on.
+-- What is reported of a sink with a text in front of it, which was taken and not handed on.
 use Rattle.std.proofs.Common.{◌≡◌, ℕ, ◌+◌, ◌-◌, ◌≤◌, List, [], ◌∷◌, ◌++◌, length, take, drop, Option, None, Some, refl, sym, ap, subst, ◌∙◌, append_assoc, arith}
 use Rattle.std.specs.Io.KnownBytes.{Appends, append_known}
 use Rattle.std.proofs.lemmas.List.{append-nil, length-drop, take_all, take-append-drop, drop-drop}
@@ -32,7 +32,7 @@ stays (Some bytes) (Some more) held (b ∷ bs, (rest, e), same) = absurd cc
 pub holding-still : (old new : Told) (held : List ℕ) → Broke old new [] → Broke (holding old held) (holding new held) []
 holding-still old new held p = record { front = stays old.taken new.taken held p.front; rises = p.rises; failed = p.failed }
 
--- so many bytes more of a text were taken, of those from a place on
+-- this many bytes more of a text were taken, of those from a place on
 pub holding-next : (a t u : Told) (first text : List ℕ) (place n : ℕ) → n ≤ length (take (length text - place) (drop place text))
     → Wrote (holding a first) (holding t (drop place text)) [] → Wrote t u (take n (take (length text - place) (drop place text)))
     → Wrote (holding a first) (holding u (drop (place + n) text)) []

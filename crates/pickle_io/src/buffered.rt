@@ -6,7 +6,7 @@ ghost use Rattle.pickle_io.specs.Device.{Writes, holding};
 use crate::sink::{Failed, Sink};
 use std::alloc::{AllocError, Global};
 
-/// How many bytes it holds at most.
+/// How many bytes it asks room for.
 const ROOM: usize = 65_536;
 
 /// Hands a text on from a place. Answers the place after what was taken.
@@ -27,12 +27,12 @@ fn hand_on<S: Sink>(sink: &mut S, text: &[u8], from: usize) -> (usize, Result<()
 }
 
 /// A sink that hands on what it takes in blocks, since a call of a device for each text would take most of the time. What it has
-/// not handed on it holds, also after a failure: it tells it as taken. Dropped, it writes nothing.
+/// not handed on it still holds, also after a failure, and reports as taken. Dropped, it writes nothing.
 #[derive(Drop)]
 pub struct Buffered<S> {
     sink: S,
     text: Vec<u8>,
-    // what stands before this place was handed on
+    // what is before this place was handed on
     start: usize,
     ghost within: { start ≤ length text.items },
     ghost room: { 1 ≤ vec_capacity text },

@@ -22,7 +22,7 @@ pub trait Sink {
         ensures err { OnErr result (Broke (told self.old) (told self.new) []) };
 
     /// Hands on what it has taken and still holds, to whom it writes for. A sink that holds nothing does nothing. `Failed`
-    /// where that fails: what it still holds may be lost then.
+    /// where that fails: what was not handed on it may still hold, or have lost.
     fn flush(&mut self) -> Result<(), Failed>
         ensures { Writes (told self.old) (told self.new) result [] }
     {

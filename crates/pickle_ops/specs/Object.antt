@@ -10,6 +10,6 @@ pub record Object : Type 0 where
   pub parts : List ℕ
   pub changes : List Change
 
--- an object of at most so many parts takes no memory of its own
+-- an object of at most this many parts, to which nothing was done, takes no memory of its own
 abbrev pub most_parts_beside : ℕ
 most_parts_beside = 3

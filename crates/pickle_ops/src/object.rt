@@ -20,15 +20,15 @@ pub enum Change {
     Build(ObjId),
 }
 
-/// What an object is made of, and what was done to it.
+/// Parts and changes, in lists.
 #[derive(Debug, Drop)]
 pub(crate) struct Content {
     parts: Vec<ObjId>,
     changes: Vec<Change>,
 }
 
-/// What an object is made of, and what was done to it: up to three parts of an object to which nothing was done stand in the value
-/// itself. Most objects are such.
+/// What an object is made of, and what was done to it: in the value itself while there are at most three parts and nothing was
+/// ever put in, as of most objects, and else in a box.
 #[derive(Debug, Drop)]
 pub(crate) enum Made {
     Nothing,
@@ -144,7 +144,7 @@ impl Object {
         Ok(())
     }
 
-    /// Takes the last changes away, where a step that put them there is taken back. It takes no memory.
+    /// Takes the last changes away, where a step that put them there is taken back. It takes no memory, and a box stays.
     pub fn shorten(&mut self, count: usize)
         ensures { self.new ≡ record self.old { changes = take (length self.old.changes - count) self.old.changes } }
     {

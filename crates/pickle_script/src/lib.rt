@@ -1,6 +1,6 @@
 //! What is done on the bytes of a pickle, or of several pickles that follow one another: its listing, the report of its objects,
 //! what it would import and call, and a conversation with a session of it, line by line. What the lines of a script say, and the
-//! lines that they are answered with, stands here too.
+//! lines that answer them, are here too.
 //! A run that is not finished is a `Stop`.
 #![tactic(auto)]
 

@@ -240,7 +240,7 @@ fn go_on<P: Past, S: Source, K: Sink>(
 ///
 /// `Memory` comes only before anything was read. `Read` and `Write` come where the source or the sink fails: the
 /// session is that of the lines obeyed so far, a line of which only a part was read is not among them, and of the text
-/// of the last line alone a part may be missing from what the sink took. What the sink itself still held is lost.
+/// of the last line alone a part may be missing from what the sink took. What the sink has not handed on it may still hold.
 pub fn converse<P: Past, S: Source, K: Sink>(
     alloc: Global,
     session: &mut Session<P>,

@@ -1,5 +1,5 @@
 //! What sessions and machines show, as texts made by their readers alone, for tests to write down and to compare; a script that
-//! is compared so where a request for memory may be refused; and a source and a sink that fail after so many calls. Test
+//! is compared so where a request for memory may be refused; and a source and a sink that fail after a number of calls. Test
 //! equipment.
 #![tactic(auto)]
 
