@@ -1,14 +1,15 @@
 -- Why reading ended, and how a document ends: what is derived of a document is what a reader of its bytes finds.
 use Rattle.std.proofs.Common.{◌≡◌, ℕ, Bool, true, false, List, Option, Some, None, IsSome, refl, ap, ◌∙◌}
-use Rattle.pickle_ops.proofs.Fronts.{one_front}
+use Rattle.pickle_ops.proofs.Fronts.{is_front, found_front}
 use Rattle.pickle_doc.specs.declared.fault.TailFault.{TailFault}
-use Rattle.pickle_doc.specs.Tail.{tail_fault, front_of, fault_in_tail, HasTailFault}
+use Rattle.pickle_ops.specs.Front.{front_of}
+use Rattle.pickle_doc.specs.Tail.{tail_fault, fault_in_tail, HasTailFault}
 use Rattle.pickle_doc.specs.Document.{Contents, items_of, open_of, stops, IsTail, IsFormed, fault_unless, ended_by}
 use Rattle.pickle_doc.specs.Fitting.{IsEnd}
 
 -- the fault of a tail is the one that it has
 pub fault_is : (left : ℕ) (tail : List ℕ) (f : TailFault) → HasTailFault left tail f → fault_in_tail left tail ≡ Some f
-fault_is left tail f (front, is, e) = ap (tail_fault left) ((one_front tail).2 front is) ∙ e
+fault_is left tail f (front, is, e) = ap (tail_fault left) (found_front tail front is) ∙ e
 
 -- an end that fits is the derived one, and the tail is one of a document
 pub ended_is : (b : Bool) (left : ℕ) (tail : List ℕ) (e : Option TailFault) → IsEnd b left tail e → fault_unless b (fault_in_tail left tail) ≡ e
@@ -28,7 +29,7 @@ fits_by false left tail h = go (fault_in_tail left tail) refl h
   where
     go : (o : Option TailFault) → fault_in_tail left tail ≡ o → IsSome o → IsEnd false left tail o
     go None e h = let never : false ≡ true = h in cc
-    go (Some f) e h = (front_of tail, (one_front tail).1, e)
+    go (Some f) e h = (front_of tail, is_front tail, e)
 
 -- the derived end fits
 pub ended : (d : Contents) → IsFormed d → IsEnd (stops d.many (items_of d)) (open_of d.units) d.tail (ended_by d)
