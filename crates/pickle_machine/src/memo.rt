@@ -47,6 +47,7 @@ impl Memo {
     }
 
     /// How many entries there are.
+    #[inline]
     pub fn len(&self) -> usize
         ensures { result ≡ length self.now }
     {
@@ -54,6 +55,7 @@ impl Memo {
     }
 
     /// The object under a key.
+    #[inline]
     pub fn get(&self, key: u64) -> Option<ObjId>
         ensures { result ≡ lookup (is_at (nat_cmp key)) self.now }
     {
@@ -65,6 +67,7 @@ impl Memo {
     }
 
     /// Maps a key to an object. An error comes only where memory runs out.
+    #[inline]
     pub fn put(&mut self, key: u64, id: ObjId) -> Result<(), AllocError>
         ensures ok { OnOk result (self.new ≡ insert_entry nat_cmp self.old key id) }
     {

@@ -27,14 +27,6 @@ pub fn decimal_of(text: &[u8]) -> Option<u64>
     Some(value)
 }
 
-/// Whether a text is decimal digits of a number below 2^64.
-#[tactic(auto, using(crate::proofs::Decimals::decimal_tested))]
-pub(crate) fn is_decimal(text: &[u8]) -> bool
-    ensures { result ≡ is_decimal text.now }
-{
-    decimal_of(text).is_some()
-}
-
 /// The value of decimal digits.
 pub(crate) fn decimal_value(text: &[u8]) -> u64
     requires { is_decimal text.now ≡ true }
