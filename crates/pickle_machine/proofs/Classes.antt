@@ -2,7 +2,7 @@
 use Rattle.std.proofs.Common.{◌≡◌, ℕ, Bool, true, false, List, refl, sym}
 use Rattle.std.specs.Prelude.{◌==◌, ◌&&◌, length, slice_index, if◌then◌else◌}
 use Rattle.pickle_ops.specs.declared.kind.Kind.TheVariants as kind
-use Rattle.pickle_ops.specs.Row.{int_kind}
+use Rattle.pickle_ops.specs.Table.{int_kind}
 use Rattle.pickle_machine.specs.Outline.{plain}
 
 by_two : (b c : Bool) (text : List ℕ) → plain (if b then kind.False else if c then kind.True else kind.IntLine text) ≡ kind.None

@@ -1,16 +1,40 @@
 //! The table of what opcodes do.
 
 ghost use Rattle.std.specs.Prelude.{◌≡◌, ◌<◌, length, IfOk, OnErr};
-ghost use Rattle.pickle_ops.specs.Spelling.{most_beside};
-ghost use Rattle.pickle_ops.specs.Row.{row_of, kind_of, int_kind};
+ghost use Rattle.pickle_ops.specs.Argument.{most_beside};
+ghost use Rattle.pickle_ops.specs.Row.{row_of, kind_of};
+ghost use Rattle.pickle_ops.specs.Table.{int_kind};
 
 use crate::kind::Kind;
 use crate::op::Op;
-use crate::opcode::Opcode;
+use crate::opcodes;
 use crate::payload::Payload;
 use crate::peek::OpRef;
 use crate::row::{Cutting, Filling, Row, Taking};
 use std::alloc::AllocError;
+
+/// The row of a record, of the operation.
+macro_rules! row {
+    (($op:ident) { $code:literal $name:literal $protocol:literal $form:ident $row:tt $($rest:tt)* }) => { row!($op $row) };
+    ($op:ident $row:ident) => { Row::$row };
+    ($op:ident (Take $count:ident)) => { Row::Take(Taking::$count) };
+    ($op:ident (Cut $parts:ident)) => { Row::Cut(Cutting::$parts) };
+    ($op:ident (Change $filling:ident)) => { Row::Change(Filling::$filling) };
+    ($op:ident (CutChange $filling:ident)) => { Row::CutChange(Filling::$filling) };
+    ($op:ident ($row:ident number)) => { Row::$row($op.number()) };
+    ($op:ident ($row:ident integer)) => { Row::$row($op.integer()) };
+}
+
+/// The kind of a record, of the operation.
+macro_rules! kind {
+    (($op:ident) { $code:literal $name:literal $protocol:literal $form:ident $row:tt $kind:tt $($rest:tt)* }) => { kind!($op $kind) };
+    ($op:ident _) => { Ok(Kind::None) };
+    ($op:ident $kind:ident) => { Ok(Kind::$kind) };
+    ($op:ident (int_kind payload)) => { Ok(int_kind($op.shared_payload()?)) };
+    ($op:ident ($kind:ident payload)) => { Ok(Kind::$kind($op.shared_payload()?)) };
+    ($op:ident ($kind:ident texts)) => { Ok(Kind::$kind($op.shared_texts()?)) };
+    ($op:ident ($kind:ident integer)) => { Ok(Kind::$kind($op.integer())) };
+}
 
 impl Row {
     /// The row of an operation: what a machine does at it, and what it asks before.
@@ -25,76 +49,7 @@ impl Row {
     pub fn of_ref(op: &OpRef<'_>) -> Row
         ensures { result ≡ row_of op.now }
     {
-        match op.opcode() {
-            Opcode::Int => Row::Push,
-            Opcode::BinInt => Row::Push,
-            Opcode::BinInt1 => Row::Push,
-            Opcode::BinInt2 => Row::Push,
-            Opcode::Long => Row::Push,
-            Opcode::Long1 => Row::Push,
-            Opcode::Long4 => Row::Push,
-            Opcode::String => Row::Push,
-            Opcode::BinString => Row::Push,
-            Opcode::ShortBinString => Row::Push,
-            Opcode::BinBytes => Row::Push,
-            Opcode::ShortBinBytes => Row::Push,
-            Opcode::BinBytes8 => Row::Push,
-            Opcode::ByteArray8 => Row::Push,
-            Opcode::NextBuffer => Row::Buffer,
-            Opcode::ReadOnlyBuffer => Row::ReadOnly,
-            Opcode::None => Row::Push,
-            Opcode::NewTrue => Row::Push,
-            Opcode::NewFalse => Row::Push,
-            Opcode::Unicode => Row::Push,
-            Opcode::ShortBinUnicode => Row::Push,
-            Opcode::BinUnicode => Row::Push,
-            Opcode::BinUnicode8 => Row::Push,
-            Opcode::Float => Row::Push,
-            Opcode::BinFloat => Row::Push,
-            Opcode::EmptyList => Row::Push,
-            Opcode::Append => Row::Change(Filling::Append),
-            Opcode::Appends => Row::CutChange(Filling::Append),
-            Opcode::List => Row::Cut(Cutting::Any),
-            Opcode::EmptyTuple => Row::Push,
-            Opcode::Tuple => Row::Cut(Cutting::Any),
-            Opcode::Tuple1 => Row::Take(Taking::One),
-            Opcode::Tuple2 => Row::Take(Taking::Two),
-            Opcode::Tuple3 => Row::Take(Taking::Three),
-            Opcode::EmptyDict => Row::Push,
-            Opcode::Dict => Row::Cut(Cutting::Pairs),
-            Opcode::SetItem => Row::Change(Filling::SetItem),
-            Opcode::SetItems => Row::CutChange(Filling::SetItem),
-            Opcode::EmptySet => Row::Push,
-            Opcode::AddItems => Row::CutChange(Filling::Add),
-            Opcode::FrozenSet => Row::Cut(Cutting::Any),
-            Opcode::Pop => Row::Pop,
-            Opcode::Dup => Row::Dup,
-            Opcode::Mark => Row::Mark,
-            Opcode::PopMark => Row::PopMark,
-            Opcode::Get => Row::Get(op.number()),
-            Opcode::BinGet => Row::Get(op.number()),
-            Opcode::LongBinGet => Row::Get(op.number()),
-            Opcode::Put => Row::Put(op.number()),
-            Opcode::BinPut => Row::Put(op.number()),
-            Opcode::LongBinPut => Row::Put(op.number()),
-            Opcode::Memoize => Row::Memoize,
-            Opcode::Ext1 => Row::Extension(op.integer()),
-            Opcode::Ext2 => Row::Extension(op.integer()),
-            Opcode::Ext4 => Row::Extension(op.integer()),
-            Opcode::Global => Row::Push,
-            Opcode::StackGlobal => Row::Take(Taking::Names),
-            Opcode::Reduce => Row::Take(Taking::Call),
-            Opcode::Build => Row::Change(Filling::Build),
-            Opcode::Inst => Row::Cut(Cutting::Any),
-            Opcode::Obj => Row::Cut(Cutting::Callable),
-            Opcode::NewObj => Row::Take(Taking::Call),
-            Opcode::NewObjEx => Row::Take(Taking::CallWith),
-            Opcode::Proto => Row::Protocol(op.number()),
-            Opcode::Stop => Row::Stop,
-            Opcode::Frame => Row::Nothing,
-            Opcode::PersId => Row::Push,
-            Opcode::BinPersId => Row::Take(Taking::One),
-        }
+        opcodes!(match op.opcode() => row!(op))
     }
 }
 
@@ -121,53 +76,6 @@ impl Kind {
         ensures ok { IfOk result (λ k. k ≡ kind_of op.now) }
         ensures err { OnErr result (most_beside < length op.now.arg) }
     {
-        match op.opcode() {
-            Opcode::Int => Ok(int_kind(op.shared_payload()?)),
-            Opcode::BinInt => Ok(Kind::Int(op.integer())),
-            Opcode::BinInt1 => Ok(Kind::Int(op.integer())),
-            Opcode::BinInt2 => Ok(Kind::Int(op.integer())),
-            Opcode::Long => Ok(Kind::LongLine(op.shared_payload()?)),
-            Opcode::Long1 => Ok(Kind::Long(op.shared_payload()?)),
-            Opcode::Long4 => Ok(Kind::Long(op.shared_payload()?)),
-            Opcode::String => Ok(Kind::LegacyLine(op.shared_payload()?)),
-            Opcode::BinString => Ok(Kind::LegacyString(op.shared_payload()?)),
-            Opcode::ShortBinString => Ok(Kind::LegacyString(op.shared_payload()?)),
-            Opcode::BinBytes => Ok(Kind::Bytes(op.shared_payload()?)),
-            Opcode::ShortBinBytes => Ok(Kind::Bytes(op.shared_payload()?)),
-            Opcode::BinBytes8 => Ok(Kind::Bytes(op.shared_payload()?)),
-            Opcode::ByteArray8 => Ok(Kind::ByteArray(op.shared_payload()?)),
-            Opcode::NewTrue => Ok(Kind::True),
-            Opcode::NewFalse => Ok(Kind::False),
-            Opcode::Unicode => Ok(Kind::TextLine(op.shared_payload()?)),
-            Opcode::ShortBinUnicode => Ok(Kind::Text(op.shared_payload()?)),
-            Opcode::BinUnicode => Ok(Kind::Text(op.shared_payload()?)),
-            Opcode::BinUnicode8 => Ok(Kind::Text(op.shared_payload()?)),
-            Opcode::Float => Ok(Kind::FloatLine(op.shared_payload()?)),
-            Opcode::BinFloat => Ok(Kind::Float(op.shared_payload()?)),
-            Opcode::EmptyList => Ok(Kind::List),
-            Opcode::List => Ok(Kind::List),
-            Opcode::EmptyTuple => Ok(Kind::Tuple),
-            Opcode::Tuple => Ok(Kind::Tuple),
-            Opcode::Tuple1 => Ok(Kind::Tuple),
-            Opcode::Tuple2 => Ok(Kind::Tuple),
-            Opcode::Tuple3 => Ok(Kind::Tuple),
-            Opcode::EmptyDict => Ok(Kind::Dict),
-            Opcode::Dict => Ok(Kind::Dict),
-            Opcode::EmptySet => Ok(Kind::Set),
-            Opcode::FrozenSet => Ok(Kind::FrozenSet),
-            Opcode::Ext1 => Ok(Kind::Ext(op.integer())),
-            Opcode::Ext2 => Ok(Kind::Ext(op.integer())),
-            Opcode::Ext4 => Ok(Kind::Ext(op.integer())),
-            Opcode::Global => Ok(Kind::Global(op.shared_texts()?)),
-            Opcode::StackGlobal => Ok(Kind::StackGlobal),
-            Opcode::Reduce => Ok(Kind::Call),
-            Opcode::Inst => Ok(Kind::Inst(op.shared_texts()?)),
-            Opcode::Obj => Ok(Kind::Obj),
-            Opcode::NewObj => Ok(Kind::New),
-            Opcode::NewObjEx => Ok(Kind::NewEx),
-            Opcode::PersId => Ok(Kind::PersistentLine(op.shared_payload()?)),
-            Opcode::BinPersId => Ok(Kind::Persistent),
-            _ => Ok(Kind::None),
-        }
+        opcodes!(match op.opcode() => kind!(op))
     }
 }
