@@ -9,9 +9,9 @@ use crate::walk::{total_size, unfinished_frame};
 use pickle_ops::Op;
 
 impl Document {
-    ghost use Rattle.std.specs.Prelude.{◌≡◌, ◌+◌, ◌^◌, ◌⊎◌, ◌==◌, ◌&&◌, ◌<◌, ◌≤◌, length, IfOk, IfErr, OnOk, OnErr, Some, None};
+    ghost use Rattle.std.specs.Prelude.{◌≡◌, ◌+◌, ◌^◌, ◌⊎◌, ◌==◌, ◌&&◌, ◌<◌, ◌≤◌, length, None};
     ghost use Rattle.pickle_doc.specs.DocUnit.{flat};
-    ghost use Rattle.pickle_doc.specs.Document.{items_of, IsReadAgain};
+    ghost use Rattle.pickle_doc.specs.Document.{items_of};
     ghost use Rattle.pickle_doc.specs.Edit.{with_units, given_one, framed, frame_fault};
     ghost use Rattle.pickle_doc.specs.Turn.{Leads, place_of};
 
@@ -46,7 +46,7 @@ impl Document {
     }
 
     /// What puts a frame round this many items from item k on.
-    fn framing(&self, k: usize, count: usize) -> EditRecord
+    pub(crate) fn framing(&self, k: usize, count: usize) -> EditRecord
         requires { frame_fault self.now.contents k count ≡ None }
         ensures few { self.now.contents.next < 2 ^ 32 }
         ensures place { place_of result ≡ k }
@@ -65,35 +65,5 @@ impl Document {
             }),
             frame: None,
         }
-    }
-
-    /// Puts a FRAME with the next identity before item k, or last, and makes the count items after it its members. With count
-    /// 0 the frame is empty, and item k may be a FRAME. The record leads back.
-    ///
-    /// The first that applies: `NoSuchItem` (E1) where there are fewer items from item k on, `FrameItem` (E3) where one of them is
-    /// FRAME, `AfterStop` (E4) where the FRAME would be after STOP, `AlreadyFramed` (E6) where one of them is a member, or
-    /// with count 0 where the FRAME would be in a frame or in its bytes in the tail, `TooManyItems` (E7) where all identities
-    /// are given, `TooLarge` (E8) where there would be more bytes than `LIMIT`; then `Memory` (M), only where there is no room
-    /// and none could be had. Then nothing is changed.
-    pub fn frame(&mut self, k: usize, count: usize) -> Result<EditRecord, EditFault>
-        ensures fault { IfErr result (λ f. (frame_fault self.old.contents k count ≡ Some f) ⊎ ((f ≡ EditFault.Memory) × (frame_fault self.old.contents k count ≡ None))) }
-        ensures memory { OnErr result (frame_fault self.old.contents k count ≡ None → self.old.room ≡ 0) }
-        ensures err { OnErr result (self.new ≡ self.old) }
-        ensures none { OnOk result (frame_fault self.old.contents k count ≡ None) }
-        ensures ok { OnOk result (self.new.contents ≡ given_one (with_units self.old.contents (framed k count self.old.contents.next self.old.contents.units))) }
-        ensures place { IfOk result (λ r. place_of r ≡ k) }
-        ensures back { IfOk result (λ r. Leads r self.new.contents (given_one self.old.contents)) }
-        ensures again { OnOk result (IsReadAgain self.new.contents) }
-        ensures total { length (items_of self.old.contents) + self.old.room ≤ length (items_of self.new.contents) + self.new.room }
-    {
-        self.go_to(k);
-        if let Some(fault) = self.frame_fault(k, count) {
-            return Err(fault);
-        }
-        self.make_room()?;
-        let mut edit = self.framing(k, count);
-        self.give_identity();
-        self.swap(&mut edit);
-        Ok(edit)
     }
 }

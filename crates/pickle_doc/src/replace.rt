@@ -9,9 +9,9 @@ use crate::record::{Change, EditRecord};
 use pickle_ops::Op;
 
 impl Document {
-    ghost use Rattle.std.specs.Prelude.{◌≡◌, ◌+◌, ◌^◌, ◌⊎◌, ◌==◌, ◌&&◌, ◌<◌, ◌≤◌, length, IfOk, IfErr, OnOk, OnErr, Some, None};
+    ghost use Rattle.std.specs.Prelude.{◌≡◌, ◌+◌, ◌^◌, ◌⊎◌, ◌==◌, ◌&&◌, ◌<◌, ◌≤◌, length, None};
     ghost use Rattle.pickle_doc.specs.DocUnit.{flat};
-    ghost use Rattle.pickle_doc.specs.Document.{items_of, IsReadAgain};
+    ghost use Rattle.pickle_doc.specs.Document.{items_of};
     ghost use Rattle.pickle_doc.specs.Edit.{with_units, replaced, replace_fault};
     ghost use Rattle.pickle_doc.specs.Turn.{Leads, place_of};
 
@@ -42,7 +42,7 @@ impl Document {
     }
 
     /// What replaces item k by an opcode.
-    fn replacement(&self, k: usize, op: Op) -> EditRecord
+    pub(crate) fn replacement(&self, k: usize, op: Op) -> EditRecord
         requires { replace_fault self.now.contents k op ≡ None }
         ensures place { place_of result ≡ k }
         ensures leads { Leads result self.now.contents (with_units self.now.contents (replaced k op self.now.contents.units)) }
@@ -58,30 +58,5 @@ impl Document {
             change: Change::Set(Item { id, op }),
             frame,
         }
-    }
-
-    /// Puts another opcode into item k, which keeps its identity and its frame. The record leads back. This takes no
-    /// memory.
-    ///
-    /// The first that applies: `NoSuchItem` (E1) where there is no item k, `StopItem` (E2) where it or the opcode is STOP,
-    /// `FrameItem` (E3) where it or the opcode is FRAME, `TooLarge` (E8) where there would be more bytes than `LIMIT`. Then
-    /// nothing is changed.
-    pub fn replace(&mut self, k: usize, op: Op) -> Result<EditRecord, EditFault>
-        ensures fault { IfErr result (λ f. replace_fault self.old.contents k op ≡ Some f) }
-        ensures err { OnErr result (self.new ≡ self.old) }
-        ensures none { OnOk result (replace_fault self.old.contents k op ≡ None) }
-        ensures ok { OnOk result (self.new.contents ≡ with_units self.old.contents (replaced k op self.old.contents.units)) }
-        ensures place { IfOk result (λ r. place_of r ≡ k) }
-        ensures back { IfOk result (λ r. Leads r self.new.contents self.old.contents) }
-        ensures again { OnOk result (IsReadAgain self.new.contents) }
-        ensures total { length (items_of self.new.contents) + self.new.room ≡ length (items_of self.old.contents) + self.old.room }
-    {
-        if let Some(fault) = self.replace_fault(k, &op) {
-            return Err(fault);
-        }
-        self.go_to(k);
-        let mut edit = self.replacement(k, op);
-        self.swap(&mut edit);
-        Ok(edit)
     }
 }

@@ -1,4 +1,4 @@
-use Rattle.std.proofs.Common.{◌≤◌, ◌<◌, refl, ap, sym, ◌∙◌, arith, rules}
+use Rattle.std.proofs.Common.{◌≤◌, ◌<◌, refl, ap, sym, arith, rules}
 use Rattle.pickle_session.specs.Session.{len_of}
 use Rattle.pickle_session.specs.Allowed.{Standing}
 use Rattle.pickle_session.proofs.Living.{cursor_within, live_again, live_there, roomier_still}
