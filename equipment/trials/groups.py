@@ -11,6 +11,7 @@ from typing import Optional, Protocol
 import count_calls
 import devices
 import hostile
+import opcodes
 import packages
 import pages
 import releases
@@ -61,6 +62,7 @@ def of_program(room: Room) -> list[AnyGroup]:
         Group("options", functools.partial(options.trials, room)),
         Group("readme", functools.partial(examples.of_readme, room)),
         Group("conversations", functools.partial(examples.of_pages, room)),
+        Group("opcodes", functools.partial(opcodes.trials, room.root)),
         Group("pages", functools.partial(pages.trials, room.root, str(room.program), room.folder / "pages")),
     ]
 

@@ -16,7 +16,7 @@ use crate::note::{Note, note_of};
 use crate::offset::Offset;
 use crate::page::Page;
 use pickle_machine::Lean;
-use pickle_ops::{Failed, OpRef, Opcode, Row, Sink};
+use pickle_ops::{Failed, OpRef, Opcode, Row, Sink, opcodes};
 
 /// Puts where an item is, a colon, the code of its opcode and four blanks for each open mark.
 #[inline(always)]
@@ -223,81 +223,20 @@ pub fn put_refused<S: Sink>(
     put_rest(page, op, None, sink)
 }
 
+macro_rules! filled_name {
+    (() { $code:literal $name:literal $protocol:literal $form:ident $row:tt $kind:tt $cells:literal $filled:literal }) => { $filled };
+}
+
+macro_rules! name_len {
+    (() { $code:literal $name:literal $($rest:tt)* }) => { $name.len() };
+}
+
 /// The name of an opcode, filled to sixteen places.
 #[inline(always)]
 fn filled_name(opcode: Opcode) -> &'static [u8; 16]
     ensures { result.now ≡ name_of opcode ++ blanks (16 - length (name_of opcode)) }
 {
-    match opcode {
-        Opcode::Int => b"INT             ",
-        Opcode::BinInt => b"BININT          ",
-        Opcode::BinInt1 => b"BININT1         ",
-        Opcode::BinInt2 => b"BININT2         ",
-        Opcode::Long => b"LONG            ",
-        Opcode::Long1 => b"LONG1           ",
-        Opcode::Long4 => b"LONG4           ",
-        Opcode::String => b"STRING          ",
-        Opcode::BinString => b"BINSTRING       ",
-        Opcode::ShortBinString => b"SHORT_BINSTRING ",
-        Opcode::BinBytes => b"BINBYTES        ",
-        Opcode::ShortBinBytes => b"SHORT_BINBYTES  ",
-        Opcode::BinBytes8 => b"BINBYTES8       ",
-        Opcode::ByteArray8 => b"BYTEARRAY8      ",
-        Opcode::NextBuffer => b"NEXT_BUFFER     ",
-        Opcode::ReadOnlyBuffer => b"READONLY_BUFFER ",
-        Opcode::None => b"NONE            ",
-        Opcode::NewTrue => b"NEWTRUE         ",
-        Opcode::NewFalse => b"NEWFALSE        ",
-        Opcode::Unicode => b"UNICODE         ",
-        Opcode::ShortBinUnicode => b"SHORT_BINUNICODE",
-        Opcode::BinUnicode => b"BINUNICODE      ",
-        Opcode::BinUnicode8 => b"BINUNICODE8     ",
-        Opcode::Float => b"FLOAT           ",
-        Opcode::BinFloat => b"BINFLOAT        ",
-        Opcode::EmptyList => b"EMPTY_LIST      ",
-        Opcode::Append => b"APPEND          ",
-        Opcode::Appends => b"APPENDS         ",
-        Opcode::List => b"LIST            ",
-        Opcode::EmptyTuple => b"EMPTY_TUPLE     ",
-        Opcode::Tuple => b"TUPLE           ",
-        Opcode::Tuple1 => b"TUPLE1          ",
-        Opcode::Tuple2 => b"TUPLE2          ",
-        Opcode::Tuple3 => b"TUPLE3          ",
-        Opcode::EmptyDict => b"EMPTY_DICT      ",
-        Opcode::Dict => b"DICT            ",
-        Opcode::SetItem => b"SETITEM         ",
-        Opcode::SetItems => b"SETITEMS        ",
-        Opcode::EmptySet => b"EMPTY_SET       ",
-        Opcode::AddItems => b"ADDITEMS        ",
-        Opcode::FrozenSet => b"FROZENSET       ",
-        Opcode::Pop => b"POP             ",
-        Opcode::Dup => b"DUP             ",
-        Opcode::Mark => b"MARK            ",
-        Opcode::PopMark => b"POP_MARK        ",
-        Opcode::Get => b"GET             ",
-        Opcode::BinGet => b"BINGET          ",
-        Opcode::LongBinGet => b"LONG_BINGET     ",
-        Opcode::Put => b"PUT             ",
-        Opcode::BinPut => b"BINPUT          ",
-        Opcode::LongBinPut => b"LONG_BINPUT     ",
-        Opcode::Memoize => b"MEMOIZE         ",
-        Opcode::Ext1 => b"EXT1            ",
-        Opcode::Ext2 => b"EXT2            ",
-        Opcode::Ext4 => b"EXT4            ",
-        Opcode::Global => b"GLOBAL          ",
-        Opcode::StackGlobal => b"STACK_GLOBAL    ",
-        Opcode::Reduce => b"REDUCE          ",
-        Opcode::Build => b"BUILD           ",
-        Opcode::Inst => b"INST            ",
-        Opcode::Obj => b"OBJ             ",
-        Opcode::NewObj => b"NEWOBJ          ",
-        Opcode::NewObjEx => b"NEWOBJ_EX       ",
-        Opcode::Proto => b"PROTO           ",
-        Opcode::Stop => b"STOP            ",
-        Opcode::Frame => b"FRAME           ",
-        Opcode::PersId => b"PERSID          ",
-        Opcode::BinPersId => b"BINPERSID       ",
-    }
+    opcodes!(match opcode => filled_name!())
 }
 
 /// How long the name of an opcode is.
@@ -306,74 +245,5 @@ fn name_len(opcode: Opcode) -> usize
     ensures value { result ≡ length (name_of opcode) }
     ensures short { result ≤ 16 }
 {
-    match opcode {
-        Opcode::Int => 3,
-        Opcode::BinInt => 6,
-        Opcode::BinInt1 => 7,
-        Opcode::BinInt2 => 7,
-        Opcode::Long => 4,
-        Opcode::Long1 => 5,
-        Opcode::Long4 => 5,
-        Opcode::String => 6,
-        Opcode::BinString => 9,
-        Opcode::ShortBinString => 15,
-        Opcode::BinBytes => 8,
-        Opcode::ShortBinBytes => 14,
-        Opcode::BinBytes8 => 9,
-        Opcode::ByteArray8 => 10,
-        Opcode::NextBuffer => 11,
-        Opcode::ReadOnlyBuffer => 15,
-        Opcode::None => 4,
-        Opcode::NewTrue => 7,
-        Opcode::NewFalse => 8,
-        Opcode::Unicode => 7,
-        Opcode::ShortBinUnicode => 16,
-        Opcode::BinUnicode => 10,
-        Opcode::BinUnicode8 => 11,
-        Opcode::Float => 5,
-        Opcode::BinFloat => 8,
-        Opcode::EmptyList => 10,
-        Opcode::Append => 6,
-        Opcode::Appends => 7,
-        Opcode::List => 4,
-        Opcode::EmptyTuple => 11,
-        Opcode::Tuple => 5,
-        Opcode::Tuple1 => 6,
-        Opcode::Tuple2 => 6,
-        Opcode::Tuple3 => 6,
-        Opcode::EmptyDict => 10,
-        Opcode::Dict => 4,
-        Opcode::SetItem => 7,
-        Opcode::SetItems => 8,
-        Opcode::EmptySet => 9,
-        Opcode::AddItems => 8,
-        Opcode::FrozenSet => 9,
-        Opcode::Pop => 3,
-        Opcode::Dup => 3,
-        Opcode::Mark => 4,
-        Opcode::PopMark => 8,
-        Opcode::Get => 3,
-        Opcode::BinGet => 6,
-        Opcode::LongBinGet => 11,
-        Opcode::Put => 3,
-        Opcode::BinPut => 6,
-        Opcode::LongBinPut => 11,
-        Opcode::Memoize => 7,
-        Opcode::Ext1 => 4,
-        Opcode::Ext2 => 4,
-        Opcode::Ext4 => 4,
-        Opcode::Global => 6,
-        Opcode::StackGlobal => 12,
-        Opcode::Reduce => 6,
-        Opcode::Build => 5,
-        Opcode::Inst => 4,
-        Opcode::Obj => 3,
-        Opcode::NewObj => 6,
-        Opcode::NewObjEx => 9,
-        Opcode::Proto => 5,
-        Opcode::Stop => 4,
-        Opcode::Frame => 5,
-        Opcode::PersId => 6,
-        Opcode::BinPersId => 9,
-    }
+    opcodes!(match opcode => name_len!())
 }
