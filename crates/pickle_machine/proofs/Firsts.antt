@@ -4,12 +4,11 @@ use Rattle.pickle_ops.specs.declared.row.Row.{Row}
 use Rattle.pickle_ops.specs.declared.row.Row.TheVariants as row
 use Rattle.pickle_ops.specs.declared.row.Taking.TheVariants as taking
 use Rattle.pickle_ops.specs.declared.row.Filling.TheVariants as filling
-use Rattle.pickle_machine.specs.State.{State}
+use Rattle.pickle_machine.specs.State.{State, empty}
 use Rattle.pickle_machine.specs.Move.{refusal_of, begun}
-use Rattle.pickle_machine.specs.Inside.Records.{first_refusal}
 
--- its refusal is read off its row
-pub first_refusals : (r : Row) (s : State) → first_refusal r ≡ refusal_of r (begun s)
+-- it is that on an empty machine, whatever the pickle before left
+pub first_refusals : (r : Row) (s : State) → refusal_of r empty ≡ refusal_of r (begun s)
 first_refusals row.Nothing s = refl
 first_refusals (row.Protocol n) s = refl
 first_refusals (row.Extension n) s = refl

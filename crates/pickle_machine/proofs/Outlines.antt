@@ -6,8 +6,10 @@ use Rattle.std.specs.Prelude.{map, slice_get, slice_index, ◌||◌, nat_lt, if�
 use Rattle.std.specs.Option.{option_map, option_map_or}
 use Rattle.pickle_ops.specs.declared.kind.Kind.{Kind}
 use Rattle.pickle_ops.specs.declared.kind.Kind.TheVariants as kind
-use Rattle.pickle_ops.specs.declared.kind.Demand.{Demand}
-use Rattle.pickle_ops.specs.declared.kind.Demand.TheVariants as demand
+use Rattle.pickle_ops.specs.declared.class.Class.{Class}
+use Rattle.pickle_ops.specs.declared.class.Class.TheVariants as class
+use Rattle.pickle_ops.specs.declared.class.Demand.{Demand}
+use Rattle.pickle_ops.specs.declared.class.Demand.TheVariants as demand
 use Rattle.pickle_ops.specs.declared.row.Row.TheVariants as row
 use Rattle.pickle_ops.specs.declared.row.Taking.{Taking}
 use Rattle.pickle_ops.specs.declared.row.Taking.TheVariants as taking
@@ -17,61 +19,25 @@ use Rattle.pickle_ops.specs.declared.row.Filling.{Filling}
 use Rattle.pickle_ops.specs.declared.row.Filling.TheVariants as filling
 use Rattle.pickle_ops.specs.declared.object.Change.{Change}
 use Rattle.pickle_ops.specs.Object.{Object}
-use Rattle.pickle_ops.specs.Kind.{meets, is_opaque, is_text, is_arguments, is_keywords, is_read_only, is_writable, accepts}
+use Rattle.pickle_ops.specs.Class.{class_meets}
+use Rattle.pickle_ops.specs.Kind.{class_of, meets}
 use Rattle.pickle_ops.specs.Row.{count_of, values_of}
 use Rattle.pickle_machine.specs.declared.refusal.Refusal.TheVariants as refusal
 use Rattle.pickle_machine.specs.State.{State}
 use Rattle.pickle_machine.specs.Move.{unless, object_meets, refusal_of, next_of, begun, changed, push, put_on, last_of, without, cut, deep, change_top, changes_of, under, if_mark, if_deep, if_paired}
-use Rattle.pickle_machine.specs.Outline.{plain, bare, bared, outline, RefusalsReadOutlines, MovesReadOutlines, FreshReadsOutlines}
+use Rattle.pickle_machine.specs.Outline.{sample, plain, bared, outline, RefusalsReadOutlines, MovesReadOutlines, FreshReadsOutlines}
 
 -- ---- kinds
 
--- one case each; the others are copies of the last line
-same_opaque : (k : Kind) → is_opaque (plain k) ≡ is_opaque k
-same_opaque kind.None = refl
-same_opaque _ = refl
-
-same_text : (k : Kind) → is_text (plain k) ≡ is_text k
-same_text kind.None = refl
-same_text _ = refl
-
-same_arguments : (k : Kind) → is_arguments (plain k) ≡ is_arguments k
-same_arguments kind.None = refl
-same_arguments _ = refl
-
-same_keywords : (k : Kind) → is_keywords (plain k) ≡ is_keywords k
-same_keywords kind.None = refl
-same_keywords _ = refl
-
-same_read_only : (k : Kind) → is_read_only (plain k) ≡ is_read_only k
-same_read_only kind.None = refl
-same_read_only _ = refl
-
-same_writable : (k : Kind) → is_writable (plain k) ≡ is_writable k
-same_writable kind.None = refl
-same_writable _ = refl
-
-same_accepts : (f : Filling) (k : Kind) → accepts f (plain k) ≡ accepts f k
-same_accepts filling.Append kind.None = refl
-same_accepts filling.Append _ = refl
-same_accepts filling.SetItem kind.None = refl
-same_accepts filling.SetItem _ = refl
-same_accepts filling.Add kind.None = refl
-same_accepts filling.Add _ = refl
-same_accepts filling.Build k = refl
+pub class_of_sample : (c : Class) → class_of (sample c) ≡ c
+class_of_sample class.Plain = refl
+class_of_sample _ = refl
 
 pub same_meets : (d : Demand) (k : Kind) → meets d (plain k) ≡ meets d k
-same_meets demand.Callable k = same_opaque k
-same_meets demand.Text k = same_text k
-same_meets demand.Arguments k = same_arguments k
-same_meets demand.Keywords k = same_keywords k
-same_meets demand.ReadOnly k = same_read_only k
-same_meets demand.Writable k = same_writable k
-same_meets (demand.Target f) k = same_accepts f k
+same_meets d k = ap (class_meets d) (class_of_sample (class_of k))
 
 pub plain_again : (k : Kind) → plain (plain k) ≡ plain k
-plain_again kind.None = refl
-plain_again _ = refl
+plain_again k = ap sample (class_of_sample (class_of k))
 
 -- ---- objects
 
@@ -146,7 +112,7 @@ refusals_read_outlines row.Stop s = refl
 map_again : (heap : List Object) → map bared (map bared heap) ≡ map bared heap
 map_again [] = refl
 map_again (o ∷ heap) =
-    ap (λ (k : Kind). bare k ∷ map bared (map bared heap)) (plain_again o.kind)
+    ap (λ (k : Kind). record { kind = k; parts = []; changes = [] } ∷ map bared (map bared heap)) (plain_again o.kind)
     ∙ ap (λ (l : List Object). bared o ∷ l) (map_again heap)
 
 -- one object that stands in a heap may be replaced by one that looks the same
@@ -177,8 +143,8 @@ pushed_heap : (heap : List Object) (k j : Kind) (parts parts' : List ℕ) → pl
     → map bared (map bared heap ++ record { kind = j; parts = parts; changes = [] } ∷ []) ≡ map bared (heap ++ record { kind = k; parts = parts'; changes = [] } ∷ [])
 pushed_heap heap k j parts parts' e =
     map-append bared (map bared heap) (record { kind = j; parts = parts; changes = [] } ∷ [])
-    ∙ ap (λ (l : List Object). l ++ bare (plain j) ∷ []) (map_again heap)
-    ∙ ap (λ (x : Kind). map bared heap ++ bare x ∷ []) e
+    ∙ ap (λ (l : List Object). l ++ record { kind = plain j; parts = []; changes = [] } ∷ []) (map_again heap)
+    ∙ ap (λ (x : Kind). map bared heap ++ record { kind = x; parts = []; changes = [] } ∷ []) e
     ∙ sym (map-append bared heap (record { kind = k; parts = parts'; changes = [] } ∷ []))
 
 -- a new object, whose kind and parts do not matter beyond the outline

@@ -1,45 +1,38 @@
--- The outline of a state: what its moves and refusals read. Of an object it has the kind up to what an opcode may ask of
--- it; it has no payload, no part, no change, no count of buffers, no results and no stack that was left behind.
+-- The outline of a state: what its moves and refusals read. Of an object it has the class, as a kind that stands for it;
+-- it has no payload, no part, no change, no count of buffers, no results and no stack that was left behind.
 use Rattle.std.specs.Prelude.{◌≡◌, ℕ, [], map}
 use Rattle.pickle_ops.specs.declared.kind.Kind.{Kind}
 use Rattle.pickle_ops.specs.declared.kind.Kind.TheVariants as kind
 use Rattle.pickle_ops.specs.declared.row.Row.{Row}
+use Rattle.pickle_ops.specs.declared.class.Class.{Class}
+use Rattle.pickle_ops.specs.declared.class.Class.TheVariants as class
 use Rattle.pickle_ops.specs.Object.{Object}
+use Rattle.pickle_ops.specs.Kind.{class_of}
 use Rattle.pickle_machine.specs.State.{State}
 use Rattle.pickle_machine.specs.Move.{refusal_of, next_of, fresh}
 
--- one kind for all kinds that meet the same demands
-abbrev pub plain : Kind → Kind
-plain (kind.Global texts) = kind.Call
-plain kind.StackGlobal = kind.Call
-plain kind.Call = kind.Call
-plain kind.New = kind.Call
-plain kind.NewEx = kind.Call
-plain (kind.Inst texts) = kind.Call
-plain kind.Obj = kind.Call
-plain (kind.PersistentLine line) = kind.Call
-plain kind.Persistent = kind.Call
-plain (kind.Ext n) = kind.Call
-plain (kind.Buffer n) = kind.Call
-plain (kind.Text bytes) = kind.Text []
-plain (kind.TextLine bytes) = kind.Text []
-plain (kind.LegacyString bytes) = kind.Text []
-plain (kind.LegacyLine bytes) = kind.Text []
-plain kind.Tuple = kind.Tuple
-plain kind.List = kind.List
-plain kind.Dict = kind.Dict
-plain kind.Set = kind.Set
-plain (kind.Bytes bytes) = kind.ReadOnly
-plain kind.ReadOnly = kind.ReadOnly
-plain (kind.ByteArray bytes) = kind.ByteArray []
-plain _ = kind.None
+-- the kind that stands for a class
+abbrev pub sample : Class → Kind
+sample class.Plain = kind.None
+sample class.Opaque = kind.Call
+sample class.Text = kind.Text []
+sample class.Tuple = kind.Tuple
+sample class.List = kind.List
+sample class.Dict = kind.Dict
+sample class.Set = kind.Set
+sample class.ReadOnly = kind.ReadOnly
+sample class.ByteArray = kind.ByteArray []
 
--- an object of a kind, and no more
-abbrev pub bare : Kind → Object
-bare k = record { kind = k; parts = []; changes = [] }
+-- one kind for all kinds of a class
+abbrev pub plain : Kind → Kind
+plain k = sample (class_of k)
+
+-- an object of a class, and no more
+abbrev pub sample_object : Class → Object
+sample_object c = record { kind = sample c; parts = []; changes = [] }
 
 abbrev pub bared : Object → Object
-bared o = bare (plain o.kind)
+bared o = sample_object (class_of o.kind)
 
 -- the outline of a state is a state of its own
 abbrev pub outline : State → State

@@ -1,22 +1,16 @@
 //! A machine that keeps an outline of the state.
 
-ghost use Rattle.std.specs.Prelude.{◌≡◌, None};
-ghost use Rattle.pickle_machine.specs.Move.{unless};
+ghost use Rattle.std.specs.Prelude.{◌≡◌, false, slice_get};
+ghost use Rattle.std.specs.Option.{option_map_or};
+ghost use Rattle.pickle_ops.specs.Class.{class_meets};
 
-use crate::class::Class;
+use crate::check::{Operands, refusal};
 use crate::memo::Memo;
 use crate::refusal::Refusal;
-use crate::stack::Stack;
-use pickle_ops::{Cutting, Demand, Filling, ObjId, Row, Taking};
+use crate::stack::{Stack, deep};
+use pickle_ops::{Class, Demand, Filling, ObjId, Row};
 use std::alloc::{AllocError, Global};
 use std::marker::Model;
-
-/// This refusal, unless something holds.
-fn unless(holds: bool, refusal: Refusal) -> Option<Refusal>
-    ensures { result ≡ unless holds refusal None }
-{
-    if holds { None } else { Some(refusal) }
-}
 
 /// A machine that keeps of its objects what an opcode may ask of them, and nothing to go back by. Its state is an outline.
 /// Where it runs several pickles, `refresh` is to be called before each move: it forgets what the pickle before left.
@@ -29,14 +23,49 @@ pub struct Lean {
     stopped: bool,
 }
 
+/// Whether a class has this number and meets a demand.
+fn meets_at(classes: &[Class], id: ObjId, demand: Demand) -> bool
+    ensures { result ≡ option_map_or (class_meets demand) (slice_get classes.now id) false }
+{
+    match classes.get(id as usize) {
+        Some(class) => class.meets(demand),
+        None => false,
+    }
+}
+
 impl Model for Lean {
     ghost use Rattle.std.specs.Prelude.{[], map};
     ghost use Rattle.pickle_machine.specs.State.{State};
-    ghost use Rattle.pickle_machine.specs.Class.{sample_object};
+    ghost use Rattle.pickle_machine.specs.Outline.{sample_object};
 
     ghost Value = { State };
 
     ghost view = { λ m. record { heap = map sample_object m.classes.items; top = m.stack.top; marked = m.stack.marked; memo = m.memo; buffers = 0; results = []; many = m.many; stopped = m.stopped; left = [] } };
+}
+
+#[tactic(auto, using(crate::proofs::Leans::lean_rules))]
+impl Operands for Lean {
+    ghost state = { λ s. s };
+
+    fn top(&self) -> &[ObjId] {
+        self.stack.top()
+    }
+
+    fn marks(&self) -> usize {
+        self.stack.depth()
+    }
+
+    fn under(&self) -> &[ObjId] {
+        self.stack.under()
+    }
+
+    fn has_entry(&self, key: u64) -> bool {
+        self.memo.get(key).is_some()
+    }
+
+    fn meets(&self, id: ObjId, demand: Demand) -> bool {
+        meets_at(self.classes.as_slice(), id, demand)
+    }
 }
 
 #[tactic(auto, using(crate::proofs::Leans::lean_rules))]
@@ -46,9 +75,8 @@ impl Lean {
     ghost use Rattle.pickle_ops.specs.declared.kind.Kind.{Kind};
     ghost use Rattle.pickle_ops.specs.Row.{count_of, values_of};
     ghost use Rattle.pickle_machine.specs.State.{start, stack_size, Marked, place_of};
-    ghost use Rattle.pickle_machine.specs.Move.{deep, object_meets, refusal_of, next_of, taking_refusal, cutting_refusal, takes_mark, fresh, push, without, cut, put_on, put, last_of, change_top, changes_of};
-    ghost use Rattle.pickle_machine.specs.Outline.{outline, plain};
-    ghost use Rattle.pickle_machine.specs.Class.{sample};
+    ghost use Rattle.pickle_machine.specs.Move.{refusal_of, next_of, takes_mark, fresh, push, without, cut, put_on, put, last_of, change_top, changes_of};
+    ghost use Rattle.pickle_machine.specs.Outline.{outline, sample};
 
     /// The machine that has done nothing, for several pickles or for one.
     pub fn new(alloc: Global, many: bool) -> Lean
@@ -104,214 +132,12 @@ impl Lean {
         }
     }
 
-    /// Whether the object of this number is there and meets a demand.
-    fn meets(&self, id: ObjId, demand: Demand) -> bool
-        ensures { result ≡ object_meets demand self.now id }
-    {
-        match self.classes.get(id as usize) {
-            Some(class) => class.meets(demand),
-            None => false,
-        }
-    }
-
-    /// The object at this depth of the top section, 0 for the top.
-    fn deep(&self, depth: usize) -> ObjId
-        requires { depth < length self.now.top }
-        ensures { result ≡ deep depth self.now.top }
-    {
-        let top = self.stack.top();
-        top[top.len() - 1 - depth]
-    }
-
-    /// What is asked of the object of which a view is made.
-    fn view_refusal(&self) -> Option<Refusal>
-        ensures first { result ≡ refusal_of Row.ReadOnly self.now }
-        ensures told { IfSome result (λ e. e ≢ Refusal.Memory) }
-    {
-        if self.stack.top().is_empty() {
-            return Some(Refusal::Underflow);
-        }
-        let id = self.deep(0);
-        if !self.meets(id, Demand::ReadOnly) && !self.meets(id, Demand::Writable) {
-            return Some(Refusal::WrongKind(id));
-        }
-        None
-    }
-
-    /// What is asked of two names, of the upper one first.
-    fn names_refusal(&self) -> Option<Refusal>
-        requires { 2 ≤ length self.now.top }
-        ensures first { result ≡ taking_refusal Taking.Names self.now }
-        ensures told { IfSome result (λ e. e ≢ Refusal.Memory) }
-    {
-        let name = self.deep(0);
-        if !self.meets(name, Demand::Text) {
-            return Some(Refusal::NotText(name));
-        }
-        let module = self.deep(1);
-        if !self.meets(module, Demand::Text) {
-            return Some(Refusal::NotText(module));
-        }
-        None
-    }
-
-    /// What is asked of what is called, and of its arguments.
-    fn call_refusal(&self) -> Option<Refusal>
-        requires { 2 ≤ length self.now.top }
-        ensures first { result ≡ taking_refusal Taking.Call self.now }
-        ensures told { IfSome result (λ e. e ≢ Refusal.Memory) }
-    {
-        let called = self.deep(1);
-        if !self.meets(called, Demand::Callable) {
-            return Some(Refusal::NotCallable(called));
-        }
-        let arguments = self.deep(0);
-        if !self.meets(arguments, Demand::Arguments) {
-            return Some(Refusal::NotArguments(arguments));
-        }
-        None
-    }
-
-    /// What is asked of what is called, of its arguments, and of those that have names.
-    fn call_with_refusal(&self) -> Option<Refusal>
-        requires { 3 ≤ length self.now.top }
-        ensures first { result ≡ taking_refusal Taking.CallWith self.now }
-        ensures told { IfSome result (λ e. e ≢ Refusal.Memory) }
-    {
-        let called = self.deep(2);
-        if !self.meets(called, Demand::Callable) {
-            return Some(Refusal::NotCallable(called));
-        }
-        let arguments = self.deep(1);
-        if !self.meets(arguments, Demand::Arguments) {
-            return Some(Refusal::NotArguments(arguments));
-        }
-        let keywords = self.deep(0);
-        if !self.meets(keywords, Demand::Keywords) {
-            return Some(Refusal::NotKeywords(keywords));
-        }
-        None
-    }
-
-    /// What is asked of the objects that are taken for a new one.
-    fn taking_refusal(&self, taking: Taking) -> Option<Refusal>
-        ensures first { result ≡ refusal_of (Row.Take taking) self.now }
-        ensures told { IfSome result (λ e. e ≢ Refusal.Memory) }
-    {
-        if self.stack.top().len() < taking.count() {
-            return Some(Refusal::Underflow);
-        }
-        match taking {
-            Taking::One | Taking::Two | Taking::Three => None,
-            Taking::Names => self.names_refusal(),
-            Taking::Call => self.call_refusal(),
-            Taking::CallWith => self.call_with_refusal(),
-        }
-    }
-
-    /// What is asked of the objects above the mark.
-    fn cutting_refusal(&self, cutting: Cutting) -> Option<Refusal>
-        ensures first { result ≡ refusal_of (Row.Cut cutting) self.now }
-        ensures told { IfSome result (λ e. e ≢ Refusal.Memory) }
-    {
-        if self.stack.depth() == 0 {
-            return Some(Refusal::NoMark);
-        }
-        let items = self.stack.top();
-        match cutting {
-            Cutting::Any => None,
-            Cutting::Pairs => {
-                if items.len() % 2 != 0 {
-                    return Some(Refusal::OddItems);
-                }
-                None
-            }
-            Cutting::Callable => {
-                if items.is_empty() {
-                    return Some(Refusal::Underflow);
-                }
-                if !self.meets(items[0], Demand::Callable) {
-                    return Some(Refusal::NotCallable(items[0]));
-                }
-                None
-            }
-        }
-    }
-
-    /// What is asked of the object into which those above it go.
-    fn change_refusal(&self, filling: Filling) -> Option<Refusal>
-        ensures first { result ≡ refusal_of (Row.Change filling) self.now }
-        ensures told { IfSome result (λ e. e ≢ Refusal.Memory) }
-    {
-        let values = filling.values();
-        if self.stack.top().len() < values + 1 {
-            return Some(Refusal::Underflow);
-        }
-        let target = self.deep(values);
-        if !self.meets(target, Demand::Target(filling)) {
-            return Some(Refusal::WrongKind(target));
-        }
-        None
-    }
-
-    /// What is asked of the object into which those above the mark go.
-    fn cut_change_refusal(&self, filling: Filling) -> Option<Refusal>
-        ensures first { result ≡ refusal_of (Row.CutChange filling) self.now }
-        ensures told { IfSome result (λ e. e ≢ Refusal.Memory) }
-    {
-        if self.stack.depth() == 0 {
-            return Some(Refusal::NoMark);
-        }
-        let below = self.stack.under();
-        if below.is_empty() {
-            return Some(Refusal::Underflow);
-        }
-        let items = self.stack.top();
-        if matches!(filling, Filling::SetItem) && items.len() % 2 != 0 {
-            return Some(Refusal::OddItems);
-        }
-        let target = below[below.len() - 1];
-        if !items.is_empty() && !self.meets(target, Demand::Target(filling)) {
-            return Some(Refusal::WrongKind(target));
-        }
-        None
-    }
-
-    /// What is asked where the top is taken, or the mark under it.
-    fn pop_refusal(&self) -> Option<Refusal>
-        ensures first { result ≡ refusal_of Row.Pop self.now }
-        ensures told { IfSome result (λ e. e ≢ Refusal.Memory) }
-    {
-        if self.stack.top().is_empty() && self.stack.depth() == 0 {
-            return Some(Refusal::Underflow);
-        }
-        None
-    }
-
     /// The refusal of a row, if it has one.
     pub fn refusal(&self, row: Row) -> Option<Refusal>
         ensures first { result ≡ refusal_of row self.now }
         ensures told { IfSome result (λ e. e ≢ Refusal.Memory) }
     {
-        match row {
-            Row::Nothing => None,
-            Row::Protocol(n) => unless(n <= 5, Refusal::BadProtocol(n)),
-            Row::Extension(n) => unless(n > 0, Refusal::BadExtension(n)),
-            Row::Push => None,
-            Row::Buffer => None,
-            Row::ReadOnly => self.view_refusal(),
-            Row::Take(taking) => self.taking_refusal(taking),
-            Row::Cut(cutting) => self.cutting_refusal(cutting),
-            Row::Change(filling) => self.change_refusal(filling),
-            Row::CutChange(filling) => self.cut_change_refusal(filling),
-            Row::Pop => self.pop_refusal(),
-            Row::PopMark => unless(self.stack.depth() > 0, Refusal::NoMark),
-            Row::Mark => None,
-            Row::Get(key) => unless(self.memo.get(key).is_some(), Refusal::NoMemoEntry(key)),
-            Row::Dup | Row::Put(_) | Row::Memoize | Row::Stop => {
-                unless(!self.stack.top().is_empty(), Refusal::Underflow)
-            }
-        }
+        refusal(self, row)
     }
 
     /// Puts a new object on the top section.
@@ -360,7 +186,7 @@ impl Lean {
         requires good { refusal_of Row.ReadOnly self.old ≡ None }
         ensures ok { OnOk result (self.new ≡ outline (next_of Row.ReadOnly Kind.None 0 self.old)) }
     {
-        let id = self.deep(0);
+        let id = deep(self.stack.top(), 0);
         if self.meets(id, Demand::ReadOnly) {
             self.is_outline();
             Ok(())
@@ -445,7 +271,7 @@ impl Lean {
         requires { 0 < length self.old.top }
         ensures ok { OnOk result (self.new ≡ outline (put key self.old)) }
     {
-        let id = self.deep(0);
+        let id = deep(self.stack.top(), 0);
         self.memo.put(key, id)
     }
 
@@ -486,7 +312,10 @@ impl Lean {
                 self.lose_cut();
                 Ok(())
             }
-            Row::Dup => self.repeat(self.deep(0)),
+            Row::Dup => {
+                let top = deep(self.stack.top(), 0);
+                self.repeat(top)
+            }
             Row::Mark => self.set_mark(place),
             Row::Get(key) => {
                 let id = self.memo.get(key).unwrap();

@@ -1,7 +1,7 @@
-//! What an object is, and what an opcode may ask of it.
+//! What an object is.
 
+use crate::class::{Class, Demand};
 use crate::payload::{Payload, Texts};
-use crate::row::Filling;
 
 /// What an object is, with the bytes or the number that its opcode gave it. Bytes are kept as they are in the
 /// argument, and are not interpreted.
@@ -73,140 +73,52 @@ pub enum Kind {
     ReadOnly,
 }
 
-/// What an opcode asks of an object.
-#[derive(Clone, Copy)]
-pub enum Demand {
-    /// That it can be called.
-    Callable,
-    /// That it may be a name.
-    Text,
-    /// That it may be the arguments of a call.
-    Arguments,
-    /// That it may be the arguments that have names.
-    Keywords,
-    /// That a view of it is itself.
-    ReadOnly,
-    /// That a view of it can be made.
-    Writable,
-    /// That objects can be put into it.
-    Target(Filling),
-}
-
 impl Kind {
     ghost use Rattle.std.specs.Prelude.{◌≡◌};
-    ghost use Rattle.pickle_ops.specs.Kind.{is_opaque, is_text, is_arguments, is_keywords, is_read_only, is_writable, accepts, meets};
+    ghost use Rattle.pickle_ops.specs.Kind.{class_of, meets, is_opaque};
+
+    /// What an opcode may take it for.
+    pub fn class(&self) -> Class
+        ensures { result ≡ class_of self.now }
+    {
+        match self {
+            Kind::LegacyString(_) => Class::Text,
+            Kind::LegacyLine(_) => Class::Text,
+            Kind::Text(_) => Class::Text,
+            Kind::TextLine(_) => Class::Text,
+            Kind::Bytes(_) => Class::ReadOnly,
+            Kind::ByteArray(_) => Class::ByteArray,
+            Kind::Tuple => Class::Tuple,
+            Kind::List => Class::List,
+            Kind::Set => Class::Set,
+            Kind::Dict => Class::Dict,
+            Kind::Global(_) => Class::Opaque,
+            Kind::StackGlobal => Class::Opaque,
+            Kind::Call => Class::Opaque,
+            Kind::New => Class::Opaque,
+            Kind::NewEx => Class::Opaque,
+            Kind::Inst(_) => Class::Opaque,
+            Kind::Obj => Class::Opaque,
+            Kind::PersistentLine(_) => Class::Opaque,
+            Kind::Persistent => Class::Opaque,
+            Kind::Ext(_) => Class::Opaque,
+            Kind::Buffer(_) => Class::Opaque,
+            Kind::ReadOnly => Class::ReadOnly,
+            _ => Class::Plain,
+        }
+    }
 
     /// Whether it comes from elsewhere or from a call, so that it may be of any type.
     pub fn is_opaque(&self) -> bool
         ensures { result ≡ is_opaque self.now }
     {
-        match self {
-            Kind::Global(_) => true,
-            Kind::StackGlobal => true,
-            Kind::Call => true,
-            Kind::New => true,
-            Kind::NewEx => true,
-            Kind::Inst(_) => true,
-            Kind::Obj => true,
-            Kind::PersistentLine(_) => true,
-            Kind::Persistent => true,
-            Kind::Ext(_) => true,
-            Kind::Buffer(_) => true,
-            _ => false,
-        }
-    }
-
-    /// Whether it may be a name.
-    fn is_text(&self) -> bool
-        ensures { result ≡ is_text self.now }
-    {
-        match self {
-            Kind::Text(_) => true,
-            Kind::TextLine(_) => true,
-            Kind::LegacyString(_) => true,
-            Kind::LegacyLine(_) => true,
-            _ => self.is_opaque(),
-        }
-    }
-
-    /// Whether it may be the arguments of a call.
-    fn is_arguments(&self) -> bool
-        ensures { result ≡ is_arguments self.now }
-    {
-        match self {
-            Kind::Tuple => true,
-            Kind::List => true,
-            _ => self.is_opaque(),
-        }
-    }
-
-    /// Whether it may be the arguments that have names.
-    fn is_keywords(&self) -> bool
-        ensures { result ≡ is_keywords self.now }
-    {
-        match self {
-            Kind::Dict => true,
-            _ => self.is_opaque(),
-        }
-    }
-
-    /// Whether a view of it is itself.
-    fn is_read_only(&self) -> bool
-        ensures { result ≡ is_read_only self.now }
-    {
-        match self {
-            Kind::Bytes(_) => true,
-            Kind::ReadOnly => true,
-            _ => false,
-        }
-    }
-
-    /// Whether a view of it can be made.
-    fn is_writable(&self) -> bool
-        ensures { result ≡ is_writable self.now }
-    {
-        match self {
-            Kind::ByteArray(_) => true,
-            _ => self.is_opaque(),
-        }
-    }
-
-    /// Whether objects can be put into it so.
-    fn accepts(&self, filling: Filling) -> bool
-        ensures { result ≡ accepts filling self.now }
-    {
-        match filling {
-            Filling::Append => match self {
-                Kind::List => true,
-                Kind::ByteArray(_) => true,
-                _ => self.is_opaque(),
-            },
-            Filling::SetItem => match self {
-                Kind::Dict => true,
-                Kind::List => true,
-                Kind::ByteArray(_) => true,
-                _ => self.is_opaque(),
-            },
-            Filling::Add => match self {
-                Kind::Set => true,
-                _ => self.is_opaque(),
-            },
-            Filling::Build => true,
-        }
+        self.class().is_opaque()
     }
 
     /// Whether it meets a demand. A machine asks this of the objects that a step uses.
     pub fn meets(&self, demand: Demand) -> bool
         ensures { result ≡ meets demand self.now }
     {
-        match demand {
-            Demand::Callable => self.is_opaque(),
-            Demand::Text => self.is_text(),
-            Demand::Arguments => self.is_arguments(),
-            Demand::Keywords => self.is_keywords(),
-            Demand::ReadOnly => self.is_read_only(),
-            Demand::Writable => self.is_writable(),
-            Demand::Target(filling) => self.accepts(filling),
-        }
+        self.class().meets(demand)
     }
 }

@@ -10,7 +10,7 @@ use Rattle.pickle_ops.specs.declared.kind.Kind.{Kind}
 use Rattle.pickle_ops.specs.declared.row.Row.{Row}
 use Rattle.pickle_ops.specs.declared.row.Row.TheVariants as row
 use Rattle.pickle_ops.specs.declared.object.Change.{Change}
-use Rattle.pickle_ops.specs.declared.kind.Demand.TheVariants as demand
+use Rattle.pickle_ops.specs.declared.class.Demand.TheVariants as demand
 use Rattle.pickle_ops.specs.Object.{Object}
 use Rattle.pickle_ops.specs.Row.{values_of, row_of, kind_of}
 use Rattle.pickle_machine.specs.declared.refusal.Refusal.{Refusal}

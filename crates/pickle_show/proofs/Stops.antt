@@ -12,7 +12,7 @@ use Rattle.pickle_doc.specs.Document.{Contents, items_of, ends_with_stop}
 use Rattle.pickle_doc.specs.Place.{ops_of}
 use Rattle.pickle_ops.specs.declared.kind.Kind.{Kind}
 use Rattle.pickle_ops.specs.declared.kind.Kind.TheVariants as kind
-use Rattle.pickle_ops.specs.declared.kind.Demand.TheVariants as demand
+use Rattle.pickle_ops.specs.declared.class.Demand.TheVariants as demand
 use Rattle.pickle_ops.specs.declared.row.Row.{Row}
 use Rattle.pickle_ops.specs.declared.row.Row.TheVariants as row
 use Rattle.pickle_ops.specs.Row.{row_of, row_of_opcode}

@@ -6,8 +6,7 @@ ghost use Rattle.pickle_io.specs.Text.{◌⧺◌};
 ghost use Rattle.pickle_doc.specs.Document.{Contents, ReadsAs, size_limit};
 ghost use Rattle.pickle_machine.specs.State.{stack_size};
 ghost use Rattle.pickle_machine.specs.Move.{next_of, refusal_of, fresh};
-ghost use Rattle.pickle_machine.specs.Class.{sample};
-ghost use Rattle.pickle_machine.specs.Outline.{outline};
+ghost use Rattle.pickle_machine.specs.Outline.{outline, sample};
 ghost use Rattle.pickle_show.specs.ReportLine.{fault_line};
 ghost use Rattle.pickle_show.specs.Page.{Puts};
 ghost use Rattle.pickle_show.specs.Line.{item_line, refused_line, left_line, kept_line, protocol_line};
@@ -23,8 +22,8 @@ use crate::put::{put_item, put_refused};
 use crate::report_line::write_fault;
 use crate::stop::TextStop;
 use pickle_doc::{Document, DocumentItems, ItemSource, Items, NextRef, TailFault, is_stop};
-use pickle_machine::{Class, Lean, Refusal};
-use pickle_ops::{Failed, OpRef, Row, Sink};
+use pickle_machine::{Lean, Refusal};
+use pickle_ops::{Class, Failed, OpRef, Row, Sink};
 use std::alloc::{AllocError, Global};
 
 /// Writes out the page, and the lines after all items where bytes are left that are no further item.

@@ -7,8 +7,7 @@ use Rattle.pickle_doc.specs.DocUnit.{is_stop}
 use Rattle.pickle_doc.specs.Unread.{IsNextItem, Unread}
 use Rattle.pickle_ops.specs.Row.{row_of, kind_of}
 use Rattle.pickle_machine.specs.Move.{refusal_of}
-use Rattle.pickle_machine.specs.Class.{sample}
-use Rattle.pickle_machine.specs.Outline.{plain}
+use Rattle.pickle_machine.specs.Outline.{sample, plain}
 use Rattle.pickle_show.proofs.Listed.{listed_none, with_line, line_breaks, line_stops, closes_ok, closes_err, refused_closes, fault_closes, moved, goes_on, stop_breaks, next_pickle, stop_closes, bounds}
 use Rattle.pickle_show.proofs.Cuts.{cut_failed, cut_memory}
 use Rattle.pickle_show.proofs.list.list_items.Goals as goal
@@ -96,7 +95,7 @@ items-preserved-then-not-is_stop g c =
     × (g.I.ItemSource.unread c.next.new.self ≡ record { rest = drop (size_of c.in-Item.op) (g.I.ItemSource.unread c.items.reader).rest; left = left_behind (g.I.ItemSource.unread c.items.reader).left c.in-Item.op }) = rw c.in-Item.is at c.next.ensures in
     let none : refusal_of (row_of c.in-Item.op) c.items.lean ≡ None = rw c.of_ref-row.ensures at (sym c.in_default.ensures.first) in
     let w = with_line _ _ _ _ _ _ _ _ _ _ c.in-Item.op _ _ _ c.items.invariant n.0 none (rw c.as_slice-marks.ensures.value at c.in_ok-put_item-in-Item.ensures) in
-    let kind : sample c.of-class.result ≡ plain (kind_of c.in-Item.op) = rw c.opcode-in-Item.ensures at (c.of-class.ensures c.in-Item.op.arg) in
+    let kind : sample c.of-class.result ≡ plain (kind_of c.in-Item.op) = ap sample (rw c.opcode-in-Item.ensures at (c.of-class.ensures c.in-Item.op.arg)) in
     let next = rw c.of_ref-row.ensures at c.in_ok-perform-in-Item.ensures.moved in
     let m = moved _ _ _ _ _ _ _ _ c.in-Item.op _ _ _ _ _ _ w none kind next c.in_ok-perform-in-Item.ensures.marks in
     let stop : is_stop c.in-Item.op.opcode ≡ c.is_stop.result = sym (c.is_stop.ensures ∙ ap is_stop c.opcode-in-Item-2.ensures) in
@@ -109,7 +108,7 @@ returns-in_err-end_pickle-in-Item-clause-err g c =
     × (g.I.ItemSource.unread c.next.new.self ≡ record { rest = drop (size_of c.in-Item.op) (g.I.ItemSource.unread c.items.reader).rest; left = left_behind (g.I.ItemSource.unread c.items.reader).left c.in-Item.op }) = rw c.in-Item.is at c.next.ensures in
     let none : refusal_of (row_of c.in-Item.op) c.items.lean ≡ None = rw c.of_ref-row.ensures at (sym c.in_default.ensures.first) in
     let w = with_line _ _ _ _ _ _ _ _ _ _ c.in-Item.op _ _ _ c.items.invariant n.0 none (rw c.as_slice-marks.ensures.value at c.in_ok-put_item-in-Item.ensures) in
-    let kind : sample c.of-class.result ≡ plain (kind_of c.in-Item.op) = rw c.opcode-in-Item.ensures at (c.of-class.ensures c.in-Item.op.arg) in
+    let kind : sample c.of-class.result ≡ plain (kind_of c.in-Item.op) = ap sample (rw c.opcode-in-Item.ensures at (c.of-class.ensures c.in-Item.op.arg)) in
     let next = rw c.of_ref-row.ensures at c.in_ok-perform-in-Item.ensures.moved in
     let m = moved _ _ _ _ _ _ _ _ c.in-Item.op _ _ _ _ _ _ w none kind next c.in_ok-perform-in-Item.ensures.marks in
     let stop : is_stop c.in-Item.op.opcode ≡ c.is_stop.result = sym (c.is_stop.ensures ∙ ap is_stop c.opcode-in-Item-2.ensures) in
@@ -122,7 +121,7 @@ returns-then-is_last-clause-ok g c =
     × (g.I.ItemSource.unread c.next.new.self ≡ record { rest = drop (size_of c.in-Item.op) (g.I.ItemSource.unread c.items.reader).rest; left = left_behind (g.I.ItemSource.unread c.items.reader).left c.in-Item.op }) = rw c.in-Item.is at c.next.ensures in
     let none : refusal_of (row_of c.in-Item.op) c.items.lean ≡ None = rw c.of_ref-row.ensures at (sym c.in_default.ensures.first) in
     let w = with_line _ _ _ _ _ _ _ _ _ _ c.in-Item.op _ _ _ c.items.invariant n.0 none (rw c.as_slice-marks.ensures.value at c.in_ok-put_item-in-Item.ensures) in
-    let kind : sample c.of-class.result ≡ plain (kind_of c.in-Item.op) = rw c.opcode-in-Item.ensures at (c.of-class.ensures c.in-Item.op.arg) in
+    let kind : sample c.of-class.result ≡ plain (kind_of c.in-Item.op) = ap sample (rw c.opcode-in-Item.ensures at (c.of-class.ensures c.in-Item.op.arg)) in
     let next = rw c.of_ref-row.ensures at c.in_ok-perform-in-Item.ensures.moved in
     let m = moved _ _ _ _ _ _ _ _ c.in-Item.op _ _ _ _ _ _ w none kind next c.in_ok-perform-in-Item.ensures.marks in
     let stop : is_stop c.in-Item.op.opcode ≡ c.is_stop.result = sym (c.is_stop.ensures ∙ ap is_stop c.opcode-in-Item-2.ensures) in
@@ -137,7 +136,7 @@ returns-then-is_last-clause-err g c =
     × (g.I.ItemSource.unread c.next.new.self ≡ record { rest = drop (size_of c.in-Item.op) (g.I.ItemSource.unread c.items.reader).rest; left = left_behind (g.I.ItemSource.unread c.items.reader).left c.in-Item.op }) = rw c.in-Item.is at c.next.ensures in
     let none : refusal_of (row_of c.in-Item.op) c.items.lean ≡ None = rw c.of_ref-row.ensures at (sym c.in_default.ensures.first) in
     let w = with_line _ _ _ _ _ _ _ _ _ _ c.in-Item.op _ _ _ c.items.invariant n.0 none (rw c.as_slice-marks.ensures.value at c.in_ok-put_item-in-Item.ensures) in
-    let kind : sample c.of-class.result ≡ plain (kind_of c.in-Item.op) = rw c.opcode-in-Item.ensures at (c.of-class.ensures c.in-Item.op.arg) in
+    let kind : sample c.of-class.result ≡ plain (kind_of c.in-Item.op) = ap sample (rw c.opcode-in-Item.ensures at (c.of-class.ensures c.in-Item.op.arg)) in
     let next = rw c.of_ref-row.ensures at c.in_ok-perform-in-Item.ensures.moved in
     let m = moved _ _ _ _ _ _ _ _ c.in-Item.op _ _ _ _ _ _ w none kind next c.in_ok-perform-in-Item.ensures.marks in
     let stop : is_stop c.in-Item.op.opcode ≡ c.is_stop.result = sym (c.is_stop.ensures ∙ ap is_stop c.opcode-in-Item-2.ensures) in
@@ -152,7 +151,7 @@ items-preserved g c =
     × (g.I.ItemSource.unread c.next.new.self ≡ record { rest = drop (size_of c.in-Item.op) (g.I.ItemSource.unread c.items.reader).rest; left = left_behind (g.I.ItemSource.unread c.items.reader).left c.in-Item.op }) = rw c.in-Item.is at c.next.ensures in
     let none : refusal_of (row_of c.in-Item.op) c.items.lean ≡ None = rw c.of_ref-row.ensures at (sym c.in_default.ensures.first) in
     let w = with_line _ _ _ _ _ _ _ _ _ _ c.in-Item.op _ _ _ c.items.invariant n.0 none (rw c.as_slice-marks.ensures.value at c.in_ok-put_item-in-Item.ensures) in
-    let kind : sample c.of-class.result ≡ plain (kind_of c.in-Item.op) = rw c.opcode-in-Item.ensures at (c.of-class.ensures c.in-Item.op.arg) in
+    let kind : sample c.of-class.result ≡ plain (kind_of c.in-Item.op) = ap sample (rw c.opcode-in-Item.ensures at (c.of-class.ensures c.in-Item.op.arg)) in
     let next = rw c.of_ref-row.ensures at c.in_ok-perform-in-Item.ensures.moved in
     let m = moved _ _ _ _ _ _ _ _ c.in-Item.op _ _ _ _ _ _ w none kind next c.in_ok-perform-in-Item.ensures.marks in
     let stop : is_stop c.in-Item.op.opcode ≡ c.is_stop.result = sym (c.is_stop.ensures ∙ ap is_stop c.opcode-in-Item-2.ensures) in

@@ -1,8 +1,9 @@
-//! What an opcode may ask of an object, and no more of the object.
+//! What an opcode may take an object for, and what it asks of one.
 
-use pickle_ops::{Demand, Filling, Opcode};
+use crate::opcode::Opcode;
+use crate::row::Filling;
 
-/// What an opcode may ask of an object.
+/// What an opcode may take an object for. Objects of one class meet the same demands.
 #[derive(Clone, Copy, Debug, PartialEq, Eq)]
 pub enum Class {
     /// None of the others.
@@ -25,17 +26,35 @@ pub enum Class {
     ByteArray,
 }
 
+/// What an opcode asks of an object.
+#[derive(Clone, Copy)]
+pub enum Demand {
+    /// That it can be called.
+    Callable,
+    /// That it may be a name.
+    Text,
+    /// That it may be the arguments of a call.
+    Arguments,
+    /// That it may be the arguments that have names.
+    Keywords,
+    /// That a view of it is itself.
+    ReadOnly,
+    /// That a view of it can be made.
+    Writable,
+    /// That objects can be put into it.
+    Target(Filling),
+}
+
 impl Class {
     ghost use Rattle.std.specs.Prelude.{◌≡◌, List, ℕ};
-    ghost use Rattle.pickle_ops.specs.Kind.{meets, accepts};
+    ghost use Rattle.pickle_ops.specs.Class.{class_meets, is_any};
+    ghost use Rattle.pickle_ops.specs.Kind.{class_of};
     ghost use Rattle.pickle_ops.specs.Row.{kind_of_opcode};
-    ghost use Rattle.pickle_machine.specs.Outline.{plain};
-    ghost use Rattle.pickle_machine.specs.Class.{sample};
 
     /// The class of the object that an opcode makes, whatever its argument.
     #[tactic(auto, using(crate::proofs::Classes::class_rules))]
     pub fn of(opcode: Opcode) -> Class
-        ensures { (arg : List ℕ) → sample result ≡ plain (kind_of_opcode opcode arg) }
+        ensures { (arg : List ℕ) → result ≡ class_of (kind_of_opcode opcode arg) }
     {
         match opcode {
             Opcode::String => Class::Text,
@@ -75,9 +94,16 @@ impl Class {
         }
     }
 
+    /// Whether it may be of any type.
+    pub(crate) fn is_opaque(self) -> bool
+        ensures { result ≡ is_any self }
+    {
+        matches!(self, Class::Opaque)
+    }
+
     /// Whether objects can be put into it so.
-    pub fn accepts(self, filling: Filling) -> bool
-        ensures { result ≡ accepts filling (sample self) }
+    fn accepts(self, filling: Filling) -> bool
+        ensures { result ≡ class_meets (Demand.Target filling) self }
     {
         match filling {
             Filling::Append => matches!(self, Class::List | Class::ByteArray | Class::Opaque),
@@ -92,7 +118,7 @@ impl Class {
 
     /// Whether it meets a demand.
     pub fn meets(self, demand: Demand) -> bool
-        ensures { result ≡ meets demand (sample self) }
+        ensures { result ≡ class_meets demand self }
     {
         match demand {
             Demand::Callable => matches!(self, Class::Opaque),
