@@ -4,7 +4,7 @@ use Rattle.std.specs.Prelude.{◌==◌, ◌&&◌, length, slice_index, if◌then
 use Rattle.pickle_ops.specs.declared.kind.Kind.TheVariants as kind
 use Rattle.pickle_ops.specs.declared.class.Class.TheVariants as class
 use Rattle.pickle_ops.specs.Kind.{class_of}
-use Rattle.pickle_ops.specs.Row.{int_kind}
+use Rattle.pickle_ops.specs.Table.{int_kind}
 
 by_two : (b c : Bool) (text : List ℕ) → class_of (if b then kind.False else if c then kind.True else kind.IntLine text) ≡ class.Plain
 by_two true c text = refl
