@@ -161,14 +161,7 @@ impl<S: Sink + Drop> Page for Buffered<S> {
     }
 
     #[inline(always)]
-    fn push_three(
-        &mut self,
-        first: &[u8],
-        m: usize,
-        second: &[u8; 2],
-        third: &[u8],
-        n: usize,
-    ) {
+    fn push_three(&mut self, first: &[u8], m: usize, second: &[u8; 2], third: &[u8], n: usize) {
         let text = self.text.as_mut_slice();
         let at = copy_at(text, self.len, first, m);
         let at = copy_at(text, at, second, 2);

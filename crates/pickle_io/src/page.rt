@@ -27,14 +27,7 @@ pub trait Page: Sink {
         ensures room { room self.new + m + n ≡ room self.old };
 
     /// The same of three.
-    fn push_three(
-        &mut self,
-        first: &[u8],
-        m: usize,
-        second: &[u8; 2],
-        third: &[u8],
-        n: usize,
-    )
+    fn push_three(&mut self, first: &[u8], m: usize, second: &[u8; 2], third: &[u8], n: usize)
         requires room { length first.now + 2 + length third.now ≤ room self.old }
         requires first { m ≤ length first.now }
         requires third { n ≤ length third.now }

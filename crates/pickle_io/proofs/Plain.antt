@@ -4,8 +4,8 @@ use Rattle.std.specs.Prelude.{nat_le, ◌==◌, if◌then◌else◌}
 use Rattle.std.proofs.lemmas.List.{take_more, take_all}
 use lib.Ieee.Fits.{and_l, and_r}
 use Rattle.pickle_io.specs.Text.{quoted_byte, quoted_bytes}
-use Rattle.pickle_io.proofs.Blocks.{quoted_bytes-append, quoted_bytes-one}
-use Rattle.pickle_show.specs.declared.pieces.TheConstants.{PLAIN}
+use Rattle.pickle_io.proofs.Texts.{quoted_bytes-append, quoted_bytes-one}
+use Rattle.pickle_io.specs.declared.text.TheConstants.{PLAIN}
 
 abbrev stands : ℕ → Bool
 stands b = if b == 92 then false else if b == 39 then false else nat_le 32 b && nat_le b 126
