@@ -2,10 +2,11 @@
 //! closing lines.
 
 use pickle_doc::{Document, LIMIT};
-use pickle_ops::{Opcode, ToWrite, op_of};
+use pickle_ops::{Opcode, op_of};
 use pickle_show::{list_bytes, write_listing};
 use std::alloc::Global;
 use std::test::Fail;
+use test_equipment::{paper, taken};
 
 /// A usual dump of a list, in a frame.
 const DUMP: &[u8] = b"\x80\x04\x95\x06\x00\x00\x00\x00\x00\x00\x00]\x94K\x01a.";
@@ -125,18 +126,18 @@ fn is_listed(
     if bytes.len() > LIMIT {
         return Ok(false);
     }
-    let mut sink = ToWrite::new(Vec::new(alloc));
+    let mut sink = paper(alloc)?;
     let first = list_bytes(alloc, many, bytes, &mut sink)?;
     let document = if many {
         Document::read_many(alloc, bytes)?
     } else {
         Document::read(alloc, bytes)?
     };
-    let mut again = ToWrite::new(Vec::new(alloc));
+    let mut again = paper(alloc)?;
     let second = write_listing(alloc, &document, &mut again)?;
     Ok(
-        sink.into_inner().as_slice() == text.as_bytes()
-            && again.into_inner().as_slice() == text.as_bytes()
+        taken(sink)?.as_slice() == text.as_bytes()
+            && taken(again)?.as_slice() == text.as_bytes()
             && (first, second) == (status, status),
     )
 }
@@ -169,11 +170,11 @@ fn edited_many(rt: HostRuntime) -> Result<(), Fail> {
     let mut document = Document::read_many(rt.alloc(), b"N.N.")?;
     let op = op_of(rt.alloc(), Opcode::BinInt1, b"\x07")?;
     let _record = document.insert(1, op)?;
-    let mut sink = ToWrite::new(Vec::new(rt.alloc()));
+    let mut sink = paper(rt.alloc())?;
     write_listing(rt.alloc(), &document, &mut sink)?;
     let wanted =
         "    0: N    NONE\n    1: K    BININT1    7\n    3: .    STOP\nleft: 1 objects, 0 marks\n    4: N    NONE\n    5: .    STOP\nhighest protocol among opcodes = 1\n";
-    assert_eq!(rt; sink.into_inner().as_slice(), wanted.as_bytes());
+    assert_eq!(rt; taken(sink)?.as_slice(), wanted.as_bytes());
     Ok(())
 }
 
@@ -182,12 +183,12 @@ fn edited(rt: HostRuntime) -> Result<(), Fail> {
     let mut document = Document::read(rt.alloc(), DUMP)?;
     let op = op_of(rt.alloc(), Opcode::BinInt2, b"\x01\x02")?;
     let _record = document.replace(4, op)?;
-    let mut sink = ToWrite::new(Vec::new(rt.alloc()));
+    let mut sink = paper(rt.alloc())?;
     write_listing(rt.alloc(), &document, &mut sink)?;
-    assert_eq!(rt; sink.into_inner().as_slice(), REPLACED.as_bytes());
+    assert_eq!(rt; taken(sink)?.as_slice(), REPLACED.as_bytes());
     let _record = document.delete(5)?;
-    let mut sink = ToWrite::new(Vec::new(rt.alloc()));
+    let mut sink = paper(rt.alloc())?;
     write_listing(rt.alloc(), &document, &mut sink)?;
-    assert_eq!(rt; sink.into_inner().as_slice(), DELETED.as_bytes());
+    assert_eq!(rt; taken(sink)?.as_slice(), DELETED.as_bytes());
     Ok(())
 }

@@ -5,10 +5,10 @@ mod devices;
 use crate::report::devices::{Text, every_break};
 use pickle_doc::{DocFault, Document};
 use pickle_machine::Machine;
-use pickle_ops::{Failed, ToWrite};
 use pickle_show::{TextStop, write_document_report, write_memo, write_show, write_stack};
 use std::alloc::Global;
 use std::test::Fail;
+use test_equipment::{insist_on_paper, paper, taken, written_out};
 
 /// Reports, with their status.
 const REPORTS: [(&[u8], &str, u8); 11] = [
@@ -179,9 +179,9 @@ pub fn opened(alloc: Global, many: bool, bytes: &[u8]) -> Result<Document, DocFa
 /// The text and the status of a report.
 fn reported(alloc: Global, many: bool, bytes: &[u8]) -> Result<(Vec<u8>, u8), Fail> {
     let document = opened(alloc, many, bytes)?;
-    let mut sink = ToWrite::new(Vec::new(alloc));
+    let mut sink = paper(alloc)?;
     let status = write_document_report(alloc, &document, &mut sink)?;
-    Ok((sink.into_inner(), status))
+    Ok((taken(sink)?, status))
 }
 
 #[test]
@@ -210,9 +210,9 @@ fn reports_of_many(rt: HostRuntime) -> Result<(), Fail> {
 fn shown_objects(rt: HostRuntime) -> Result<(), Fail> {
     for (bytes, count, id, text) in &SHOWN {
         let machine = machine_of(rt.alloc(), bytes, *count)?;
-        let mut sink = ToWrite::new(Vec::new(rt.alloc()));
+        let mut sink = paper(rt.alloc())?;
         write_show(rt.alloc(), &machine, *id, &mut sink)?;
-        assert_eq!(rt; sink.into_inner().as_slice(), text.as_bytes());
+        assert_eq!(rt; taken(sink)?.as_slice(), text.as_bytes());
     }
     Ok(())
 }
@@ -221,9 +221,9 @@ fn shown_objects(rt: HostRuntime) -> Result<(), Fail> {
 fn stacks(rt: HostRuntime) -> Result<(), Fail> {
     for (bytes, count, text) in &STACKS {
         let machine = machine_of(rt.alloc(), bytes, *count)?;
-        let mut sink = ToWrite::new(Vec::new(rt.alloc()));
+        let mut sink = paper(rt.alloc())?;
         write_stack(&machine, &mut sink)?;
-        assert_eq!(rt; sink.into_inner().as_slice(), text.as_bytes());
+        assert_eq!(rt; taken(sink)?.as_slice(), text.as_bytes());
     }
     Ok(())
 }
@@ -232,9 +232,9 @@ fn stacks(rt: HostRuntime) -> Result<(), Fail> {
 fn memos(rt: HostRuntime) -> Result<(), Fail> {
     for (bytes, count, text) in &MEMOS {
         let machine = machine_of(rt.alloc(), bytes, *count)?;
-        let mut sink = ToWrite::new(Vec::new(rt.alloc()));
+        let mut sink = paper(rt.alloc())?;
         write_memo(&machine, &mut sink)?;
-        assert_eq!(rt; sink.into_inner().as_slice(), text.as_bytes());
+        assert_eq!(rt; taken(sink)?.as_slice(), text.as_bytes());
     }
     Ok(())
 }
@@ -246,9 +246,9 @@ fn deep_object(rt: HostRuntime) -> Result<(), Fail> {
     bytes.push(b')')?;
     bytes.resize(100_001, 0x85)?;
     let machine = machine_of(rt.alloc(), &bytes, 100_001)?;
-    let mut sink = ToWrite::new(Vec::new(rt.alloc()));
+    let mut sink = paper(rt.alloc())?;
     write_show(rt.alloc(), &machine, 100_000, &mut sink)?;
-    let shown = sink.into_inner();
+    let shown = taken(sink)?;
     assert!(rt;
         shown
             .as_slice()
@@ -352,30 +352,33 @@ fn report_with_little(
     status: u8,
 ) -> Result<bool, Fail> {
     let document = insist_on_reading(alloc, many, bytes)?;
-    let mut sink = ToWrite::new(Vec::new(alloc));
+    let mut sink = insist_on_paper(alloc)?;
     let answer = write_document_report(alloc, &document, &mut sink);
-    let taken = sink.into_inner();
+    let answer = written_out(&mut sink, answer);
+    let written = sink.into_inner().into_inner();
     match answer {
-        Ok(found) => Ok(found == status && taken.as_slice() == text.as_bytes()),
+        Ok(found) => Ok(found == status && written.as_slice() == text.as_bytes()),
         Err(stop) => {
             let (again, found) = reported(alloc, many, bytes)?;
             let is_whole = again.as_slice() == text.as_bytes() && found == status;
-            Ok(is_whole && is_answer(&taken, text.as_bytes(), Err(stop)))
+            Ok(is_whole && is_answer(&written, text.as_bytes(), Err(stop)))
         }
     }
 }
 
 /// What an object shows, where one request for memory may be refused, and asked for again then.
-fn show_with_little(alloc: Global, machine: &Machine, id: u32, text: &str) -> Result<bool, Failed> {
-    let mut sink = ToWrite::new(Vec::new(alloc));
+fn show_with_little(alloc: Global, machine: &Machine, id: u32, text: &str) -> Result<bool, Fail> {
+    let mut sink = insist_on_paper(alloc)?;
     let answer = write_show(alloc, machine, id, &mut sink);
-    let taken = sink.into_inner();
-    if !is_answer(&taken, text.as_bytes(), answer) {
+    let answer = written_out(&mut sink, answer);
+    let written = sink.into_inner().into_inner();
+    if !is_answer(&written, text.as_bytes(), answer) {
         return Ok(false);
     }
-    let mut again = ToWrite::new(Vec::new(alloc));
-    match write_show(alloc, machine, id, &mut again) {
-        Ok(()) => Ok(again.into_inner().as_slice() == text.as_bytes()),
+    let mut again = insist_on_paper(alloc)?;
+    let second = write_show(alloc, machine, id, &mut again);
+    match written_out(&mut again, second) {
+        Ok(()) => Ok(again.into_inner().into_inner().as_slice() == text.as_bytes()),
         // (the only refused request is that of the sink here)
         Err(_) => Ok(answer.is_ok()),
     }
@@ -415,9 +418,9 @@ fn forty_doublings(rt: HostRuntime) -> Result<(), Fail> {
         bytes.extend_from_slice(b"2\x86")?;
     }
     let machine = machine_of(rt.alloc(), &bytes, bytes.len())?;
-    let mut sink = ToWrite::new(Vec::new(rt.alloc()));
+    let mut sink = paper(rt.alloc())?;
     write_show(rt.alloc(), &machine, 40, &mut sink)?;
-    let shown = sink.into_inner();
+    let shown = taken(sink)?;
     let lines = shown.iter().filter(|byte| **byte == b'\n').count();
     assert_eq!(rt; lines, 81);
     assert!(rt;

@@ -93,6 +93,23 @@ Writes-stop a b r (Err e) text h p = p
 
 pub ruleset text_steps = (Wrote-none, Wrote-then, Broke-next, Broke-longer, Writes-next)
 
+-- ---- a text after what was held was handed on
+
+pub Wrote-there : (a b c : Told) (text : List ℕ) → Wrote b c text → Wrote a b [] → Wrote a c text
+Wrote-there a b c text q p = Wrote-trans a b c [] text p q
+
+pub Broke-there : (a b c : Told) (text : List ℕ) → Broke b c text → Wrote a b [] → Broke a c text
+Broke-there a b c text q p = Broke-after a b c [] text p q
+
+pub Broke-first : (a b : Told) (text : List ℕ) → Broke a b [] → Broke a b text
+Broke-first a b text p = Broke-more a b [] text p
+
+pub Writes-there : {A E : Type 0} (a b c : Told) (r : Result A E) (text : List ℕ) → Writes b c r text → Wrote a b [] → Writes a c r text
+Writes-there a b c (Ok x) text q p = Wrote-there a b c text q p
+Writes-there a b c (Err e) text q p = Broke-there a b c text q p
+
+pub ruleset page_steps = (Wrote-none, Wrote-then, Broke-next, Broke-longer, Writes-next, Wrote-there, Broke-there, Broke-first, Writes-there)
+
 -- ---- the texts of things, one after another
 
 module _ {X : Type 0} where

@@ -1,13 +1,17 @@
 //! A sink that hands on what it takes in blocks.
 
-ghost use Rattle.std.specs.Prelude.{◌≡◌, ◌≤◌, [], length, drop, OnOk};
+ghost use Rattle.std.specs.Prelude.{◌≡◌, ◌+◌, ◌≤◌, [], ◌++◌, length, take, drop, OnOk};
 ghost use Rattle.pickle_io.specs.Device.{Writes, holding};
 
+use crate::page::Page;
 use crate::sink::{Failed, Sink};
 use std::alloc::{AllocError, Global};
 
-/// How many bytes it asks room for.
+/// How many bytes it has room for.
 const ROOM: usize = 65_536;
+
+/// The least room: that of a line, but for its long parts.
+const LINE: usize = 256;
 
 /// Hands a text on from a place. Answers the place after what was taken.
 fn hand_on<S: Sink>(sink: &mut S, text: &[u8], from: usize) -> (usize, Result<(), Failed>)
@@ -26,67 +30,160 @@ fn hand_on<S: Sink>(sink: &mut S, text: &[u8], from: usize) -> (usize, Result<()
     (place, Ok(()))
 }
 
+/// Copies a part to this place of a text. Answers the place after its first n bytes.
+#[inline(always)]
+fn copy_at(text: &mut [u8], at: usize, part: &[u8], n: usize) -> usize
+    requires room { at + length part.now ≤ length text.old }
+    requires within { n ≤ length part.now }
+    ensures text { take (at + n) text.new ≡ take at text.old ++ take n part.now }
+    ensures len { length text.new ≡ length text.old }
+    ensures place { result ≡ at + n }
+{
+    let end = at + part.len();
+    text[at..end].copy_from_slice(part);
+    at + n
+}
+
 /// A sink that hands on what it takes in blocks, since a call of a device for each text would take most of the time. What it has
 /// not handed on it still holds, also after a failure, and reports as taken. Dropped, it writes nothing.
 #[derive(Drop)]
 pub struct Buffered<S> {
     sink: S,
+    // its length is the room, and never changes
     text: Vec<u8>,
     // what is before this place was handed on
     start: usize,
-    ghost within: { start ≤ length text.items },
-    ghost room: { 1 ≤ vec_capacity text },
+    // what is held ends here
+    len: usize,
+    ghost started: { start ≤ len },
+    ghost within: { len ≤ length text.items },
+    ghost line: { 256 ≤ length text.items },
 }
 
-ghost use Rattle.std.specs.Prelude.{vec_capacity};
-
 impl<S: Sink + Drop> Buffered<S> {
-    ghost use Rattle.std.specs.Prelude.{◌≡◌, [], drop, IfOk, OnOk};
+    ghost use Rattle.std.specs.Prelude.{◌≡◌, ◌≤◌, [], drop, take, length, IfOk, OnOk};
+    ghost use Rattle.pickle_io.specs.Device.{Writes, holding};
 
     /// It holds nothing. An error comes only where memory runs out.
     pub fn new(alloc: Global, sink: S) -> Result<Buffered<S>, AllocError>
         ensures sink { IfOk result (λ b. b.sink ≡ sink) }
-        ensures held { IfOk result (λ b. drop b.start b.text.items ≡ []) }
+        ensures held { IfOk result (λ b. drop b.start (take b.len b.text.items) ≡ []) }
     {
+        Buffered::with_room(alloc, sink, ROOM)
+    }
+
+    /// The same with room for this many bytes, or for a line where that is more.
+    pub fn with_room(alloc: Global, sink: S, room: usize) -> Result<Buffered<S>, AllocError>
+        ensures sink { IfOk result (λ b. b.sink ≡ sink) }
+        ensures held { IfOk result (λ b. drop b.start (take b.len b.text.items) ≡ []) }
+    {
+        let mut text = Vec::new(alloc);
+        text.resize(room.max(LINE), 0)?;
         Ok(Buffered {
             sink,
-            text: Vec::with_capacity(alloc, ROOM)?,
+            text,
             start: 0,
+            len: 0,
         })
     }
 
-    /// Hands on all that it holds. `Failed` comes from its sink; what was not taken it holds still.
-    fn empty(&mut self) -> Result<(), Failed>
-        ensures told { Writes (holding (S.told self.old.sink) (drop self.old.start self.old.text.items)) (holding (S.told self.new.sink) (drop self.new.start self.new.text.items)) result [] }
-        ensures held { OnOk result (self.new.text.items ≡ []) }
-        ensures room { vec_capacity self.new.text ≡ vec_capacity self.old.text }
+    /// The sink.
+    pub fn get_ref(&self) -> &S
+        ensures { result.now ≡ self.now.sink }
     {
-        let (place, handed) = hand_on(&mut self.sink, self.text.as_slice(), self.start);
+        &self.sink
+    }
+
+    /// The sink. What was not handed on is lost.
+    pub fn into_inner(self) -> S
+        ensures { result ≡ self.sink }
+    {
+        let Buffered {
+            sink,
+            text: _,
+            start: _,
+            len: _,
+        } = self;
+        sink
+    }
+
+    /// Hands on all that it holds. `Failed` comes from its sink; what was not taken it holds still.
+    #[inline(never)]
+    fn empty(&mut self) -> Result<(), Failed>
+        ensures told { Writes (holding (S.told self.old.sink) (drop self.old.start (take self.old.len self.old.text.items))) (holding (S.told self.new.sink) (drop self.new.start (take self.new.len self.new.text.items))) result [] }
+        ensures held { OnOk result (drop self.new.start (take self.new.len self.new.text.items) ≡ []) }
+        ensures len { OnOk result (self.new.len ≡ 0) }
+        ensures room { length self.new.text.items ≡ length self.old.text.items }
+    {
+        let held = &self.text[..self.len];
+        let (place, handed) = hand_on(&mut self.sink, held, self.start);
         self.start = place;
         handed?;
         self.start = 0;
-        self.text.clear();
+        self.len = 0;
         Ok(())
     }
 }
 
 impl<S: Sink + Drop> Sink for Buffered<S> {
-    ghost told = { λ b. holding (S.told b.sink) (drop b.start b.text.items) };
+    ghost told = { λ b. holding (S.told b.sink) (drop b.start (take b.len b.text.items)) };
 
     fn write(&mut self, bytes: &[u8]) -> Result<usize, Failed> {
-        if self.text.len() == self.text.capacity() {
+        if self.len == self.text.len() {
             self.empty()?;
         }
-        let n = bytes.len().min(self.text.capacity() - self.text.len());
-        match self.text.extend_from_slice(&bytes[..n]) {
-            Ok(()) => Ok(n),
-            // there is room for them
-            Err(_) => unreachable!(),
-        }
+        let n = bytes.len().min(self.text.len() - self.len);
+        self.len = copy_at(self.text.as_mut_slice(), self.len, &bytes[..n], n);
+        Ok(n)
     }
 
     fn flush(&mut self) -> Result<(), Failed> {
         self.empty()?;
         self.sink.flush()
+    }
+}
+
+impl<S: Sink + Drop> Page for Buffered<S> {
+    ghost use Rattle.std.specs.Prelude.{◌-◌};
+
+    ghost room = { λ b. length b.text.items - b.len };
+
+    #[inline(always)]
+    fn push_front(&mut self, part: &[u8], n: usize) {
+        self.len = copy_at(self.text.as_mut_slice(), self.len, part, n);
+    }
+
+    #[inline(always)]
+    fn push_two(&mut self, first: &[u8], m: usize, second: &[u8], n: usize) {
+        let text = self.text.as_mut_slice();
+        let at = copy_at(text, self.len, first, m);
+        self.len = copy_at(text, at, second, n);
+    }
+
+    #[inline(always)]
+    fn push_three(&mut self, first: &[u8], m: usize, second: &[u8; 2], third: &[u8], n: usize) {
+        let text = self.text.as_mut_slice();
+        let at = copy_at(text, self.len, first, m);
+        let at = copy_at(text, at, second, 2);
+        self.len = copy_at(text, at, third, n);
+    }
+
+    #[inline(always)]
+    fn push(&mut self, byte: u8) {
+        self.text[self.len] = byte;
+        self.len += 1;
+    }
+
+    #[inline(always)]
+    fn push_text(&mut self, text: &[u8]) {
+        self.len = copy_at(self.text.as_mut_slice(), self.len, text, text.len());
+    }
+
+    #[inline(always)]
+    fn make_room(&mut self) -> Result<(), Failed> {
+        if self.text.len() - self.len < LINE {
+            self.empty()?;
+        }
+        Ok(())
     }
 }

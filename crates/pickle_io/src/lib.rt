@@ -4,6 +4,7 @@
 
 mod buffered;
 mod from_read;
+mod page;
 mod sink;
 mod source;
 mod text;
@@ -12,8 +13,9 @@ mod whole;
 
 pub use buffered::Buffered;
 pub use from_read::FromRead;
+pub use page::Page;
 pub use sink::{Failed, Sink, write_all};
 pub use source::Source;
-pub use text::{write_decimal, write_hex, write_quoted, write_signed};
+pub use text::{push_decimal, push_signed, write_decimal, write_hex, write_quoted, write_signed};
 pub use to_write::ToWrite;
 pub use whole::{ReadStop, read_limited};

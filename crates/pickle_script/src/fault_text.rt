@@ -5,12 +5,12 @@ ghost use Rattle.pickle_io.specs.Device.{Writes};
 ghost use Rattle.pickle_script.specs.FaultText.{end_text, op_fault_text};
 
 use pickle_doc::{End, TailFault};
-use pickle_ops::{Failed, OpFault, Sink, write_all, write_decimal};
+use pickle_ops::{Failed, OpFault, Page, write_all, write_decimal};
 use pickle_show::write_fault_text;
 
 /// Writes why a document ends.
 #[tactic(auto, using(pickle_io::proofs::Devices::text_steps), unfolding(crate::specs::FaultText::end_text))]
-pub(crate) fn write_end<S: Sink>(end: End, sink: &mut S) -> Result<(), Failed>
+pub(crate) fn write_end<S: Page>(end: End, sink: &mut S) -> Result<(), Failed>
     ensures { Writes (S.told sink.old) (S.told sink.new) result (end_text end) }
 {
     match end {
@@ -25,7 +25,7 @@ pub(crate) fn write_end<S: Sink>(end: End, sink: &mut S) -> Result<(), Failed>
 
 /// Writes why bytes are no opcode, or no argument of an opcode.
 #[tactic(auto, unfolding(crate::specs::FaultText::op_fault_text))]
-pub(crate) fn write_op_fault<S: Sink>(fault: OpFault, sink: &mut S) -> Result<(), Failed>
+pub(crate) fn write_op_fault<S: Page>(fault: OpFault, sink: &mut S) -> Result<(), Failed>
     ensures { Writes (S.told sink.old) (S.told sink.new) result (op_fault_text fault) }
 {
     match fault {

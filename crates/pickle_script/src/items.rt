@@ -5,7 +5,7 @@ ghost use Rattle.pickle_io.specs.Device.{Writes};
 ghost use Rattle.pickle_doc.specs.Place.{offset_of};
 ghost use Rattle.pickle_script.specs.PlaceText.{sign_if, signs, op_text, place_columns, item_line, line_at, items_text};
 
-use pickle_ops::{Failed, Op, Sink, write_all, write_arg_text};
+use pickle_ops::{Failed, Op, Page, write_all, write_arg_text};
 use pickle_session::{Past, Session};
 use pickle_show::write_right;
 
@@ -25,7 +25,7 @@ fn signs(at_cursor: bool, breaks: bool) -> [u8; 2]
 
 /// Writes a place and an offset, each at the right of a column.
 #[tactic(auto, using(pickle_io::proofs::Devices::text_steps), unfolding(crate::specs::PlaceText::place_columns))]
-fn write_columns<S: Sink>(place: usize, offset: u64, sink: &mut S) -> Result<(), Failed>
+fn write_columns<S: Page>(place: usize, offset: u64, sink: &mut S) -> Result<(), Failed>
     ensures { Writes (S.told sink.old) (S.told sink.new) result (place_columns place offset) }
 {
     write_right(place as u64, sink)?;
@@ -35,7 +35,7 @@ fn write_columns<S: Sink>(place: usize, offset: u64, sink: &mut S) -> Result<(),
 
 /// Writes the name of an opcode, and after a blank the text of its argument where there is one.
 #[tactic(auto, using(pickle_io::proofs::Devices::text_steps, crate::proofs::PlaceLemmas::name_steps), unfolding(crate::specs::PlaceText::op_text))]
-fn write_op<S: Sink>(op: &Op, sink: &mut S) -> Result<(), Failed>
+fn write_op<S: Page>(op: &Op, sink: &mut S) -> Result<(), Failed>
     ensures { Writes (S.told sink.old) (S.told sink.new) result (op_text op.now) }
 {
     if op.has_arg_text() {
@@ -49,7 +49,7 @@ fn write_op<S: Sink>(op: &Op, sink: &mut S) -> Result<(), Failed>
 
 /// Writes the line of the item at a place, which begins at this offset.
 #[tactic(auto, using(pickle_io::proofs::Devices::text_steps), unfolding(crate::specs::PlaceText::item_line))]
-fn write_item<P: Past, S: Sink>(
+fn write_item<P: Past, S: Page>(
     session: &Session<P>,
     place: usize,
     offset: u64,
@@ -69,7 +69,7 @@ fn write_item<P: Past, S: Sink>(
 
 /// Writes the line of the item at a place, and answers the offset of the place after it.
 #[tactic(auto, using(pickle_io::proofs::Devices::text_steps, crate::proofs::PlaceLemmas::offset_steps), unfolding(crate::specs::PlaceText::line_at))]
-fn write_line_at<P: Past, S: Sink>(
+fn write_line_at<P: Past, S: Page>(
     session: &Session<P>,
     place: usize,
     offset: u64,
@@ -95,7 +95,7 @@ fn write_line_at<P: Past, S: Sink>(
 /// its argument where there is one. It takes no memory, and time linear in the items. Where the sink fails, a beginning of the
 /// lines was written.
 #[tactic(auto, using(pickle_io::proofs::Devices::below_steps), unfolding(crate::specs::PlaceText::items_text))]
-pub fn write_items<P: Past, S: Sink>(session: &Session<P>, sink: &mut S) -> Result<(), Failed>
+pub fn write_items<P: Past, S: Page>(session: &Session<P>, sink: &mut S) -> Result<(), Failed>
     ensures { Writes (S.told sink.old) (S.told sink.new) result (items_text session.now.session) }
 {
     let mut offset: u64 = 0;

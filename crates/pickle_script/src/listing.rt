@@ -7,14 +7,14 @@ ghost use Rattle.pickle_script.specs.Output.{StopsListing};
 
 use crate::stop::Stop;
 use pickle_doc::LIMIT;
-use pickle_ops::Sink;
+use pickle_ops::Page;
 use pickle_show::list_bytes;
 use std::alloc::Global;
 
 /// Writes the listing of the pickle, and answers its status: 1 where an item is refused or the bytes have a fault, else 0.
 /// `Stop::TooLarge` where there are more bytes than `LIMIT`, `Stop::Memory` where memory runs out, `Stop::Write` where the sink
 /// fails; what was written then is a beginning of the listing.
-pub fn list<S: Sink>(alloc: Global, bytes: &[u8], sink: &mut S) -> Result<u8, Stop>
+pub fn list<S: Page>(alloc: Global, bytes: &[u8], sink: &mut S) -> Result<u8, Stop>
     ensures listed { IfOk result (IsListed false bytes.now (S.told sink.old) (S.told sink.new)) }
 
     // Write comes only where the sink has failed, Memory only where it has not, and Read never.
@@ -28,7 +28,7 @@ pub fn list<S: Sink>(alloc: Global, bytes: &[u8], sink: &mut S) -> Result<u8, St
 }
 
 /// Writes the listing of several pickles, one after another. Otherwise this is as `list`.
-pub fn list_many<S: Sink>(alloc: Global, bytes: &[u8], sink: &mut S) -> Result<u8, Stop>
+pub fn list_many<S: Page>(alloc: Global, bytes: &[u8], sink: &mut S) -> Result<u8, Stop>
     ensures listed { IfOk result (IsListed true bytes.now (S.told sink.old) (S.told sink.new)) }
     ensures stopped { IfErr result (StopsListing true bytes.now (S.told sink.old) (S.told sink.new)) }
     ensures too_large { (result ≡ Err Stop.TooLarge) ↔ (size_limit < length bytes.now) }
@@ -38,7 +38,7 @@ pub fn list_many<S: Sink>(alloc: Global, bytes: &[u8], sink: &mut S) -> Result<u
 }
 
 /// `list_many` where `many` holds, else `list`.
-pub fn list_as<S: Sink>(alloc: Global, many: bool, bytes: &[u8], sink: &mut S) -> Result<u8, Stop>
+pub fn list_as<S: Page>(alloc: Global, many: bool, bytes: &[u8], sink: &mut S) -> Result<u8, Stop>
     ensures listed { IfOk result (IsListed many bytes.now (S.told sink.old) (S.told sink.new)) }
     ensures stopped { IfErr result (StopsListing many bytes.now (S.told sink.old) (S.told sink.new)) }
     ensures too_large { (result ≡ Err Stop.TooLarge) ↔ (size_limit < length bytes.now) }

@@ -6,13 +6,13 @@ ghost use Rattle.pickle_script.specs.PlaceText.{cursor_text, offset_text, some_r
 use crate::fault_text::write_end;
 use pickle_doc::End;
 use pickle_machine::{Machine, ObjId};
-use pickle_ops::{Failed, Sink, write_all, write_decimal};
+use pickle_ops::{Failed, Page, write_all, write_decimal};
 use pickle_session::{Past, Session};
 use pickle_show::{write_all_next, write_id};
 
 /// Writes a place, and how many items there are.
 #[tactic(auto, using(pickle_io::proofs::Devices::text_steps), unfolding(crate::specs::PlaceText::cursor_text))]
-fn write_cursor<S: Sink>(place: usize, len: usize, sink: &mut S) -> Result<(), Failed>
+fn write_cursor<S: Page>(place: usize, len: usize, sink: &mut S) -> Result<(), Failed>
     ensures { Writes (S.told sink.old) (S.told sink.new) result (cursor_text place len) }
 {
     write_all(sink, b"at ")?;
@@ -23,7 +23,7 @@ fn write_cursor<S: Sink>(place: usize, len: usize, sink: &mut S) -> Result<(), F
 
 /// Writes an offset.
 #[tactic(auto, using(pickle_io::proofs::Devices::text_steps), unfolding(crate::specs::PlaceText::offset_text))]
-fn write_offset<S: Sink>(offset: u64, sink: &mut S) -> Result<(), Failed>
+fn write_offset<S: Page>(offset: u64, sink: &mut S) -> Result<(), Failed>
     ensures { Writes (S.told sink.old) (S.told sink.new) result (offset_text offset) }
 {
     write_all(sink, b", offset ")?;
@@ -32,7 +32,7 @@ fn write_offset<S: Sink>(offset: u64, sink: &mut S) -> Result<(), Failed>
 
 /// Writes results, of which there is one at least.
 #[tactic(auto, using(pickle_io::proofs::Devices::text_steps), unfolding(crate::specs::PlaceText::some_results))]
-fn write_some_results<S: Sink>(first: ObjId, rest: &[ObjId], sink: &mut S) -> Result<(), Failed>
+fn write_some_results<S: Page>(first: ObjId, rest: &[ObjId], sink: &mut S) -> Result<(), Failed>
     ensures { Writes (S.told sink.old) (S.told sink.new) result (some_results first rest.now) }
 {
     write_id(u64::from(first), sink)?;
@@ -41,7 +41,7 @@ fn write_some_results<S: Sink>(first: ObjId, rest: &[ObjId], sink: &mut S) -> Re
 
 /// Writes the results, or that there is none.
 #[tactic(auto, using(pickle_io::proofs::Devices::text_steps))]
-fn write_results<S: Sink>(ids: &[ObjId], sink: &mut S) -> Result<(), Failed>
+fn write_results<S: Page>(ids: &[ObjId], sink: &mut S) -> Result<(), Failed>
     ensures { Writes (S.told sink.old) (S.told sink.new) result (results_text ids.now) }
 {
     match ids.split_first() {
@@ -52,7 +52,7 @@ fn write_results<S: Sink>(ids: &[ObjId], sink: &mut S) -> Result<(), Failed>
 
 /// Writes the count of buffers and the results of a machine.
 #[tactic(auto, using(pickle_io::proofs::Devices::text_steps), unfolding(crate::specs::PlaceText::reached_text))]
-fn write_reached<S: Sink>(machine: &Machine, sink: &mut S) -> Result<(), Failed>
+fn write_reached<S: Page>(machine: &Machine, sink: &mut S) -> Result<(), Failed>
     ensures { Writes (S.told sink.old) (S.told sink.new) result (reached_text machine.now.state) }
 {
     write_all(sink, b", buffers ")?;
@@ -63,7 +63,7 @@ fn write_reached<S: Sink>(machine: &Machine, sink: &mut S) -> Result<(), Failed>
 
 /// Writes why a document ends, and ends the line.
 #[tactic(auto, using(pickle_io::proofs::Devices::text_steps), unfolding(crate::specs::PlaceText::ending_text))]
-fn write_ending<S: Sink>(end: End, sink: &mut S) -> Result<(), Failed>
+fn write_ending<S: Page>(end: End, sink: &mut S) -> Result<(), Failed>
     ensures { Writes (S.told sink.old) (S.told sink.new) result (ending_text end) }
 {
     write_all(sink, b", end ")?;
@@ -75,7 +75,7 @@ fn write_ending<S: Sink>(end: End, sink: &mut S) -> Result<(), Failed>
 /// results of the machine, and why the document ends. It takes no memory. Where the sink fails, a beginning of the line was
 /// written.
 #[tactic(auto, using(pickle_io::proofs::Devices::text_steps), unfolding(crate::specs::PlaceText::where_text))]
-pub fn write_where<P: Past, S: Sink>(session: &Session<P>, sink: &mut S) -> Result<(), Failed>
+pub fn write_where<P: Past, S: Page>(session: &Session<P>, sink: &mut S) -> Result<(), Failed>
     ensures { Writes (S.told sink.old) (S.told sink.new) result (where_text session.now.session session.now.machine.state) }
 {
     write_cursor(session.cursor(), session.document().len(), sink)?;

@@ -8,7 +8,7 @@ use crate::line::{Line, Query, Syntax};
 use crate::outcome::Outcome;
 use crate::place::write_where;
 use crate::syntax::{write_no_such_object, write_syntax};
-use pickle_ops::{Failed, ObjId, Sink};
+use pickle_ops::{Failed, ObjId, Page};
 use pickle_session::{Past, Session};
 use pickle_show::{TextStop, write_memo, write_objects, write_show, write_stack};
 use std::alloc::Global;
@@ -28,7 +28,7 @@ fn object_of<P: Past>(session: &Session<P>, number: u64) -> Option<ObjId>
 
 /// Writes that there is no such object.
 #[tactic(auto, using(crate::proofs::Queries::told_steps))]
-fn write_missing<P: Past, K: Sink>(
+fn write_missing<P: Past, K: Page>(
     session: &Session<P>,
     number: u64,
     sink: &mut K,
@@ -42,7 +42,7 @@ fn write_missing<P: Past, K: Sink>(
 
 /// Writes an object with all that it contains, or that memory runs out for it.
 #[tactic(auto, using(crate::proofs::Queries::told_steps))]
-fn write_object_of<P: Past, K: Sink>(
+fn write_object_of<P: Past, K: Page>(
     alloc: Global,
     session: &Session<P>,
     id: ObjId,
@@ -62,7 +62,7 @@ fn write_object_of<P: Past, K: Sink>(
 }
 
 /// Writes the object of this number with all that it contains, or that there is none.
-fn write_shown<P: Past, K: Sink>(
+fn write_shown<P: Past, K: Page>(
     alloc: Global,
     session: &Session<P>,
     number: u64,
@@ -78,7 +78,7 @@ fn write_shown<P: Past, K: Sink>(
 
 /// Writes what is asked of a session. Memory is asked for to show an object that is there, and for nothing else.
 #[tactic(auto, using(crate::proofs::Refusals::telling_steps, crate::proofs::Queries::line_told))]
-pub fn write_query<P: Past, K: Sink>(
+pub fn write_query<P: Past, K: Page>(
     alloc: Global,
     session: &Session<P>,
     query: Query,

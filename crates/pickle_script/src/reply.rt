@@ -7,7 +7,7 @@ ghost use Rattle.pickle_script.specs.ReplyText.{edit_words, fault_words, item_te
 use crate::fault_text::write_end;
 use pickle_doc::{EditFault, End};
 use pickle_machine::Refusal;
-use pickle_ops::{Failed, Sink, write_all, write_decimal};
+use pickle_ops::{Failed, Page, write_all, write_decimal};
 use pickle_session::{Fault, Reply, Why};
 use pickle_show::write_refusal;
 
@@ -50,7 +50,7 @@ fn words_of_fault(fault: Fault) -> &'static str
 
 /// Writes the place of an item that is refused, and why.
 #[tactic(auto, using(pickle_io::proofs::Devices::text_steps), unfolding(crate::specs::ReplyText::item_text))]
-fn write_refused_item<S: Sink>(place: usize, refusal: Refusal, sink: &mut S) -> Result<(), Failed>
+fn write_refused_item<S: Page>(place: usize, refusal: Refusal, sink: &mut S) -> Result<(), Failed>
     ensures { Writes (S.told sink.old) (S.told sink.new) result (item_text place refusal) }
 {
     write_decimal(place as u64, sink)?;
@@ -68,7 +68,7 @@ fn behind_words() -> &'static str
 
 /// Writes what comes after the words of a fault.
 #[tactic(auto, using(pickle_io::proofs::Devices::text_steps), unfolding(crate::specs::ReplyText::fault_rest))]
-fn write_fault_rest<S: Sink>(fault: Fault, sink: &mut S) -> Result<(), Failed>
+fn write_fault_rest<S: Page>(fault: Fault, sink: &mut S) -> Result<(), Failed>
     ensures { Writes (S.told sink.old) (S.told sink.new) result (fault_rest fault) }
 {
     match fault {
@@ -90,7 +90,7 @@ fn write_fault_rest<S: Sink>(fault: Fault, sink: &mut S) -> Result<(), Failed>
 
 /// Writes the line of a command that is refused.
 #[tactic(auto, using(pickle_io::proofs::Devices::text_steps), unfolding(crate::specs::ReplyText::refused_command))]
-fn write_refused_command<S: Sink>(fault: Fault, sink: &mut S) -> Result<(), Failed>
+fn write_refused_command<S: Page>(fault: Fault, sink: &mut S) -> Result<(), Failed>
     ensures { Writes (S.told sink.old) (S.told sink.new) result (refused_command fault) }
 {
     write_all(sink, b"refused: ")?;
@@ -101,7 +101,7 @@ fn write_refused_command<S: Sink>(fault: Fault, sink: &mut S) -> Result<(), Fail
 
 /// Writes why a run stopped in a document that ends so.
 #[tactic(auto, using(pickle_io::proofs::Devices::text_steps), unfolding(crate::specs::ReplyText::why_text))]
-fn write_why<S: Sink>(end: End, why: Why, sink: &mut S) -> Result<(), Failed>
+fn write_why<S: Page>(end: End, why: Why, sink: &mut S) -> Result<(), Failed>
     ensures { Writes (S.told sink.old) (S.told sink.new) result (why_text end why) }
 {
     match why {
@@ -119,7 +119,7 @@ fn write_why<S: Sink>(end: End, why: Why, sink: &mut S) -> Result<(), Failed>
 
 /// Writes where a run stopped, and why.
 #[tactic(auto, using(pickle_io::proofs::Devices::text_steps), unfolding(crate::specs::ReplyText::ran_text))]
-fn write_ran<S: Sink>(end: End, place: usize, why: Why, sink: &mut S) -> Result<(), Failed>
+fn write_ran<S: Page>(end: End, place: usize, why: Why, sink: &mut S) -> Result<(), Failed>
     ensures { Writes (S.told sink.old) (S.told sink.new) result (ran_text end place why) }
 {
     write_all(sink, b"at ")?;
@@ -130,7 +130,7 @@ fn write_ran<S: Sink>(end: End, place: usize, why: Why, sink: &mut S) -> Result<
 
 /// Writes a word and the place that it is about.
 #[tactic(auto, using(pickle_io::proofs::Devices::text_steps), unfolding(crate::specs::ReplyText::placed_text))]
-fn write_placed<S: Sink>(word: &str, place: usize, sink: &mut S) -> Result<(), Failed>
+fn write_placed<S: Page>(word: &str, place: usize, sink: &mut S) -> Result<(), Failed>
     ensures { Writes (S.told sink.old) (S.told sink.new) result (placed_text word.now place) }
 {
     write_all(sink, word.as_bytes())?;
@@ -141,7 +141,7 @@ fn write_placed<S: Sink>(word: &str, place: usize, sink: &mut S) -> Result<(), F
 /// Writes the line of a reply of a session whose document ends so. It takes no memory. Where the sink fails, a beginning of the
 /// line was written.
 #[tactic(auto, unfolding(crate::specs::ReplyText::reply_text))]
-pub fn write_reply<S: Sink>(end: End, reply: Reply, sink: &mut S) -> Result<(), Failed>
+pub fn write_reply<S: Page>(end: End, reply: Reply, sink: &mut S) -> Result<(), Failed>
     ensures { Writes (S.told sink.old) (S.told sink.new) result (reply_text end reply) }
 {
     match reply {

@@ -7,7 +7,7 @@ ghost use Rattle.pickle_script.specs.Objects.{StopsReport};
 
 use crate::stop::Stop;
 use pickle_doc::LIMIT;
-use pickle_ops::Sink;
+use pickle_ops::Page;
 use pickle_show::report_of_bytes;
 use std::alloc::Global;
 
@@ -15,7 +15,7 @@ use std::alloc::Global;
 /// to the end or to one that is refused, a line for each result, and a closing line where one is refused or the bytes have a fault; 1
 /// with such a line, else 0. `Stop::TooLarge` comes where there are more bytes than `LIMIT`, and `Stop::Memory` where memory runs
 /// out: nothing was written then. `Stop::Write` comes from the sink: what was written is a beginning of the report.
-pub fn objects<S: Sink>(alloc: Global, bytes: &[u8], sink: &mut S) -> Result<u8, Stop>
+pub fn objects<S: Page>(alloc: Global, bytes: &[u8], sink: &mut S) -> Result<u8, Stop>
     ensures reported { IfOk result (IsReported false bytes.now (S.told sink.old) (S.told sink.new)) }
 
     // Write comes only where the sink has failed, and Read never.
@@ -30,7 +30,7 @@ pub fn objects<S: Sink>(alloc: Global, bytes: &[u8], sink: &mut S) -> Result<u8,
 
 /// Writes the report of the several pickles that the bytes are, which follow one another: the objects of all of them, and a line
 /// for each result. Otherwise this is as `objects`.
-pub fn objects_many<S: Sink>(alloc: Global, bytes: &[u8], sink: &mut S) -> Result<u8, Stop>
+pub fn objects_many<S: Page>(alloc: Global, bytes: &[u8], sink: &mut S) -> Result<u8, Stop>
     ensures reported { IfOk result (IsReported true bytes.now (S.told sink.old) (S.told sink.new)) }
     ensures stopped { IfErr result (StopsReport true bytes.now (S.told sink.old) (S.told sink.new)) }
     ensures too_large { (result ≡ Err Stop.TooLarge) ↔ (size_limit < length bytes.now) }
@@ -40,7 +40,7 @@ pub fn objects_many<S: Sink>(alloc: Global, bytes: &[u8], sink: &mut S) -> Resul
 }
 
 /// `objects_many` where `many` holds, else `objects`.
-pub fn objects_as<S: Sink>(
+pub fn objects_as<S: Page>(
     alloc: Global,
     many: bool,
     bytes: &[u8],

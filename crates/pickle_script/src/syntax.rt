@@ -7,7 +7,7 @@ ghost use Rattle.pickle_script.specs.ReplyText.{syntax_words, syntax_rest, synta
 
 use crate::fault_text::write_op_fault;
 use crate::line::Syntax;
-use pickle_ops::{Failed, Sink, write_all, write_decimal};
+use pickle_ops::{Failed, Page, write_all, write_decimal};
 
 /// Why a line says nothing.
 #[tactic(auto, unfolding(crate::specs::ReplyText::syntax_words))]
@@ -29,7 +29,7 @@ fn words_of_syntax(syntax: Syntax) -> &'static str
 
 /// Writes the fault of an opcode after the words.
 #[tactic(auto, using(pickle_io::proofs::Devices::text_steps), unfolding(crate::specs::ReplyText::syntax_rest))]
-fn write_syntax_rest<S: Sink>(syntax: Syntax, sink: &mut S) -> Result<(), Failed>
+fn write_syntax_rest<S: Page>(syntax: Syntax, sink: &mut S) -> Result<(), Failed>
     ensures { Writes (S.told sink.old) (S.told sink.new) result (syntax_rest syntax) }
 {
     match syntax {
@@ -41,7 +41,7 @@ fn write_syntax_rest<S: Sink>(syntax: Syntax, sink: &mut S) -> Result<(), Failed
 /// Writes the line that a line is answered with which says nothing. It takes no memory. Where the sink fails, a beginning of the
 /// line was written.
 #[tactic(auto, using(pickle_io::proofs::Devices::text_steps), unfolding(crate::specs::ReplyText::syntax_line))]
-pub fn write_syntax<S: Sink>(syntax: Syntax, sink: &mut S) -> Result<(), Failed>
+pub fn write_syntax<S: Page>(syntax: Syntax, sink: &mut S) -> Result<(), Failed>
     ensures { Writes (S.told sink.old) (S.told sink.new) result (syntax_line syntax) }
 {
     write_all(sink, b"refused: ")?;
@@ -60,7 +60,7 @@ fn no_such_object() -> &'static str
 
 /// Writes the line that `show` is answered with where there is no such object. It takes no memory. Where the sink fails, a
 /// beginning of the line was written.
-pub fn write_no_such_object<S: Sink>(sink: &mut S) -> Result<(), Failed>
+pub fn write_no_such_object<S: Page>(sink: &mut S) -> Result<(), Failed>
     ensures { Writes (S.told sink.old) (S.told sink.new) result no_object_line }
 {
     write_all(sink, no_such_object().as_bytes())
@@ -77,7 +77,7 @@ fn no_item_words() -> &'static str
 /// Writes the line that a command is answered with whose place is named by an offset that no place has. It takes no memory. Where
 /// the sink fails, a beginning of the line was written.
 #[tactic(auto, using(pickle_io::proofs::Devices::text_steps), unfolding(crate::specs::ReplyText::no_item_line))]
-pub fn write_no_item_at<S: Sink>(offset: u64, sink: &mut S) -> Result<(), Failed>
+pub fn write_no_item_at<S: Page>(offset: u64, sink: &mut S) -> Result<(), Failed>
     ensures { Writes (S.told sink.old) (S.told sink.new) result (no_item_line offset) }
 {
     write_all(sink, b"refused: ")?;

@@ -15,7 +15,7 @@ use crate::query::write_query;
 use crate::reply::write_reply;
 use crate::stop::Stop;
 use crate::syntax::{write_no_item_at, write_syntax};
-use pickle_ops::{Failed, Sink, Source};
+use pickle_ops::{Failed, Page, Source};
 use pickle_session::{Command, Past, Reply, Session};
 use std::alloc::Global;
 
@@ -24,7 +24,7 @@ const BLOCK: usize = 65_536;
 
 /// Writes why a line says nothing.
 #[tactic(auto, using(crate::proofs::Refusals::refusal_steps))]
-fn refuse<P: Past, K: Sink>(
+fn refuse<P: Past, K: Page>(
     session: &Session<P>,
     syntax: Syntax,
     sink: &mut K,
@@ -53,7 +53,7 @@ fn outcome_of(reply: Reply) -> Outcome
 }
 
 /// Obeys a command and writes the reply.
-fn obey_command<P: Past, K: Sink>(
+fn obey_command<P: Past, K: Page>(
     alloc: Global,
     session: &mut Session<P>,
     command: &Command,
@@ -68,7 +68,7 @@ fn obey_command<P: Past, K: Sink>(
 
 /// Obeys a command at the place that a line names and writes the reply, or that there is none.
 #[tactic(auto, using(crate::proofs::Places::placing_steps))]
-fn obey_at<P: Past, K: Sink>(
+fn obey_at<P: Past, K: Page>(
     alloc: Global,
     session: &mut Session<P>,
     place: Place,
@@ -91,7 +91,7 @@ fn obey_at<P: Past, K: Sink>(
 }
 
 /// Obeys a line and writes its text.
-fn obey_line<P: Past, K: Sink>(
+fn obey_line<P: Past, K: Page>(
     alloc: Global,
     session: &mut Session<P>,
     says: Result<Line, Syntax>,
@@ -124,7 +124,7 @@ fn quits(says: &Result<Line, Syntax>) -> bool
 }
 
 /// Obeys the line that ends here.
-fn end_line<P: Past, K: Sink>(
+fn end_line<P: Past, K: Page>(
     alloc: Global,
     session: &mut Session<P>,
     pending: &mut Pending,
@@ -142,7 +142,7 @@ fn end_line<P: Past, K: Sink>(
 }
 
 /// Takes a byte of the script.
-fn feed_byte<P: Past, K: Sink>(
+fn feed_byte<P: Past, K: Page>(
     alloc: Global,
     session: &mut Session<P>,
     pending: &mut Pending,
@@ -160,7 +160,7 @@ fn feed_byte<P: Past, K: Sink>(
 
 /// Takes bytes of the script: obeys each line that ends in them, up to one that quits, and lets the sink hand on what it holds of
 /// their texts. Without such a line there is nothing to hand on.
-fn feed<P: Past, K: Sink>(
+fn feed<P: Past, K: Page>(
     alloc: Global,
     session: &mut Session<P>,
     pending: &mut Pending,
@@ -185,7 +185,7 @@ fn feed<P: Past, K: Sink>(
 }
 
 /// Obeys the last line, if it has a byte, and answers the status. The texts of the lines before it are handed on already.
-fn finish<P: Past, K: Sink>(
+fn finish<P: Past, K: Page>(
     alloc: Global,
     session: &mut Session<P>,
     pending: &mut Pending,
@@ -203,7 +203,7 @@ fn finish<P: Past, K: Sink>(
 }
 
 /// Goes on until a line quits, the source ends or a device fails.
-fn go_on<P: Past, S: Source, K: Sink>(
+fn go_on<P: Past, S: Source, K: Page>(
     alloc: Global,
     session: &mut Session<P>,
     pending: &mut Pending,
@@ -241,7 +241,7 @@ fn go_on<P: Past, S: Source, K: Sink>(
 /// `Memory` comes only before anything was read. `Read` and `Write` come where the source or the sink fails: the
 /// session is that of the lines obeyed so far, a line of which only a part was read is not among them, and of the text
 /// of the last line alone a part may be missing from what the sink took. What the sink has not handed on it may still hold.
-pub fn converse<P: Past, S: Source, K: Sink>(
+pub fn converse<P: Past, S: Source, K: Page>(
     alloc: Global,
     session: &mut Session<P>,
     source: &mut S,

@@ -14,13 +14,8 @@ pub mod Protocols
 pub mod Listed
 pub mod Apart
 pub mod Cuts
-pub mod Numbers
-pub mod Bytes
-pub mod Puts
-pub mod Copies
 pub mod Offsets
-pub mod Plain
-pub mod Blanks
+pub mod Spaces
 pub mod ReportPieces
 pub mod Objects
 pub mod Walks

@@ -7,10 +7,10 @@ use Rattle.pickle_ops.specs.declared.opcode.Opcode.{Opcode}
 use Rattle.pickle_ops.specs.declared.opcode.Opcode.TheVariants as op
 use Rattle.pickle_io.specs.Text.{◌⧺◌}
 use Rattle.pickle_io.specs.declared.sink.Failed.{Failed}
-use Rattle.pickle_io.specs.Device.{Told, Wrote, Broke, Writes, WroteAllBut}
+use Rattle.pickle_io.specs.Device.{Told, Wrote, Broke, Writes}
 use Rattle.pickle_ops.specs.Table.{protocol_of}
 use Rattle.pickle_ops.specs.Spelling.{Operation, size_of, Ended}
-use Rattle.pickle_io.proofs.Devices.{WroteAllBut-none}
+use Rattle.pickle_io.proofs.Devices.{Wrote-none, Wrote-trans, Broke-after}
 use Rattle.pickle_doc.specs.declared.item.Item.{Item}
 use Rattle.pickle_doc.specs.declared.fault.TailFault.{TailFault}
 use Rattle.pickle_doc.specs.declared.fault.TailFault.TheVariants as tails
@@ -37,7 +37,6 @@ use Rattle.pickle_doc.specs.Stream.{StandsAt, IsDone, Gives}
 use Rattle.pickle_machine.proofs.Outlines.{refusals_read_outlines, moves_read_outlines, fresh_reads_outlines}
 use Rattle.pickle_doc.proofs.Ends.{finish_at, finish_stopped}
 use Rattle.pickle_doc.proofs.Streams.{stands_first, item_is, fault_is}
-use Rattle.pickle_show.proofs.Puts.{then_put, then_broken}
 use Rattle.pickle_show.specs.declared.note.Note.{Note}
 use Rattle.pickle_show.specs.declared.note.Note.TheVariants as note
 use Rattle.pickle_show.proofs.Runs.{last_taken}
@@ -48,26 +47,26 @@ use Rattle.pickle_show.specs.Listing.{note_with, note_unless, key_note, line_at,
 use Rattle.pickle_show.specs.Inside.Marks.{last_of, followed}
 use Rattle.pickle_show.specs.Inside.Answer.{IsAnswer}
 use Rattle.pickle_show.specs.Written.{IsListed, BreaksListing, BeginsListing, CutsListing}
-use Rattle.pickle_show.proofs.Listings.{Progress, Progress-none, Progress-more, Progress-fresh, line_is, begun_so_far, broken_so_far, broken_lines, EndsWith, line_first, refused, ended, end_breaks, end_written, behind_page, within, place_within, offset_within, ops_within}
+use Rattle.pickle_show.proofs.Listings.{Progress, Progress-none, Progress-more, Progress-fresh, line_is, begun_so_far, broken_so_far, broken_lines, EndsWith, line_first, refused, ended, end_breaks, end_written, within, place_within, offset_within, ops_within}
 use Rattle.pickle_show.proofs.Places.{lines_with, lines-zero, lines-suc}
 use Rattle.pickle_show.proofs.Stops.{none_last, neither, no_bytes, stays_fresh, last_of_all}
 
 -- ---- what is listed so far
 
 -- of the document that the bytes are, k items were read, and have moves; this is the outline of the state that they
--- reach, as the next move is taken on it, and of their lines the device took all but the page
-pub record Listed (many : Bool) (bytes : List ℕ) (old new : Told) (page rest : List ℕ) (left k offset : ℕ) (outlined : State) (opened : List ℕ) (highest : Option ℕ) : Type 0 where
+-- reach, as the next move is taken on it, and the device took their lines
+pub record Listed (many : Bool) (bytes : List ℕ) (old new : Told) (rest : List ℕ) (left k offset : ℕ) (outlined : State) (opened : List ℕ) (highest : Option ℕ) : Type 0 where
   pub d : Contents
   pub reads : ReadsAs many bytes d
   pub stands : StandsAt d k rest left
   pub s : State
   pub outlines : outline (fresh s) ≡ outlined
   pub progress : Progress d k offset s (fresh s).marked opened highest
-  pub written : WroteAllBut old new (lines d k) page
+  pub written : Wrote old new (lines d k)
   -- STOP ends the listing where nothing stands behind it
   pub goes : (length rest == 0 && ends_with_stop (take k (items_of d))) ≡ false
 
-pub listed_none : (many : Bool) (bytes : List ℕ) (a : Told) → (some : (d : Contents) × ReadsAs many bytes d) → length bytes ≤ size_limit → Listed many bytes a a [] bytes 0 0 0 (start many) [] None
+pub listed_none : (many : Bool) (bytes : List ℕ) (a : Told) → (some : (d : Contents) × ReadsAs many bytes d) → length bytes ≤ size_limit → Listed many bytes a a bytes 0 0 0 (start many) [] None
 listed_none many bytes a some small = record {
   d = some.0;
   reads = some.1;
@@ -75,7 +74,7 @@ listed_none many bytes a some small = record {
   s = start some.0.many;
   outlines = ap start some.1.mode;
   progress = Progress-none some.0;
-  written = rw (lines-zero some.0) (WroteAllBut-none a []);
+  written = rw (lines-zero some.0) (Wrote-none a);
   goes = none_last (length bytes == 0);
 }
 
@@ -117,9 +116,9 @@ record There (d : Contents) (k offset : ℕ) (o : Operation) (t : State) (opened
   pub at : item_at d k ≡ Some o
   pub line : line_at d k ≡ line_of o offset t opened
 
-there : {many : Bool} (bytes : List ℕ) (a b : Told) (page rest : List ℕ) (left k offset : ℕ) (t : State) (opened : List ℕ) (highest : Option ℕ) (o : Operation)
-    → (w : Listed many bytes a b page rest left k offset t opened highest) → IsNextItem left rest o (size_of o) → There w.d k offset o t opened
-there bytes a b page rest left k offset t opened highest o w n =
+there : {many : Bool} (bytes : List ℕ) (a b : Told) (rest : List ℕ) (left k offset : ℕ) (t : State) (opened : List ℕ) (highest : Option ℕ) (o : Operation)
+    → (w : Listed many bytes a b rest left k offset t opened highest) → IsNextItem left rest o (size_of o) → There w.d k offset o t opened
+there bytes a b rest left k offset t opened highest o w n =
     let g = item_is w.d k left rest o (size_of o) w.stands n in
     record {
       at = g.there;
@@ -127,21 +126,21 @@ there bytes a b page rest left k offset t opened highest o w n =
           ∙ ap (λ (u : State). line_of o offset u opened) w.outlines;
     }
 
--- with the line of item k on the page
-pub record WithLine (many : Bool) (bytes : List ℕ) (old new : Told) (page rest : List ℕ) (left k offset : ℕ) (o : Operation) (outlined : State) (opened : List ℕ) (highest : Option ℕ) : Type 0 where
+-- with the line of item k
+pub record WithLine (many : Bool) (bytes : List ℕ) (old new : Told) (rest : List ℕ) (left k offset : ℕ) (o : Operation) (outlined : State) (opened : List ℕ) (highest : Option ℕ) : Type 0 where
   pub d : Contents
   pub reads : ReadsAs many bytes d
   pub gives : Gives d k o (drop (size_of o) rest) (left_behind left o)
   pub s : State
   pub outlines : outline (fresh s) ≡ outlined
   pub progress : Progress d k offset s (fresh s).marked opened highest
-  pub written : WroteAllBut old new (lines_with d k) page
+  pub written : Wrote old new (lines_with d k)
 
-pub with_line : {many : Bool} (bytes : List ℕ) (a b c : Told) (page next rest : List ℕ) (left k offset : ℕ) (o : Operation) (t : State) (opened : List ℕ) (highest : Option ℕ)
-    → Listed many bytes a b page rest left k offset t opened highest → IsNextItem left rest o (size_of o) → refusal_of (row_of o) t ≡ None
-    → WroteAllBut b c (page ++ item_line o offset (length t.marked) (note_with o t (last_of opened))) next → WithLine many bytes a c next rest left k offset o t opened highest
-with_line bytes a b c page next rest left k offset o t opened highest w n none q =
-    let here = there bytes a b page rest left k offset t opened highest o w n in
+pub with_line : {many : Bool} (bytes : List ℕ) (a b c : Told) (rest : List ℕ) (left k offset : ℕ) (o : Operation) (t : State) (opened : List ℕ) (highest : Option ℕ)
+    → Listed many bytes a b rest left k offset t opened highest → IsNextItem left rest o (size_of o) → refusal_of (row_of o) t ≡ None
+    → Wrote b c (item_line o offset (length t.marked) (note_with o t (last_of opened))) → WithLine many bytes a c rest left k offset o t opened highest
+with_line bytes a b c rest left k offset o t opened highest w n none q =
+    let here = there bytes a b rest left k offset t opened highest o w n in
     let line : List ℕ = item_line o offset (length t.marked) (note_with o t (last_of opened)) in
     let whole : lines_with w.d k ≡ lines w.d k ++ line = ap (λ (l : List ℕ). lines w.d k ++ l) (here.line ∙ line_by o offset t opened None none) in
     record {
@@ -151,28 +150,28 @@ with_line bytes a b c page next rest left k offset o t opened highest w n none q
       s = w.s;
       outlines = w.outlines;
       progress = w.progress;
-      written = rw whole (then_put a b c (lines w.d k) page next line q w.written);
+      written = rw whole (Wrote-trans a b c (lines w.d k) line w.written q);
     }
 
-pub line_breaks : {many : Bool} (bytes : List ℕ) (a b c : Told) (page rest : List ℕ) (left k offset : ℕ) (o : Operation) (t : State) (opened : List ℕ) (highest : Option ℕ)
-    → Listed many bytes a b page rest left k offset t opened highest → IsNextItem left rest o (size_of o) → refusal_of (row_of o) t ≡ None
-    → Broke b c (page ++ item_line o offset (length t.marked) (note_with o t (last_of opened))) → BreaksListing many bytes a c
-line_breaks bytes a b c page rest left k offset o t opened highest w n none q =
-    let here = there bytes a b page rest left k offset t opened highest o w n in
+pub line_breaks : {many : Bool} (bytes : List ℕ) (a b c : Told) (rest : List ℕ) (left k offset : ℕ) (o : Operation) (t : State) (opened : List ℕ) (highest : Option ℕ)
+    → Listed many bytes a b rest left k offset t opened highest → IsNextItem left rest o (size_of o) → refusal_of (row_of o) t ≡ None
+    → Broke b c (item_line o offset (length t.marked) (note_with o t (last_of opened))) → BreaksListing many bytes a c
+line_breaks bytes a b c rest left k offset o t opened highest w n none q =
+    let here = there bytes a b rest left k offset t opened highest o w n in
     let line : List ℕ = item_line o offset (length t.marked) (note_with o t (last_of opened)) in
     let whole : lines_with w.d k ≡ lines w.d k ++ line = ap (λ (l : List ℕ). lines w.d k ++ l) (here.line ∙ line_by o offset t opened None none) in
-    let front : Broke a c (lines_with w.d k) = rw whole (then_broken a b c (lines w.d k) page line q w.written) in
+    let front : Broke a c (lines_with w.d k) = rw whole (Broke-after a b c (lines w.d k) line w.written q) in
     (w.d, w.reads, broken_so_far a c w.d k w.s w.progress.reached (within (ops_of w.d) k o here.at) front)
 
--- where the page is dropped
-pub line_stops : {many : Bool} (bytes : List ℕ) (a b : Told) (page rest : List ℕ) (left k offset : ℕ) (o : Operation) (t : State) (opened : List ℕ) (highest : Option ℕ)
-    → WithLine many bytes a b page rest left k offset o t opened highest → BeginsListing many bytes a b
-line_stops bytes a b page rest left k offset o t opened highest w =
-    (w.d, w.reads, begun_so_far a b w.d k w.s page w.progress.reached (within (ops_of w.d) k o w.gives.there) w.written)
+-- where nothing more is written
+pub line_stops : {many : Bool} (bytes : List ℕ) (a b : Told) (rest : List ℕ) (left k offset : ℕ) (o : Operation) (t : State) (opened : List ℕ) (highest : Option ℕ)
+    → WithLine many bytes a b rest left k offset o t opened highest → BeginsListing many bytes a b
+line_stops bytes a b rest left k offset o t opened highest w =
+    (w.d, w.reads, begun_so_far a b w.d k w.s w.progress.reached (within (ops_of w.d) k o w.gives.there) w.written)
 
 -- ---- ends
 
--- what is left of the listing is this text, with what stands on the page
+-- what is left of the listing is this text
 pub record Closes (many : Bool) (bytes : List ℕ) (old new : Told) (text : List ℕ) (status : ℕ) : Type 0 where
   pub d : Contents
   pub reads : ReadsAs many bytes d
@@ -199,20 +198,19 @@ closes_err bytes a b c text status (Err x) r w q e = rw e (close_breaks bytes a 
 refusal_is : (o : Operation) (s t : State) (r : Option Refusal) → outline (fresh s) ≡ t → refusal_of (row_of o) t ≡ r → refusal_at o s ≡ r
 refusal_is o s t r e f = sym (refusals_read_outlines (row_of o) (fresh s)) ∙ ap (λ (u : State). refusal_of (row_of o) u) e ∙ f
 
-pub refused_closes : {many : Bool} (bytes : List ℕ) (a b : Told) (page rest : List ℕ) (left k offset : ℕ) (o : Operation) (t : State) (opened : List ℕ) (highest : Option ℕ) (r : Refusal)
-    → Listed many bytes a b page rest left k offset t opened highest → IsNextItem left rest o (size_of o) → refusal_of (row_of o) t ≡ Some r
-    → Closes many bytes a b (page ⧺ item_line o offset (length t.marked) None ⧺ (refused_line r ⧺ protocol_line (raised highest (protocol_of o.opcode)))) 1
-refused_closes bytes a b page rest left k offset o t opened highest r w n f =
-    let here = there bytes a b page rest left k offset t opened highest o w n in
+pub refused_closes : {many : Bool} (bytes : List ℕ) (a b : Told) (rest : List ℕ) (left k offset : ℕ) (o : Operation) (t : State) (opened : List ℕ) (highest : Option ℕ) (r : Refusal)
+    → Listed many bytes a b rest left k offset t opened highest → IsNextItem left rest o (size_of o) → refusal_of (row_of o) t ≡ Some r
+    → Closes many bytes a b (item_line o offset (length t.marked) None ⧺ (refused_line r ⧺ protocol_line (raised highest (protocol_of o.opcode)))) 1
+refused_closes bytes a b rest left k offset o t opened highest r w n f =
+    let here = there bytes a b rest left k offset t opened highest o w n in
     let line : List ℕ = item_line o offset (length t.marked) None in
     let text : List ℕ = refused_line r ⧺ protocol_line (raised highest (protocol_of o.opcode)) in
     record {
       d = w.d;
       reads = w.reads;
-      front = w.written.front;
-      written = w.written.wrote;
-      ends = behind_page a b w.d (lines w.d k) page line text 1 w.written
-          (line_first w.d k line text 1 (here.line ∙ line_by o offset t opened (Some r) f)
+      front = lines w.d k;
+      written = w.written;
+      ends = (line_first w.d k line text 1 (here.line ∙ line_by o offset t opened (Some r) f)
           (refused w.d k offset o w.s (fresh w.s).marked opened r highest w.progress here.at (refusal_is o w.s t (Some r) w.outlines f)));
     }
 
@@ -220,9 +218,9 @@ sizes_all : (d : Contents) (k offset : ℕ) (s : State) (ms : List Marked) (open
 sizes_all d k offset s ms opened highest p all =
     ap sizes (sym (take_all k (items_of d) (omega (arith, all, length-map (items_of d) (λ (i : Item). i.op))))) ∙ sym p.stands
 
-pub fault_closes : {many : Bool} (bytes : List ℕ) (a b : Told) (page rest : List ℕ) (left k offset : ℕ) (t : State) (opened : List ℕ) (highest : Option ℕ) (f : TailFault)
-    → Listed many bytes a b page rest left k offset t opened highest → HasTailFault left rest f → Closes many bytes a b (page ⧺ fault_line f offset ⧺ protocol_line highest) 1
-fault_closes bytes a b page rest left k offset t opened highest f w h =
+pub fault_closes : {many : Bool} (bytes : List ℕ) (a b : Told) (rest : List ℕ) (left k offset : ℕ) (t : State) (opened : List ℕ) (highest : Option ℕ) (f : TailFault)
+    → Listed many bytes a b rest left k offset t opened highest → HasTailFault left rest f → Closes many bytes a b (fault_line f offset ⧺ protocol_line highest) 1
+fault_closes bytes a b rest left k offset t opened highest f w h =
     let done = fault_is w.d k left rest f w.stands h in
     let finish : finish_of w.d ≡ finish.Fault f = sym (finish_at w.d f false done.ended (last_of_all w.d k rest false done.all done.tail w.goes)) in
     let e = ended w.d k offset w.s (fresh w.s).marked opened highest w.progress done.all in
@@ -230,9 +228,9 @@ fault_closes bytes a b page rest left k offset t opened highest f w h =
     record {
       d = w.d;
       reads = w.reads;
-      front = w.written.front;
-      written = w.written.wrote;
-      ends = behind_page a b w.d (lines w.d k) page (fault_line f offset) (protocol_line highest) 1 w.written (record {
+      front = lines w.d k;
+      written = w.written;
+      ends = (record {
         whole = e.whole ∙ ap (λ (x : List ℕ). lines w.d k ++ x)
             (ap (λ (x : Finish). end_lines w.d x ⧺ protocol_line highest) finish ∙ ap (λ (n : ℕ). fault_line f n ⧺ protocol_line highest) at);
         answers = e.answers ∙ ap end_status finish;
@@ -242,7 +240,7 @@ fault_closes bytes a b page rest left k offset t opened highest f w h =
 -- ---- a step
 
 -- item k has moved: what is read now stands after it
-pub record Moved (many : Bool) (bytes : List ℕ) (old new : Told) (page rest : List ℕ) (left k offset : ℕ) (o : Operation) (outlined : State) (opened : List ℕ) (highest : Option ℕ) : Type 0 where
+pub record Moved (many : Bool) (bytes : List ℕ) (old new : Told) (rest : List ℕ) (left k offset : ℕ) (o : Operation) (outlined : State) (opened : List ℕ) (highest : Option ℕ) : Type 0 where
   pub d : Contents
   pub reads : ReadsAs many bytes d
   pub there : item_at d k ≡ Some o
@@ -251,16 +249,16 @@ pub record Moved (many : Bool) (bytes : List ℕ) (old new : Told) (page rest : 
   pub outlines : outline s ≡ outlined
   pub stays : is_stop o.opcode ≡ false → fresh s ≡ s
   pub progress : Progress d (k + 1) offset s s.marked opened highest
-  pub written : WroteAllBut old new (lines_with d k) page
+  pub written : Wrote old new (lines_with d k)
 
 moved_by : (o : Operation) (k : ℕ) (s : State) → refusal_at o s ≡ None → move o k s ≡ Ok (next_of (row_of o) (kind_of o) k (fresh s))
 moved_by o k s e = ap (λ (r : Option Refusal). outcome r (next_of (row_of o) (kind_of o) k (fresh s))) e
 
-pub moved : {many : Bool} (bytes : List ℕ) (a b : Told) (page rest : List ℕ) (left k offset : ℕ) (o : Operation) (t u : State) (kind : Kind) (opened next : List ℕ) (highest : Option ℕ)
-    → WithLine many bytes a b page rest left k offset o t opened highest → refusal_of (row_of o) t ≡ None → kind ≡ plain (kind_of o) → u ≡ outline (next_of (row_of o) kind k t)
+pub moved : {many : Bool} (bytes : List ℕ) (a b : Told) (rest : List ℕ) (left k offset : ℕ) (o : Operation) (t u : State) (kind : Kind) (opened next : List ℕ) (highest : Option ℕ)
+    → WithLine many bytes a b rest left k offset o t opened highest → refusal_of (row_of o) t ≡ None → kind ≡ plain (kind_of o) → u ≡ outline (next_of (row_of o) kind k t)
     → next ≡ followed opened (length t.marked) (length u.marked) offset
-    → Moved many bytes a b page (drop (size_of o) rest) (left_behind left o) k (offset + size_of o) o u next (raised highest (protocol_of o.opcode))
-moved bytes a b page rest left k offset o t u kind opened next highest w f is e m =
+    → Moved many bytes a b (drop (size_of o) rest) (left_behind left o) k (offset + size_of o) o u next (raised highest (protocol_of o.opcode))
+moved bytes a b rest left k offset o t u kind opened next highest w f is e m =
     let good : refusal_at o w.s ≡ None = refusal_is o w.s t None w.outlines f in
     let after : State = next_of (row_of o) (kind_of o) k (fresh w.s) in
     let same : u ≡ outline after =
@@ -289,19 +287,19 @@ left_is d k o s e r = rw (e, ← add-one k, r) refl
 abbrev pub left_text_of : Operation → State → List ℕ
 left_text_of o t = if is_stop o.opcode then left_line (stack_size t) (length t.marked) else []
 
-left_there : {many : Bool} (bytes : List ℕ) (a b : Told) (page rest : List ℕ) (left k offset : ℕ) (o : Operation) (t : State) (opened : List ℕ) (highest : Option ℕ)
-    → (w : Moved many bytes a b page rest left k offset o t opened highest) → lines w.d (k + 1) ≡ lines_with w.d k ++ left_text_of o t
-left_there bytes a b page rest left k offset o t opened highest w =
+left_there : {many : Bool} (bytes : List ℕ) (a b : Told) (rest : List ℕ) (left k offset : ℕ) (o : Operation) (t : State) (opened : List ℕ) (highest : Option ℕ)
+    → (w : Moved many bytes a b rest left k offset o t opened highest) → lines w.d (k + 1) ≡ lines_with w.d k ++ left_text_of o t
+left_there bytes a b rest left k offset o t opened highest w =
     let some : left_by (item_at w.d k) (run (start w.d.many) (ops_of w.d) (suc k)) ≡ left_text_of o t = left_is w.d k o w.s w.there w.progress.reached ∙ ap (left_text_of o) w.outlines in
     rw (add-one k) (lines-suc w.d k ∙ ap (λ (l : List ℕ). lines_with w.d k ++ l) some)
 
 -- where it is not STOP, that is nothing
-pub goes_on : {many : Bool} (bytes : List ℕ) (a b : Told) (page rest : List ℕ) (left k offset : ℕ) (o : Operation) (t : State) (opened : List ℕ) (highest : Option ℕ)
-    → Moved many bytes a b page rest left k offset o t opened highest → is_stop o.opcode ≡ false → Listed many bytes a b page rest left (k + 1) offset t opened highest
-goes_on {many} bytes a b page rest left k offset o t opened highest w miss =
+pub goes_on : {many : Bool} (bytes : List ℕ) (a b : Told) (rest : List ℕ) (left k offset : ℕ) (o : Operation) (t : State) (opened : List ℕ) (highest : Option ℕ)
+    → Moved many bytes a b rest left k offset o t opened highest → is_stop o.opcode ≡ false → Listed many bytes a b rest left (k + 1) offset t opened highest
+goes_on {many} bytes a b rest left k offset o t opened highest w miss =
     let on : ends_reading many o.opcode ≡ false = ap (λ (x : Bool). x && not many) miss in
     let none : left_text_of o t ≡ [] = ap (λ (x : Bool). if x then left_line (stack_size t) (length t.marked) else []) miss in
-    let all : lines w.d (k + 1) ≡ lines_with w.d k = left_there bytes a b page rest left k offset o t opened highest w ∙ ap (λ (l : List ℕ). lines_with w.d k ++ l) none ∙ append-nil (lines_with w.d k) in
+    let all : lines w.d (k + 1) ≡ lines_with w.d k = left_there bytes a b rest left k offset o t opened highest w ∙ ap (λ (l : List ℕ). lines_with w.d k ++ l) none ∙ append-nil (lines_with w.d k) in
     record {
       d = w.d;
       reads = w.reads;
@@ -314,31 +312,31 @@ goes_on {many} bytes a b page rest left k offset o t opened highest w miss =
     }
 
 -- what STOP left
-stop_there : {many : Bool} (bytes : List ℕ) (a b : Told) (page rest : List ℕ) (left k offset : ℕ) (o : Operation) (t : State) (opened : List ℕ) (highest : Option ℕ)
-    → (w : Moved many bytes a b page rest left k offset o t opened highest) → is_stop o.opcode ≡ true → lines w.d (k + 1) ≡ lines_with w.d k ++ left_line (stack_size t) (length t.marked)
-stop_there bytes a b page rest left k offset o t opened highest w hit =
-    left_there bytes a b page rest left k offset o t opened highest w
+stop_there : {many : Bool} (bytes : List ℕ) (a b : Told) (rest : List ℕ) (left k offset : ℕ) (o : Operation) (t : State) (opened : List ℕ) (highest : Option ℕ)
+    → (w : Moved many bytes a b rest left k offset o t opened highest) → is_stop o.opcode ≡ true → lines w.d (k + 1) ≡ lines_with w.d k ++ left_line (stack_size t) (length t.marked)
+stop_there bytes a b rest left k offset o t opened highest w hit =
+    left_there bytes a b rest left k offset o t opened highest w
     ∙ ap (λ (x : Bool). lines_with w.d k ++ (if x then left_line (stack_size t) (length t.marked) else [])) hit
 
-stop_put : {many : Bool} (bytes : List ℕ) (a b c : Told) (page next rest : List ℕ) (left k offset : ℕ) (o : Operation) (t : State) (opened : List ℕ) (highest : Option ℕ)
-    → (w : Moved many bytes a b page rest left k offset o t opened highest) → is_stop o.opcode ≡ true → WroteAllBut b c (page ++ left_line (stack_size t) (length t.marked)) next
-    → WroteAllBut a c (lines w.d (k + 1)) next
-stop_put bytes a b c page next rest left k offset o t opened highest w hit q =
-    rw (stop_there bytes a b page rest left k offset o t opened highest w hit) (then_put a b c (lines_with w.d k) page next (left_line (stack_size t) (length t.marked)) q w.written)
+stop_put : {many : Bool} (bytes : List ℕ) (a b c : Told) (rest : List ℕ) (left k offset : ℕ) (o : Operation) (t : State) (opened : List ℕ) (highest : Option ℕ)
+    → (w : Moved many bytes a b rest left k offset o t opened highest) → is_stop o.opcode ≡ true → Wrote b c (left_line (stack_size t) (length t.marked))
+    → Wrote a c (lines w.d (k + 1))
+stop_put bytes a b c rest left k offset o t opened highest w hit q =
+    rw (stop_there bytes a b rest left k offset o t opened highest w hit) (Wrote-trans a b c (lines_with w.d k) (left_line (stack_size t) (length t.marked)) w.written q)
 
-pub stop_breaks : {many : Bool} (bytes : List ℕ) (a b c : Told) (page rest : List ℕ) (left k offset : ℕ) (o : Operation) (t : State) (opened : List ℕ) (highest : Option ℕ)
-    → Moved many bytes a b page rest left k offset o t opened highest → is_stop o.opcode ≡ true → Broke b c (page ++ left_line (stack_size t) (length t.marked)) → BreaksListing many bytes a c
-stop_breaks bytes a b c page rest left k offset o t opened highest w hit q =
-    let all = stop_there bytes a b page rest left k offset o t opened highest w hit in
-    let front : Broke a c (lines w.d (k + 1)) = rw all (then_broken a b c (lines_with w.d k) page (left_line (stack_size t) (length t.marked)) q w.written) in
+pub stop_breaks : {many : Bool} (bytes : List ℕ) (a b c : Told) (rest : List ℕ) (left k offset : ℕ) (o : Operation) (t : State) (opened : List ℕ) (highest : Option ℕ)
+    → Moved many bytes a b rest left k offset o t opened highest → is_stop o.opcode ≡ true → Broke b c (left_line (stack_size t) (length t.marked)) → BreaksListing many bytes a c
+stop_breaks bytes a b c rest left k offset o t opened highest w hit q =
+    let all = stop_there bytes a b rest left k offset o t opened highest w hit in
+    let front : Broke a c (lines w.d (k + 1)) = rw all (Broke-after a b c (lines_with w.d k) (left_line (stack_size t) (length t.marked)) w.written q) in
     (w.d, w.reads, broken_lines a c w.d (k + 1) w.s w.progress.reached (omega (arith, within (ops_of w.d) k o w.there)) front)
 
 -- after STOP the next pickle begins
-pub next_pickle : {many : Bool} (bytes : List ℕ) (a b c : Told) (page next rest : List ℕ) (left k offset : ℕ) (o : Operation) (t u : State) (opened after : List ℕ) (highest : Option ℕ)
-    → Moved many bytes a b page rest left k offset o t opened highest → is_stop o.opcode ≡ true → (not many || length rest == 0) ≡ false
-    → WroteAllBut b c (page ++ left_line (stack_size t) (length t.marked)) next → u ≡ outline (fresh t) → after ≡ (if t.stopped then [] else opened)
-    → Listed many bytes a c next rest left (k + 1) offset u after highest
-next_pickle {many} bytes a b c page next rest left k offset o t u opened after highest w hit more q e m =
+pub next_pickle : {many : Bool} (bytes : List ℕ) (a b c : Told) (rest : List ℕ) (left k offset : ℕ) (o : Operation) (t u : State) (opened after : List ℕ) (highest : Option ℕ)
+    → Moved many bytes a b rest left k offset o t opened highest → is_stop o.opcode ≡ true → (not many || length rest == 0) ≡ false
+    → Wrote b c (left_line (stack_size t) (length t.marked)) → u ≡ outline (fresh t) → after ≡ (if t.stopped then [] else opened)
+    → Listed many bytes a c rest left (k + 1) offset u after highest
+next_pickle {many} bytes a b c rest left k offset o t u opened after highest w hit more q e m =
     let some = neither (not many) (length rest == 0) more in
     let on : ends_reading many o.opcode ≡ false = ap (λ (x : Bool). x && not many) hit ∙ some.0 in
     let outlines : outline (fresh w.s) ≡ u = sym (fresh_reads_outlines w.s) ∙ ap (λ (x : State). outline (fresh x)) w.outlines ∙ sym e in
@@ -352,7 +350,7 @@ next_pickle {many} bytes a b c page next rest left k offset o t u opened after h
       s = w.s;
       outlines = outlines;
       progress = progress;
-      written = stop_put bytes a b c page next rest left k offset o t opened highest w hit q;
+      written = stop_put bytes a b c rest left k offset o t opened highest w hit q;
       goes = ap (λ (x : Bool). x && ends_with_stop (take (k + 1) (items_of w.d))) some.1;
     }
 
@@ -362,31 +360,31 @@ record Last (d : Contents) (k : ℕ) (rest : List ℕ) : Type 0 where
   pub tail : d.tail ≡ rest
   pub finish : finish_of d ≡ finish.Stopped
 
-stop_last : (many : Bool) (bytes : List ℕ) (a b : Told) (page rest : List ℕ) (left k offset : ℕ) (o : Operation) (t : State) (opened : List ℕ) (highest : Option ℕ)
-    → (w : Moved many bytes a b page rest left k offset o t opened highest) → is_stop o.opcode ≡ true → (not many || length rest == 0) ≡ true → Last w.d (k + 1) rest
-stop_last false bytes a b page rest left k offset o t opened highest w hit last =
+stop_last : (many : Bool) (bytes : List ℕ) (a b : Told) (rest : List ℕ) (left k offset : ℕ) (o : Operation) (t : State) (opened : List ℕ) (highest : Option ℕ)
+    → (w : Moved many bytes a b rest left k offset o t opened highest) → is_stop o.opcode ≡ true → (not many || length rest == 0) ≡ true → Last w.d (k + 1) rest
+stop_last false bytes a b rest left k offset o t opened highest w hit last =
     let done : IsDone w.d (k + 1) rest None = rw hit at w.goes in
     record { all = done.all; tail = done.tail; finish = sym (finish_stopped w.d done.ended) }
-stop_last true bytes a b page rest left k offset o t opened highest w hit last =
+stop_last true bytes a b rest left k offset o t opened highest w hit last =
     let stands : StandsAt w.d (k + 1) rest left = rw hit at w.goes in
     let done = fault_is w.d (k + 1) left rest tails.Ended stands (Ended, no_bytes rest last, refl) in
     let stop : (length rest == 0 && ends_with_stop (take (k + 1) (items_of w.d))) ≡ true = rw last (last_taken (items_of w.d) k o w.there ∙ hit) in
     record { all = done.all; tail = done.tail; finish = sym (finish_at w.d tails.Ended true done.ended (last_of_all w.d (k + 1) rest true done.all done.tail stop)) }
 
 -- after STOP, where none begins
-pub stop_closes : {many : Bool} (bytes : List ℕ) (a b c : Told) (page next rest : List ℕ) (left k offset : ℕ) (o : Operation) (t : State) (opened : List ℕ) (highest : Option ℕ)
-    → Moved many bytes a b page rest left k offset o t opened highest → is_stop o.opcode ≡ true → (not many || length rest == 0) ≡ true
-    → WroteAllBut b c (page ++ left_line (stack_size t) (length t.marked)) next → Closes many bytes a c (next ⧺ kept_line (length rest) ⧺ protocol_line highest) 0
-stop_closes {many} bytes a b c page next rest left k offset o t opened highest w hit last q =
-    let end = stop_last many bytes a b page rest left k offset o t opened highest w hit last in
-    let written = stop_put bytes a b c page next rest left k offset o t opened highest w hit q in
+pub stop_closes : {many : Bool} (bytes : List ℕ) (a b c : Told) (rest : List ℕ) (left k offset : ℕ) (o : Operation) (t : State) (opened : List ℕ) (highest : Option ℕ)
+    → Moved many bytes a b rest left k offset o t opened highest → is_stop o.opcode ≡ true → (not many || length rest == 0) ≡ true
+    → Wrote b c (left_line (stack_size t) (length t.marked)) → Closes many bytes a c (kept_line (length rest) ⧺ protocol_line highest) 0
+stop_closes {many} bytes a b c rest left k offset o t opened highest w hit last q =
+    let end = stop_last many bytes a b rest left k offset o t opened highest w hit last in
+    let written = stop_put bytes a b c rest left k offset o t opened highest w hit q in
     let e = ended w.d (k + 1) offset w.s w.s.marked opened highest w.progress end.all in
     record {
       d = w.d;
       reads = w.reads;
-      front = written.front;
-      written = written.wrote;
-      ends = behind_page a c w.d (lines w.d (k + 1)) next (kept_line (length rest)) (protocol_line highest) 0 written (record {
+      front = lines w.d (k + 1);
+      written = written;
+      ends = (record {
         whole = e.whole ∙ ap (λ (x : List ℕ). lines w.d (k + 1) ++ x)
             (ap (λ (x : Finish). end_lines w.d x ⧺ protocol_line highest) end.finish ∙ ap (λ (x : List ℕ). kept_line (length x) ⧺ protocol_line highest) end.tail);
         answers = e.answers ∙ ap end_status end.finish;
@@ -401,9 +399,9 @@ pub record Bounds (bytes : List ℕ) (k offset : ℕ) (o : Operation) (t : State
   pub marks : length t.marked ≤ k
   pub heap : length t.heap ≤ k
 
-pub bounds : {many : Bool} (bytes : List ℕ) (a b : Told) (page rest : List ℕ) (left k offset : ℕ) (o : Operation) (t : State) (opened : List ℕ) (highest : Option ℕ)
-    → Listed many bytes a b page rest left k offset t opened highest → IsNextItem left rest o (size_of o) → Bounds bytes k offset o t
-bounds bytes a b page rest left k offset o t opened highest w n =
+pub bounds : {many : Bool} (bytes : List ℕ) (a b : Told) (rest : List ℕ) (left k offset : ℕ) (o : Operation) (t : State) (opened : List ℕ) (highest : Option ℕ)
+    → Listed many bytes a b rest left k offset t opened highest → IsNextItem left rest o (size_of o) → Bounds bytes k offset o t
+bounds bytes a b rest left k offset o t opened highest w n =
     let g = item_is w.d k left rest o (size_of o) w.stands n in
     let size : length (document_bytes w.d) ≡ length bytes = ap length w.reads.whole in
     let outlined : length (outline (fresh w.s)).heap ≡ length t.heap = ap (λ (x : State). length x.heap) w.outlines in

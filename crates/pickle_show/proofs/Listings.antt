@@ -4,7 +4,7 @@ use Rattle.std.specs.Prelude.{slice_get, if◌then◌else◌}
 use Rattle.std.proofs.lemmas.List.{take_more, append-nil}
 use Rattle.std.proofs.lemmas.Option.{get_or_from_slice_get, slice_get_past, slice_get_cases}
 use Rattle.pickle_io.specs.Text.{◌⧺◌}
-use Rattle.pickle_io.specs.Device.{Told, Wrote, Broke, WroteAllBut}
+use Rattle.pickle_io.specs.Device.{Told, Wrote, Broke}
 use Rattle.pickle_ops.specs.Table.{protocol_of}
 use Rattle.pickle_ops.specs.Spelling.{Operation, size_of}
 use Rattle.pickle_io.proofs.Devices.{Wrote-trans, Broke-after, Broke-more}
@@ -20,7 +20,6 @@ use Rattle.pickle_show.specs.Line.{item_line, refused_line, protocol_line, raise
 use Rattle.pickle_show.specs.Listing.{topmost_offset, note_with, note_unless, line_at, left_by, lines, reached, end_lines, end_status, refused_lines, listing, listing_to}
 use Rattle.pickle_show.specs.Inside.Marks.{last_of, followed, mark_offsets}
 use Rattle.pickle_show.specs.Written.{BeganListing}
-use Rattle.pickle_show.proofs.Puts.{page_more}
 use Rattle.pickle_show.proofs.Moves.{move_heap, refused_move, move_marks, marks_grow, offsets_follow}
 use Rattle.pickle_show.proofs.Places.{offset_next, offset_small, length-bytes_of, highest_protocol-push, run-suc, reached_here, reached_last, is_reached, lines_with, lines-suc, lines_first}
 
@@ -147,9 +146,9 @@ begins d k s r h =
     (more.0, ap (λ (x : Option State). (listing_to d (reached (start d.many) (ops_of d) (length (ops_of d))) (item_at d (reached (start d.many) (ops_of d) (length (ops_of d)))) x).text) far.is ∙ more.1)
 
 -- where item k is reached, what was taken of its line and those before is a beginning of the listing
-pub begun_so_far : (a b : Told) (d : Contents) (k : ℕ) (s : State) (page : List ℕ) → run (start d.many) (ops_of d) k ≡ Some s → k < length (ops_of d)
-    → WroteAllBut a b (lines_with d k) page → BeganListing d a b
-begun_so_far a b d k s page r h w = let text = begins d k s r h in (page ++ text.0, rw text.1 (page_more a b (lines_with d k) page (page ++ text.0) text.0 refl w))
+pub begun_so_far : (a b : Told) (d : Contents) (k : ℕ) (s : State) → run (start d.many) (ops_of d) k ≡ Some s → k < length (ops_of d)
+    → Wrote a b (lines_with d k) → BeganListing d a b
+begun_so_far a b d k s r h w = let text = begins d k s r h in (text.0, record { front = lines_with d k; parts = text.1; wrote = w })
 
 pub broken_so_far : (a b : Told) (d : Contents) (k : ℕ) (s : State) → run (start d.many) (ops_of d) k ≡ Some s → k < length (ops_of d) → Broke a b (lines_with d k) → Broke a b (listing d).text
 broken_so_far a b d k s r h q = let text = begins d k s r h in rw text.1 (Broke-more a b (lines_with d k) text.0 q)
@@ -226,15 +225,6 @@ end_breaks a b c d front text status w p q = rw w.whole (Broke-after a b c front
 
 pub end_written : (a b c : Told) (d : Contents) (front text : List ℕ) (status : ℕ) → EndsWith d front text status → Wrote a b front → Wrote b c text → Wrote a c (listing d).text
 end_written a b c d front text status w p q = rw w.whole (Wrote-trans a b c front text p q)
-
--- where a part of what is written so far stands on the page
-pub behind_page : (a b : Told) (d : Contents) (lines page x y : List ℕ) (status : ℕ)
-    → (w : WroteAllBut a b lines page) → EndsWith d lines (x ⧺ y) status → EndsWith d w.front (page ⧺ x ⧺ y) status
-unfolding ◌⧺◌
-behind_page a b d lines page x y status w e = record {
-  whole = e.whole ∙ ap (λ (t : List ℕ). t ++ (x ++ y)) w.parts ∙ append_assoc w.front page (x ++ y) ∙ ap (λ (t : List ℕ). w.front ++ t) (sym (append_assoc page x y));
-  answers = e.answers;
-}
 
 -- ---- bounds
 

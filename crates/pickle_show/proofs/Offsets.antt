@@ -82,21 +82,18 @@ hundreds_copied n start front m text piece tail is short small behind before who
     let blank : take start piece ≡ replicate start 32 = before ∙ take-replicate {X = ℕ} start 40 32 (omega (arith, is)) in
     (omega (arith, few), ap (λ (x : List ℕ). take (20 - front) x) (copied ∙ ap (λ (k : ℕ). take k (drop front piece)) whole) ∙ hundreds_there n start front piece tail is small few behind blank)
 
--- ---- the offset on a page
+-- ---- the offset before a part
 
-pub low_there : (h r : ℕ) (text a more next : List ℕ) → h ≡ 0 → a ≡ text ++ (replicate (5 - length (decimal r)) 32 ++ decimal r) → next ≡ a ++ more
-    → next ≡ text ++ (right_aligned 5 (decimal (h * 100 + r)) ++ more)
-unfolding right_aligned ◌⧺◌
-low_there h r text a more next none e g =
-    let same : h * 100 + r ≡ r = omega (arith, none) in
-    rw same (g ∙ ap (λ (x : List ℕ). x ++ more) e ∙ append_assoc text (replicate (5 - length (decimal r)) 32 ++ decimal r) more)
+pub low_there : (h r : ℕ) → h ≡ 0 → h * 100 + r ≡ r
+low_there h r none = omega (arith, none)
 
-pub high_there : (h r n : ℕ) (t text p more next : List ℕ) → (h ≡ 0 → ⊥) → h < 2 ^ 40 → r < 100 → take n t ≡ right_aligned 3 (decimal h) → p ≡ pair r
-    → next ≡ text ++ (take n t ++ (p ++ more)) → next ≡ text ++ (right_aligned 5 (decimal (h * 100 + r)) ++ more)
-high_there h r n t text p more next some small low front two e =
-    e ∙ ap (λ (x : List ℕ). text ++ (x ++ (p ++ more))) front
-    ∙ ap (λ (x : List ℕ). text ++ (right_aligned 3 (decimal h) ++ (x ++ more))) two
-    ∙ ap (λ (x : List ℕ). text ++ x) (sym (append_assoc (right_aligned 3 (decimal h)) (pair r) more))
-    ∙ ap (λ (x : List ℕ). text ++ (x ++ more)) (sym (pair_behind h r (omega (arith, some)) small low))
+pub high_there : (h r n : ℕ) (t p more : List ℕ) → (h ≡ 0 → ⊥) → h < 2 ^ 40 → r < 100 → take n t ≡ right_aligned 3 (decimal h) → p ≡ pair r
+    → take n t ++ (p ++ more) ≡ right_aligned 5 (decimal (h * 100 + r)) ⧺ more
+unfolding ◌⧺◌
+high_there h r n t p more some small low front two =
+    ap (λ (x : List ℕ). x ++ (p ++ more)) front
+    ∙ ap (λ (x : List ℕ). right_aligned 3 (decimal h) ++ (x ++ more)) two
+    ∙ sym (append_assoc (right_aligned 3 (decimal h)) (pair r) more)
+    ∙ ap (λ (x : List ℕ). x ++ more) (sym (pair_behind h r (omega (arith, some)) small low))
 
 pub ruleset offset_steps = (same_number, pair_at)

@@ -9,7 +9,6 @@ pub mod ListingColumn
 pub mod Line
 pub mod Listing
 pub mod Written
-pub mod Page
 pub mod Column
 pub mod ReportLine
 pub mod ObjectText

@@ -8,7 +8,7 @@ use crate::front::front;
 use crate::kind::write_kind;
 use crate::name::write_part_names_after;
 use crate::words::{write_id, write_with_number};
-use pickle_ops::{Failed, Kind, ObjId, Object, Sink, write_all, write_long, write_quoted};
+use pickle_ops::{Failed, Kind, ObjId, Object, Page, write_all, write_long, write_quoted};
 
 /// How many bytes of a payload are shown. A name is shown whole, since names are what is looked for.
 const MOST_BYTES: usize = 64;
@@ -18,7 +18,7 @@ const MOST_OBJECTS: usize = 16;
 
 /// Writes how many bytes more there are, if any.
 #[tactic(auto, using(pickle_io::proofs::Devices::text_steps), unfolding(crate::specs::Brief::over_text))]
-fn write_over<S: Sink>(count: usize, sink: &mut S) -> Result<(), Failed>
+fn write_over<S: Page>(count: usize, sink: &mut S) -> Result<(), Failed>
     ensures { Writes (S.told sink.old) (S.told sink.new) result (over_text count) }
 {
     if count == 0 {
@@ -30,7 +30,7 @@ fn write_over<S: Sink>(count: usize, sink: &mut S) -> Result<(), Failed>
 
 /// Writes the first bytes of a payload in quotes, and how many more there are.
 #[tactic(auto, using(pickle_io::proofs::Devices::text_steps), unfolding(crate::specs::Brief::cut_quoted))]
-fn write_cut<S: Sink>(text: &[u8], sink: &mut S) -> Result<(), Failed>
+fn write_cut<S: Page>(text: &[u8], sink: &mut S) -> Result<(), Failed>
     ensures { Writes (S.told sink.old) (S.told sink.new) result (cut_quoted text.now) }
 {
     write_quoted(front(text, MOST_BYTES), sink)?;
@@ -39,7 +39,7 @@ fn write_cut<S: Sink>(text: &[u8], sink: &mut S) -> Result<(), Failed>
 
 /// Writes a keyword, and the first bytes of a payload in quotes with how many more there are.
 #[tactic(auto, using(pickle_io::proofs::Devices::text_steps), unfolding(crate::specs::Brief::cut_after))]
-fn write_cut_after<S: Sink>(keyword: &[u8], text: &[u8], sink: &mut S) -> Result<(), Failed>
+fn write_cut_after<S: Page>(keyword: &[u8], text: &[u8], sink: &mut S) -> Result<(), Failed>
     ensures { Writes (S.told sink.old) (S.told sink.new) result (cut_after keyword.now text.now) }
 {
     write_all(sink, keyword)?;
@@ -48,7 +48,7 @@ fn write_cut_after<S: Sink>(keyword: &[u8], text: &[u8], sink: &mut S) -> Result
 
 /// Writes a long number by its first bytes, and how many more there are.
 #[tactic(auto, using(pickle_io::proofs::Devices::text_steps), unfolding(crate::specs::Brief::cut_long))]
-fn write_cut_long<S: Sink>(bytes: &[u8], sink: &mut S) -> Result<(), Failed>
+fn write_cut_long<S: Page>(bytes: &[u8], sink: &mut S) -> Result<(), Failed>
     ensures { Writes (S.told sink.old) (S.told sink.new) result (cut_long bytes.now) }
 {
     write_all(sink, b"int ")?;
@@ -58,7 +58,7 @@ fn write_cut_long<S: Sink>(bytes: &[u8], sink: &mut S) -> Result<(), Failed>
 
 /// Writes an object of this kind with these parts in brief.
 #[tactic(auto, unfolding(crate::specs::Brief::kind_brief))]
-fn write_kind_brief<S: Sink>(
+fn write_kind_brief<S: Page>(
     heap: &[Object],
     id: ObjId,
     kind: &Kind,
@@ -92,7 +92,7 @@ fn write_kind_brief<S: Sink>(
 
 /// Writes the object of this number in brief.
 #[tactic(auto, unfolding(crate::specs::Brief::brief_text))]
-fn write_brief<S: Sink>(heap: &[Object], id: ObjId, sink: &mut S) -> Result<(), Failed>
+fn write_brief<S: Page>(heap: &[Object], id: ObjId, sink: &mut S) -> Result<(), Failed>
     ensures { Writes (S.told sink.old) (S.told sink.new) result (brief_text heap.now id) }
 {
     match heap.get(id as usize) {
@@ -103,7 +103,7 @@ fn write_brief<S: Sink>(heap: &[Object], id: ObjId, sink: &mut S) -> Result<(), 
 
 /// Writes one object more in brief, after a comma.
 #[tactic(auto, using(pickle_io::proofs::Devices::text_steps), unfolding(crate::specs::Brief::next_brief))]
-fn write_next<S: Sink>(heap: &[Object], id: ObjId, sink: &mut S) -> Result<(), Failed>
+fn write_next<S: Page>(heap: &[Object], id: ObjId, sink: &mut S) -> Result<(), Failed>
     ensures { Writes (S.told sink.old) (S.told sink.new) result (next_brief heap.now id) }
 {
     write_all(sink, b", ")?;
@@ -112,7 +112,7 @@ fn write_next<S: Sink>(heap: &[Object], id: ObjId, sink: &mut S) -> Result<(), F
 
 /// Writes objects in brief, each after a comma.
 #[tactic(auto, using(pickle_io::proofs::Devices::each_steps))]
-fn write_all_next<S: Sink>(heap: &[Object], ids: &[ObjId], sink: &mut S) -> Result<(), Failed>
+fn write_all_next<S: Page>(heap: &[Object], ids: &[ObjId], sink: &mut S) -> Result<(), Failed>
     ensures { Writes (S.told sink.old) (S.told sink.new) result (each (next_brief heap.now) ids.now) }
 {
     for id in ids {
@@ -123,7 +123,7 @@ fn write_all_next<S: Sink>(heap: &[Object], ids: &[ObjId], sink: &mut S) -> Resu
 
 /// Writes an object in brief, and others after it.
 #[tactic(auto, using(pickle_io::proofs::Devices::text_steps))]
-fn write_some<S: Sink>(
+fn write_some<S: Page>(
     heap: &[Object],
     first: ObjId,
     rest: &[ObjId],
@@ -137,7 +137,7 @@ fn write_some<S: Sink>(
 
 /// Writes objects in brief with commas between them.
 #[tactic(auto, using(pickle_io::proofs::Devices::text_steps))]
-fn write_joined<S: Sink>(heap: &[Object], ids: &[ObjId], sink: &mut S) -> Result<(), Failed>
+fn write_joined<S: Page>(heap: &[Object], ids: &[ObjId], sink: &mut S) -> Result<(), Failed>
     ensures { Writes (S.told sink.old) (S.told sink.new) result (joined heap.now ids.now) }
 {
     match ids.split_first() {
@@ -148,7 +148,7 @@ fn write_joined<S: Sink>(heap: &[Object], ids: &[ObjId], sink: &mut S) -> Result
 
 /// Writes how many objects more there are, if any.
 #[tactic(auto, using(pickle_io::proofs::Devices::text_steps), unfolding(crate::specs::Brief::more_text))]
-fn write_more<S: Sink>(count: usize, sink: &mut S) -> Result<(), Failed>
+fn write_more<S: Page>(count: usize, sink: &mut S) -> Result<(), Failed>
     ensures { Writes (S.told sink.old) (S.told sink.new) result (more_text count) }
 {
     if count == 0 {
@@ -160,7 +160,7 @@ fn write_more<S: Sink>(count: usize, sink: &mut S) -> Result<(), Failed>
 
 /// Writes the first objects in brackets, and how many more there are.
 #[tactic(auto, using(pickle_io::proofs::Devices::text_steps), unfolding(crate::specs::Brief::briefs_text))]
-pub fn write_briefs<S: Sink>(heap: &[Object], ids: &[ObjId], sink: &mut S) -> Result<(), Failed>
+pub fn write_briefs<S: Page>(heap: &[Object], ids: &[ObjId], sink: &mut S) -> Result<(), Failed>
     ensures { Writes (S.told sink.old) (S.told sink.new) result (briefs_text heap.now ids.now) }
 {
     write_all(sink, b"(")?;
@@ -171,7 +171,7 @@ pub fn write_briefs<S: Sink>(heap: &[Object], ids: &[ObjId], sink: &mut S) -> Re
 
 /// Writes an object of this kind with these parts as a value.
 #[tactic(auto, unfolding(crate::specs::Brief::kind_value))]
-fn write_kind_value<S: Sink>(
+fn write_kind_value<S: Page>(
     heap: &[Object],
     id: ObjId,
     kind: &Kind,
@@ -188,7 +188,7 @@ fn write_kind_value<S: Sink>(
 
 /// Writes the object of this number as a value: the parts of a tuple, or what it is in brief.
 #[tactic(auto, unfolding(crate::specs::Brief::value_text))]
-pub fn write_value<S: Sink>(heap: &[Object], id: ObjId, sink: &mut S) -> Result<(), Failed>
+pub fn write_value<S: Page>(heap: &[Object], id: ObjId, sink: &mut S) -> Result<(), Failed>
     ensures { Writes (S.told sink.old) (S.told sink.new) result (value_text heap.now id) }
 {
     match heap.get(id as usize) {

@@ -12,7 +12,7 @@ use crate::stop::TextStop;
 use crate::totals::Totals;
 use pickle_doc::{ItemSource, Items, NextRef, ends_reading, is_stop};
 use pickle_machine::Refusal;
-use pickle_ops::{Row, Sink};
+use pickle_ops::{Page, Row};
 use std::alloc::Global;
 
 /// Writes what the items that a source gives from the first on would import and call, as several pickles or as one, and answers the
@@ -20,7 +20,7 @@ use std::alloc::Global;
 /// when its item was stepped, and no item, no step and no line is kept. The source is to give a document that is not too large.
 ///
 /// `Memory` (M) where memory runs out, `Failed` where the sink fails; what was written then is a beginning of the text.
-pub fn calls_of_items<'a, I: ItemSource<'a>, S: Sink>(
+pub fn calls_of_items<'a, I: ItemSource<'a>, S: Page>(
     alloc: Global,
     many: bool,
     source: I,
@@ -69,7 +69,7 @@ pub fn calls_of_items<'a, I: ItemSource<'a>, S: Sink>(
 
 /// Writes what a pickle, or several pickles, would import and call, and answers the status, as `calls_of_items` does. There are to
 /// be no more bytes than the limit.
-pub fn calls_of_bytes<S: Sink>(
+pub fn calls_of_bytes<S: Page>(
     alloc: Global,
     many: bool,
     bytes: &[u8],

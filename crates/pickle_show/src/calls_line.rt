@@ -15,11 +15,11 @@ use crate::words::{
     write_id, write_with_id, write_with_number, write_with_signed, write_with_text,
     write_with_texts,
 };
-use pickle_ops::{Failed, Filling, Kind, ObjId, Object, Sink, write_all};
+use pickle_ops::{Failed, Filling, Kind, ObjId, Object, Page, write_all};
 
 /// Writes that a member of a module is imported and called.
 #[tactic(auto, using(pickle_io::proofs::Devices::text_steps), unfolding(crate::specs::CallsLine::inst_text))]
-fn write_inst<S: Sink>(
+fn write_inst<S: Page>(
     heap: &[Object],
     first: &[u8],
     second: &[u8],
@@ -35,7 +35,7 @@ fn write_inst<S: Sink>(
 
 /// Writes a call, or a new instance, after a keyword.
 #[tactic(auto, using(pickle_io::proofs::Devices::text_steps), unfolding(crate::specs::CallsLine::call_text))]
-fn write_call<S: Sink>(
+fn write_call<S: Page>(
     keyword: &[u8],
     heap: &[Object],
     parts: &[ObjId],
@@ -52,7 +52,7 @@ fn write_call<S: Sink>(
 
 /// Writes a new instance that is given arguments with names.
 #[tactic(auto, using(pickle_io::proofs::Devices::text_steps), unfolding(crate::specs::CallsLine::call_with_text))]
-fn write_call_with<S: Sink>(heap: &[Object], parts: &[ObjId], sink: &mut S) -> Result<(), Failed>
+fn write_call_with<S: Page>(heap: &[Object], parts: &[ObjId], sink: &mut S) -> Result<(), Failed>
     ensures { Writes (S.told sink.old) (S.told sink.new) result (call_with_text heap.now parts.now) }
 {
     write_call(b"new ", heap, parts, sink)?;
@@ -72,7 +72,7 @@ fn after_first(parts: &[ObjId]) -> &[ObjId]
 
 /// Writes a call whose arguments are after the class.
 #[tactic(auto, using(pickle_io::proofs::Devices::text_steps), unfolding(crate::specs::CallsLine::obj_text))]
-fn write_obj<S: Sink>(heap: &[Object], parts: &[ObjId], sink: &mut S) -> Result<(), Failed>
+fn write_obj<S: Page>(heap: &[Object], parts: &[ObjId], sink: &mut S) -> Result<(), Failed>
     ensures { Writes (S.told sink.old) (S.told sink.new) result (obj_text heap.now parts.now) }
 {
     write_all(sink, b"call ")?;
@@ -83,7 +83,7 @@ fn write_obj<S: Sink>(heap: &[Object], parts: &[ObjId], sink: &mut S) -> Result<
 
 /// Writes a keyword and an object as a value.
 #[tactic(auto, using(pickle_io::proofs::Devices::text_steps))]
-fn write_value_after<S: Sink>(
+fn write_value_after<S: Page>(
     keyword: &[u8],
     heap: &[Object],
     id: ObjId,
@@ -97,7 +97,7 @@ fn write_value_after<S: Sink>(
 
 /// Writes what made an object of this kind with these parts.
 #[tactic(auto, using(pickle_io::proofs::Devices::text_steps), unfolding(crate::specs::CallsLine::made_words))]
-fn write_made_words<S: Sink>(
+fn write_made_words<S: Page>(
     heap: &[Object],
     kind: &Kind,
     parts: &[ObjId],
@@ -124,7 +124,7 @@ fn write_made_words<S: Sink>(
 
 /// Writes what made an object, and its number.
 #[tactic(auto, using(pickle_io::proofs::Devices::text_steps), unfolding(crate::specs::CallsLine::made_text))]
-fn write_made_object<S: Sink>(
+fn write_made_object<S: Page>(
     heap: &[Object],
     id: ObjId,
     object: &Object,
@@ -139,7 +139,7 @@ fn write_made_object<S: Sink>(
 
 /// Writes what made the object of this number.
 #[tactic(auto, using(pickle_io::proofs::Devices::text_steps))]
-fn write_made<S: Sink>(heap: &[Object], id: ObjId, sink: &mut S) -> Result<(), Failed>
+fn write_made<S: Page>(heap: &[Object], id: ObjId, sink: &mut S) -> Result<(), Failed>
     ensures { Writes (S.told sink.old) (S.told sink.new) result (made_at heap.now id) }
 {
     match heap.get(id as usize) {
@@ -150,7 +150,7 @@ fn write_made<S: Sink>(heap: &[Object], id: ObjId, sink: &mut S) -> Result<(), F
 
 /// Writes that an object becomes the state of another.
 #[tactic(auto, using(pickle_io::proofs::Devices::text_steps), unfolding(crate::specs::CallsLine::state_text))]
-fn write_state<S: Sink>(
+fn write_state<S: Page>(
     heap: &[Object],
     value: ObjId,
     target: ObjId,
@@ -191,7 +191,7 @@ fn fill_link(filling: Filling) -> &'static str
 
 /// Writes how many go into which object.
 #[tactic(auto, using(pickle_io::proofs::Devices::text_steps), unfolding(crate::specs::CallsLine::filled_text))]
-fn write_filled<S: Sink>(
+fn write_filled<S: Page>(
     filling: Filling,
     count: usize,
     target: ObjId,
@@ -206,7 +206,7 @@ fn write_filled<S: Sink>(
 
 /// Writes an event, by the objects after the step.
 #[tactic(auto, unfolding(crate::specs::CallsLine::event_text))]
-fn write_event<S: Sink>(heap: &[Object], event: Event, sink: &mut S) -> Result<(), Failed>
+fn write_event<S: Page>(heap: &[Object], event: Event, sink: &mut S) -> Result<(), Failed>
     ensures { Writes (S.told sink.old) (S.told sink.new) result (event_text heap.now event) }
 {
     match event {
@@ -218,7 +218,7 @@ fn write_event<S: Sink>(heap: &[Object], event: Event, sink: &mut S) -> Result<(
 
 /// Writes the line of an event whose item is at this offset.
 #[tactic(auto, using(pickle_io::proofs::Devices::text_steps), unfolding(crate::specs::CallsLine::event_line))]
-fn write_event_line<S: Sink>(
+fn write_event_line<S: Page>(
     offset: u64,
     heap: &[Object],
     event: Event,
@@ -234,7 +234,7 @@ fn write_event_line<S: Sink>(
 
 /// Writes the line of a step, if it has an event.
 #[tactic(auto, using(pickle_io::proofs::Devices::text_steps))]
-pub fn write_line<S: Sink>(
+pub fn write_line<S: Page>(
     offset: u64,
     heap: &[Object],
     event: Option<Event>,

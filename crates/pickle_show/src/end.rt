@@ -9,11 +9,11 @@ use crate::line::write_kept_line;
 use crate::report::{Closing, status_of, write_closing};
 use crate::stop::TextStop;
 use crate::totals::Totals;
-use pickle_ops::{Failed, Sink, write_all, write_decimal};
+use pickle_ops::{Failed, Page, write_all, write_decimal};
 
 /// Writes how many imports and calls the lines are.
 #[tactic(auto, using(pickle_io::proofs::Devices::text_steps), unfolding(crate::specs::CallsLine::totals_line))]
-fn write_totals<S: Sink>(totals: Totals, sink: &mut S) -> Result<(), Failed>
+fn write_totals<S: Page>(totals: Totals, sink: &mut S) -> Result<(), Failed>
     ensures { Writes (S.told sink.old) (S.told sink.new) result (totals_line totals.imports totals.calls) }
 {
     write_decimal(totals.imports, sink)?;
@@ -25,7 +25,7 @@ fn write_totals<S: Sink>(totals: Totals, sink: &mut S) -> Result<(), Failed>
 
 /// Writes the last lines.
 #[tactic(auto, using(pickle_io::proofs::Devices::text_steps), unfolding(crate::specs::CallsLine::end_text))]
-fn write_last_lines<S: Sink>(
+fn write_last_lines<S: Page>(
     totals: Totals,
     kept: u64,
     closing: Closing,
@@ -40,7 +40,7 @@ fn write_last_lines<S: Sink>(
 
 /// Writes the last lines: how many imports and calls there are, how many bytes STOP left, and how the reading ended. Answers the
 /// status.
-pub fn write_end<S: Sink>(
+pub fn write_end<S: Page>(
     totals: Totals,
     kept: u64,
     closing: Closing,

@@ -7,11 +7,11 @@ use crate::words::{
     write_with_float, write_with_long, write_with_number, write_with_signed, write_with_text,
     write_with_texts,
 };
-use pickle_ops::{Failed, Kind, Sink, write_all};
+use pickle_ops::{Failed, Kind, Page, write_all};
 
 /// Writes the word of a kind, and what its opcode gave it.
 #[tactic(auto, unfolding(crate::specs::ObjectText::kind_text))]
-pub fn write_kind<S: Sink>(kind: &Kind, sink: &mut S) -> Result<(), Failed>
+pub fn write_kind<S: Page>(kind: &Kind, sink: &mut S) -> Result<(), Failed>
     ensures { Writes (S.told sink.old) (S.told sink.new) result (kind_text kind.now) }
 {
     match kind {

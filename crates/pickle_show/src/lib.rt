@@ -1,7 +1,5 @@
 //! What is shown of a pickle, as texts. Nothing is imported or called.
 //!
-//! - Pages: lines that are put together before they are written. Texts, blanks and columns go to the sink in blocks, since a call
-//!   of it for each byte would take most of the time.
 //! - What a machine shows: its objects, an object with all that it contains, the stack, the memo; and the report of a document,
 //!   which says what its items make and how their run ends.
 //! - Listings: the lines of a pickle's opcodes, one for each, and the closing lines, which say why it ended.
@@ -11,7 +9,7 @@
 //! The texts are this project's own; in them `#n` is object n, by its place in the heap.
 #![tactic(auto)]
 
-mod argument;
+mod blanks;
 mod brief;
 mod calls;
 mod calls_laws;
@@ -32,8 +30,6 @@ mod note;
 mod number;
 mod object;
 mod offset;
-mod page;
-mod pieces;
 mod put;
 mod report;
 mod report_line;

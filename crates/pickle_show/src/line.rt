@@ -7,11 +7,11 @@ ghost use Rattle.pickle_show.specs.Line.{refused_line, left_text, left_line, kep
 
 use crate::report_line::write_refusal;
 use pickle_machine::Refusal;
-use pickle_ops::{Failed, Sink, write_all, write_decimal};
+use pickle_ops::{Failed, Page, write_all, write_decimal};
 
 /// Writes the line of a refused step.
 #[tactic(auto, using(pickle_io::proofs::Devices::text_steps), unfolding(crate::specs::Line::refused_line))]
-pub fn write_refused<S: Sink>(refusal: Refusal, sink: &mut S) -> Result<(), Failed>
+pub fn write_refused<S: Page>(refusal: Refusal, sink: &mut S) -> Result<(), Failed>
     ensures { Writes (S.told sink.old) (S.told sink.new) result (refused_line refusal) }
 {
     write_all(sink, b"refused: ")?;
@@ -21,7 +21,7 @@ pub fn write_refused<S: Sink>(refusal: Refusal, sink: &mut S) -> Result<(), Fail
 
 /// Writes how many objects and marks STOP left on the stack.
 #[tactic(auto, using(pickle_io::proofs::Devices::text_steps), unfolding(crate::specs::Line::left_text))]
-fn write_left_text<S: Sink>(objects: usize, marks: usize, sink: &mut S) -> Result<(), Failed>
+fn write_left_text<S: Page>(objects: usize, marks: usize, sink: &mut S) -> Result<(), Failed>
     ensures { Writes (S.told sink.old) (S.told sink.new) result (left_text objects marks) }
 {
     write_all(sink, b"left: ")?;
@@ -34,7 +34,7 @@ fn write_left_text<S: Sink>(objects: usize, marks: usize, sink: &mut S) -> Resul
 
 /// Writes what STOP left on the stack, if anything.
 #[tactic(auto, using(pickle_io::proofs::Devices::text_steps), unfolding(crate::specs::Line::left_line))]
-pub fn write_left_line<S: Sink>(objects: usize, marks: usize, sink: &mut S) -> Result<(), Failed>
+pub fn write_left_line<S: Page>(objects: usize, marks: usize, sink: &mut S) -> Result<(), Failed>
     ensures { Writes (S.told sink.old) (S.told sink.new) result (left_line objects marks) }
 {
     if objects == 0 && marks == 0 {
@@ -46,7 +46,7 @@ pub fn write_left_line<S: Sink>(objects: usize, marks: usize, sink: &mut S) -> R
 
 /// Writes how many bytes are after STOP.
 #[tactic(auto, using(pickle_io::proofs::Devices::text_steps), unfolding(crate::specs::Line::kept_text, crate::specs::Line::kept_words))]
-fn write_kept_text<S: Sink>(count: u64, sink: &mut S) -> Result<(), Failed>
+fn write_kept_text<S: Page>(count: u64, sink: &mut S) -> Result<(), Failed>
     ensures { Writes (S.told sink.old) (S.told sink.new) result (kept_text count) }
 {
     write_all(sink, b"kept: ")?;
@@ -65,7 +65,7 @@ fn words_after_stop() -> &'static str
 
 /// Writes how many bytes are after STOP, if any.
 #[tactic(auto, using(pickle_io::proofs::Devices::text_steps), unfolding(crate::specs::Line::kept_line))]
-pub fn write_kept_line<S: Sink>(count: u64, sink: &mut S) -> Result<(), Failed>
+pub fn write_kept_line<S: Page>(count: u64, sink: &mut S) -> Result<(), Failed>
     ensures { Writes (S.told sink.old) (S.told sink.new) result (kept_line count) }
 {
     if count == 0 {
@@ -85,7 +85,7 @@ fn words_of_protocol() -> &'static str
 
 /// Writes the line of a protocol.
 #[tactic(auto, using(pickle_io::proofs::Devices::text_steps), unfolding(crate::specs::Line::protocol_text))]
-fn write_protocol_text<S: Sink>(protocol: u32, sink: &mut S) -> Result<(), Failed>
+fn write_protocol_text<S: Page>(protocol: u32, sink: &mut S) -> Result<(), Failed>
     ensures { Writes (S.told sink.old) (S.told sink.new) result (protocol_text protocol) }
 {
     write_all(sink, words_of_protocol().as_bytes())?;
@@ -95,7 +95,7 @@ fn write_protocol_text<S: Sink>(protocol: u32, sink: &mut S) -> Result<(), Faile
 
 /// Writes the greatest protocol of the items that were listed, if any was.
 #[tactic(auto, using(pickle_io::proofs::Devices::text_steps), unfolding(crate::specs::Line::protocol_line))]
-pub fn write_protocol<S: Sink>(highest: Option<u32>, sink: &mut S) -> Result<(), Failed>
+pub fn write_protocol<S: Page>(highest: Option<u32>, sink: &mut S) -> Result<(), Failed>
     ensures { Writes (S.told sink.old) (S.told sink.new) result (protocol_line highest) }
 {
     match highest {

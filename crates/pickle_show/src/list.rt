@@ -8,7 +8,6 @@ ghost use Rattle.pickle_machine.specs.State.{stack_size};
 ghost use Rattle.pickle_machine.specs.Move.{next_of, refusal_of, fresh};
 ghost use Rattle.pickle_machine.specs.Outline.{outline, sample};
 ghost use Rattle.pickle_show.specs.ReportLine.{fault_line};
-ghost use Rattle.pickle_show.specs.Page.{Puts};
 ghost use Rattle.pickle_show.specs.Line.{item_line, refused_line, left_line, kept_line, protocol_line};
 ghost use Rattle.pickle_show.specs.Inside.Marks.{followed};
 ghost use Rattle.pickle_show.specs.Inside.Answer.{IsAnswer};
@@ -17,44 +16,35 @@ ghost use Rattle.pickle_show.specs.Written.{WroteListing, CutListing, IsListed, 
 use crate::highest::Highest;
 use crate::line::{write_kept_line, write_left_line, write_protocol, write_refused};
 use crate::offset::Offset;
-use crate::page::Page;
-use crate::put::{put_item, put_refused};
+use crate::put::{write_bare_item, write_item};
 use crate::report_line::write_fault;
 use crate::stop::TextStop;
 use pickle_doc::{Document, DocumentItems, ItemSource, Items, NextRef, TailFault, is_stop};
 use pickle_machine::{Lean, Refusal};
-use pickle_ops::{Class, Failed, OpRef, Row, Sink};
+use pickle_ops::{Class, Failed, OpRef, Page, Row};
 use std::alloc::{AllocError, Global};
 
-/// Writes out the page, and the lines after all items where bytes are left that are no further item.
+/// Writes the lines after all items where bytes are left that are no further item.
 #[tactic(auto, using(pickle_io::proofs::Devices::text_steps))]
-fn write_fault_end<S: Sink>(
-    page: &mut Page,
+fn write_fault_end<P: Page>(
     fault: TailFault,
     offset: u64,
     highest: Option<u32>,
-    sink: &mut S,
+    page: &mut P,
 ) -> Result<(), Failed>
-    ensures { Writes (S.told sink.old) (S.told sink.new) result (page.old ⧺ fault_line fault offset ⧺ protocol_line highest) }
+    ensures { Writes (P.told page.old) (P.told page.new) result (fault_line fault offset ⧺ protocol_line highest) }
 {
-    page.flush(sink)?;
-    write_fault(fault, offset, sink)?;
-    write_protocol(highest, sink)
+    write_fault(fault, offset, page)?;
+    write_protocol(highest, page)
 }
 
-/// Writes out the page, and the lines after the last STOP, behind which there are `kept` bytes.
+/// Writes the lines after the last STOP, behind which there are `kept` bytes.
 #[tactic(auto, using(pickle_io::proofs::Devices::text_steps))]
-fn write_last_end<S: Sink>(
-    page: &mut Page,
-    kept: u64,
-    highest: Option<u32>,
-    sink: &mut S,
-) -> Result<(), Failed>
-    ensures { Writes (S.told sink.old) (S.told sink.new) result (page.old ⧺ kept_line kept ⧺ protocol_line highest) }
+fn write_last_end<P: Page>(kept: u64, highest: Option<u32>, page: &mut P) -> Result<(), Failed>
+    ensures { Writes (P.told page.old) (P.told page.new) result (kept_line kept ⧺ protocol_line highest) }
 {
-    page.flush(sink)?;
-    write_kept_line(kept, sink)?;
-    write_protocol(highest, sink)
+    write_kept_line(kept, page)?;
+    write_protocol(highest, page)
 }
 
 /// Whether a STOP ends the listing, with this many bytes behind it.
@@ -64,53 +54,35 @@ fn is_last(many: bool, kept: u64) -> bool
     !many || kept == 0
 }
 
-/// Puts what STOP left on the stack on the page, if anything.
-fn put_left_line<S: Sink>(
-    page: &mut Page,
-    objects: usize,
-    marks: usize,
-    sink: &mut S,
-) -> Result<(), Failed>
-    ensures { Puts (S.told sink.old) (S.told sink.new) page.old page.new result (left_line objects marks) }
-{
-    if objects == 0 && marks == 0 {
-        return Ok(());
-    }
-    page.flush(sink)?;
-    write_left_line(objects, marks, sink)
-}
-
-/// Writes out the page, and the lines after the line of an item that is refused.
+/// Writes the lines after the line of an item that is refused.
 #[tactic(auto, using(pickle_io::proofs::Devices::text_steps))]
-fn write_refused_end<S: Sink>(
-    page: &mut Page,
+fn write_refused_end<P: Page>(
     refusal: Refusal,
     highest: Option<u32>,
-    sink: &mut S,
+    page: &mut P,
 ) -> Result<(), Failed>
-    ensures { Writes (S.told sink.old) (S.told sink.new) result (page.old ⧺ refused_line refusal ⧺ protocol_line highest) }
+    ensures { Writes (P.told page.old) (P.told page.new) result (refused_line refusal ⧺ protocol_line highest) }
 {
-    page.flush(sink)?;
-    write_refused(refusal, sink)?;
-    write_protocol(highest, sink)
+    write_refused(refusal, page)?;
+    write_protocol(highest, page)
 }
 
-/// Puts the line of an item that is refused, writes out the page, and the lines after it. An item that is refused has no note.
+/// Writes the line of an item that is refused, and the lines after it. An item that is refused has no note.
+#[tactic(auto, using(pickle_io::proofs::Devices::text_steps))]
 #[inline(never)]
-fn write_refused_item<S: Sink>(
-    page: &mut Page,
+fn write_refused_item<P: Page>(
     op: &OpRef<'_>,
     offset: &Offset,
     marks: usize,
     refusal: Refusal,
     highest: Option<u32>,
-    sink: &mut S,
+    page: &mut P,
 ) -> Result<(), Failed>
     requires { marks < 2 ^ 32 }
-    ensures { Writes (S.told sink.old) (S.told sink.new) result (page.old ⧺ item_line op.now offset.now marks None ⧺ (refused_line refusal ⧺ protocol_line highest)) }
+    ensures { Writes (P.told page.old) (P.told page.new) result (item_line op.now offset.now marks None ⧺ (refused_line refusal ⧺ protocol_line highest)) }
 {
-    put_refused(page, op, offset, marks, sink)?;
-    write_refused_end(page, refusal, highest, sink)
+    write_bare_item(op, offset, marks, page)?;
+    write_refused_end(refusal, highest, page)
 }
 
 /// The answer of a listing with this status whose last lines were written, or where the sink failed.
@@ -170,29 +142,24 @@ fn refresh(lean: &mut Lean, opened: &mut Vec<u64>)
     lean.refresh();
 }
 
-/// Puts what STOP left on the page. Where several pickles are listed, the next one begins, and no mark is open.
+/// Writes what STOP left. Where several pickles are listed, the next one begins, and no mark is open.
 #[inline(never)]
-fn end_pickle<S: Sink>(
-    page: &mut Page,
-    lean: &mut Lean,
-    opened: &mut Vec<u64>,
-    sink: &mut S,
-) -> Result<(), Failed>
-    ensures puts { Puts (S.told sink.old) (S.told sink.new) page.old page.new result (left_line (stack_size lean.old) (length lean.old.marked)) }
+fn end_pickle<P: Page>(lean: &mut Lean, opened: &mut Vec<u64>, page: &mut P) -> Result<(), Failed>
+    ensures text { Writes (P.told page.old) (P.told page.new) result (left_line (stack_size lean.old) (length lean.old.marked)) }
     ensures fresh { OnOk result (lean.new ≡ outline (fresh lean.old)) }
     ensures marks { OnOk result (opened.new.items ≡ (if lean.old.stopped then [] else opened.old.items)) }
 {
-    put_left_line(page, lean.stack_len(), lean.marks_len(), sink)?;
+    write_left_line(lean.stack_len(), lean.marks_len(), page)?;
     refresh(lean, opened);
     Ok(())
 }
 
 /// Writes the listing of the items that a source gives from the first on, as many pickles or as one, and answers its status: 1 where an
-/// item is refused or the bytes have a fault, else 0. Lines are put on a page before they are written. The source is to give a document
-/// that is not too large.
+/// item is refused or the bytes have a fault, else 0. The source is to give a document that is not too
+/// large.
 ///
 /// `Memory` (M) comes when memory runs out, `Failed` from the sink; what was written then is a beginning of the listing.
-pub fn list_items<'a, I: ItemSource<'a>, S: Sink>(
+pub fn list_items<'a, I: ItemSource<'a>, S: Page>(
     alloc: Global,
     many: bool,
     source: I,
@@ -208,7 +175,6 @@ pub fn list_items<'a, I: ItemSource<'a>, S: Sink>(
     let mut lean = Lean::new(alloc, many);
     // The offsets of the open marks are kept besides the machine, so that a note costs no search.
     let mut opened = Vec::new(alloc);
-    let mut page = Page::new();
     let mut highest = Highest::none();
     let mut offset = Offset::at(0);
     let mut place = 0;
@@ -216,10 +182,7 @@ pub fn list_items<'a, I: ItemSource<'a>, S: Sink>(
         match reader.next() {
             NextRef::Tail(fault) => {
                 let at = offset.number();
-                return answer(
-                    write_fault_end(&mut page, fault, at, highest.get(), sink),
-                    1,
-                );
+                return answer(write_fault_end(fault, at, highest.get(), sink), 1);
             }
             NextRef::Item(op) => {
                 let row = Row::of_ref(&op);
@@ -230,12 +193,12 @@ pub fn list_items<'a, I: ItemSource<'a>, S: Sink>(
                     let marks = lean.marks_len();
                     let most = highest.get();
                     return answer(
-                        write_refused_item(&mut page, &op, &offset, marks, refusal, most, sink),
+                        write_refused_item(&op, &offset, marks, refusal, most, sink),
                         1,
                     );
                 }
                 let marks = opened.as_slice();
-                put_item(&mut page, &op, &offset, row, &lean, marks, sink)?;
+                write_item(&op, &offset, row, &lean, marks, sink)?;
                 let class = Class::of(op.opcode());
                 perform(&mut lean, &mut opened, row, class, place, &offset)?;
                 offset.advance(op.size() as u64);
@@ -243,10 +206,10 @@ pub fn list_items<'a, I: ItemSource<'a>, S: Sink>(
                 if !is_stop(op.opcode()) {
                     continue;
                 }
-                end_pickle(&mut page, &mut lean, &mut opened, sink)?;
+                end_pickle(&mut lean, &mut opened, sink)?;
                 let kept = reader.unread_len();
                 if is_last(many, kept) {
-                    return answer(write_last_end(&mut page, kept, highest.get(), sink), 0);
+                    return answer(write_last_end(kept, highest.get(), sink), 0);
                 }
             }
         }
@@ -255,7 +218,7 @@ pub fn list_items<'a, I: ItemSource<'a>, S: Sink>(
 
 /// Writes the listing of the pickle that the bytes are, or of the several pickles, which are not too many, and answers its status, as
 /// `list_items` does. No item is kept.
-pub fn list_bytes<S: Sink>(
+pub fn list_bytes<S: Page>(
     alloc: Global,
     many: bool,
     bytes: &[u8],
@@ -272,7 +235,7 @@ pub fn list_bytes<S: Sink>(
 /// The machine that it asks is its own.
 ///
 /// `Memory` (M) comes when memory runs out, `Failed` from the sink; what was written then is a beginning of the listing.
-pub fn write_listing<S: Sink>(
+pub fn write_listing<S: Page>(
     alloc: Global,
     document: &Document,
     sink: &mut S,

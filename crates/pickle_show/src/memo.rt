@@ -5,12 +5,12 @@ ghost use Rattle.pickle_show.specs.MemoText.{entry_text, memo_text};
 
 use crate::words::write_id;
 use pickle_machine::Machine;
-use pickle_ops::{Failed, ObjId, Sink, write_all, write_decimal};
+use pickle_ops::{Failed, ObjId, Page, write_all, write_decimal};
 use std::collections::BTreeMap;
 
 /// Writes a key, and the object that it has.
 #[tactic(auto, using(pickle_io::proofs::Devices::text_steps), unfolding(crate::specs::MemoText::entry_text))]
-fn write_entry<S: Sink>(key: u64, id: ObjId, sink: &mut S) -> Result<(), Failed>
+fn write_entry<S: Page>(key: u64, id: ObjId, sink: &mut S) -> Result<(), Failed>
     ensures { Writes (S.told sink.old) (S.told sink.new) result (entry_text (key, id)) }
 {
     write_all(sink, b" ")?;
@@ -20,7 +20,7 @@ fn write_entry<S: Sink>(key: u64, id: ObjId, sink: &mut S) -> Result<(), Failed>
 }
 
 /// Writes the entries, by rising key.
-fn write_entries<S: Sink>(memo: &BTreeMap<u64, ObjId>, sink: &mut S) -> Result<(), Failed>
+fn write_entries<S: Page>(memo: &BTreeMap<u64, ObjId>, sink: &mut S) -> Result<(), Failed>
     ensures { Writes (S.told sink.old) (S.told sink.new) result (each entry_text memo.now.entries) }
 {
     let mut rest = memo.iter();
@@ -33,7 +33,7 @@ fn write_entries<S: Sink>(memo: &BTreeMap<u64, ObjId>, sink: &mut S) -> Result<(
 /// Writes the memo of a machine: `memo`, and ` key=#n` for each entry, by rising key. It takes no memory. `Failed` where the sink
 /// fails; a beginning of the line was written then.
 #[tactic(auto, using(pickle_io::proofs::Devices::text_steps), unfolding(crate::specs::MemoText::memo_text))]
-pub fn write_memo<S: Sink>(machine: &Machine, sink: &mut S) -> Result<(), Failed>
+pub fn write_memo<S: Page>(machine: &Machine, sink: &mut S) -> Result<(), Failed>
     ensures { Writes (S.told sink.old) (S.told sink.new) result (memo_text machine.now.state.memo) }
 {
     write_all(sink, b"memo")?;

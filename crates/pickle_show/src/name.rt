@@ -7,11 +7,11 @@ ghost use Rattle.pickle_show.specs.Brief.{kind_part_name, part_name, names_text,
 use crate::event::part;
 use crate::kind::write_kind;
 use crate::words::write_id;
-use pickle_ops::{Failed, Kind, ObjId, Object, Sink, write_all, write_quoted};
+use pickle_ops::{Failed, Kind, ObjId, Object, Page, write_all, write_quoted};
 
 /// Writes an object of this kind as the name of a module or of a member: a text in quotes, or its number.
 #[tactic(auto, unfolding(crate::specs::Brief::kind_part_name))]
-fn write_kind_part_name<S: Sink>(id: ObjId, kind: &Kind, sink: &mut S) -> Result<(), Failed>
+fn write_kind_part_name<S: Page>(id: ObjId, kind: &Kind, sink: &mut S) -> Result<(), Failed>
     ensures { Writes (S.told sink.old) (S.told sink.new) result (kind_part_name id kind.now) }
 {
     match kind {
@@ -25,7 +25,7 @@ fn write_kind_part_name<S: Sink>(id: ObjId, kind: &Kind, sink: &mut S) -> Result
 
 /// Writes the object of this number as such a name.
 #[tactic(auto, unfolding(crate::specs::Brief::part_name))]
-fn write_part_name<S: Sink>(heap: &[Object], id: ObjId, sink: &mut S) -> Result<(), Failed>
+fn write_part_name<S: Page>(heap: &[Object], id: ObjId, sink: &mut S) -> Result<(), Failed>
     ensures { Writes (S.told sink.old) (S.told sink.new) result (part_name heap.now id) }
 {
     match heap.get(id as usize) {
@@ -36,7 +36,7 @@ fn write_part_name<S: Sink>(heap: &[Object], id: ObjId, sink: &mut S) -> Result<
 
 /// Writes two names in quotes.
 #[tactic(auto, using(pickle_io::proofs::Devices::text_steps), unfolding(crate::specs::Brief::names_text))]
-fn write_names<S: Sink>(first: &[u8], second: &[u8], sink: &mut S) -> Result<(), Failed>
+fn write_names<S: Page>(first: &[u8], second: &[u8], sink: &mut S) -> Result<(), Failed>
     ensures { Writes (S.told sink.old) (S.told sink.new) result (names_text first.now second.now) }
 {
     write_quoted(first, sink)?;
@@ -46,7 +46,7 @@ fn write_names<S: Sink>(first: &[u8], second: &[u8], sink: &mut S) -> Result<(),
 
 /// Writes the first two parts as the names of a module and of a member.
 #[tactic(auto, using(pickle_io::proofs::Devices::text_steps), unfolding(crate::specs::Brief::part_names_text))]
-pub fn write_part_names<S: Sink>(
+pub fn write_part_names<S: Page>(
     heap: &[Object],
     parts: &[ObjId],
     sink: &mut S,
@@ -60,7 +60,7 @@ pub fn write_part_names<S: Sink>(
 
 /// Writes the same after a keyword.
 #[tactic(auto, using(pickle_io::proofs::Devices::text_steps))]
-pub fn write_part_names_after<S: Sink>(
+pub fn write_part_names_after<S: Page>(
     keyword: &[u8],
     heap: &[Object],
     parts: &[ObjId],
@@ -74,7 +74,7 @@ pub fn write_part_names_after<S: Sink>(
 
 /// Writes the name of an object of this kind with these parts.
 #[tactic(auto, unfolding(crate::specs::Brief::kind_name))]
-fn write_kind_name<S: Sink>(
+fn write_kind_name<S: Page>(
     heap: &[Object],
     id: ObjId,
     kind: &Kind,
@@ -93,7 +93,7 @@ fn write_kind_name<S: Sink>(
 
 /// Writes the name of the object of this number.
 #[tactic(auto, unfolding(crate::specs::Brief::name_text))]
-pub fn write_name<S: Sink>(heap: &[Object], id: ObjId, sink: &mut S) -> Result<(), Failed>
+pub fn write_name<S: Page>(heap: &[Object], id: ObjId, sink: &mut S) -> Result<(), Failed>
     ensures { Writes (S.told sink.old) (S.told sink.new) result (name_text heap.now id) }
 {
     match heap.get(id as usize) {

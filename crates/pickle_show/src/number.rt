@@ -1,40 +1,34 @@
 //! Numbers in columns.
 
-ghost use Rattle.std.specs.Prelude.{◌≤◌, decimal};
-ghost use Rattle.pickle_io.specs.Device.{Writes};
-ghost use Rattle.pickle_show.specs.Column.{blanks, right_aligned};
+ghost use Rattle.std.specs.Prelude.{◌≤◌, ◌+◌, decimal};
+ghost use Rattle.pickle_io.specs.Device.{Wrote, Writes};
+ghost use Rattle.pickle_show.specs.Column.{right_aligned};
 
-use itoa::Buffer;
-use pickle_ops::{Failed, Sink, write_all};
+use crate::blanks::push_blanks;
+use itoa::write_digits;
+use pickle_ops::{Failed, Page};
 
-/// The width of a column of offsets, and of one of places.
-const WIDTH: usize = 5;
-
-/// The blanks of an empty column.
-const BLANKS: [u8; 5] = [b' '; 5];
-
-/// Writes this count of blanks.
-#[tactic(auto, using(crate::proofs::Blanks::blanks_cut))]
-fn write_blanks<S: Sink>(count: usize, sink: &mut S) -> Result<(), Failed>
-    requires { count ≤ 5 }
-    ensures { Writes (S.told sink.old) (S.told sink.new) result (blanks count) }
+/// Puts a number at the right of a column of five places; a longer one is not cut.
+#[tactic(auto, using(pickle_io::proofs::Numbers::number_steps))]
+#[inline(always)]
+pub fn push_right<P: Page>(number: u64, page: &mut P)
+    requires { 36 ≤ P.room page.old }
+    ensures text { Wrote (P.told page.old) (P.told page.new) (right_aligned 5 (decimal number)) }
+    ensures room { P.room page.old ≤ P.room page.new + 25 }
 {
-    write_all(sink, &BLANKS[..count])
-}
-
-/// Writes a text at the right of a column.
-#[tactic(auto, using(pickle_io::proofs::Devices::text_steps), unfolding(crate::specs::Column::right_aligned))]
-fn write_right_text<S: Sink>(text: &[u8], sink: &mut S) -> Result<(), Failed>
-    ensures { Writes (S.told sink.old) (S.told sink.new) result (right_aligned 5 text.now) }
-{
-    write_blanks(WIDTH.saturating_sub(text.len()), sink)?;
-    write_all(sink, text)
+    let mut piece = [b' '; 40];
+    let start = write_digits(number, &mut piece, 20);
+    push_blanks(start.saturating_sub(15), page);
+    page.push_front(&piece[start..start + 20], 20 - start);
 }
 
 /// Writes a number at the right of a column of five places; a longer one is not cut. Where the sink fails, a beginning of the text was
 /// written.
-pub fn write_right<S: Sink>(number: u64, sink: &mut S) -> Result<(), Failed>
-    ensures { Writes (S.told sink.old) (S.told sink.new) result (right_aligned 5 (decimal number)) }
+#[tactic(auto, using(pickle_io::proofs::Devices::page_steps))]
+pub fn write_right<P: Page>(number: u64, page: &mut P) -> Result<(), Failed>
+    ensures { Writes (P.told page.old) (P.told page.new) result (right_aligned 5 (decimal number)) }
 {
-    write_right_text(Buffer::new().format(number).as_bytes(), sink)
+    page.make_room()?;
+    push_right(number, page);
+    Ok(())
 }

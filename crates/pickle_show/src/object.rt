@@ -7,11 +7,11 @@ ghost use Rattle.pickle_show.specs.ObjectText.{next_text, some_parts, parts_text
 use crate::kind::write_kind;
 use crate::words::{write_id, write_with_id};
 use pickle_machine::Machine;
-use pickle_ops::{Change, Failed, ObjId, Object, Sink, write_all};
+use pickle_ops::{Change, Failed, ObjId, Object, Page, write_all};
 
 /// Writes one object more, by its number after a blank.
 #[tactic(auto, using(pickle_io::proofs::Devices::text_steps), unfolding(crate::specs::ObjectText::next_text))]
-pub(crate) fn write_next<S: Sink>(id: ObjId, sink: &mut S) -> Result<(), Failed>
+pub(crate) fn write_next<S: Page>(id: ObjId, sink: &mut S) -> Result<(), Failed>
     ensures { Writes (S.told sink.old) (S.told sink.new) result (next_text id) }
 {
     write_all(sink, b" ")?;
@@ -20,7 +20,7 @@ pub(crate) fn write_next<S: Sink>(id: ObjId, sink: &mut S) -> Result<(), Failed>
 
 /// Writes objects by their numbers, each after a blank.
 #[tactic(auto, using(pickle_io::proofs::Devices::each_steps))]
-pub fn write_all_next<S: Sink>(ids: &[ObjId], sink: &mut S) -> Result<(), Failed>
+pub fn write_all_next<S: Page>(ids: &[ObjId], sink: &mut S) -> Result<(), Failed>
     ensures { Writes (S.told sink.old) (S.told sink.new) result (each next_text ids.now) }
 {
     for id in ids {
@@ -31,7 +31,7 @@ pub fn write_all_next<S: Sink>(ids: &[ObjId], sink: &mut S) -> Result<(), Failed
 
 /// Writes the parts of an object that has some.
 #[tactic(auto, using(pickle_io::proofs::Devices::text_steps), unfolding(crate::specs::ObjectText::some_parts))]
-fn write_some_parts<S: Sink>(first: ObjId, rest: &[ObjId], sink: &mut S) -> Result<(), Failed>
+fn write_some_parts<S: Page>(first: ObjId, rest: &[ObjId], sink: &mut S) -> Result<(), Failed>
     ensures { Writes (S.told sink.old) (S.told sink.new) result (some_parts first rest.now) }
 {
     write_all(sink, b" (")?;
@@ -42,7 +42,7 @@ fn write_some_parts<S: Sink>(first: ObjId, rest: &[ObjId], sink: &mut S) -> Resu
 
 /// Writes the parts of an object, if it has any.
 #[tactic(auto, using(pickle_io::proofs::Devices::text_steps))]
-fn write_parts<S: Sink>(parts: &[ObjId], sink: &mut S) -> Result<(), Failed>
+fn write_parts<S: Page>(parts: &[ObjId], sink: &mut S) -> Result<(), Failed>
     ensures { Writes (S.told sink.old) (S.told sink.new) result (parts_text parts.now) }
 {
     match parts.split_first() {
@@ -53,7 +53,7 @@ fn write_parts<S: Sink>(parts: &[ObjId], sink: &mut S) -> Result<(), Failed>
 
 /// Writes that a key was mapped to a value.
 #[tactic(auto, using(pickle_io::proofs::Devices::text_steps), unfolding(crate::specs::ObjectText::set_text))]
-fn write_set<S: Sink>(key: ObjId, value: ObjId, sink: &mut S) -> Result<(), Failed>
+fn write_set<S: Page>(key: ObjId, value: ObjId, sink: &mut S) -> Result<(), Failed>
     ensures { Writes (S.told sink.old) (S.told sink.new) result (set_text key value) }
 {
     write_all(sink, b" [")?;
@@ -64,7 +64,7 @@ fn write_set<S: Sink>(key: ObjId, value: ObjId, sink: &mut S) -> Result<(), Fail
 
 /// Writes what was done to an object.
 #[tactic(auto, using(pickle_io::proofs::Devices::text_steps), unfolding(crate::specs::ObjectText::change_text))]
-fn write_change<S: Sink>(change: Change, sink: &mut S) -> Result<(), Failed>
+fn write_change<S: Page>(change: Change, sink: &mut S) -> Result<(), Failed>
     ensures { Writes (S.told sink.old) (S.told sink.new) result (change_text change) }
 {
     match change {
@@ -77,7 +77,7 @@ fn write_change<S: Sink>(change: Change, sink: &mut S) -> Result<(), Failed>
 
 /// Writes all that was done to an object, the earliest first.
 #[tactic(auto, using(pickle_io::proofs::Devices::each_steps))]
-fn write_changes<S: Sink>(changes: &[Change], sink: &mut S) -> Result<(), Failed>
+fn write_changes<S: Page>(changes: &[Change], sink: &mut S) -> Result<(), Failed>
     ensures { Writes (S.told sink.old) (S.told sink.new) result (each change_text changes.now) }
 {
     for change in changes {
@@ -90,7 +90,7 @@ fn write_changes<S: Sink>(changes: &[Change], sink: &mut S) -> Result<(), Failed
 /// done to it: ` +#v` for an item put after the others, ` [#k]=#v` for a key mapped to a value, ` &#v` for a member of a set,
 /// ` !#s` for a state. It takes no memory. `Failed` where the sink fails; a beginning of the text was written then.
 #[tactic(auto, using(pickle_io::proofs::Devices::text_steps), unfolding(crate::specs::ObjectText::object_text))]
-pub fn write_object<S: Sink>(id: u64, object: &Object, sink: &mut S) -> Result<(), Failed>
+pub fn write_object<S: Page>(id: u64, object: &Object, sink: &mut S) -> Result<(), Failed>
     ensures { Writes (S.told sink.old) (S.told sink.new) result (object_text id object.now) }
 {
     write_id(id, sink)?;
@@ -102,7 +102,7 @@ pub fn write_object<S: Sink>(id: u64, object: &Object, sink: &mut S) -> Result<(
 
 /// Writes the line of an object.
 #[tactic(auto, using(pickle_io::proofs::Devices::text_steps), unfolding(crate::specs::ObjectText::object_line))]
-fn write_object_line<S: Sink>(id: u64, object: &Object, sink: &mut S) -> Result<(), Failed>
+fn write_object_line<S: Page>(id: u64, object: &Object, sink: &mut S) -> Result<(), Failed>
     ensures { Writes (S.told sink.old) (S.told sink.new) result (object_line id object.now) }
 {
     write_object(id, object, sink)?;
@@ -112,7 +112,7 @@ fn write_object_line<S: Sink>(id: u64, object: &Object, sink: &mut S) -> Result<
 /// Writes the lines of all objects of a machine, by rising number. It takes no memory. `Failed` where the sink fails; a beginning
 /// of the lines was written then.
 #[tactic(auto, unfolding(crate::specs::ObjectText::objects_text))]
-pub fn write_objects<S: Sink>(machine: &Machine, sink: &mut S) -> Result<(), Failed>
+pub fn write_objects<S: Page>(machine: &Machine, sink: &mut S) -> Result<(), Failed>
     ensures { Writes (S.told sink.old) (S.told sink.new) result (objects_text machine.now.state.heap) }
 {
     for (id, object) in machine.heap().iter().enumerate() {

@@ -1,10 +1,13 @@
 //! The offset of a line.
 
-ghost use Rattle.std.specs.Prelude.{◌≡◌, ◌≤◌, ◌<◌, ◌^◌, ◌+◌, ◌/◌, ◌%◌, ◌∷◌, [], ◌++◌, length, take, decimal};
+ghost use Rattle.std.specs.Prelude.{◌≡◌, ◌≤◌, ◌<◌, ◌^◌, ◌+◌, ◌/◌, ◌%◌, ◌∷◌, [], length, take, decimal};
+ghost use Rattle.pickle_io.specs.Device.{Wrote};
+ghost use Rattle.pickle_io.specs.Text.{◌⧺◌};
 ghost use Rattle.pickle_show.specs.Column.{right_aligned};
 
-use crate::page::Page;
+use crate::number::push_right;
 use itoa::write_digits;
+use pickle_ops::Page;
 use std::marker::Model;
 
 /// The two digits of each number below 100.
@@ -95,21 +98,19 @@ impl Offset {
     }
 }
 
-impl Page {
-    /// Puts an offset at the right of five places after the text, and then the first n bytes of a part.
-    #[tactic(auto, using(crate::proofs::Offsets::offset_steps))]
-    #[inline(always)]
-    pub fn push_offset(&mut self, offset: &Offset, part: &[u8], n: usize)
-        requires room { length self.old + length part.now + 36 ≤ 4096 }
-        requires within { n ≤ length part.now }
-        ensures text { self.new ≡ self.old ++ (right_aligned 5 (decimal offset.now) ++ take n part.now) }
-        ensures len { length self.new ≤ length self.old + 25 + n }
-    {
-        if offset.hundreds == 0 {
-            self.push_right(offset.rest);
-            self.push_front(part, n);
-        } else {
-            self.push_three(&offset.text, offset.len, &pair_of(offset.rest), part, n);
-        }
+/// Puts an offset at the right of five places, and then the first n bytes of a part.
+#[tactic(auto, using(crate::proofs::Offsets::offset_steps))]
+#[inline(always)]
+pub fn push_offset<P: Page>(offset: &Offset, part: &[u8], n: usize, page: &mut P)
+    requires room { length part.now + 36 ≤ P.room page.old }
+    requires within { n ≤ length part.now }
+    ensures text { Wrote (P.told page.old) (P.told page.new) (right_aligned 5 (decimal offset.now) ⧺ take n part.now) }
+    ensures room { P.room page.old ≤ P.room page.new + 25 + n }
+{
+    if offset.hundreds == 0 {
+        push_right(offset.rest, page);
+        page.push_front(part, n);
+    } else {
+        page.push_three(&offset.text, offset.len, &pair_of(offset.rest), part, n);
     }
 }

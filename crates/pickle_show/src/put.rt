@@ -1,226 +1,199 @@
-//! The line of an item, on a page.
+//! The line of an item.
 
 ghost use Rattle.std.specs.Prelude.{◌≡◌, ◌≤◌, ◌<◌, ◌^◌, ◌+◌, ◌-◌, ◌*◌, ◌++◌, length, codes, unwrap_or, [], None, Some, OnOk};
 ghost use Rattle.pickle_ops.specs.Table.{name_of};
 ghost use Rattle.pickle_io.specs.Text.{◌⧺◌};
 ghost use Rattle.pickle_ops.specs.Text.{arg_text};
-ghost use Rattle.pickle_show.specs.Page.{Puts};
+ghost use Rattle.pickle_io.specs.Device.{Wrote, Writes};
 ghost use Rattle.pickle_ops.specs.Row.{row_of};
 ghost use Rattle.pickle_show.specs.Column.{blanks, left_aligned, newline};
 ghost use Rattle.pickle_show.specs.Line.{offset_column, code_column, note_text, described, named, item_line};
 ghost use Rattle.pickle_show.specs.Listing.{note_with};
 ghost use Rattle.pickle_show.specs.Inside.Marks.{last_of};
 
+use crate::blanks::write_blanks;
 use crate::column::code_block;
 use crate::note::{Note, note_of};
-use crate::offset::Offset;
-use crate::page::Page;
+use crate::offset::{Offset, push_offset};
 use pickle_machine::Lean;
-use pickle_ops::{Failed, OpRef, Opcode, Row, Sink, opcodes};
+use pickle_ops::{Failed, OpRef, Opcode, Page, Row, opcodes, push_decimal, write_arg};
 
-/// Puts where an item is, a colon, the code of its opcode and four blanks for each open mark.
+/// Writes where an item is, a colon, the code of its opcode and four blanks for each open mark.
 #[inline(always)]
-fn put_head<S: Sink>(
-    page: &mut Page,
+fn write_head<P: Page>(
     opcode: Opcode,
     offset: &Offset,
     marks: usize,
-    sink: &mut S,
+    page: &mut P,
 ) -> Result<(), Failed>
     requires { marks < 2 ^ 32 }
-    ensures puts { Puts (S.told sink.old) (S.told sink.new) page.old page.new result (offset_column offset.now ⧺ code_column opcode ⧺ blanks (4 * marks)) }
-    ensures room { OnOk result (length page.new + 160 ≤ 4096) }
+    ensures text { Writes (P.told page.old) (P.told page.new) result (offset_column offset.now ⧺ code_column opcode ⧺ blanks (4 * marks)) }
+    ensures room { OnOk result (160 ≤ P.room page.new) }
 {
-    page.make_room(sink)?;
-    page.push_offset(offset, code_block(opcode), 7);
-    page.put_blanks(4 * marks, sink)
+    page.make_room()?;
+    push_offset(offset, code_block(opcode), 7, page);
+    write_blanks(4 * marks, page)
 }
 
-/// Puts the name of an opcode after the text.
+/// Puts the name of an opcode.
 #[tactic(auto, using(crate::proofs::PageLines::name_there))]
 #[inline(always)]
-fn push_name(page: &mut Page, opcode: Opcode)
-    requires { length page.old + 16 ≤ 4096 }
-    ensures text { page.new ≡ page.old ++ name_of opcode }
-    ensures len { length page.new ≤ length page.old + 16 }
+fn push_name<P: Page>(opcode: Opcode, page: &mut P)
+    requires { 16 ≤ P.room page.old }
+    ensures text { Wrote (P.told page.old) (P.told page.new) (name_of opcode) }
+    ensures room { P.room page.old ≤ P.room page.new + 16 }
 {
     page.push_front(filled_name(opcode), name_len(opcode));
 }
 
-/// Puts the name of an opcode, filled to ten places, and a blank after the text.
+/// Puts the name of an opcode, filled to ten places, and a blank.
 #[tactic(auto, using(crate::proofs::PageLines::filled_there))]
 #[inline(always)]
-fn push_filled(page: &mut Page, opcode: Opcode)
-    requires { length page.old + 17 ≤ 4096 }
-    ensures text { page.new ≡ page.old ++ (left_aligned 10 (name_of opcode) ⧺ codes " ") }
-    ensures len { length page.new ≤ length page.old + 17 }
+fn push_filled<P: Page>(opcode: Opcode, page: &mut P)
+    requires { 17 ≤ P.room page.old }
+    ensures text { Wrote (P.told page.old) (P.told page.new) (left_aligned 10 (name_of opcode) ⧺ codes " ") }
+    ensures room { P.room page.old ≤ P.room page.new + 17 }
 {
     page.push_two(filled_name(opcode), name_len(opcode).max(10), b" ", 1);
 }
 
-/// Puts a note after the text.
-#[tactic(auto, using(crate::proofs::PageLines::note_steps))]
-fn push_note(page: &mut Page, note: Note)
-    requires { length page.old + 40 ≤ 4096 }
-    ensures text { page.new ≡ page.old ++ note_text note }
-    ensures len { length page.new ≤ length page.old + 30 }
+/// Puts a note.
+#[tactic(auto, using(pickle_io::proofs::Devices::text_steps), unfolding(crate::specs::Line::mark_text, crate::specs::Line::as_text))]
+fn push_note<P: Page>(note: Note, page: &mut P)
+    requires { 40 ≤ P.room page.old }
+    ensures text { Wrote (P.told page.old) (P.told page.new) (note_text note) }
+    ensures room { P.room page.old ≤ P.room page.new + 30 }
 {
     match note {
         Note::MarkAt(offset) => {
             page.push_text(b"(MARK at ");
-            page.push_decimal(offset);
+            push_decimal(offset, page);
             page.push(b')');
         }
         Note::As(key) => {
             page.push_text(b"(as ");
-            page.push_decimal(key);
+            push_decimal(key, page);
             page.push(b')');
         }
     }
 }
 
-/// Puts the name of an operation, and its argument where that has a text.
-#[tactic(auto, using(crate::proofs::Puts::put_steps, crate::proofs::Names::name_steps))]
+/// Writes the name of an operation, and its argument where that has a text.
+#[tactic(auto, using(pickle_io::proofs::Devices::text_steps, crate::proofs::Names::name_steps))]
 #[inline(always)]
-fn put_name<S: Sink>(page: &mut Page, op: &OpRef<'_>, sink: &mut S) -> Result<(), Failed>
-    requires { length page.old + 160 ≤ 4096 }
-    ensures puts { Puts (S.told sink.old) (S.told sink.new) page.old page.new result (described (name_of op.now.opcode) (arg_text op.now) None) }
-    ensures room { OnOk result (length page.new + 1 ≤ 4096) }
+fn write_name<P: Page>(op: &OpRef<'_>, page: &mut P) -> Result<(), Failed>
+    requires { 160 ≤ P.room page.old }
+    ensures text { Writes (P.told page.old) (P.told page.new) result (described (name_of op.now.opcode) (arg_text op.now) None) }
+    ensures room { OnOk result (1 ≤ P.room page.new) }
 {
     if op.has_arg_text() {
-        push_filled(page, op.opcode());
-        page.put_arg_text(op, sink)
+        push_filled(op.opcode(), page);
+        write_arg(op, page)
     } else {
-        push_name(page, op.opcode());
+        push_name(op.opcode(), page);
         Ok(())
     }
 }
 
-/// Puts the name of an operation, its argument and a note.
-fn put_arg_and_note<S: Sink>(
-    page: &mut Page,
-    op: &OpRef<'_>,
-    note: Note,
-    sink: &mut S,
-) -> Result<(), Failed>
-    requires { length page.old + 160 ≤ 4096 }
-    ensures puts { Puts (S.told sink.old) (S.told sink.new) page.old page.new result (left_aligned 10 (name_of op.now.opcode) ⧺ codes " " ⧺ unwrap_or (arg_text op.now) [] ⧺ codes " " ⧺ note_text note) }
-    ensures room { OnOk result (length page.new + 1 ≤ 4096) }
+/// Writes the name of an operation, its argument and a note.
+#[tactic(auto, using(pickle_io::proofs::Devices::text_steps))]
+fn write_arg_and_note<P: Page>(op: &OpRef<'_>, note: Note, page: &mut P) -> Result<(), Failed>
+    requires { 160 ≤ P.room page.old }
+    ensures text { Writes (P.told page.old) (P.told page.new) result (left_aligned 10 (name_of op.now.opcode) ⧺ codes " " ⧺ unwrap_or (arg_text op.now) [] ⧺ codes " " ⧺ note_text note) }
+    ensures room { OnOk result (1 ≤ P.room page.new) }
 {
-    push_filled(page, op.opcode());
-    page.put_arg_text(op, sink)?;
+    push_filled(op.opcode(), page);
+    write_arg(op, page)?;
     page.push(b' ');
-    push_note(page, note);
+    push_note(note, page);
     Ok(())
 }
 
-/// Puts the name of an operation and a note.
-#[tactic(auto, using(crate::proofs::Puts::put_steps))]
-fn put_name_and_note<S: Sink>(
-    page: &mut Page,
-    op: &OpRef<'_>,
-    note: Note,
-    sink: &mut S,
-) -> Result<(), Failed>
-    requires { length page.old + 160 ≤ 4096 }
-    ensures puts { Puts (S.told sink.old) (S.told sink.new) page.old page.new result (left_aligned 10 (name_of op.now.opcode) ⧺ codes " " ⧺ note_text note) }
-    ensures room { OnOk result (length page.new + 1 ≤ 4096) }
+/// Writes the name of an operation and a note.
+#[tactic(auto, using(pickle_io::proofs::Devices::text_steps))]
+fn write_name_and_note<P: Page>(op: &OpRef<'_>, note: Note, page: &mut P) -> Result<(), Failed>
+    requires { 160 ≤ P.room page.old }
+    ensures text { Writes (P.told page.old) (P.told page.new) result (left_aligned 10 (name_of op.now.opcode) ⧺ codes " " ⧺ note_text note) }
+    ensures room { OnOk result (1 ≤ P.room page.new) }
 {
-    push_filled(page, op.opcode());
-    push_note(page, note);
+    push_filled(op.opcode(), page);
+    push_note(note, page);
     Ok(())
 }
 
-/// Puts the name of an operation, its argument where that has a text, and a note.
-#[tactic(auto, using(crate::proofs::Puts::put_steps, crate::proofs::Names::name_steps))]
-fn put_noted<S: Sink>(
-    page: &mut Page,
-    op: &OpRef<'_>,
-    note: Note,
-    sink: &mut S,
-) -> Result<(), Failed>
-    requires { length page.old + 160 ≤ 4096 }
-    ensures puts { Puts (S.told sink.old) (S.told sink.new) page.old page.new result (described (name_of op.now.opcode) (arg_text op.now) (Some note)) }
-    ensures room { OnOk result (length page.new + 1 ≤ 4096) }
+/// Writes the name of an operation, its argument where that has a text, and a note.
+#[tactic(auto, using(crate::proofs::Names::name_steps))]
+fn write_noted<P: Page>(op: &OpRef<'_>, note: Note, page: &mut P) -> Result<(), Failed>
+    requires { 160 ≤ P.room page.old }
+    ensures text { Writes (P.told page.old) (P.told page.new) result (described (name_of op.now.opcode) (arg_text op.now) (Some note)) }
+    ensures room { OnOk result (1 ≤ P.room page.new) }
 {
     if op.has_arg_text() {
-        put_arg_and_note(page, op, note, sink)
+        write_arg_and_note(op, note, page)
     } else {
-        put_name_and_note(page, op, note, sink)
+        write_name_and_note(op, note, page)
     }
 }
 
-/// Puts the name of an operation, its argument where that has a text, and a note where there is one.
+/// Writes the name of an operation, its argument where that has a text, and a note where there is one.
 #[tactic(auto, unfolding(crate::specs::Line::named))]
 #[inline(always)]
-fn put_named<S: Sink>(
-    page: &mut Page,
-    op: &OpRef<'_>,
-    note: Option<Note>,
-    sink: &mut S,
-) -> Result<(), Failed>
-    requires { length page.old + 160 ≤ 4096 }
-    ensures puts { Puts (S.told sink.old) (S.told sink.new) page.old page.new result (named op.now note) }
-    ensures room { OnOk result (length page.new + 1 ≤ 4096) }
+fn write_named<P: Page>(op: &OpRef<'_>, note: Option<Note>, page: &mut P) -> Result<(), Failed>
+    requires { 160 ≤ P.room page.old }
+    ensures text { Writes (P.told page.old) (P.told page.new) result (named op.now note) }
+    ensures room { OnOk result (1 ≤ P.room page.new) }
 {
     match note {
-        None => put_name(page, op, sink),
-        Some(note) => put_noted(page, op, note, sink),
+        None => write_name(op, page),
+        Some(note) => write_noted(op, note, page),
     }
 }
 
-/// Puts the name of an operation, its argument where that has a text, and a note where there is one, and ends the line.
-#[tactic(auto, using(crate::proofs::Puts::put_steps))]
+/// Writes the name of an operation, its argument where that has a text, and a note where there is one, and ends the line.
+#[tactic(auto, using(pickle_io::proofs::Devices::text_steps))]
 #[inline(always)]
-fn put_rest<S: Sink>(
-    page: &mut Page,
-    op: &OpRef<'_>,
-    note: Option<Note>,
-    sink: &mut S,
-) -> Result<(), Failed>
-    requires { length page.old + 160 ≤ 4096 }
-    ensures { Puts (S.told sink.old) (S.told sink.new) page.old page.new result (named op.now note ⧺ newline) }
+fn write_rest<P: Page>(op: &OpRef<'_>, note: Option<Note>, page: &mut P) -> Result<(), Failed>
+    requires { 160 ≤ P.room page.old }
+    ensures { Writes (P.told page.old) (P.told page.new) result (named op.now note ⧺ newline) }
 {
-    put_named(page, op, note, sink)?;
+    write_named(op, note, page)?;
     page.push(b'\n');
     Ok(())
 }
 
-/// Puts the line of an item at this offset, with its note. This is the outline of the state before it; `opened` has the offsets of the
+/// Writes the line of an item at this offset, with its note. This is the outline of the state before it; `opened` has the offsets of the
 /// open marks, the topmost last.
 #[inline(always)]
-pub fn put_item<S: Sink>(
-    page: &mut Page,
+pub fn write_item<P: Page>(
     op: &OpRef<'_>,
     offset: &Offset,
     row: Row,
     lean: &Lean,
     opened: &[u64],
-    sink: &mut S,
+    page: &mut P,
 ) -> Result<(), Failed>
     requires row { row ≡ row_of op.now }
     requires marks { length lean.now.marked < 2 ^ 32 }
-    ensures { Puts (S.told sink.old) (S.told sink.new) page.old page.new result (item_line op.now offset.now (length lean.now.marked) (note_with op.now lean.now (last_of opened.now))) }
+    ensures { Writes (P.told page.old) (P.told page.new) result (item_line op.now offset.now (length lean.now.marked) (note_with op.now lean.now (last_of opened.now))) }
 {
-    put_head(page, op.opcode(), offset, lean.marks_len(), sink)?;
-    // No earlier: it is used at once, and takes no room while the head is put.
+    write_head(op.opcode(), offset, lean.marks_len(), page)?;
+    // No earlier: it is used at once, and takes no room while the head is written.
     let note = note_of(op, row, lean, opened);
-    put_rest(page, op, note, sink)
+    write_rest(op, note, page)
 }
 
-/// Puts the line of an item that is refused, at this offset, before which `marks` marks are open. It has no note.
-pub fn put_refused<S: Sink>(
-    page: &mut Page,
+/// Writes the line of an item that is refused, at this offset, before which `marks` marks are open. It has no note.
+pub fn write_bare_item<P: Page>(
     op: &OpRef<'_>,
     offset: &Offset,
     marks: usize,
-    sink: &mut S,
+    page: &mut P,
 ) -> Result<(), Failed>
     requires { marks < 2 ^ 32 }
-    ensures { Puts (S.told sink.old) (S.told sink.new) page.old page.new result (item_line op.now offset.now marks None) }
+    ensures { Writes (P.told page.old) (P.told page.new) result (item_line op.now offset.now marks None) }
 {
-    put_head(page, op.opcode(), offset, marks, sink)?;
-    put_rest(page, op, None, sink)
+    write_head(op.opcode(), offset, marks, page)?;
+    write_rest(op, None, page)
 }
 
 macro_rules! filled_name {

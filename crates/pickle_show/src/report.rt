@@ -15,7 +15,7 @@ use pickle_doc::{
     Document, DocumentItems, ItemSource, Items, NextRef, TailFault, ends_reading, is_stop,
 };
 use pickle_machine::{Machine, Refusal};
-use pickle_ops::{Failed, ObjId, OpRef, Sink, write_all};
+use pickle_ops::{Failed, ObjId, OpRef, Page, write_all};
 use std::alloc::Global;
 
 /// How a run over the items of a document ended.
@@ -31,7 +31,7 @@ pub enum Closing {
 
 /// Writes the line of a result.
 #[tactic(auto, using(pickle_io::proofs::Devices::text_steps), unfolding(crate::specs::Report::result_line))]
-fn write_result<S: Sink>(id: ObjId, sink: &mut S) -> Result<(), Failed>
+fn write_result<S: Page>(id: ObjId, sink: &mut S) -> Result<(), Failed>
     ensures { Writes (S.told sink.old) (S.told sink.new) result (result_line id) }
 {
     write_all(sink, b"result")?;
@@ -41,7 +41,7 @@ fn write_result<S: Sink>(id: ObjId, sink: &mut S) -> Result<(), Failed>
 
 /// Writes the lines of results.
 #[tactic(auto, using(pickle_io::proofs::Devices::each_steps))]
-fn write_results<S: Sink>(ids: &[ObjId], sink: &mut S) -> Result<(), Failed>
+fn write_results<S: Page>(ids: &[ObjId], sink: &mut S) -> Result<(), Failed>
     ensures { Writes (S.told sink.old) (S.told sink.new) result (each result_line ids.now) }
 {
     for id in ids {
@@ -52,7 +52,7 @@ fn write_results<S: Sink>(ids: &[ObjId], sink: &mut S) -> Result<(), Failed>
 
 /// Writes the line of an item that is refused. Where the sink fails, a beginning of the line was written.
 #[tactic(auto, using(pickle_io::proofs::Devices::text_steps), unfolding(crate::specs::Report::refused_line))]
-fn write_refused<S: Sink>(place: usize, refusal: Refusal, sink: &mut S) -> Result<(), Failed>
+fn write_refused<S: Page>(place: usize, refusal: Refusal, sink: &mut S) -> Result<(), Failed>
     ensures { Writes (S.told sink.old) (S.told sink.new) result (refused_line place refusal) }
 {
     write_all(sink, b"refused: ")?;
@@ -63,7 +63,7 @@ fn write_refused<S: Sink>(place: usize, refusal: Refusal, sink: &mut S) -> Resul
 /// Writes how a run ended: nothing where it stopped, else the line of the refused item or of the fault. It takes no memory.
 /// `Failed` where the sink fails; a beginning of the line was written then.
 #[tactic(auto, unfolding(crate::specs::Report::closing_line))]
-pub fn write_closing<S: Sink>(closing: Closing, sink: &mut S) -> Result<(), Failed>
+pub fn write_closing<S: Page>(closing: Closing, sink: &mut S) -> Result<(), Failed>
     ensures { Writes (S.told sink.old) (S.told sink.new) result (closing_line closing) }
 {
     match closing {
@@ -86,7 +86,7 @@ pub fn status_of(closing: Closing) -> u8
 
 /// Writes all objects, the results, and how the run that made them ended.
 #[tactic(auto, using(pickle_io::proofs::Devices::text_steps), unfolding(crate::specs::Report::report_text))]
-fn write_lines<S: Sink>(machine: &Machine, closing: Closing, sink: &mut S) -> Result<(), Failed>
+fn write_lines<S: Page>(machine: &Machine, closing: Closing, sink: &mut S) -> Result<(), Failed>
     ensures { Writes (S.told sink.old) (S.told sink.new) result (report_text machine.now.state.heap machine.now.state.results closing) }
 {
     write_objects(machine, sink)?;
@@ -96,7 +96,7 @@ fn write_lines<S: Sink>(machine: &Machine, closing: Closing, sink: &mut S) -> Re
 
 /// Writes the lines of all objects of a machine, one for each result, and a closing line where something is refused or at fault, and
 /// answers the status: 1 with such a line, else 0. It takes no memory. `Failed` where the sink fails; a beginning of the lines was written then.
-fn write_report<S: Sink>(machine: &Machine, closing: Closing, sink: &mut S) -> Result<u8, Failed>
+fn write_report<S: Page>(machine: &Machine, closing: Closing, sink: &mut S) -> Result<u8, Failed>
     ensures text { Writes (S.told sink.old) (S.told sink.new) result (report_text machine.now.state.heap machine.now.state.results closing) }
     ensures status { IfOk result (λ status. status ≡ closing_status closing) }
 {
@@ -198,7 +198,7 @@ pub fn machine_of(alloc: Global, many: bool) -> Machine
 ///
 /// `Memory` where there is no memory for a step, and then nothing was written. `Failed` where the sink fails; a beginning of the report
 /// was written then.
-pub fn report_of_items<'a, I: ItemSource<'a>, S: Sink>(
+pub fn report_of_items<'a, I: ItemSource<'a>, S: Page>(
     alloc: Global,
     many: bool,
     source: I,
@@ -219,7 +219,7 @@ pub fn report_of_items<'a, I: ItemSource<'a>, S: Sink>(
 
 /// Writes the report of the pickle that the bytes are, or of the several pickles, and answers its status, as `report_of_items` does.
 /// There are to be no more bytes than the limit.
-pub fn report_of_bytes<S: Sink>(
+pub fn report_of_bytes<S: Page>(
     alloc: Global,
     many: bool,
     bytes: &[u8],
@@ -237,7 +237,7 @@ pub fn report_of_bytes<S: Sink>(
 ///
 /// `Memory` where there is no memory for a step, and then nothing was written. `Failed` where the sink fails; a beginning of the report
 /// was written then.
-pub fn write_document_report<S: Sink>(
+pub fn write_document_report<S: Page>(
     alloc: Global,
     document: &Document,
     sink: &mut S,

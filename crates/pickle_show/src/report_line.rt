@@ -6,7 +6,7 @@ ghost use Rattle.pickle_show.specs.ReportLine.{refusal_words, refusal_number, re
 
 use pickle_doc::TailFault;
 use pickle_machine::Refusal;
-use pickle_ops::{Failed, Sink, write_all, write_decimal, write_hex, write_signed};
+use pickle_ops::{Failed, Page, write_all, write_decimal, write_hex, write_signed};
 
 /// The words of a refusal.
 #[tactic(auto, unfolding(crate::specs::ReportLine::refusal_words))]
@@ -31,7 +31,7 @@ fn words_of_refusal(refusal: Refusal) -> &'static str
 
 /// Writes the number after the words of a refusal, if it has one.
 #[tactic(auto, using(pickle_io::proofs::Devices::text_steps), unfolding(crate::specs::ReportLine::refusal_number))]
-fn write_refusal_number<S: Sink>(refusal: Refusal, sink: &mut S) -> Result<(), Failed>
+fn write_refusal_number<S: Page>(refusal: Refusal, sink: &mut S) -> Result<(), Failed>
     ensures { Writes (S.told sink.old) (S.told sink.new) result (refusal_number refusal) }
 {
     match refusal {
@@ -52,7 +52,7 @@ fn write_refusal_number<S: Sink>(refusal: Refusal, sink: &mut S) -> Result<(), F
 
 /// Writes why an item is refused: S1 to S11, or M. Where the sink fails, a beginning of the text was written.
 #[tactic(auto, using(pickle_io::proofs::Devices::text_steps), unfolding(crate::specs::ReportLine::refusal_text))]
-pub fn write_refusal<S: Sink>(refusal: Refusal, sink: &mut S) -> Result<(), Failed>
+pub fn write_refusal<S: Page>(refusal: Refusal, sink: &mut S) -> Result<(), Failed>
     ensures { Writes (S.told sink.old) (S.told sink.new) result (refusal_text refusal) }
 {
     write_all(sink, words_of_refusal(refusal).as_bytes())?;
@@ -61,7 +61,7 @@ pub fn write_refusal<S: Sink>(refusal: Refusal, sink: &mut S) -> Result<(), Fail
 
 /// Writes which item is refused, by its place, and why. Where the sink fails, a beginning of the text was written.
 #[tactic(auto, using(pickle_io::proofs::Devices::text_steps), unfolding(crate::specs::ReportLine::item_refused))]
-pub(crate) fn write_item_refused<S: Sink>(
+pub(crate) fn write_item_refused<S: Page>(
     place: usize,
     refusal: Refusal,
     sink: &mut S,
@@ -93,7 +93,7 @@ fn words_of_fault(fault: TailFault) -> &'static str
 
 /// Writes the byte that is no opcode's code, where that is the fault.
 #[tactic(auto, using(pickle_io::proofs::Devices::text_steps), unfolding(crate::specs::ReportLine::fault_byte))]
-fn write_fault_byte<S: Sink>(fault: TailFault, sink: &mut S) -> Result<(), Failed>
+fn write_fault_byte<S: Page>(fault: TailFault, sink: &mut S) -> Result<(), Failed>
     ensures { Writes (S.told sink.old) (S.told sink.new) result (fault_byte fault) }
 {
     match fault {
@@ -104,7 +104,7 @@ fn write_fault_byte<S: Sink>(fault: TailFault, sink: &mut S) -> Result<(), Faile
 
 /// Writes the fault of a tail, F1 to F8. Where the sink fails, a beginning of the text was written.
 #[tactic(auto, using(pickle_io::proofs::Devices::text_steps), unfolding(crate::specs::ReportLine::fault_text))]
-pub fn write_fault_text<S: Sink>(fault: TailFault, sink: &mut S) -> Result<(), Failed>
+pub fn write_fault_text<S: Page>(fault: TailFault, sink: &mut S) -> Result<(), Failed>
     ensures { Writes (S.told sink.old) (S.told sink.new) result (fault_text fault) }
 {
     write_all(sink, words_of_fault(fault).as_bytes())?;
@@ -114,7 +114,7 @@ pub fn write_fault_text<S: Sink>(fault: TailFault, sink: &mut S) -> Result<(), F
 /// Writes the line of the fault of a tail that begins at this offset, in bytes. Where the sink fails, a beginning of the line was
 /// written.
 #[tactic(auto, using(pickle_io::proofs::Devices::text_steps), unfolding(crate::specs::ReportLine::fault_line))]
-pub fn write_fault<S: Sink>(fault: TailFault, offset: u64, sink: &mut S) -> Result<(), Failed>
+pub fn write_fault<S: Page>(fault: TailFault, offset: u64, sink: &mut S) -> Result<(), Failed>
     ensures { Writes (S.told sink.old) (S.told sink.new) result (fault_line fault offset) }
 {
     write_all(sink, b"fault: ")?;

@@ -11,12 +11,12 @@ use crate::content::Content;
 use crate::object::{write_next, write_object};
 use crate::stop::TextStop;
 use pickle_machine::Machine;
-use pickle_ops::{Failed, ObjId, Object, Sink, write_all, write_decimal};
+use pickle_ops::{Failed, ObjId, Object, Page, write_all, write_decimal};
 use std::alloc::Global;
 
 /// Writes the line of an object that is shown elsewhere.
 #[tactic(auto, using(pickle_io::proofs::Devices::text_steps), unfolding(crate::specs::Show::again_line))]
-fn write_again<S: Sink>(depth: usize, id: ObjId, sink: &mut S) -> Result<(), Failed>
+fn write_again<S: Page>(depth: usize, id: ObjId, sink: &mut S) -> Result<(), Failed>
     ensures { Writes (S.told sink.old) (S.told sink.new) result (again_line depth id) }
 {
     write_decimal(depth as u64, sink)?;
@@ -26,7 +26,7 @@ fn write_again<S: Sink>(depth: usize, id: ObjId, sink: &mut S) -> Result<(), Fai
 
 /// Writes the line of an object at its first place.
 #[tactic(auto, using(pickle_io::proofs::Devices::text_steps), unfolding(crate::specs::Show::first_line))]
-fn write_first<S: Sink>(
+fn write_first<S: Page>(
     depth: usize,
     id: ObjId,
     object: &Object,
@@ -62,7 +62,7 @@ fn find<'a>(machine: &'a Machine, seen: &[bool], id: ObjId) -> Option<&'a Object
 }
 
 /// Writes the line of a place; where it is the first of its object, that is seen, and its content is put on the stack.
-fn visit<'a, S: Sink>(
+fn visit<'a, S: Page>(
     machine: &'a Machine,
     depth: usize,
     id: ObjId,
@@ -90,7 +90,7 @@ fn visit<'a, S: Sink>(
 }
 
 /// Writes what the stack has still to show. It keeps what is left of each object on the way down.
-fn go_on<'a, S: Sink>(
+fn go_on<'a, S: Page>(
     machine: &'a Machine,
     stack: &mut Vec<Content<'a>>,
     seen: &mut Vec<bool>,
@@ -111,7 +111,7 @@ fn go_on<'a, S: Sink>(
 
 /// Writes the walk from an object, where there is room for it.
 #[tactic(auto, using(pickle_io::proofs::Devices::text_steps))]
-fn walk_from<'a, S: Sink>(
+fn walk_from<'a, S: Page>(
     machine: &'a Machine,
     id: ObjId,
     stack: &mut Vec<Content<'a>>,
@@ -145,7 +145,7 @@ fn none_seen(alloc: Global, count: usize) -> Result<Vec<bool>, TextStop>
 ///
 /// All memory is asked for before anything is written, some bytes for each object of the machine: `Memory` where it runs out,
 /// and then nothing was written. `Failed` where the sink fails; a beginning of the text was written then.
-pub fn write_show<S: Sink>(
+pub fn write_show<S: Page>(
     alloc: Global,
     machine: &Machine,
     id: ObjId,

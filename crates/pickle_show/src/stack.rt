@@ -10,11 +10,11 @@ ghost use Rattle.pickle_show.specs.Inside.Between.{between};
 
 use crate::object::write_next;
 use pickle_machine::Machine;
-use pickle_ops::{Failed, Sink, write_all, write_decimal};
+use pickle_ops::{Failed, Page, write_all, write_decimal};
 
 /// Writes a mark, by the place of its item.
 #[tactic(auto, using(pickle_io::proofs::Devices::text_steps), unfolding(crate::specs::StackText::mark_text))]
-fn write_mark<S: Sink>(place: usize, sink: &mut S) -> Result<(), Failed>
+fn write_mark<S: Page>(place: usize, sink: &mut S) -> Result<(), Failed>
     ensures { Writes (S.told sink.old) (S.told sink.new) result (mark_text place) }
 {
     write_all(sink, b" (")?;
@@ -22,7 +22,7 @@ fn write_mark<S: Sink>(place: usize, sink: &mut S) -> Result<(), Failed>
 }
 
 /// Writes the object that has this many below it on the stack, if there is one.
-fn write_at<S: Sink>(machine: &Machine, below: usize, sink: &mut S) -> Result<(), Failed>
+fn write_at<S: Page>(machine: &Machine, below: usize, sink: &mut S) -> Result<(), Failed>
     ensures { Writes (S.told sink.old) (S.told sink.new) result (each next_text (option_to_list (slice_get (stack_of machine.now.state) below))) }
 {
     match machine.stack_at(below) {
@@ -32,7 +32,7 @@ fn write_at<S: Sink>(machine: &Machine, below: usize, sink: &mut S) -> Result<()
 }
 
 /// Writes the objects of the stack from one height up to another.
-fn write_between<S: Sink>(
+fn write_between<S: Page>(
     machine: &Machine,
     from: usize,
     to: usize,
@@ -48,7 +48,7 @@ fn write_between<S: Sink>(
 
 /// Writes the section of the stack from one height up to another, and the mark above it.
 #[tactic(auto, using(pickle_io::proofs::Devices::text_steps), unfolding(crate::specs::StackText::section_text))]
-fn write_section<S: Sink>(
+fn write_section<S: Page>(
     machine: &Machine,
     from: usize,
     to: usize,
@@ -62,7 +62,7 @@ fn write_section<S: Sink>(
 }
 
 /// Writes the sections of the stack under the top one, from the lowest, and answers how many objects they have.
-fn write_marked<S: Sink>(machine: &Machine, sink: &mut S) -> Result<usize, Failed>
+fn write_marked<S: Page>(machine: &Machine, sink: &mut S) -> Result<usize, Failed>
     ensures text { Writes (S.told sink.old) (S.told sink.new) result (marked_text machine.now.state.marked) }
     ensures below { IfOk result (λ n. n ≡ length (objects_below machine.now.state.marked)) }
 {
@@ -78,7 +78,7 @@ fn write_marked<S: Sink>(machine: &Machine, sink: &mut S) -> Result<usize, Faile
 }
 
 /// Writes the objects of the top section, below which there are this many.
-fn write_top<S: Sink>(machine: &Machine, below: usize, sink: &mut S) -> Result<(), Failed>
+fn write_top<S: Page>(machine: &Machine, below: usize, sink: &mut S) -> Result<(), Failed>
     requires { below ≡ length (objects_below machine.now.state.marked) }
     ensures { Writes (S.told sink.old) (S.told sink.new) result (each next_text machine.now.state.top) }
 {
@@ -88,7 +88,7 @@ fn write_top<S: Sink>(machine: &Machine, below: usize, sink: &mut S) -> Result<(
 /// Writes the stack of a machine: `stack`, and from the bottom ` #n` for an object and ` (k` for a mark of item k. It takes no
 /// memory. `Failed` where the sink fails; a beginning of the line was written then.
 #[tactic(auto, using(pickle_io::proofs::Devices::text_steps), unfolding(crate::specs::StackText::stack_text))]
-pub fn write_stack<S: Sink>(machine: &Machine, sink: &mut S) -> Result<(), Failed>
+pub fn write_stack<S: Page>(machine: &Machine, sink: &mut S) -> Result<(), Failed>
     ensures { Writes (S.told sink.old) (S.told sink.new) result (stack_text machine.now.state) }
 {
     write_all(sink, b"stack")?;

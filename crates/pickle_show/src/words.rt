@@ -9,12 +9,12 @@ ghost use Rattle.pickle_io.specs.Device.{Writes};
 ghost use Rattle.pickle_show.specs.ObjectText.{id_text};
 
 use pickle_ops::{
-    Failed, Sink, write_all, write_decimal, write_float, write_long, write_quoted, write_signed,
+    Failed, Page, write_all, write_decimal, write_float, write_long, write_quoted, write_signed,
 };
 
 /// Writes an object by its number: `#n`.
 #[tactic(auto, using(pickle_io::proofs::Devices::text_steps), unfolding(crate::specs::ObjectText::id_text))]
-pub fn write_id<S: Sink>(id: u64, sink: &mut S) -> Result<(), Failed>
+pub fn write_id<S: Page>(id: u64, sink: &mut S) -> Result<(), Failed>
     ensures { Writes (S.told sink.old) (S.told sink.new) result (id_text id) }
 {
     write_all(sink, b"#")?;
@@ -23,7 +23,7 @@ pub fn write_id<S: Sink>(id: u64, sink: &mut S) -> Result<(), Failed>
 
 /// Writes a word and an object by its number.
 #[tactic(auto, using(pickle_io::proofs::Devices::text_steps))]
-pub fn write_with_id<S: Sink>(word: &[u8], id: u64, sink: &mut S) -> Result<(), Failed>
+pub fn write_with_id<S: Page>(word: &[u8], id: u64, sink: &mut S) -> Result<(), Failed>
     ensures { Writes (S.told sink.old) (S.told sink.new) result (word.now ⧺ id_text id) }
 {
     write_all(sink, word)?;
@@ -32,7 +32,7 @@ pub fn write_with_id<S: Sink>(word: &[u8], id: u64, sink: &mut S) -> Result<(), 
 
 /// Writes a word and a text in quotes.
 #[tactic(auto, using(pickle_io::proofs::Devices::text_steps))]
-pub fn write_with_text<S: Sink>(word: &[u8], text: &[u8], sink: &mut S) -> Result<(), Failed>
+pub fn write_with_text<S: Page>(word: &[u8], text: &[u8], sink: &mut S) -> Result<(), Failed>
     ensures { Writes (S.told sink.old) (S.told sink.new) result (word.now ⧺ quoted text.now) }
 {
     write_all(sink, word)?;
@@ -41,7 +41,7 @@ pub fn write_with_text<S: Sink>(word: &[u8], text: &[u8], sink: &mut S) -> Resul
 
 /// Writes a word and two texts in quotes.
 #[tactic(auto, using(pickle_io::proofs::Devices::text_steps))]
-pub fn write_with_texts<S: Sink>(
+pub fn write_with_texts<S: Page>(
     word: &[u8],
     first: &[u8],
     second: &[u8],
@@ -57,7 +57,7 @@ pub fn write_with_texts<S: Sink>(
 
 /// Writes a word and a number with its sign.
 #[tactic(auto, using(pickle_io::proofs::Devices::text_steps))]
-pub fn write_with_signed<S: Sink>(word: &[u8], number: i64, sink: &mut S) -> Result<(), Failed>
+pub fn write_with_signed<S: Page>(word: &[u8], number: i64, sink: &mut S) -> Result<(), Failed>
     ensures { Writes (S.told sink.old) (S.told sink.new) result (word.now ⧺ signed_decimal number) }
 {
     write_all(sink, word)?;
@@ -66,7 +66,7 @@ pub fn write_with_signed<S: Sink>(word: &[u8], number: i64, sink: &mut S) -> Res
 
 /// Writes a word and a number.
 #[tactic(auto, using(pickle_io::proofs::Devices::text_steps))]
-pub fn write_with_number<S: Sink>(word: &[u8], number: u64, sink: &mut S) -> Result<(), Failed>
+pub fn write_with_number<S: Page>(word: &[u8], number: u64, sink: &mut S) -> Result<(), Failed>
     ensures { Writes (S.told sink.old) (S.told sink.new) result (word.now ⧺ decimal number) }
 {
     write_all(sink, word)?;
@@ -75,7 +75,7 @@ pub fn write_with_number<S: Sink>(word: &[u8], number: u64, sink: &mut S) -> Res
 
 /// Writes a word and a long number, whose bytes are given as its opcode has them.
 #[tactic(auto, using(pickle_io::proofs::Devices::text_steps))]
-pub(crate) fn write_with_long<S: Sink>(
+pub(crate) fn write_with_long<S: Page>(
     word: &[u8],
     bytes: &[u8],
     sink: &mut S,
@@ -88,7 +88,7 @@ pub(crate) fn write_with_long<S: Sink>(
 
 /// Writes a word and a floating point number, whose eight bytes are given.
 #[tactic(auto, using(pickle_io::proofs::Devices::text_steps))]
-pub(crate) fn write_with_float<S: Sink>(
+pub(crate) fn write_with_float<S: Page>(
     word: &[u8],
     bytes: &[u8],
     sink: &mut S,

@@ -1,10 +1,11 @@
 //! What pickles would import and call, over memory and over a sink that fails. Rows for each line are in equipment/calls.txt.
 
 use crate::listings::Failing;
-use pickle_ops::{Sink, ToWrite};
+use pickle_ops::Page;
 use pickle_script::{Stop, calls, calls_many};
 use std::alloc::Global;
 use std::test::Fail;
+use test_equipment::{insist_on_paper, paper, taken, written_out};
 
 /// Bytes that are read as several pickles or as one, what they would import and call, and the status.
 type Row = (bool, &'static [u8], &'static str, u8);
@@ -34,7 +35,7 @@ const TWO: Row = (
 );
 
 /// What the input would import and call, by its mode.
-fn write<S: Sink>(alloc: Global, many: bool, bytes: &[u8], sink: &mut S) -> Result<u8, Stop> {
+fn write<S: Page>(alloc: Global, many: bool, bytes: &[u8], sink: &mut S) -> Result<u8, Stop> {
     if many {
         calls_many(alloc, bytes, sink)
     } else {
@@ -44,9 +45,9 @@ fn write<S: Sink>(alloc: Global, many: bool, bytes: &[u8], sink: &mut S) -> Resu
 
 /// What was written, and the status.
 fn told(alloc: Global, many: bool, bytes: &[u8]) -> Result<(Vec<u8>, u8), Stop> {
-    let mut sink = ToWrite::new(Vec::new(alloc));
+    let mut sink = paper(alloc)?;
     let status = write(alloc, many, bytes, &mut sink)?;
-    Ok((sink.into_inner(), status))
+    Ok((taken(sink)?, status))
 }
 
 /// How many tuples are in one another.
@@ -75,9 +76,10 @@ fn nested(rt: HostRuntime) -> Result<(), Fail> {
 #[test]
 fn refused_memory(rt: HostRuntime) -> Result<(), Fail> {
     for (many, bytes, text, status) in [SHELL, FILLED, TWO] {
-        let mut sink = ToWrite::new(Vec::new(rt.alloc()));
+        let mut sink = insist_on_paper(rt.alloc())?;
         let answer = write(rt.alloc(), many, bytes, &mut sink);
-        let written = sink.into_inner();
+        let answer = written_out(&mut sink, answer);
+        let written = sink.into_inner().into_inner();
         assert!(rt; text.as_bytes().starts_with(written.as_slice()));
         match answer {
             Ok(found) => {

@@ -1,12 +1,12 @@
 //! Conversations over memory, and over devices that fail; the objects of an input; the words of stops.
 
 use pickle_doc::DocFault;
-use pickle_ops::{FromRead, ToWrite};
+use pickle_ops::FromRead;
 use pickle_script::{Stop, converse, line_of, objects, one_cut};
 use pickle_session::{Session, Whole};
 use std::alloc::{AllocError, Global};
 use std::test::Fail;
-use test_equipment::{Drip, Sip};
+use test_equipment::{Drip, Sip, page_over, paper, taken, written_out};
 
 /// 1, twice, and the pair of both.
 const PAIR: &[u8] = b"K\x012\x86.";
@@ -268,18 +268,18 @@ fn opened(alloc: Global, bytes: &[u8]) -> Result<Session<Whole>, DocFault> {
 fn answered(alloc: Global, bytes: &[u8], script: &[u8]) -> Result<(Vec<u8>, u8), Stop> {
     let mut session = opened(alloc, bytes)?;
     let mut source = FromRead::new(script);
-    let mut sink = ToWrite::new(Vec::new(alloc));
+    let mut sink = paper(alloc)?;
     let status = converse(alloc, &mut session, &mut source, &mut sink)?;
-    Ok((sink.into_inner(), status))
+    Ok((taken(sink)?, status))
 }
 
 /// The same where the bytes are several pickles.
 fn answered_as_several(alloc: Global, bytes: &[u8], script: &[u8]) -> Result<(Vec<u8>, u8), Stop> {
     let mut session = Session::open_many(alloc, Whole::new(alloc), bytes)?;
     let mut source = FromRead::new(script);
-    let mut sink = ToWrite::new(Vec::new(alloc));
+    let mut sink = paper(alloc)?;
     let status = converse(alloc, &mut session, &mut source, &mut sink)?;
-    Ok((sink.into_inner(), status))
+    Ok((taken(sink)?, status))
 }
 
 /// A line on the pair, and what it is answered.
@@ -302,9 +302,9 @@ fn first_lines(alloc: Global, count: usize) -> Result<(Vec<u8>, Vec<u8>), AllocE
 /// What a session shows of where it is.
 fn standing(alloc: Global, session: &mut Session<Whole>) -> Result<Vec<u8>, Stop> {
     let mut source = FromRead::new(b"stack\nback\nstack\n".as_slice());
-    let mut sink = ToWrite::new(Vec::new(alloc));
+    let mut sink = paper(alloc)?;
     converse(alloc, session, &mut source, &mut sink)?;
-    Ok(sink.into_inner())
+    Ok(taken(sink)?)
 }
 
 /// What a session of the pair shows that has obeyed the first lines.
@@ -312,7 +312,7 @@ fn standing_after(alloc: Global, count: usize) -> Result<Vec<u8>, Stop> {
     let (script, _) = first_lines(alloc, count)?;
     let mut session = opened(alloc, PAIR)?;
     let mut source = FromRead::new(script.as_slice());
-    let mut sink = ToWrite::new(Vec::new(alloc));
+    let mut sink = paper(alloc)?;
     converse(alloc, &mut session, &mut source, &mut sink)?;
     standing(alloc, &mut session)
 }
@@ -390,14 +390,16 @@ fn read_with(
 ) -> Result<Option<(Result<u8, Stop>, u64)>, Stop> {
     let mut session = opened(alloc, PAIR)?;
     let mut source = Drip::new(script, most.max(1), calls);
-    let mut sink = Sip::new(alloc, most.max(1), u64::MAX);
+    let mut sink = page_over(alloc, Sip::new(alloc, most.max(1), u64::MAX))?;
     let answer = converse(alloc, &mut session, &mut source, &mut sink);
+    let answer = written_out(&mut sink, answer);
     let given = most.saturating_mul(calls as usize);
     let count = count_lines(script.get(..given).unwrap_or(script));
     let (_, text) = first_lines(alloc, count)?;
     let stands = standing(alloc, &mut session)?;
     let expected = standing_after(alloc, count)?;
-    let is_so = sink.taken() == text.as_slice() && stands.as_slice() == expected.as_slice();
+    let is_so = sink.get_ref().taken() == text.as_slice()
+        && stands.as_slice() == expected.as_slice();
     Ok(is_so.then_some((answer, source.failures())))
 }
 
@@ -429,14 +431,16 @@ fn failing_sink(rt: HostRuntime) -> Result<(), Fail> {
     for most in 1..8 {
         for calls in 0..220 {
             let mut session = opened(rt.alloc(), PAIR)?;
-            let mut source = Drip::new(script.as_slice(), most, u64::MAX);
-            let mut sink = Sip::new(rt.alloc(), most, calls);
+            // One byte a read: what a line is answered is written out before the next is read.
+            let mut source = Drip::new(script.as_slice(), 1, u64::MAX);
+            let mut sink = page_over(rt.alloc(), Sip::new(rt.alloc(), most, calls))?;
             let answer = converse(rt.alloc(), &mut session, &mut source, &mut sink);
-            assert!(rt; text.starts_with(sink.taken()));
-            let whole = sink.taken().len() == text.len();
+            let answer = written_out(&mut sink, answer);
+            assert!(rt; text.starts_with(sink.get_ref().taken()));
+            let whole = sink.get_ref().taken().len() == text.len();
             assert_eq!(rt; answer, if whole { Ok(1) } else { Err(Stop::Write) });
-            assert_eq!(rt; sink.failures(), if whole { 0 } else { 1 });
-            let count = count_lines(sink.taken());
+            assert_eq!(rt; sink.get_ref().failures(), if whole { 0 } else { 1 });
+            let count = count_lines(sink.get_ref().taken());
             let stands = standing(rt.alloc(), &mut session)?;
             let expected = standing_after(rt.alloc(), count.saturating_add(1))?;
             assert_eq!(rt; stands.as_slice(), expected.as_slice());
@@ -462,19 +466,25 @@ fn refused_memory(rt: HostRuntime) -> Result<(), Fail> {
         for _ in 0..2 {
             if !is_answered {
                 let mut source = Drip::new(line.as_bytes(), 7, u64::MAX);
-                let mut sink = Sip::new(rt.alloc(), 7, u64::MAX);
+                let Ok(mut sink) = page_over(rt.alloc(), Sip::new(rt.alloc(), 7, u64::MAX)) else {
+                    continue;
+                };
                 let answer = converse(rt.alloc(), &mut session, &mut source, &mut sink);
+                let answer = written_out(&mut sink, answer);
                 if answer == Err(Stop::Memory) {
-                    assert!(rt; sink.taken().is_empty());
+                    assert!(rt; sink.get_ref().taken().is_empty());
                 } else if answer == Err(Stop::Write) {
-                    assert!(rt; reply.as_bytes().starts_with(sink.taken()));
+                    assert!(rt; reply.as_bytes().starts_with(sink.get_ref().taken()));
                     is_answered = true;
-                } else if sink.taken() == reply.as_bytes() {
+                } else if sink.get_ref().taken() == reply.as_bytes() {
                     let is_refused = reply.as_bytes().starts_with(b"refused: ");
                     assert_eq!(rt; answer, Ok(u8::from(is_refused)));
                     is_answered = true;
                 } else {
-                    assert_eq!(rt; sink.taken(), b"refused: M out of memory\n".as_slice());
+                    assert_eq!(rt;
+                        sink.get_ref().taken(),
+                        b"refused: M out of memory\n".as_slice()
+                    );
                     assert!(rt; NEEDY.contains(&line));
                 }
             }
@@ -499,13 +509,14 @@ const REPORTS: [(&[u8], &str, u8); 4] = [
 #[test]
 fn reports(rt: HostRuntime) -> Result<(), Fail> {
     for (bytes, text, status) in &REPORTS {
-        let mut sink = ToWrite::new(Vec::new(rt.alloc()));
+        let mut sink = paper(rt.alloc())?;
         assert_eq!(rt; objects(rt.alloc(), bytes, &mut sink), Ok(*status));
-        assert_eq!(rt; sink.into_inner().as_slice(), text.as_bytes());
-        let mut broken = Sip::new(rt.alloc(), 1, 3);
-        assert_eq!(rt; objects(rt.alloc(), bytes, &mut broken), Err(Stop::Write));
+        assert_eq!(rt; taken(sink)?.as_slice(), text.as_bytes());
+        let mut broken = page_over(rt.alloc(), Sip::new(rt.alloc(), 1, 3))?;
+        let answer = objects(rt.alloc(), bytes, &mut broken);
+        assert_eq!(rt; written_out(&mut broken, answer), Err(Stop::Write));
         assert_eq!(rt;
-            broken.taken(),
+            broken.get_ref().taken(),
             text.as_bytes().get(..3).unwrap_or_default()
         );
     }

@@ -1,10 +1,11 @@
 //! Listings over memory. The expected texts are what `pickletools.dis` prints for these bytes, in this program's form
 //! of arguments, notes and closing lines.
 
-use pickle_ops::{Failed, Sink, ToWrite};
+use pickle_ops::{Failed, Sink};
 use pickle_script::{Stop, list};
 use std::alloc::Global;
 use std::test::Fail;
+use test_equipment::{insist_on_paper, page_over, paper, taken, written_out};
 
 /// The pair of 1 and 2, memoized.
 const PAIR: (&[u8], &str, u8) = (
@@ -127,9 +128,9 @@ fn row(k: usize) -> (&'static [u8], &'static str, u8) {
 
 /// The text and the status of a listing.
 fn listed(alloc: Global, bytes: &[u8]) -> Result<(Vec<u8>, u8), Stop> {
-    let mut sink = ToWrite::new(Vec::new(alloc));
+    let mut sink = paper(alloc)?;
     let status = list(alloc, bytes, &mut sink)?;
-    Ok((sink.into_inner(), status))
+    Ok((taken(sink)?, status))
 }
 
 #[test]
@@ -191,9 +192,10 @@ fn refusals(rt: HostRuntime) -> Result<(), Fail> {
 #[test]
 fn refused_memory(rt: HostRuntime) -> Result<(), Fail> {
     for (bytes, text, status) in [PAIR, APPENDED] {
-        let mut sink = ToWrite::new(Vec::new(rt.alloc()));
+        let mut sink = insist_on_paper(rt.alloc())?;
         let answer = list(rt.alloc(), bytes, &mut sink);
-        let written = sink.into_inner();
+        let answer = written_out(&mut sink, answer);
+        let written = sink.into_inner().into_inner();
         assert!(rt; text.as_bytes().starts_with(written.as_slice()));
         match answer {
             Ok(found) => {
@@ -253,16 +255,18 @@ impl Sink for Failing {
 
 /// A sink is not called again after it has failed.
 #[test]
-fn failing_sink(rt: HostRuntime) {
+fn failing_sink(rt: HostRuntime) -> Result<(), Fail> {
     for k in 0..COUNT {
         let (bytes, text, status) = row(k);
         for fails_at in 0..text.len() as u64 + 1 {
-            let mut sink = Failing::new(fails_at);
+            let mut sink = page_over(rt.alloc(), Failing::new(fails_at))?;
             let answer = list(rt.alloc(), bytes, &mut sink);
+            let answer = written_out(&mut sink, answer);
             let whole = fails_at == text.len() as u64;
             assert_eq!(rt; answer, if whole { Ok(status) } else { Err(Stop::Write) });
-            assert_eq!(rt; sink.calls, fails_at);
-            assert_eq!(rt; sink.later_calls, 0);
+            assert_eq!(rt; sink.get_ref().calls, fails_at);
+            assert_eq!(rt; sink.get_ref().later_calls, 0);
         }
     }
+    Ok(())
 }

@@ -7,12 +7,12 @@ use crate::scripts::rows::{
     MARK_LEFT_BEHIND, REPORTS, SCRIPTS, Script,
 };
 use pickle_doc::DocFault;
-use pickle_ops::{FromRead, ToWrite};
+use pickle_ops::FromRead;
 use pickle_script::{Stop, converse, objects};
 use pickle_session::{Past, Session, Whole, Window};
 use std::alloc::{AllocError, Global};
 use std::test::Fail;
-use test_equipment::{Drip, Sip};
+use test_equipment::{Drip, Sip, insist_on_paper, page_over, paper, taken, written_out};
 
 /// A session with all records.
 fn opened(alloc: Global, script: &Script) -> Result<Session<Whole>, DocFault> {
@@ -76,12 +76,13 @@ fn is_read_to_its_end(
     let lines = first_lines(alloc, script, script.lines.len())?;
     let mut session = opened(alloc, script)?;
     let mut source = Drip::new(&lines, most.max(1), calls);
-    let mut sink = Sip::new(alloc, most.max(1), u64::MAX);
+    let mut sink = page_over(alloc, Sip::new(alloc, most.max(1), u64::MAX))?;
     let answer = converse(alloc, &mut session, &mut source, &mut sink);
+    let answer = written_out(&mut sink, answer);
     let given = most.saturating_mul(calls as usize).min(lines.len());
     let count = count_lines(lines.get(..given).unwrap_or_default());
     let text = first_replies(alloc, script, count)?;
-    if sink.taken() != text.as_slice() {
+    if sink.get_ref().taken() != text.as_slice() {
         return Ok(None);
     }
     Ok(match answer {
@@ -126,9 +127,9 @@ fn failing_sources(rt: HostRuntime) -> Result<(), Fail> {
 /// What a session shows of where it is.
 fn standing<P: Past>(alloc: Global, session: &mut Session<P>) -> Result<Vec<u8>, Stop> {
     let mut source = FromRead::new(b"where\nitems\nstack\nmemo\nobjects\n".as_slice());
-    let mut sink = ToWrite::new(Vec::new(alloc));
+    let mut sink = paper(alloc)?;
     converse(alloc, session, &mut source, &mut sink)?;
-    Ok(sink.into_inner())
+    Ok(taken(sink)?)
 }
 
 /// What a session shows that has obeyed the first lines.
@@ -136,7 +137,7 @@ fn standing_after(alloc: Global, script: &Script, count: usize) -> Result<Vec<u8
     let lines = first_lines(alloc, script, count)?;
     let mut session = opened(alloc, script)?;
     let mut source = FromRead::new(lines.as_slice());
-    let mut sink = ToWrite::new(Vec::new(alloc));
+    let mut sink = paper(alloc)?;
     converse(alloc, &mut session, &mut source, &mut sink)?;
     Ok(standing(alloc, &mut session)?)
 }
@@ -166,20 +167,23 @@ fn is_written_to_its_end(
     let lines = first_lines(alloc, script, script.lines.len())?;
     let text = first_replies(alloc, script, script.lines.len())?;
     let mut session = opened(alloc, script)?;
-    let mut source = Drip::new(&lines, most.max(1), u64::MAX);
-    let mut sink = Sip::new(alloc, most.max(1), calls);
+    // One byte a read: what a line is answered is written out before the next is read.
+    let mut source = Drip::new(&lines, 1, u64::MAX);
+    let mut sink = page_over(alloc, Sip::new(alloc, most.max(1), calls))?;
     let answer = converse(alloc, &mut session, &mut source, &mut sink);
-    let obeyed = answered_lines(script, sink.taken().len()).saturating_add(1);
+    let answer = written_out(&mut sink, answer);
+    let obeyed = answered_lines(script, sink.get_ref().taken().len()).saturating_add(1);
     let stands = standing(alloc, &mut session)?;
     let wanted = standing_after(alloc, script, obeyed)?;
     let is_there = stands.as_slice() == wanted.as_slice();
-    if !text.starts_with(sink.taken()) || !is_there {
+    if !text.starts_with(sink.get_ref().taken()) || !is_there {
         return Ok(None);
     }
-    let is_whole = sink.taken().len() == text.len();
+    let is_whole = sink.get_ref().taken().len() == text.len();
     Ok(match answer {
-        Ok(status) if is_whole && status == status_of(script) && sink.failures() == 0 => Some(true),
-        Err(Stop::Write) if !is_whole && sink.failures() == 1 => Some(false),
+        Ok(status) if is_whole && status == status_of(script) && sink.get_ref().failures() == 0 =>
+            Some(true),
+        Err(Stop::Write) if !is_whole && sink.get_ref().failures() == 1 => Some(false),
         _ => None,
     })
 }
@@ -210,19 +214,22 @@ fn insist_on_line<P: Past>(
 ) -> bool {
     for _ in 0..2 {
         let mut source = Drip::new(line.as_bytes(), 7, u64::MAX);
-        let mut sink = Sip::new(alloc, 7, u64::MAX);
+        let Ok(mut sink) = page_over(alloc, Sip::new(alloc, 7, u64::MAX)) else {
+            continue;
+        };
         let before = (session.cursor(), session.undos(), session.redos());
         let answer = converse(alloc, session, &mut source, &mut sink);
-        if sink.taken() == reply.as_bytes() {
+        let answer = written_out(&mut sink, answer);
+        if sink.get_ref().taken() == reply.as_bytes() {
             return answer.is_ok();
         }
         if answer == Err(Stop::Write) {
             // (the sink's own growth was refused, and the line is obeyed)
-            return reply.as_bytes().starts_with(sink.taken());
+            return reply.as_bytes().starts_with(sink.get_ref().taken());
         }
         let is_lacking = match answer {
-            Ok(1) => sink.taken() == b"refused: M out of memory\n".as_slice(),
-            Err(Stop::Memory) => sink.taken().is_empty(),
+            Ok(1) => sink.get_ref().taken() == b"refused: M out of memory\n".as_slice(),
+            Err(Stop::Memory) => sink.get_ref().taken().is_empty(),
             _ => false,
         };
         if !is_lacking || before != (session.cursor(), session.undos(), session.redos()) {
@@ -286,45 +293,58 @@ fn refused_memory_of_many(rt: HostRuntime) -> Result<(), Fail> {
 
 /// The reports of objects, to sinks that fail at each of their calls.
 #[test]
-fn failing_sinks_of_objects(rt: HostRuntime) {
+fn failing_sinks_of_objects(rt: HostRuntime) -> Result<(), Fail> {
     for (k, (bytes, text, status)) in REPORTS.iter().enumerate() {
         for most in [1, 2, 7] {
             for calls in 0..=text.len() as u64 {
-                let mut sink = Sip::new(rt.alloc(), most.max(1), calls);
+                let mut sink = page_over(rt.alloc(), Sip::new(rt.alloc(), most.max(1), calls))?;
                 let answer = objects(rt.alloc(), bytes, &mut sink);
-                let is_whole = sink.taken().len() == text.len();
+                let answer = written_out(&mut sink, answer);
+                let is_whole = sink.get_ref().taken().len() == text.len();
                 let wanted = if is_whole {
                     Ok(*status)
                 } else {
                     Err(Stop::Write)
                 };
                 assert_eq!(rt; answer, wanted, "report {k}");
-                assert_eq!(rt; sink.failures(), u64::from(!is_whole), "report {k}");
-                assert!(rt; text.as_bytes().starts_with(sink.taken()), "report {k}");
+                assert_eq!(rt;
+                    sink.get_ref().failures(),
+                    u64::from(!is_whole),
+                    "report {k}"
+                );
+                assert!(rt;
+                    text.as_bytes().starts_with(sink.get_ref().taken()),
+                    "report {k}"
+                );
             }
         }
     }
+    Ok(())
 }
 
 /// Reports of objects with each request for memory refused in turn: nothing is written then, and asked again all is.
 #[test]
 fn refused_memory_of_objects(rt: HostRuntime) -> Result<(), Fail> {
     for (k, (bytes, text, status)) in REPORTS.iter().enumerate() {
-        let mut sink = ToWrite::new(Vec::new(rt.alloc()));
-        let mut answer = objects(rt.alloc(), bytes, &mut sink);
-        let mut taken = sink.into_inner();
+        let mut sink = insist_on_paper(rt.alloc())?;
+        let found = objects(rt.alloc(), bytes, &mut sink);
+        let mut answer = written_out(&mut sink, found);
+        let mut written = sink.into_inner().into_inner();
         if answer.is_err() {
             assert!(rt;
-                answer == Err(Stop::Write) || taken.is_empty(),
+                answer == Err(Stop::Write) || written.is_empty(),
                 "report {k}"
             );
-            assert!(rt; text.as_bytes().starts_with(taken.as_slice()), "report {k}");
-            let mut again = ToWrite::new(Vec::new(rt.alloc()));
+            assert!(rt;
+                text.as_bytes().starts_with(written.as_slice()),
+                "report {k}"
+            );
+            let mut again = paper(rt.alloc())?;
             answer = objects(rt.alloc(), bytes, &mut again);
-            taken = again.into_inner();
+            written = taken(again)?;
         }
         assert_eq!(rt; answer, Ok(*status), "report {k}");
-        assert_eq!(rt; taken.as_slice(), text.as_bytes(), "report {k}");
+        assert_eq!(rt; written.as_slice(), text.as_bytes(), "report {k}");
     }
     Ok(())
 }

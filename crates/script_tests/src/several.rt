@@ -1,10 +1,10 @@
 //! Several pickles in one input, over memory: listings and reports of objects. The expected texts were worked out by hand.
 
 use crate::listings::Failing;
-use pickle_ops::ToWrite;
 use pickle_script::{Stop, list, list_many, objects, objects_many};
 use std::alloc::Global;
 use std::test::Fail;
+use test_equipment::{insist_on_paper, paper, taken, written_out};
 
 /// Bytes, what is listed of them, what their objects are, and the status of both.
 struct Row {
@@ -95,12 +95,12 @@ fn text_of(row: &Row, task: Task) -> &'static str {
 
 /// What a task writes of several pickles, and the status.
 fn told(alloc: Global, task: Task, bytes: &[u8]) -> Result<(Vec<u8>, u8), Stop> {
-    let mut sink = ToWrite::new(Vec::new(alloc));
+    let mut sink = paper(alloc)?;
     let status = match task {
         Task::List => list_many(alloc, bytes, &mut sink)?,
         Task::Objects => objects_many(alloc, bytes, &mut sink)?,
     };
-    Ok((sink.into_inner(), status))
+    Ok((taken(sink)?, status))
 }
 
 /// Whether a task writes this of several pickles, and has this status.
@@ -133,14 +133,14 @@ const ALONE: [&[u8]; 8] = [
 
 /// Whether a pickle is listed, and its objects are shown, as where one pickle is read.
 fn is_as_one(alloc: Global, bytes: &[u8]) -> Result<bool, Stop> {
-    let mut listing = ToWrite::new(Vec::new(alloc));
+    let mut listing = paper(alloc)?;
     let listed = list(alloc, bytes, &mut listing)?;
-    let mut report = ToWrite::new(Vec::new(alloc));
+    let mut report = paper(alloc)?;
     let reported = objects(alloc, bytes, &mut report)?;
     let (again, status) = told(alloc, Task::List, bytes)?;
-    let is_same = listing.into_inner().as_slice() == again.as_slice() && status == listed;
+    let is_same = taken(listing)?.as_slice() == again.as_slice() && status == listed;
     let (again, status) = told(alloc, Task::Objects, bytes)?;
-    Ok(is_same && report.into_inner().as_slice() == again.as_slice() && status == reported)
+    Ok(is_same && taken(report)?.as_slice() == again.as_slice() && status == reported)
 }
 
 #[test]
@@ -153,12 +153,13 @@ fn one_pickle(rt: HostRuntime) -> Result<(), Fail> {
 
 /// What a task does where one request for memory may be refused: a beginning of the text is written, and asked again all of it.
 fn insists(alloc: Global, task: Task, row: &Row) -> Result<bool, Stop> {
-    let mut sink = ToWrite::new(Vec::new(alloc));
+    let mut sink = insist_on_paper(alloc)?;
     let answer = match task {
         Task::List => list_many(alloc, row.bytes, &mut sink),
         Task::Objects => objects_many(alloc, row.bytes, &mut sink),
     };
-    let written = sink.into_inner();
+    let answer = written_out(&mut sink, answer);
+    let written = sink.into_inner().into_inner();
     let text = text_of(row, task).as_bytes();
     match answer {
         Ok(status) => Ok(written.as_slice() == text && status == row.status),

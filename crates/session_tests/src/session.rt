@@ -12,11 +12,11 @@ use crate::session::rows::{CYCLE, DUMP, PAIR, SCRIPTS, WALKED};
 use crate::session::script::{
     Counts, Script, Told, command, follow, go_home, open_whole, open_window,
 };
-use pickle_ops::{Opcode, ToWrite};
+use pickle_ops::Opcode;
 use pickle_session::{Command, Past, Reply, Session, Whole, Why};
 use std::alloc::{AllocError, Global};
 use std::test::Fail;
-use test_equipment::{Beside, shows, write_session};
+use test_equipment::{Beside, paper, shows, taken, write_session};
 
 /// Follows a script and goes all the way back, where one request for memory may be refused; the number of rows that are as
 /// they should be, and whether the opened bytes are there again.
@@ -83,9 +83,9 @@ fn in_every_window(rt: HostRuntime) {
 
 /// What a session shows, as a text.
 fn note_of<P: Past>(alloc: Global, session: &Session<P>) -> Result<Vec<u8>, Fail> {
-    let mut sink = ToWrite::new(Vec::new(alloc));
+    let mut sink = paper(alloc)?;
     write_session(session, &mut sink)?;
-    Ok(sink.into_inner())
+    Ok(taken(sink)?)
 }
 
 /// What is shown at each place of some bytes that are stepped over to their end; nothing where there is no memory.

@@ -4,7 +4,7 @@ mod rows;
 
 use crate::text::rows::{MANY, REPLIES, SCRIPTS, Script};
 use pickle_doc::{DocFault, End};
-use pickle_ops::{Failed, Sink, ToWrite};
+use pickle_ops::{Failed, Page};
 use pickle_script::{
     Line, Place, Query, Syntax, read_command, write_items, write_no_item_at, write_no_such_object,
     write_reply, write_syntax, write_where,
@@ -12,7 +12,7 @@ use pickle_script::{
 use pickle_session::{Command, Past, Reply, Session, Whole};
 use std::alloc::Global;
 use std::test::Fail;
-use test_equipment::Sip;
+use test_equipment::{Sip, page_over, paper, taken, written_out};
 
 /// A session of the bytes, as many pickles or as one, with all records kept.
 fn opened(alloc: Global, many: bool, bytes: &[u8]) -> Result<Session<Whole>, DocFault> {
@@ -24,7 +24,7 @@ fn opened(alloc: Global, many: bool, bytes: &[u8]) -> Result<Session<Whole>, Doc
 }
 
 /// Answers a question, as far as this crate's writers do: of `show` the refusal alone.
-fn tell<P: Past, S: Sink>(session: &Session<P>, query: Query, sink: &mut S) -> Result<(), Failed> {
+fn tell<P: Past, S: Page>(session: &Session<P>, query: Query, sink: &mut S) -> Result<(), Failed> {
     match query {
         Query::Items => write_items(session, sink),
         Query::Where => write_where(session, sink),
@@ -65,7 +65,7 @@ fn obeyed<P: Past>(alloc: Global, session: &mut Session<P>, line: &[u8]) -> Answ
 }
 
 /// Writes an answer.
-fn write_answer<P: Past, S: Sink>(
+fn write_answer<P: Past, S: Page>(
     session: &Session<P>,
     answer: Answer,
     sink: &mut S,
@@ -83,10 +83,10 @@ fn write_answer<P: Past, S: Sink>(
 fn first_wrong(alloc: Global, many: bool, script: &Script) -> Result<Option<&'static str>, Fail> {
     let mut session = opened(alloc, many, script.bytes)?;
     for (line, reply) in script.lines {
-        let mut sink = ToWrite::new(Vec::new(alloc));
+        let mut sink = paper(alloc)?;
         let answer = obeyed(alloc, &mut session, line.as_bytes());
         write_answer(&session, answer, &mut sink)?;
-        if sink.into_inner().as_slice() != reply.as_bytes() {
+        if taken(sink)?.as_slice() != reply.as_bytes() {
             return Ok(Some(*line));
         }
     }
@@ -124,10 +124,10 @@ fn longest_line(rt: HostRuntime) -> Result<(), Fail> {
             Err(Syntax::LineTooLong)
         )
     );
-    let mut sink = ToWrite::new(Vec::new(rt.alloc()));
+    let mut sink = paper(rt.alloc())?;
     write_syntax(Syntax::LineTooLong, &mut sink)?;
     assert_eq!(rt;
-        sink.into_inner().as_slice(),
+        taken(sink)?.as_slice(),
         b"refused: X7 line too long\n".as_slice()
     );
     Ok(())
@@ -137,9 +137,9 @@ fn longest_line(rt: HostRuntime) -> Result<(), Fail> {
 #[test]
 fn other_replies(rt: HostRuntime) -> Result<(), Fail> {
     for (reply, text) in &REPLIES {
-        let mut sink = ToWrite::new(Vec::new(rt.alloc()));
+        let mut sink = paper(rt.alloc())?;
         write_reply(End::Stopped, *reply, &mut sink)?;
-        assert_eq!(rt; sink.into_inner().as_slice(), text.as_bytes());
+        assert_eq!(rt; taken(sink)?.as_slice(), text.as_bytes());
     }
     Ok(())
 }
@@ -154,11 +154,14 @@ fn is_whole(
     most: usize,
     calls: u64,
 ) -> Option<bool> {
-    let mut sink = Sip::new(alloc, most.max(1), calls);
+    let Ok(mut sink) = page_over(alloc, Sip::new(alloc, most.max(1), calls)) else {
+        return None;
+    };
     let found = write_answer(session, answer, &mut sink);
-    let is_whole = sink.taken().len() == text.len();
-    let is_told = found.is_ok() == is_whole && sink.failures() == u64::from(!is_whole);
-    if text.starts_with(sink.taken()) && is_told {
+    let found = written_out(&mut sink, found);
+    let is_whole = sink.get_ref().taken().len() == text.len();
+    let is_told = found.is_ok() == is_whole && sink.get_ref().failures() == u64::from(!is_whole);
+    if text.starts_with(sink.get_ref().taken()) && is_told {
         Some(is_whole)
     } else {
         None

@@ -3,6 +3,7 @@
 
 ghost use Rattle.std.specs.Prelude.{◌≡◌, []};
 
+use crate::paper::{paper, taken};
 use crate::session::{shows, write_session};
 use pickle_doc::DocFault;
 use pickle_ops::{Failed, OpFault, Opcode, ToWrite, op_of};
@@ -85,13 +86,13 @@ fn note_of<P: Past>(
     session: &Session<P>,
     reply: Option<Reply>,
 ) -> Result<Note, ScriptFault> {
-    let mut shown = ToWrite::new(Vec::new(alloc));
+    let mut shown = paper(alloc)?;
     let mut bytes = ToWrite::new(Vec::new(alloc));
     write_session(session, &mut shown)?;
     session.document().write_bytes(&mut bytes)?;
     Ok(Note {
         reply,
-        shown: shown.into_inner(),
+        shown: taken(shown)?,
         bytes: bytes.into_inner(),
         kept: session.kept(),
     })

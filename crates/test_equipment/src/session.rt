@@ -1,18 +1,18 @@
 //! What a session shows as a text, by its readers.
 
 use crate::state::{Beside, write_state};
-use pickle_ops::{Failed, Sink, write_all, write_decimal};
+use pickle_ops::{Failed, Page, write_all, write_decimal};
 use pickle_session::{Past, Session};
 
 /// Writes a blank and a number.
-fn write_number<S: Sink>(number: usize, sink: &mut S) -> Result<(), Failed> {
+fn write_number<S: Page>(number: usize, sink: &mut S) -> Result<(), Failed> {
     write_all(sink, b" ")?;
     write_decimal(number as u64, sink)
 }
 
 /// Writes what a session shows, but for its bytes, records and counters: the cursor and the number of items, how many edits
 /// can be undone and made again, the places with a breakpoint, and the state of the machine.
-pub fn write_session<P: Past, S: Sink>(session: &Session<P>, sink: &mut S) -> Result<(), Failed> {
+pub fn write_session<P: Past, S: Page>(session: &Session<P>, sink: &mut S) -> Result<(), Failed> {
     write_all(sink, b"at")?;
     write_number(session.cursor(), sink)?;
     write_all(sink, b" of")?;
@@ -28,7 +28,7 @@ pub fn write_session<P: Past, S: Sink>(session: &Session<P>, sink: &mut S) -> Re
 }
 
 /// Writes the places with a breakpoint. There is none at the end.
-fn write_breaks<P: Past, S: Sink>(session: &Session<P>, sink: &mut S) -> Result<(), Failed> {
+fn write_breaks<P: Past, S: Page>(session: &Session<P>, sink: &mut S) -> Result<(), Failed> {
     let mut is_first = true;
     for place in 0..=session.document().len() {
         if session.has_break(place) {

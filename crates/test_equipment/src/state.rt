@@ -1,13 +1,15 @@
 //! The whole state of a machine as a text, by all of its readers: its objects, the stack with its marks, the memo, the
 //! count of buffers and the results. What is empty is left out, but for the stack.
 
+ghost use Rattle.std.specs.Prelude.{◌≡◌};
+
 use pickle_machine::{Change, Kind, Machine, ObjId, Object};
 use pickle_ops::{
-    Failed, Payload, Sink, write_all, write_decimal, write_hex, write_quoted, write_signed,
+    Failed, Page, Payload, Sink, write_all, write_decimal, write_hex, write_quoted, write_signed,
 };
 
 /// Writes signs and the number of an object after them.
-fn write_id<S: Sink>(signs: &str, id: ObjId, sink: &mut S) -> Result<(), Failed> {
+fn write_id<S: Page>(signs: &str, id: ObjId, sink: &mut S) -> Result<(), Failed> {
     write_all(sink, signs.as_bytes())?;
     write_decimal(u64::from(id), sink)
 }
@@ -51,24 +53,24 @@ fn word_of(kind: &Kind) -> &'static str {
 }
 
 /// Writes a text in quotes, after a blank.
-fn write_text<S: Sink>(text: &[u8], sink: &mut S) -> Result<(), Failed> {
+fn write_text<S: Page>(text: &[u8], sink: &mut S) -> Result<(), Failed> {
     write_all(sink, b" ")?;
     write_quoted(text, sink)
 }
 
 /// Writes a payload in quotes, after a blank.
-fn write_payload<S: Sink>(payload: &Payload, sink: &mut S) -> Result<(), Failed> {
+fn write_payload<S: Page>(payload: &Payload, sink: &mut S) -> Result<(), Failed> {
     write_text(payload.as_slice(), sink)
 }
 
 /// Writes the bytes of a number in hexadecimal digits, after a blank and an `x`.
-fn write_bytes<S: Sink>(payload: &Payload, sink: &mut S) -> Result<(), Failed> {
+fn write_bytes<S: Page>(payload: &Payload, sink: &mut S) -> Result<(), Failed> {
     write_all(sink, b" x")?;
     write_hex(payload.as_slice(), sink)
 }
 
 /// Writes what a kind holds.
-fn write_content<S: Sink>(kind: &Kind, sink: &mut S) -> Result<(), Failed> {
+fn write_content<S: Page>(kind: &Kind, sink: &mut S) -> Result<(), Failed> {
     match kind {
         Kind::Int(number) | Kind::Ext(number) => {
             write_all(sink, b" ")?;
@@ -95,7 +97,7 @@ fn write_content<S: Sink>(kind: &Kind, sink: &mut S) -> Result<(), Failed> {
 }
 
 /// Writes what was done to an object.
-fn write_change<S: Sink>(change: Change, sink: &mut S) -> Result<(), Failed> {
+fn write_change<S: Page>(change: Change, sink: &mut S) -> Result<(), Failed> {
     match change {
         Change::Append(id) => write_id(" +#", id, sink),
         Change::SetItem(key, value) => {
@@ -108,7 +110,7 @@ fn write_change<S: Sink>(change: Change, sink: &mut S) -> Result<(), Failed> {
 }
 
 /// Writes an object: its kind, its parts, and what was done to it.
-fn write_object<S: Sink>(object: &Object, sink: &mut S) -> Result<(), Failed> {
+fn write_object<S: Page>(object: &Object, sink: &mut S) -> Result<(), Failed> {
     write_all(sink, word_of(object.kind()).as_bytes())?;
     write_content(object.kind(), sink)?;
     for (k, part) in object.parts().iter().enumerate() {
@@ -124,7 +126,7 @@ fn write_object<S: Sink>(object: &Object, sink: &mut S) -> Result<(), Failed> {
 }
 
 /// Writes all objects.
-fn write_objects<S: Sink>(machine: &Machine, sink: &mut S) -> Result<(), Failed> {
+fn write_objects<S: Page>(machine: &Machine, sink: &mut S) -> Result<(), Failed> {
     for k in 0..machine.objects() {
         let id = u32::try_from(k).unwrap_or(u32::MAX);
         write_id(if k == 0 { "#" } else { "; #" }, id, sink)?;
@@ -140,7 +142,7 @@ fn write_objects<S: Sink>(machine: &Machine, sink: &mut S) -> Result<(), Failed>
 }
 
 /// Writes the marks from one on that have this many objects below them, and answers which is the next.
-fn write_marks<S: Sink>(
+fn write_marks<S: Page>(
     machine: &Machine,
     from: usize,
     height: usize,
@@ -159,7 +161,7 @@ fn write_marks<S: Sink>(
 }
 
 /// Writes the stack from the bottom, with each mark by its place.
-fn write_stack<S: Sink>(machine: &Machine, sink: &mut S) -> Result<(), Failed> {
+fn write_stack<S: Page>(machine: &Machine, sink: &mut S) -> Result<(), Failed> {
     write_all(sink, b"stack")?;
     let mut mark = write_marks(machine, 0, 0, sink)?;
     for k in 0..machine.stack_len() {
@@ -176,7 +178,7 @@ fn write_stack<S: Sink>(machine: &Machine, sink: &mut S) -> Result<(), Failed> {
 }
 
 /// Writes the memo by rising key.
-fn write_memo<S: Sink>(machine: &Machine, sink: &mut S) -> Result<(), Failed> {
+fn write_memo<S: Page>(machine: &Machine, sink: &mut S) -> Result<(), Failed> {
     if machine.memo_len() > 0 {
         write_all(sink, b"; memo")?;
     }
@@ -192,7 +194,7 @@ fn write_memo<S: Sink>(machine: &Machine, sink: &mut S) -> Result<(), Failed> {
 }
 
 /// Writes the latest result, and where there are several, all of them.
-fn write_results<S: Sink>(machine: &Machine, sink: &mut S) -> Result<(), Failed> {
+fn write_results<S: Page>(machine: &Machine, sink: &mut S) -> Result<(), Failed> {
     if let Some(id) = machine.result() {
         write_id("; result #", id, sink)?;
     }
@@ -219,7 +221,7 @@ fn ends(machine: &Machine) -> bool {
 }
 
 /// Writes the whole state of a machine.
-pub fn write_state<S: Sink>(machine: &Machine, sink: &mut S) -> Result<(), Failed> {
+pub fn write_state<S: Page>(machine: &Machine, sink: &mut S) -> Result<(), Failed> {
     write_objects(machine, sink)?;
     write_stack(machine, sink)?;
     write_memo(machine, sink)?;
@@ -234,11 +236,15 @@ pub fn write_state<S: Sink>(machine: &Machine, sink: &mut S) -> Result<(), Faile
     Ok(())
 }
 
+/// The room that is made for what needs no answer.
+const ROOM: usize = 4096;
+
 /// Compares what it is written with a text. It takes no memory and never fails.
 #[derive(Drop)]
 pub struct Beside<'a> {
     rest: &'a [u8],
     is_same: bool,
+    room: usize,
 }
 
 impl<'a> Beside<'a> {
@@ -247,12 +253,24 @@ impl<'a> Beside<'a> {
         Beside {
             rest: text,
             is_same: true,
+            room: 0,
         }
     }
 
     /// Whether just the text was written, from its start to its end.
     pub fn is_whole(&self) -> bool {
         self.is_same && self.rest.is_empty()
+    }
+
+    /// Compares the next bytes.
+    fn compare(&mut self, bytes: &[u8])
+        ensures { self.new.room ≡ self.old.room }
+    {
+        if self.rest.starts_with(bytes) {
+            self.rest = self.rest.get(bytes.len()..).unwrap_or_default();
+        } else {
+            self.is_same = false;
+        }
     }
 }
 
@@ -262,12 +280,41 @@ impl Sink for Beside<'_> {
     ghost told = { λ _. record { taken = None; failures = 0 } };
 
     fn write(&mut self, bytes: &[u8]) -> Result<usize, Failed> {
-        if self.rest.starts_with(bytes) {
-            self.rest = self.rest.get(bytes.len()..).unwrap_or_default();
-        } else {
-            self.is_same = false;
-        }
+        self.compare(bytes);
         Ok(bytes.len())
+    }
+}
+
+impl Page for Beside<'_> {
+    ghost room = { λ b. b.room };
+
+    fn push_front(&mut self, part: &[u8], n: usize) {
+        self.compare(&part[..n]);
+        self.room -= n;
+    }
+
+    fn push_two(&mut self, first: &[u8], m: usize, second: &[u8], n: usize) {
+        self.push_front(first, m);
+        self.push_front(second, n);
+    }
+
+    fn push_three(&mut self, first: &[u8], m: usize, second: &[u8; 2], third: &[u8], n: usize) {
+        self.push_front(first, m);
+        self.push_front(second, 2);
+        self.push_front(third, n);
+    }
+
+    fn push(&mut self, byte: u8) {
+        self.push_front(&[byte], 1);
+    }
+
+    fn push_text(&mut self, text: &[u8]) {
+        self.push_front(text, text.len());
+    }
+
+    fn make_room(&mut self) -> Result<(), Failed> {
+        self.room = ROOM;
+        Ok(())
     }
 }
 

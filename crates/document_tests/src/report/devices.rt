@@ -2,13 +2,13 @@
 
 use crate::report::opened;
 use pickle_machine::Machine;
-use pickle_ops::{Failed, Sink};
+use pickle_ops::{Failed, Page};
 use pickle_show::{
     TextStop, write_document_report, write_memo, write_object, write_objects, write_show,
     write_stack,
 };
 use std::alloc::Global;
-use test_equipment::Sip;
+use test_equipment::{Sip, page_over, written_out};
 
 /// A text of a machine, or of some bytes.
 #[derive(Clone, Copy)]
@@ -22,7 +22,7 @@ pub enum Text<'a> {
 }
 
 /// Writes the report of some bytes.
-fn write_report_of<S: Sink>(
+fn write_report_of<S: Page>(
     alloc: Global,
     many: bool,
     bytes: &[u8],
@@ -36,7 +36,7 @@ fn write_report_of<S: Sink>(
 }
 
 /// Writes an object that is there.
-fn write_one<S: Sink>(machine: &Machine, id: u32, sink: &mut S) -> Result<(), Failed> {
+fn write_one<S: Page>(machine: &Machine, id: u32, sink: &mut S) -> Result<(), Failed> {
     match machine.object(id) {
         Some(object) => write_object(u64::from(id), object, sink),
         None => Ok(()),
@@ -44,7 +44,7 @@ fn write_one<S: Sink>(machine: &Machine, id: u32, sink: &mut S) -> Result<(), Fa
 }
 
 /// Writes a text.
-fn write_text<S: Sink>(
+fn write_text<S: Page>(
     alloc: Global,
     machine: &Machine,
     text: Text<'_>,
@@ -71,17 +71,20 @@ fn is_whole(
     most: usize,
     calls: u64,
 ) -> Option<bool> {
-    let mut sink = Sip::new(alloc, most.max(1), calls);
+    let Ok(mut sink) = page_over(alloc, Sip::new(alloc, most.max(1), calls)) else {
+        return None;
+    };
     let answer = write_text(alloc, machine, text, &mut sink);
-    let is_whole = sink.taken().len() == wanted.len();
+    let answer = written_out(&mut sink, answer);
+    let is_whole = sink.get_ref().taken().len() == wanted.len();
     let told = if is_whole {
         Ok(())
     } else {
         Err(TextStop::Failed)
     };
-    if wanted.starts_with(sink.taken())
+    if wanted.starts_with(sink.get_ref().taken())
         && answer == told
-        && sink.failures() == u64::from(!is_whole)
+        && sink.get_ref().failures() == u64::from(!is_whole)
     {
         Some(is_whole)
     } else {

@@ -5,9 +5,9 @@ ghost use Rattle.pickle_machine.specs.Held.{KeepsRooms, Fits};
 ghost use Rattle.pickle_machine.specs.Back.{Leads};
 
 use pickle_machine::{Machine, Refusal, StepRecord};
-use pickle_ops::{Failed, Op, OpFault, Opcode, ToWrite, read_op};
+use pickle_ops::{Failed, Op, OpFault, Opcode, read_op};
 use std::alloc::{AllocError, AllocFailed, Global};
-use test_equipment::{stands, write_state};
+use test_equipment::{paper, stands, taken, write_state};
 
 /// What was seen that should not be, and at which place.
 #[derive(Clone, Copy, Debug, PartialEq, Eq)]
@@ -71,9 +71,9 @@ pub fn ops_of(alloc: Global, bytes: &[u8]) -> Result<Vec<Op>, Fault> {
 
 /// The whole state of a machine as a text.
 pub fn state_of(alloc: Global, machine: &Machine) -> Result<Vec<u8>, Fault> {
-    let mut sink = ToWrite::new(Vec::with_capacity(alloc, 1024)?);
+    let mut sink = paper(alloc)?;
     write_state(machine, &mut sink)?;
-    Ok(sink.into_inner())
+    Ok(taken(sink)?)
 }
 
 /// One step of a machine whose objects are few.

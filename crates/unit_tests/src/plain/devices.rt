@@ -1,13 +1,14 @@
 //! What sinks take, and what sources give.
 
 use pickle_io::{
-    Failed, Sink, ToWrite, write_all, write_decimal, write_hex, write_quoted, write_signed,
+    Failed, Page, ToWrite, write_all, write_decimal, write_hex, write_quoted, write_signed,
 };
 use std::io::Cursor;
 use std::test::Fail;
+use test_equipment::{page_over, paper, taken, written_out};
 
 /// Calls each writer.
-fn write_pieces<S: Sink>(sink: &mut S) -> Result<(), Failed> {
+fn write_pieces<S: Page>(sink: &mut S) -> Result<(), Failed> {
     write_decimal(7, sink)?;
     write_signed(-7, sink)?;
     write_hex(b"\x0f", sink)?;
@@ -18,13 +19,14 @@ fn write_pieces<S: Sink>(sink: &mut S) -> Result<(), Failed> {
 /// What a sink takes that has room for a part of the text: a beginning of it, and then it is not called again.
 #[test]
 fn full_sinks(rt: HostRuntime) -> Result<(), Fail> {
-    let mut sink = ToWrite::new(Vec::new(rt.alloc()));
+    let mut sink = paper(rt.alloc())?;
     write_pieces(&mut sink)?;
-    let whole = sink.into_inner();
+    let whole = taken(sink)?;
     assert_eq!(rt; whole.as_slice(), b"7-70f'it\\'s'.".as_slice());
-    let mut small = ToWrite::new(Cursor::new([0u8; 8]));
-    assert!(rt; write_pieces(&mut small) == Err(Failed));
-    let taken = small.into_inner().into_inner();
-    assert_eq!(rt; taken.as_slice(), b"7-70f'it".as_slice());
+    let mut small = page_over(rt.alloc(), ToWrite::new(Cursor::new([0u8; 8])))?;
+    let answer = write_pieces(&mut small);
+    assert!(rt; written_out(&mut small, answer) == Err(Failed));
+    let cut = small.into_inner().into_inner().into_inner();
+    assert_eq!(rt; cut.as_slice(), b"7-70f'it".as_slice());
     Ok(())
 }

@@ -1,10 +1,23 @@
--- One byte more in the text that is to be written, or an end.
-use Rattle.pickle_io.proofs.Devices.{Writes-stop}
-use Rattle.pickle_io.proofs.Blocks.{block-less, block-next, block-stopped}
+-- One byte more, or an end.
+use Rattle.std.proofs.Common.{arith}
+use Rattle.pickle_io.specs.Text.{quoted_byte}
+use Rattle.pickle_io.proofs.Devices.{Wrote-there, Broke-first, each-none, each-next, each-stopped, each-all, Writes-stop}
+use Rattle.pickle_io.proofs.Texts.{quoted_bytes_is_each}
 use Rattle.pickle_io.proofs.text.write_quoted_bytes.Goals as goal
 
-pub returns-in_err-make_room : goal.returns-in_err-make_room
-returns-in_err-make_room g c = Writes-stop _ _ c.make_room.result c.from_residual.result _ c.from_residual.ensures.0 (block-stopped _ _ _ _ _ c.loop-byte.byte-index c.in_err-make_room.ensures.err c.loop-byte.invariant)
+pub loop-byte-init : goal.loop-byte-init
+loop-byte-init g c = record { wrote = each-none _ _; room = c.requires }
+
+pub returns-in_err-make_room-clause-text : goal.returns-in_err-make_room-clause-text
+returns-in_err-make_room-clause-text g c =
+    rw (quoted_bytes_is_each c.args.text.now) (Writes-stop _ _ c.from_residual.result c.from_residual.result _ c.from_residual.ensures.0
+    (each-stopped quoted_byte _ _ _ _ c.loop-byte.byte-index 0 c.loop-byte-test.true (Broke-first _ _ _ c.in_err-make_room.ensures.writes) c.loop-byte.invariant.wrote))
 
 pub loop-byte-preserved : goal.loop-byte-preserved
-loop-byte-preserved g c = rw c.push_quoted_byte.ensures (block-next _ _ _ _ _ c.loop-byte-test.true (block-less _ _ _ _ _ _ c.in_ok-make_room.ensures.ok c.loop-byte.invariant))
+loop-byte-preserved g c = record {
+  wrote = each-next quoted_byte _ _ _ _ c.loop-byte.byte-index 0 c.loop-byte-test.true (Wrote-there _ _ _ _ c.push_quoted_byte.ensures.text c.in_ok-make_room.ensures.writes) c.loop-byte.invariant.wrote;
+  room = omega (arith, c.in_ok-make_room.ensures.room, c.push_quoted_byte.ensures.room);
+}
+
+pub returns-clause-text : goal.returns-clause-text
+returns-clause-text g c = rw (quoted_bytes_is_each c.args.text.now) (each-all quoted_byte _ _ _ c.loop-byte.byte-index c.loop-byte-test.false c.loop-byte.invariant.wrote)
