@@ -112,7 +112,7 @@ impl<S: Sink + Drop> Buffered<S> {
     fn empty(&mut self) -> Result<(), Failed>
         ensures told { Writes (holding (S.told self.old.sink) (drop self.old.start (take self.old.len self.old.text.items))) (holding (S.told self.new.sink) (drop self.new.start (take self.new.len self.new.text.items))) result [] }
         ensures held { OnOk result (drop self.new.start (take self.new.len self.new.text.items) ≡ []) }
-        ensures len { OnOk result (self.new.len ≡ 0) }
+        ensures none { OnOk result ((self.new.len ≡ 0) × (self.new.start ≡ 0)) }
         ensures room { length self.new.text.items ≡ length self.old.text.items }
     {
         let held = &self.text[..self.len];
@@ -126,7 +126,11 @@ impl<S: Sink + Drop> Buffered<S> {
 }
 
 impl<S: Sink + Drop> Sink for Buffered<S> {
+    ghost use Rattle.std.specs.Prelude.{◌-◌};
+
     ghost told = { λ b. holding (S.told b.sink) (drop b.start (take b.len b.text.items)) };
+
+    ghost held = { λ b. b.len - b.start };
 
     fn write(&mut self, bytes: &[u8]) -> Result<usize, Failed> {
         if self.len == self.text.len() {

@@ -1,6 +1,6 @@
 //! Where texts go.
 
-ghost use Rattle.std.specs.Prelude.{◌≡◌, ℕ, ◌<◌, ◌≤◌, [], List, length, take, IfOk, OnErr};
+ghost use Rattle.std.specs.Prelude.{◌≡◌, ℕ, ◌<◌, ◌≤◌, [], List, length, take, IfOk, OnOk, OnErr};
 ghost use Rattle.pickle_io.specs.Device.{Told, Wrote, Broke, Writes};
 
 /// A device failed.
@@ -13,6 +13,9 @@ pub trait Sink {
     // 18,446,744,073,709,551,615.
     ghost told: { Self → Told };
 
+    // How many bytes it has taken and not yet handed on to whom it writes for.
+    ghost held: { Self → ℕ } = { λ _. 0 };
+
     /// Takes a beginning of the bytes, at least one where one is offered, and answers how many. After a failure it has
     /// taken nothing of them, or it no longer reports what it has taken.
     fn write(&mut self, bytes: &[u8]) -> Result<usize, Failed>
@@ -21,13 +24,11 @@ pub trait Sink {
         ensures ok { IfOk result (λ n. Wrote (told self.old) (told self.new) (take n bytes.now)) }
         ensures err { OnErr result (Broke (told self.old) (told self.new) []) };
 
-    /// Hands on what it has taken and still holds, to whom it writes for. A sink that holds nothing does nothing. `Failed`
-    /// where that fails: what was not handed on it may still hold, or have lost.
+    /// Hands on what it has taken and still holds, to whom it writes for. `Failed` where that fails: what was not handed on it
+    /// may still hold, or have lost.
     fn flush(&mut self) -> Result<(), Failed>
-        ensures { Writes (told self.old) (told self.new) result [] }
-    {
-        Ok(())
-    }
+        ensures writes { Writes (told self.old) (told self.new) result [] }
+        ensures handed { OnOk result (held self.new ≡ 0) };
 }
 
 /// Writes all of the text; after a failure a beginning of it was written, and the sink is not called again.

@@ -1,7 +1,8 @@
 -- A sink that hands on what it holds, after lines that were obeyed: where it fails, it fails in the text of the last of them.
-use Rattle.std.proofs.Common.{◌≡◌, ◌≢◌, ℕ, Bool, true, false, ◌||◌, ◌==◌, List, [], ◌∷◌, ◌++◌, Option, Some, None, Result, Ok, Err, refl, sym, ap, subst, ◌∙◌, append-nil, if◌then◌else◌, arith}
+use Rattle.std.proofs.Common.{◌≡◌, ◌≢◌, ◌<◌, ◌+◌, length, take, get_or, ℕ, Bool, true, false, ◌||◌, ◌==◌, List, [], ◌∷◌, ◌++◌, Option, Some, None, Result, Ok, Err, refl, sym, ap, subst, ◌∙◌, append-nil, if◌then◌else◌, arith}
 use Rattle.std.specs.List.{concat, list_any}
 use Rattle.std.specs.Io.KnownBytes.{Appends}
+use Rattle.std.proofs.lemmas.List.{take_more}
 use Rattle.std.proofs.lemmas.List.Folds.{list_any-append}
 use Rattle.pickle_io.specs.declared.sink.Failed.{Failed}
 use Rattle.pickle_io.specs.Device.{Told, AppendsFront, Wrote, Broke}
@@ -139,6 +140,23 @@ quit_unflushed s q old a b given held w f = record {
 
 abbrev pub has_newline : List ℕ → Bool
 has_newline bytes = list_any (λ b. b == 10) bytes
+
+-- bytes without a newline: those before the last have none, and the last is none
+or_false : (a b : Bool) → (a || b) ≡ false → (a ≡ false) × (b ≡ false)
+or_false false false e = (refl, refl)
+or_false false true e = absurd cc
+or_false true b e = absurd cc
+
+is_10 : (b : ℕ) → (b == 10 || false) ≡ false → b ≢ 10
+is_10 b e = λ (h : b ≡ 10). let same : (b == 10 || false) ≡ true = rw h refl in absurd cc
+
+pub no_newline_before : (bytes : List ℕ) (i b : ℕ) → i < length bytes → get_or bytes i 0 ≡ b → has_newline (take (i + 1) bytes) ≡ false
+    → (has_newline (take i bytes) ≡ false) × (b ≢ 10)
+no_newline_before bytes i b h e none =
+    let next : take (i + 1) bytes ≡ take i bytes ++ b ∷ [] = take_more bytes i 0 h ∙ ap (λ (x : ℕ). take i bytes ++ x ∷ []) e in
+    let whole : has_newline (take i bytes ++ b ∷ []) ≡ false = sym (ap has_newline next) ∙ none in
+    let parts = or_false (has_newline (take i bytes)) (has_newline (b ∷ [])) (sym (list_any-append (λ x. x == 10) (take i bytes) (b ∷ [])) ∙ whole) in
+    (parts.0, is_10 b parts.1)
 
 no_newline : (bs : List ℕ) → HasNoNewline bs → has_newline bs ≡ true → ⊥
 no_newline [] p h = absurd cc

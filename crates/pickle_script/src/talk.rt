@@ -1,6 +1,6 @@
 //! A conversation: the lines of a source, obeyed one by one, and their texts, written to a sink.
 
-ghost use Rattle.std.specs.Prelude.{◌≡◌, ◌≢◌, ◌∷◌, [], false, IfOk, Ok, Err};
+ghost use Rattle.std.specs.Prelude.{◌≡◌, ◌≢◌, ◌∷◌, [], false, IfOk, OnOk, Ok, Err};
 ghost use Rattle.pickle_io.specs.Device.{HasFailed};
 ghost use Rattle.pickle_doc.specs.declared.fault.End.{End};
 ghost use Rattle.pickle_script.specs.ReplyText.{reply_text};
@@ -149,7 +149,8 @@ fn feed_byte<P: Past, K: Page>(
     byte: u8,
     sink: &mut K,
 ) -> Result<Flow, Failed>
-    ensures { Feeds (byte ∷ []) session.old (K.told sink.old) pending.old session.new (K.told sink.new) pending.new result }
+    ensures feeds { Feeds (byte ∷ []) session.old (K.told sink.old) pending.old session.new (K.told sink.new) pending.new result }
+    ensures calm { byte ≢ 10 → sink.new ≡ sink.old }
 {
     if byte == b'\n' {
         return end_line(alloc, session, pending, sink);
@@ -167,7 +168,8 @@ fn feed<P: Past, K: Page>(
     bytes: &[u8],
     sink: &mut K,
 ) -> Result<Flow, Failed>
-    ensures { Feeds bytes.now session.old (K.told sink.old) pending.old session.new (K.told sink.new) pending.new result }
+    ensures feeds { Feeds bytes.now session.old (K.told sink.old) pending.old session.new (K.told sink.new) pending.new result }
+    ensures handed { OnOk result (K.held sink.old ≡ 0 → K.held sink.new ≡ 0) }
 {
     for byte in bytes {
         match feed_byte(alloc, session, pending, *byte, sink)? {
@@ -178,9 +180,10 @@ fn feed<P: Past, K: Page>(
             }
         }
     }
-    if bytes.contains(&b'\n') {
-        sink.flush()?;
+    if !bytes.contains(&b'\n') {
+        return Ok(Flow::GoesOn);
     }
+    sink.flush()?;
     Ok(Flow::GoesOn)
 }
 
@@ -191,7 +194,8 @@ fn finish<P: Past, K: Page>(
     pending: &mut Pending,
     sink: &mut K,
 ) -> Result<u8, Failed>
-    ensures { Ends session.old (K.told sink.old) pending.old session.new (K.told sink.new) result }
+    ensures ends { Ends session.old (K.told sink.old) pending.old session.new (K.told sink.new) result }
+    ensures handed { OnOk result (K.held sink.old ≡ 0 → K.held sink.new ≡ 0) }
 {
     if pending.is_empty() {
         return Ok(pending.status());
@@ -217,6 +221,7 @@ fn go_on<P: Past, S: Source, K: Page>(
     ensures calm { result ≢ Err Stop.Read → S.failures source.new ≡ S.failures source.old }
     ensures writing { result ≡ Err Stop.Write → StopsWriting session.old session.new (S.remaining source.old) (S.remaining source.new) (K.told sink.old) (K.told sink.new) }
     ensures others { (result ≢ Err Stop.Memory) × (result ≢ Err Stop.TooLarge) }
+    ensures handed { result ≢ Err Stop.Write → K.held sink.old ≡ 0 → K.held sink.new ≡ 0 }
 {
     let mut block = [0u8; BLOCK];
     'turns: loop {
@@ -258,6 +263,9 @@ pub fn converse<P: Past, S: Source, K: Page>(
     // Without memory nothing is read, obeyed or written.
     ensures memory { result ≡ Err Stop.Memory → (session.new ≡ session.old) × (source.new ≡ source.old) × (sink.new ≡ sink.old) }
     ensures no_other { result ≢ Err Stop.TooLarge }
+
+    // Before each read, so that it waits for no answer, and at the end the sink has handed on what it holds.
+    ensures handed { result ≢ Err Stop.Write → K.held sink.old ≡ 0 → K.held sink.new ≡ 0 }
 {
     let mut pending = Pending::new(alloc)?;
     go_on(alloc, session, &mut pending, source, sink)

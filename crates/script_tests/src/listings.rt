@@ -251,6 +251,10 @@ impl Sink for Failing {
         self.failures = self.failures.saturating_add(1);
         Err(Failed)
     }
+
+    fn flush(&mut self) -> Result<(), Failed> {
+        Ok(())
+    }
 }
 
 /// A sink is not called again after it has failed.

@@ -80,4 +80,8 @@ impl Sink for Sip {
         self.calls -= 1;
         Ok(n)
     }
+
+    fn flush(&mut self) -> Result<(), Failed> {
+        Ok(())
+    }
 }

@@ -283,6 +283,10 @@ impl Sink for Beside<'_> {
         self.compare(bytes);
         Ok(bytes.len())
     }
+
+    fn flush(&mut self) -> Result<(), Failed> {
+        Ok(())
+    }
 }
 
 impl Page for Beside<'_> {

@@ -1,37 +1,44 @@
-use Rattle.std.proofs.Common.{◌++◌, Ok, take, ap, refl, rules, arith}
+use Rattle.std.proofs.Common.{◌++◌, Ok, take, ap, refl, ◌∙◌, rules, arith}
 use Rattle.std.proofs.lemmas.List.{take_all}
 use Rattle.std.proofs.lemmas.Result.{err_from_is_err_and}
 use Rattle.pickle_script.proofs.Feeding.{fed_on, fed_quit, fed_broken, split_byte, one_byte}
-use Rattle.pickle_script.proofs.Flushes.{quit_flushed, quit_unflushed, so_far_unflushed}
+use Rattle.pickle_script.proofs.Flushes.{quit_flushed, quit_unflushed, so_far_unflushed, no_newline_before}
 use Rattle.pickle_script.proofs.talk.feed.Goals as goal
 
-pub returns-in_err-feed_byte : goal.returns-in_err-feed_byte
-returns-in_err-feed_byte g c = λ s old given w.
+pub returns-in_err-feed_byte-clause-feeds : goal.returns-in_err-feed_byte-clause-feeds
+returns-in_err-feed_byte-clause-feeds g c = λ s old given w.
     let p = err_from_is_err_and c.from_residual.result c.from_residual.ensures.1 in
-    let f = c.feed_byte.ensures s old (given ++ take c.loop-byte.byte-index c.args.bytes.now) (c.loop-byte.invariant s old given w) in
+    let f = c.feed_byte.ensures.feeds s old (given ++ take c.loop-byte.byte-index c.args.bytes.now) (c.loop-byte.invariant.fed s old given w) in
     rw p.1 (fed_broken _ _ _ _ _ _ _ _ _ _ f c.in_err-feed_byte.was (split_byte given c.args.bytes.now c.loop-byte.byte-index _ c.loop-byte-test.true refl))
 
-pub returns-in-Quits : goal.returns-in-Quits
-returns-in-Quits g c = λ s old given w.
-    let f = c.in_ok-feed_byte.ensures s old (given ++ take c.loop-byte.byte-index c.args.bytes.now) (c.loop-byte.invariant s old given w) in
+pub returns-in-Quits-clause-feeds : goal.returns-in-Quits-clause-feeds
+returns-in-Quits-clause-feeds g c = λ s old given w.
+    let f = c.in_ok-feed_byte.ensures.feeds s old (given ++ take c.loop-byte.byte-index c.args.bytes.now) (c.loop-byte.invariant.fed s old given w) in
     let q = fed_quit _ _ _ _ _ _ _ _ _ f (ap Ok c.in-Quits.is) (split_byte given c.args.bytes.now c.loop-byte.byte-index _ c.loop-byte-test.true refl) in
-    quit_flushed _ _ _ _ _ _ _ q c.in_ok-flush-in-Quits.ensures
+    quit_flushed _ _ _ _ _ _ _ q c.in_ok-flush-in-Quits.ensures.writes
 
-pub returns-in_err-flush-in-Quits : goal.returns-in_err-flush-in-Quits
-returns-in_err-flush-in-Quits g c = λ s old given w.
+pub returns-in_err-flush-in-Quits-clause-feeds : goal.returns-in_err-flush-in-Quits-clause-feeds
+returns-in_err-flush-in-Quits-clause-feeds g c = λ s old given w.
     let p = err_from_is_err_and c.from_residual-in_err-flush-in-Quits.result c.from_residual-in_err-flush-in-Quits.ensures.1 in
-    let f = c.in_ok-feed_byte.ensures s old (given ++ take c.loop-byte.byte-index c.args.bytes.now) (c.loop-byte.invariant s old given w) in
+    let f = c.in_ok-feed_byte.ensures.feeds s old (given ++ take c.loop-byte.byte-index c.args.bytes.now) (c.loop-byte.invariant.fed s old given w) in
     let q = fed_quit _ _ _ _ _ _ _ _ _ f (ap Ok c.in-Quits.is) (split_byte given c.args.bytes.now c.loop-byte.byte-index _ c.loop-byte-test.true refl) in
-    rw p.1 (quit_unflushed _ _ _ _ _ _ _ q c.in_err-flush-in-Quits.ensures)
+    rw p.1 (quit_unflushed _ _ _ _ _ _ _ q c.in_err-flush-in-Quits.ensures.writes)
 
-pub returns-in_err-flush : goal.returns-in_err-flush
-returns-in_err-flush g c = λ s old given w.
+pub returns-in_err-flush-clause-feeds : goal.returns-in_err-flush-clause-feeds
+returns-in_err-flush-clause-feeds g c = λ s old given w.
     let p = err_from_is_err_and c.from_residual-in_err-flush.result c.from_residual-in_err-flush.ensures.1 in
     let whole = take_all c.loop-byte.byte-index c.args.bytes.now (omega (arith, c.loop-byte-test.false)) in
-    let q = rw whole at c.loop-byte.invariant s old given w in
-    rw p.1 (so_far_unflushed _ _ _ _ _ given c.args.bytes.now _ q (search rules) c.in_err-flush.ensures)
+    let q = rw whole at c.loop-byte.invariant.fed s old given w in
+    rw p.1 (so_far_unflushed _ _ _ _ _ given c.args.bytes.now _ q (search rules) c.in_err-flush.ensures.writes)
 
 pub loop-byte-preserved : goal.loop-byte-preserved
-loop-byte-preserved g c = λ s old given w.
-    let f = c.in_ok-feed_byte.ensures s old (given ++ take c.loop-byte.byte-index c.args.bytes.now) (c.loop-byte.invariant s old given w) in
-    fed_on _ _ _ _ _ _ _ _ f (ap Ok c.in-GoesOn.is) (one_byte given c.args.bytes.now c.loop-byte.byte-index _ c.loop-byte-test.true refl)
+loop-byte-preserved g c =
+    let at = c.loop-byte-test.true in
+    record {
+      fed = λ s old given w.
+        let f = c.feed_byte.ensures.feeds s old (given ++ take c.loop-byte.byte-index c.args.bytes.now) (c.loop-byte.invariant.fed s old given w) in
+        fed_on _ _ _ _ _ _ _ _ f (ap Ok c.in-GoesOn.is) (one_byte given c.args.bytes.now c.loop-byte.byte-index _ at refl);
+      calm = λ none.
+        let before = no_newline_before c.args.bytes.now c.loop-byte.byte-index _ at refl none in
+        c.in_ok-feed_byte.ensures.calm before.1 ∙ c.loop-byte.invariant.calm before.0;
+    }

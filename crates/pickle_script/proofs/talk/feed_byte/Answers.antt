@@ -1,5 +1,5 @@
 use Rattle.pickle_script.proofs.Feeding.{byte_goes_on}
 use Rattle.pickle_script.proofs.talk.feed_byte.Goals as goal
 
-pub returns : goal.returns
-returns g c = λ s old given w. byte_goes_on _ _ _ _ _ _ _ _ c.if-byte-eq10.false w c.push.ensures
+pub returns-clause-feeds : goal.returns-clause-feeds
+returns-clause-feeds g c = λ s old given w. byte_goes_on _ _ _ _ _ _ _ _ c.if-byte-eq10.false w c.push.ensures

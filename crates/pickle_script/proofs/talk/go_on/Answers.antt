@@ -5,32 +5,32 @@ use Rattle.pickle_script.proofs.Endings.{nothing_yet, gave_nothing, finishes_who
 use Rattle.pickle_script.proofs.talk.go_on.Goals as goal
 
 pub turns-init : goal.turns-init
-turns-init g c = record { moment = nothing_yet _ _ _ _ c.requires; calm = refl }
+turns-init g c = record { moment = nothing_yet _ _ _ _ c.requires; calm = refl; handed = λ h. h }
 
 pub returns-in_err-finish-clause-writing : goal.returns-in_err-finish-clause-writing
 returns-in_err-finish-clause-writing g c = λ stop.
     let m = c.turns.invariant.moment in
     let room : 0 < length c.read.new.buffer = omega (arith, c.read.auto.buffer) in
     let gave = gave_nothing _ _ _ _ _ _ m.gave c.in-Ok.ensures.given c.if-count-eq0.true in
-    breaks_at_end _ _ _ _ _ _ _ gave (c.in-Ok.ensures.end c.if-count-eq0.true room) (c.in_err-finish.ensures _ _ m.given m.so_far)
+    breaks_at_end _ _ _ _ _ _ _ gave (c.in-Ok.ensures.end c.if-count-eq0.true room) (c.in_err-finish.ensures.ends _ _ m.given m.so_far)
 
 pub returns-then-count-eq0-clause-finishes : goal.returns-then-count-eq0-clause-finishes
 returns-then-count-eq0-clause-finishes g c =
     let m = c.turns.invariant.moment in
     let room : 0 < length c.read.new.buffer = omega (arith, c.read.auto.buffer) in
     let gave = gave_nothing _ _ _ _ _ _ m.gave c.in-Ok.ensures.given c.if-count-eq0.true in
-    finishes_whole _ _ _ _ _ _ _ _ gave (c.in-Ok.ensures.end c.if-count-eq0.true room) (c.in_ok-finish.ensures _ _ m.given m.so_far)
+    finishes_whole _ _ _ _ _ _ _ _ gave (c.in-Ok.ensures.end c.if-count-eq0.true room) (c.in_ok-finish.ensures.ends _ _ m.given m.so_far)
 
 pub returns-in_err-feed-clause-writing : goal.returns-in_err-feed-clause-writing
 returns-in_err-feed-clause-writing g c = λ stop.
     let m = c.turns.invariant.moment in
     let gave = Consumes-trans _ _ _ _ _ m.gave c.in-Ok.ensures.given in
-    breaks_before _ _ _ _ _ _ _ gave (c.in_err-feed.ensures _ _ m.given m.so_far)
+    breaks_before _ _ _ _ _ _ _ gave (c.in_err-feed.ensures.feeds _ _ m.given m.so_far)
 
 pub returns-in-Quits-clause-finishes : goal.returns-in-Quits-clause-finishes
 returns-in-Quits-clause-finishes g c =
     let m = c.turns.invariant.moment in
-    let f = c.in_ok-feed.ensures _ _ m.given m.so_far in
+    let f = c.in_ok-feed.ensures.feeds _ _ m.given m.so_far in
     let gave = Consumes-trans _ _ _ _ _ m.gave c.in-Ok.ensures.given in
     let quit = fed_quit _ _ _ _ _ [] _ _ _ f (ap Ok c.in-Quits.is) (append-nil _) in
     finishes_quit _ _ _ _ _ _ _ _ _ gave quit c.status.ensures
@@ -38,10 +38,11 @@ returns-in-Quits-clause-finishes g c =
 pub turns-preserved : goal.turns-preserved
 turns-preserved g c =
     let m = c.turns.invariant.moment in
-    let f = c.in_ok-feed.ensures _ _ m.given m.so_far in
+    let f = c.in_ok-feed.ensures.feeds _ _ m.given m.so_far in
     let gave = Consumes-trans _ _ _ _ _ m.gave c.in-Ok.ensures.given in
     let on = fed_on _ _ _ _ _ _ _ _ f (ap Ok c.in-GoesOn.is) refl in
     record {
       moment = record { given = _; gave = gave; so_far = on };
       calm = c.in-Ok.ensures.calm ∙ c.turns.invariant.calm;
+      handed = λ h. c.in_ok-feed.ensures.handed (c.turns.invariant.handed h);
     }
