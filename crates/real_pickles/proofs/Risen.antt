@@ -1,8 +1,10 @@
 -- Documents that differ by the next identity.
-use Rattle.std.proofs.Common.{◌≡◌, ℕ, ◌+◌, sym, ap, subst, arith}
+use Rattle.std.proofs.Common.{◌≡◌, ℕ, ◌+◌, Bool, true, false, if◌then◌else◌, sym, ap, subst, arith}
+use Rattle.pickle_ops.specs.Spelling.{Operation}
+use Rattle.pickle_doc.specs.declared.edit.Edit.{Edit}
 use Rattle.pickle_doc.specs.declared.record.EditRecord.{EditRecord}
 use Rattle.pickle_doc.specs.Document.{Contents}
-use Rattle.pickle_doc.specs.Edit.{given_one}
+use Rattle.pickle_doc.specs.Edit.{given_one, given_by, adds_item}
 use Rattle.pickle_doc.specs.Turn.{Leads, LeadsOn, risen}
 
 not_risen : (d : Contents) → risen 0 d ≡ d
@@ -15,14 +17,13 @@ risen_more n m d =
     let next : d.next + n + m ≡ d.next + (n + m) = omega arith in
     ap (λ (k : ℕ). record { many = d.many; units = d.units; tail = d.tail; next = k }) next
 
--- the record of an edit that gives no identity, and of one that gives one
-pub given_none : (r : EditRecord) (d e : Contents) → Leads r d e → (n : ℕ) × Leads r d (risen n e)
-given_none r d e l =
-    let P : Contents → Type 0 = λ c. Leads r d c in
-    (0, subst P (sym (not_risen e)) l)
-
-pub given_some : (r : EditRecord) (d e : Contents) → Leads r d (given_one e) → (n : ℕ) × Leads r d (risen n e)
-given_some r d e l = (1, l)
+-- the record of an edit, which may have given an identity
+pub given : (e : Edit Operation) (r : EditRecord) (d f : Contents) → Leads r d (given_by e f) → (n : ℕ) × Leads r d (risen n f)
+given e r d f l = go (adds_item e) l
+  where
+    go : (b : Bool) → Leads r d (if b then given_one f else f) → (n : ℕ) × Leads r d (risen n f)
+    go true l = (1, l)
+    go false l = let P : Contents → Type 0 = λ c. Leads r d c in (0, subst P (sym (not_risen f)) l)
 
 -- a record leads from a document that differs from its own by the next identity
 pub on : LeadsOn → (r : EditRecord) (d e f : Contents) (n : ℕ) → f ≡ risen n d → Leads r d e → Leads r f (risen n e)

@@ -6,7 +6,7 @@ ghost use Rattle.pickle_doc.specs.Turn.{Leads, risen};
 
 use crate::plain::{Kind, Part, Plain};
 use crate::{Stop, written};
-use pickle_doc::{Document, EditFault, EditRecord, records_lead_on, there_and_back};
+use pickle_doc::{Document, Edit, EditFault, EditRecord, records_lead_on, there_and_back};
 use pickle_ops::{Op, Opcode, op_of};
 use std::alloc::Global;
 
@@ -29,16 +29,6 @@ impl Dice {
         let high = (self.state >> 33) as usize;
         high.checked_rem(limit).unwrap_or(0)
     }
-}
-
-/// An edit; an opcode is there by its number in `OPCODES`.
-#[derive(Clone, Copy)]
-enum Edit {
-    Replace(usize, usize),
-    Insert(usize, usize),
-    Delete(usize),
-    Frame(usize, usize),
-    Unframe(usize),
 }
 
 /// Opcodes to put in: the opcode, and the bytes that spell it with its argument.
@@ -65,8 +55,8 @@ fn op_at(alloc: Global, number: usize) -> Result<Op, EditFault> {
     }
 }
 
-/// An edit by dice, of a list of this many items.
-fn roll(dice: &mut Dice, len: usize) -> Edit {
+/// An edit by dice, of a list of this many items; an opcode is there by its number in `OPCODES`.
+fn roll(dice: &mut Dice, len: usize) -> Edit<usize> {
     let place = dice.below(len.saturating_add(2));
     let number = dice.below(OPCODES.len());
     match dice.below(8) {
@@ -78,114 +68,48 @@ fn roll(dice: &mut Dice, len: usize) -> Edit {
     }
 }
 
-/// Replaces item k by an opcode.
-fn replace_at(
-    alloc: Global,
-    document: &mut Document,
-    k: usize,
-    number: usize,
-) -> Result<EditRecord, EditFault>
-    ensures back { IfOk result (λ r. (n : ℕ) × Leads r document.new.contents (risen n document.old.contents)) }
-    ensures err { OnErr result (document.new ≡ document.old) }
-    ensures total { length (items_of document.old.contents) + document.old.room ≤ length (items_of document.new.contents) + document.new.room }
-{
-    let op = op_at(alloc, number)?;
-    let record = document.replace(k, op)?;
-    Ok(record)
-}
-
-/// Puts an opcode before item k.
-fn insert_at(
-    alloc: Global,
-    document: &mut Document,
-    k: usize,
-    number: usize,
-) -> Result<EditRecord, EditFault>
-    ensures back { IfOk result (λ r. (n : ℕ) × Leads r document.new.contents (risen n document.old.contents)) }
-    ensures err { OnErr result (document.new ≡ document.old) }
-    ensures total { length (items_of document.old.contents) + document.old.room ≤ length (items_of document.new.contents) + document.new.room }
-{
-    let op = op_at(alloc, number)?;
-    let record = document.insert(k, op)?;
-    Ok(record)
-}
-
-/// Takes item k out.
-fn delete_at(document: &mut Document, k: usize) -> Result<EditRecord, EditFault>
-    ensures back { IfOk result (λ r. (n : ℕ) × Leads r document.new.contents (risen n document.old.contents)) }
-    ensures err { OnErr result (document.new ≡ document.old) }
-    ensures total { length (items_of document.old.contents) + document.old.room ≤ length (items_of document.new.contents) + document.new.room }
-{
-    let record = document.delete(k)?;
-    Ok(record)
-}
-
-/// Puts a frame round items.
-fn frame_at(document: &mut Document, k: usize, count: usize) -> Result<EditRecord, EditFault>
-    ensures back { IfOk result (λ r. (n : ℕ) × Leads r document.new.contents (risen n document.old.contents)) }
-    ensures err { OnErr result (document.new ≡ document.old) }
-    ensures total { length (items_of document.old.contents) + document.old.room ≤ length (items_of document.new.contents) + document.new.room }
-{
-    let record = document.frame(k, count)?;
-    Ok(record)
-}
-
-/// Takes a frame away.
-fn unframe_at(document: &mut Document, k: usize) -> Result<EditRecord, EditFault>
-    ensures back { IfOk result (λ r. (n : ℕ) × Leads r document.new.contents (risen n document.old.contents)) }
-    ensures err { OnErr result (document.new ≡ document.old) }
-    ensures total { length (items_of document.old.contents) + document.old.room ≤ length (items_of document.new.contents) + document.new.room }
-{
-    let record = document.unframe(k)?;
-    Ok(record)
+/// The edit with the opcode of the number.
+fn edit_of(alloc: Global, edit: &Edit<usize>) -> Result<Edit<Op>, EditFault> {
+    Ok(match edit {
+        Edit::Replace(k, number) => Edit::Replace(*k, op_at(alloc, *number)?),
+        Edit::Insert(k, number) => Edit::Insert(*k, op_at(alloc, *number)?),
+        Edit::Delete(k) => Edit::Delete(*k),
+        Edit::Frame(k, count) => Edit::Frame(*k, *count),
+        Edit::Unframe(k) => Edit::Unframe(*k),
+    })
 }
 
 /// Makes an edit of a document. The record leads back.
-fn make(alloc: Global, document: &mut Document, edit: Edit) -> Result<EditRecord, EditFault>
+fn make(alloc: Global, document: &mut Document, edit: &Edit<usize>) -> Result<EditRecord, EditFault>
     ensures back { IfOk result (λ r. (n : ℕ) × Leads r document.new.contents (risen n document.old.contents)) }
     ensures err { OnErr result (document.new ≡ document.old) }
     ensures total { length (items_of document.old.contents) + document.old.room ≤ length (items_of document.new.contents) + document.new.room }
 {
-    match edit {
-        Edit::Replace(k, number) => replace_at(alloc, document, k, number),
-        Edit::Insert(k, number) => insert_at(alloc, document, k, number),
-        Edit::Delete(k) => delete_at(document, k),
-        Edit::Frame(k, count) => frame_at(document, k, count),
-        Edit::Unframe(k) => unframe_at(document, k),
-    }
+    let edit = edit_of(alloc, edit)?;
+    let record = document.edit(edit)?;
+    Ok(record)
 }
 
 /// Makes an edit of a plain list.
-fn make_plain(plain: &mut Plain<'_>, edit: Edit) -> Result<(), Stop> {
+fn make_plain(plain: &mut Plain<'_>, edit: &Edit<usize>) -> Result<(), Stop> {
     match edit {
-        Edit::Replace(k, number) => plain.replace(k, opcode_of(number).1),
-        Edit::Insert(k, number) => return plain.insert(k, opcode_of(number).1),
-        Edit::Delete(k) => plain.delete(k),
-        Edit::Frame(k, count) => return plain.frame(k, count),
-        Edit::Unframe(k) => plain.unframe(k),
+        Edit::Replace(k, number) => plain.replace(*k, opcode_of(*number).1),
+        Edit::Insert(k, number) => return plain.insert(*k, opcode_of(*number).1),
+        Edit::Delete(k) => plain.delete(*k),
+        Edit::Frame(k, count) => return plain.frame(*k, *count),
+        Edit::Unframe(k) => plain.unframe(*k),
     }
     Ok(())
 }
 
 /// Why a plain list refuses an edit.
-fn plain_fault(plain: &Plain<'_>, edit: Edit) -> Option<EditFault> {
+fn plain_fault(plain: &Plain<'_>, edit: &Edit<usize>) -> Option<EditFault> {
     match edit {
-        Edit::Replace(k, number) => plain.replace_fault(k, opcode_of(number).1),
-        Edit::Insert(k, number) => plain.insert_fault(k, opcode_of(number).1),
-        Edit::Delete(k) => plain.delete_fault(k),
-        Edit::Frame(k, count) => plain.frame_fault(k, count),
-        Edit::Unframe(k) => plain.unframe_fault(k),
-    }
-}
-
-/// Why a document refuses an edit.
-fn fault_of(alloc: Global, document: &Document, edit: Edit) -> Result<Option<EditFault>, Stop> {
-    match edit {
-        Edit::Replace(k, number) => Ok(document.replace_fault(k, &op_at(alloc, number)?)),
-        Edit::Insert(k, number) => Ok(document.insertion_fault(k, &op_at(alloc, number)?)),
-        Edit::Delete(k) => Ok(document.delete_fault(k)),
-        Edit::Frame(k, count) => Ok(document.frame_fault(k, count)),
-        Edit::Unframe(k) => Ok(document.unframe_fault(k)),
+        Edit::Replace(k, number) => plain.replace_fault(*k, opcode_of(*number).1),
+        Edit::Insert(k, number) => plain.insert_fault(*k, opcode_of(*number).1),
+        Edit::Delete(k) => plain.delete_fault(*k),
+        Edit::Frame(k, count) => plain.frame_fault(*k, *count),
+        Edit::Unframe(k) => plain.unframe_fault(*k),
     }
 }
 
@@ -195,11 +119,11 @@ fn next_edit(
     document: &Document,
     plain: &Plain<'_>,
     dice: &mut Dice,
-) -> Result<Edit, Stop> {
+) -> Result<Edit<usize>, Stop> {
     for _ in 0..16 {
         let edit = roll(dice, document.len());
-        let fault = fault_of(alloc, document, edit)?;
-        if fault != plain_fault(plain, edit) {
+        let fault = document.edit_fault(&edit_of(alloc, &edit)?.by_ref());
+        if fault != plain_fault(plain, &edit) {
             return Err(Stop::Edits);
         }
         if fault.is_none() {
@@ -236,8 +160,8 @@ fn go_on(
         return Ok(());
     }
     let edit = next_edit(alloc, document, plain, dice)?;
-    make_plain(plain, edit)?;
-    let mut record = make(alloc, document, edit)?;
+    make_plain(plain, &edit)?;
+    let mut record = make(alloc, document, &edit)?;
     go_on(alloc, document, plain, dice, more - 1)?;
     records_lead_on();
     there_and_back(document, &mut record);
