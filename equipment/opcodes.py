@@ -62,6 +62,7 @@ class Record:
     kind: str
     code_on_a_page: str
     name_on_a_page: str
+    length_of_name: str
 
     @property
     def code(self) -> int:

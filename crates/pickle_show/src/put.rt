@@ -197,11 +197,11 @@ pub fn write_bare_item<P: Page>(
 }
 
 macro_rules! filled_name {
-    (() { $code:literal $name:literal $protocol:literal $form:ident $row:tt $kind:tt $cells:literal $filled:literal }) => { $filled };
+    (() { $code:literal $name:literal $protocol:literal $form:ident $row:tt $kind:tt $cells:literal $filled:literal $($rest:tt)* }) => { $filled };
 }
 
 macro_rules! name_len {
-    (() { $code:literal $name:literal $($rest:tt)* }) => { $name.len() };
+    (() { $code:literal $name:literal $protocol:literal $form:ident $row:tt $kind:tt $cells:literal $filled:literal $len:literal }) => { $len };
 }
 
 /// The name of an opcode, filled to sixteen places.
