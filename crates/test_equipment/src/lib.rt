@@ -4,14 +4,14 @@
 #![tactic(auto)]
 
 mod drip;
-mod paper;
+mod pages;
 mod script;
 mod session;
 mod sip;
 mod state;
 
 pub use drip::Drip;
-pub use paper::{insist_on_paper, page_over, paper, taken, written_out};
+pub use pages::{insist_on_paper, page_over, paper, taken, written_out};
 pub use script::{Note, ScriptFault, follow_whole, follow_window, note_whole, note_window};
 pub use session::{shows, write_session};
 pub use sip::Sip;

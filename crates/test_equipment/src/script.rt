@@ -3,7 +3,7 @@
 
 ghost use Rattle.std.specs.Prelude.{◌≡◌, []};
 
-use crate::paper::{paper, taken};
+use crate::pages::{paper, taken};
 use crate::session::{shows, write_session};
 use pickle_doc::DocFault;
 use pickle_ops::{Failed, OpFault, Opcode, ToWrite, op_of};
