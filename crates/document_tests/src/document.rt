@@ -18,9 +18,9 @@ use crate::document::rows::{
     BESIDE_FRAMES, EMPTY_FRAMES, FRAMES, FRAMES_THAT_LIE, IN_FRAMES, NO_FRAMES, REFUSED,
 };
 use crate::document::shown::{
-    Edit, Row, Wrong, are_alike, have_same_ids, make, open, place_of, shows, turn, written,
+    Row, Spelled, Wrong, are_alike, have_same_ids, make, open, shows, turn, written,
 };
-use pickle_doc::{Document, EditFault, End, there_and_back};
+use pickle_doc::{Document, Edit, EditFault, End, there_and_back};
 use pickle_ops::Opcode;
 use std::alloc::Global;
 use std::test::Fail;
@@ -30,7 +30,7 @@ fn try_row(alloc: Global, many: bool, row: &Row) -> Result<(), Wrong> {
     let mut document = open(alloc, many, row.before.bytes)?;
     shows(alloc, &document, &row.before)?;
     let mut record = make(alloc, &mut document, &row.edit)?;
-    if record.place() != place_of(&row.edit) {
+    if record.place() != row.edit.place() {
         return Err(Wrong::Place);
     }
     shows(alloc, &document, &row.after)?;
@@ -117,7 +117,7 @@ fn refusal_of(
     alloc: Global,
     many: bool,
     bytes: &[u8],
-    edit: &Edit,
+    edit: &Spelled,
 ) -> Result<Option<EditFault>, Wrong> {
     let opened = open(alloc, many, bytes)?;
     let mut document = open(alloc, many, bytes)?;
@@ -163,7 +163,7 @@ fn refused_edits_of_many_pickles(rt: HostRuntime) {
 fn ids_behind(
     alloc: Global,
     document: &mut Document,
-    edit: &Edit,
+    edit: &Spelled,
 ) -> Result<[Option<u32>; 2], Wrong> {
     let mut record = make(alloc, document, edit)?;
     let ids = [document.id(0), document.id(1)];
@@ -175,10 +175,10 @@ fn ids_behind(
 #[test]
 fn identities_are_given_once(rt: HostRuntime) -> Result<(), Fail> {
     let mut document = Document::read(rt.alloc(), b".")?;
-    let edits = [
-        (Edit::Insert(0, Opcode::None, b""), 1),
+    let edits: [(Spelled, u32); 3] = [
+        (Edit::Insert(0, (Opcode::None, b"")), 1),
         (Edit::Frame(0, 1), 2),
-        (Edit::Insert(0, Opcode::None, b""), 3),
+        (Edit::Insert(0, (Opcode::None, b"")), 3),
     ];
     for (edit, id) in &edits {
         let found = ids_behind(rt.alloc(), &mut document, edit);
@@ -235,7 +235,7 @@ fn large(alloc: Global) -> Result<Vec<u8>, Wrong> {
 }
 
 /// How many bytes there are after an edit, which is taken back.
-fn total_behind(alloc: Global, document: &mut Document, edit: &Edit) -> Result<u64, Wrong> {
+fn total_behind(alloc: Global, document: &mut Document, edit: &Spelled) -> Result<u64, Wrong> {
     let mut record = make(alloc, document, edit)?;
     let total = document.total();
     document.swap(&mut record);
@@ -247,10 +247,10 @@ fn total_behind(alloc: Global, document: &mut Document, edit: &Edit) -> Result<u
 fn large_input(rt: HostRuntime) -> Result<(), Fail> {
     let bytes = large(rt.alloc())?;
     let mut document = Document::read(rt.alloc(), &bytes)?;
-    let edits = [
-        (Edit::Insert(0, Opcode::None, b""), Ok(LARGE as u64 + 1)),
+    let edits: [(Spelled, Result<u64, Wrong>); 3] = [
+        (Edit::Insert(0, (Opcode::None, b"")), Ok(LARGE as u64 + 1)),
         (Edit::Frame(0, 2), Ok(LARGE as u64 + 9)),
-        (Edit::Replace(0, Opcode::None, b""), Ok(2)),
+        (Edit::Replace(0, (Opcode::None, b"")), Ok(2)),
     ];
     for (edit, total) in &edits {
         assert_eq!(rt; total_behind(rt.alloc(), &mut document, edit), *total);

@@ -1,8 +1,8 @@
 //! Documents of many pickles that follow one another, and edits of them. The expected values are worked out by hand, as those of
 //! one pickle are; the end is STOP only where STOP is the last item and no byte is left.
 
-use crate::document::shown::{Edit, Row, Shown};
-use pickle_doc::{EditFault, End, TailFault};
+use crate::document::shown::{Row, Shown, Spelled};
+use pickle_doc::{Edit, EditFault, End, TailFault};
 use pickle_ops::Opcode;
 
 /// Bytes, and what they read as.
@@ -157,7 +157,7 @@ pub const MANY_EDITS: [Row; 6] = [
             tail: b"",
             end: End::Stopped,
         },
-        edit: Edit::Insert(2, Opcode::BinInt1, b"\x07"),
+        edit: Edit::Insert(2, (Opcode::BinInt1, b"\x07")),
         after: Shown {
             bytes: b"N.K\x07N.",
             items: &[
@@ -210,7 +210,7 @@ pub const MANY_EDITS: [Row; 6] = [
             tail: b"",
             end: End::Fault(TailFault::Ended, 3),
         },
-        edit: Edit::Insert(3, Opcode::Pop, b""),
+        edit: Edit::Insert(3, (Opcode::Pop, b"")),
         after: Shown {
             bytes: b"N.N0",
             items: &[
@@ -226,26 +226,26 @@ pub const MANY_EDITS: [Row; 6] = [
 ];
 
 /// Edits that are refused: of each STOP, and after the last one.
-pub const MANY_REFUSED: [(&[u8], Edit, EditFault); 6] = [
+pub const MANY_REFUSED: [(&[u8], Spelled, EditFault); 6] = [
     (b"N.N.", Edit::Delete(1), EditFault::StopItem),
     (
         b"N.N.",
-        Edit::Replace(1, Opcode::None, b""),
+        Edit::Replace(1, (Opcode::None, b"")),
         EditFault::StopItem,
     ),
     (
         b"N.N.",
-        Edit::Insert(2, Opcode::Stop, b""),
+        Edit::Insert(2, (Opcode::Stop, b"")),
         EditFault::StopItem,
     ),
     (
         b"N.N.",
-        Edit::Insert(4, Opcode::None, b""),
+        Edit::Insert(4, (Opcode::None, b"")),
         EditFault::AfterStop,
     ),
     (
         b"N.\xff",
-        Edit::Insert(2, Opcode::None, b""),
+        Edit::Insert(2, (Opcode::None, b"")),
         EditFault::AfterStop,
     ),
     (b"N.\xff", Edit::Frame(2, 0), EditFault::AfterStop),

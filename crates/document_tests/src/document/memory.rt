@@ -1,7 +1,7 @@
 //! Edits where a request for memory may be refused once.
 
-use crate::document::shown::{Edit, Wrong, make, open};
-use pickle_doc::{DocFault, Document, EditFault};
+use crate::document::shown::{Spelled, Wrong, make, open};
+use pickle_doc::{DocFault, Document, Edit, EditFault};
 use pickle_ops::{Opcode, ToWrite};
 use std::alloc::Global;
 use std::io::Cursor;
@@ -16,7 +16,7 @@ fn held(document: &Document) -> Option<([u8; 1024], usize)> {
 }
 
 /// Makes an edit. Where memory runs out the document is as before, and asked again it succeeds.
-fn insist(alloc: Global, document: &mut Document, edit: &Edit) -> Result<(), Wrong> {
+fn insist(alloc: Global, document: &mut Document, edit: &Spelled) -> Result<(), Wrong> {
     let before = held(document);
     match make(alloc, document, edit) {
         Ok(_) => Ok(()),
@@ -41,7 +41,7 @@ fn insist_on_reading(alloc: Global, many: bool, bytes: &[u8]) -> Result<Document
 
 /// Puts an opcode in and takes it out again, so that there is room for one item.
 fn make_room(alloc: Global, document: &mut Document) -> Result<(), Wrong> {
-    let mut record = make(alloc, document, &Edit::Insert(0, Opcode::None, b""))?;
+    let mut record = make(alloc, document, &Edit::Insert(0, (Opcode::None, b"")))?;
     document.swap(&mut record);
     Ok(())
 }
@@ -49,7 +49,7 @@ fn make_room(alloc: Global, document: &mut Document) -> Result<(), Wrong> {
 /// Puts in an opcode before item k and an empty frame, of which the frame is taken off again. An edit that takes no memory
 /// never runs out.
 fn insert_and_frame(alloc: Global, document: &mut Document, k: usize) -> Result<(), Wrong> {
-    insist(alloc, document, &Edit::Insert(k, Opcode::None, b""))?;
+    insist(alloc, document, &Edit::Insert(k, (Opcode::None, b"")))?;
     insist(alloc, document, &Edit::Frame(0, 0))?;
     let _record = document.unframe(0)?;
     Ok(())
@@ -57,7 +57,7 @@ fn insert_and_frame(alloc: Global, document: &mut Document, k: usize) -> Result<
 
 /// Replaces item k by an opcode with a long argument, and takes it out.
 fn replace_and_delete(alloc: Global, document: &mut Document, k: usize) -> Result<(), Wrong> {
-    let long = Edit::Replace(k, Opcode::ShortBinBytes, b"\x14abcdefghijklmnopqrst");
+    let long: Spelled = Edit::Replace(k, (Opcode::ShortBinBytes, b"\x14abcdefghijklmnopqrst"));
     insist(alloc, document, &long)?;
     let _record = document.delete(k)?;
     Ok(())

@@ -1,8 +1,8 @@
 //! Edits and what they lead to. The expected values are worked out from units: a FRAME's number is the sum of its members'
 //! sizes and of the bytes of the tail that it counts.
 
-use crate::document::shown::{Edit, Row, Shown};
-use pickle_doc::{EditFault, End, TailFault};
+use crate::document::shown::{Row, Shown, Spelled};
+use pickle_doc::{Edit, EditFault, End, TailFault};
 use pickle_ops::Opcode;
 
 /// Opcodes in a frame are replaced, taken out and put in.
@@ -23,7 +23,7 @@ pub const IN_FRAMES: [Row; 5] = [
             tail: b"",
             end: End::Stopped,
         },
-        edit: Edit::Replace(4, Opcode::BinInt2, b"\x01\x00"),
+        edit: Edit::Replace(4, (Opcode::BinInt2, b"\x01\x00")),
         after: Shown {
             bytes: b"\x80\x04\x95\x07\x00\x00\x00\x00\x00\x00\x00]\x94M\x01\x00a.",
             items: &[
@@ -89,7 +89,7 @@ pub const IN_FRAMES: [Row; 5] = [
             tail: b"",
             end: End::Stopped,
         },
-        edit: Edit::Replace(5, Opcode::BinInt1, b"\x07"),
+        edit: Edit::Replace(5, (Opcode::BinInt1, b"\x07")),
         after: Shown {
             bytes: b"\x80\x04\x95\x05\x00\x00\x00\x00\x00\x00\x00N0NK\x07N.",
             items: &[
@@ -138,7 +138,7 @@ pub const IN_FRAMES: [Row; 5] = [
             tail: b"X",
             end: End::Stopped,
         },
-        edit: Edit::Insert(1, Opcode::BinInt1, b"\x05"),
+        edit: Edit::Insert(1, (Opcode::BinInt1, b"\x05")),
         after: Shown {
             bytes: b"\x95\x05\x00\x00\x00\x00\x00\x00\x00K\x05N.X",
             items: &[
@@ -169,7 +169,7 @@ pub const BESIDE_FRAMES: [Row; 4] = [
             tail: b"",
             end: End::Stopped,
         },
-        edit: Edit::Insert(2, Opcode::None, b""),
+        edit: Edit::Insert(2, (Opcode::None, b"")),
         after: Shown {
             bytes: b"\x95\x01\x00\x00\x00\x00\x00\x00\x00NN0N.",
             items: &[
@@ -198,7 +198,7 @@ pub const BESIDE_FRAMES: [Row; 4] = [
             tail: b"",
             end: End::Stopped,
         },
-        edit: Edit::Insert(1, Opcode::None, b""),
+        edit: Edit::Insert(1, (Opcode::None, b"")),
         after: Shown {
             bytes: b"\x95\x02\x00\x00\x00\x00\x00\x00\x00NN0N.",
             items: &[
@@ -227,7 +227,7 @@ pub const BESIDE_FRAMES: [Row; 4] = [
             tail: b"",
             end: End::Stopped,
         },
-        edit: Edit::Insert(0, Opcode::None, b""),
+        edit: Edit::Insert(0, (Opcode::None, b"")),
         after: Shown {
             bytes: b"N\x95\x01\x00\x00\x00\x00\x00\x00\x00N0N.",
             items: &[
@@ -274,7 +274,7 @@ pub const FRAMES_THAT_LIE: [Row; 4] = [
             tail: b"\x95\x09\x00\x00\x00\x00\x00\x00\x00N.",
             end: End::Fault(TailFault::FramePastEnd, 0),
         },
-        edit: Edit::Insert(0, Opcode::None, b""),
+        edit: Edit::Insert(0, (Opcode::None, b"")),
         after: Shown {
             bytes: b"N\x95\x09\x00\x00\x00\x00\x00\x00\x00N.",
             items: &[(0, "NONE", None, 0)],
@@ -306,7 +306,7 @@ pub const FRAMES_THAT_LIE: [Row; 4] = [
             tail: b"K\x01.",
             end: End::Fault(TailFault::FrameCrossed, 10),
         },
-        edit: Edit::Insert(2, Opcode::None, b""),
+        edit: Edit::Insert(2, (Opcode::None, b"")),
         after: Shown {
             bytes: b"\x95\x03\x00\x00\x00\x00\x00\x00\x00NNK\x01.",
             items: &[
@@ -326,7 +326,7 @@ pub const FRAMES_THAT_LIE: [Row; 4] = [
             tail: b"K\x01.",
             end: End::Fault(TailFault::FrameCrossed, 10),
         },
-        edit: Edit::Insert(1, Opcode::BinInt1, b"\x05"),
+        edit: Edit::Insert(1, (Opcode::BinInt1, b"\x05")),
         after: Shown {
             bytes: b"\x95\x04\x00\x00\x00\x00\x00\x00\x00K\x05NK\x01.",
             items: &[
@@ -547,7 +547,7 @@ pub const NO_FRAMES: [Row; 3] = [
             tail: b"",
             end: End::Fault(TailFault::Ended, 0),
         },
-        edit: Edit::Insert(0, Opcode::None, b""),
+        edit: Edit::Insert(0, (Opcode::None, b"")),
         after: Shown {
             bytes: b"N",
             items: &[(0, "NONE", None, 0)],
@@ -579,7 +579,7 @@ pub const NO_FRAMES: [Row; 3] = [
             tail: b"XY",
             end: End::Stopped,
         },
-        edit: Edit::Replace(0, Opcode::BinInt2, b"\x01\x02"),
+        edit: Edit::Replace(0, (Opcode::BinInt2, b"\x01\x02")),
         after: Shown {
             bytes: b"M\x01\x02.XY",
             items: &[(0, "BININT2", None, 0), (3, "STOP", None, 1)],
@@ -590,76 +590,76 @@ pub const NO_FRAMES: [Row; 3] = [
 ];
 
 /// Edits that are refused, and why.
-pub const REFUSED: [(&[u8], Edit, EditFault); 48] = [
+pub const REFUSED: [(&[u8], Spelled, EditFault); 48] = [
     (b"N.", Edit::Frame(2, 0), EditFault::AfterStop),
     (
         b"N.",
-        Edit::Insert(2, Opcode::None, b""),
+        Edit::Insert(2, (Opcode::None, b"")),
         EditFault::AfterStop,
     ),
     (
         b"N.",
-        Edit::Insert(3, Opcode::None, b""),
+        Edit::Insert(3, (Opcode::None, b"")),
         EditFault::NoSuchItem,
     ),
     (
         b"N.",
-        Edit::Insert(usize::MAX, Opcode::None, b""),
+        Edit::Insert(usize::MAX, (Opcode::None, b"")),
         EditFault::NoSuchItem,
     ),
     (
         b"N.",
-        Edit::Insert(0, Opcode::Stop, b""),
+        Edit::Insert(0, (Opcode::Stop, b"")),
         EditFault::StopItem,
     ),
     (
         b"N.",
-        Edit::Insert(0, Opcode::Frame, b"\x00\x00\x00\x00\x00\x00\x00\x00"),
+        Edit::Insert(0, (Opcode::Frame, b"\x00\x00\x00\x00\x00\x00\x00\x00")),
         EditFault::FrameItem,
     ),
     (
         b"N.",
-        Edit::Insert(3, Opcode::Stop, b""),
+        Edit::Insert(3, (Opcode::Stop, b"")),
         EditFault::NoSuchItem,
     ),
     (
         b"N.",
-        Edit::Insert(2, Opcode::Stop, b""),
+        Edit::Insert(2, (Opcode::Stop, b"")),
         EditFault::StopItem,
     ),
     (
         b"N.",
-        Edit::Insert(2, Opcode::Frame, b"\x00\x00\x00\x00\x00\x00\x00\x00"),
+        Edit::Insert(2, (Opcode::Frame, b"\x00\x00\x00\x00\x00\x00\x00\x00")),
         EditFault::FrameItem,
     ),
     (
         b"N.",
-        Edit::Replace(0, Opcode::Stop, b""),
+        Edit::Replace(0, (Opcode::Stop, b"")),
         EditFault::StopItem,
     ),
     (
         b"N.",
-        Edit::Replace(0, Opcode::Frame, b"\x00\x00\x00\x00\x00\x00\x00\x00"),
+        Edit::Replace(0, (Opcode::Frame, b"\x00\x00\x00\x00\x00\x00\x00\x00")),
         EditFault::FrameItem,
     ),
     (
         b"N.",
-        Edit::Replace(1, Opcode::None, b""),
+        Edit::Replace(1, (Opcode::None, b"")),
         EditFault::StopItem,
     ),
     (
         b"N.",
-        Edit::Replace(1, Opcode::Frame, b"\x00\x00\x00\x00\x00\x00\x00\x00"),
+        Edit::Replace(1, (Opcode::Frame, b"\x00\x00\x00\x00\x00\x00\x00\x00")),
         EditFault::StopItem,
     ),
     (
         b"N.",
-        Edit::Replace(2, Opcode::None, b""),
+        Edit::Replace(2, (Opcode::None, b"")),
         EditFault::NoSuchItem,
     ),
     (
         b"N.",
-        Edit::Replace(2, Opcode::Stop, b""),
+        Edit::Replace(2, (Opcode::Stop, b"")),
         EditFault::NoSuchItem,
     ),
     (b"N.", Edit::Delete(1), EditFault::StopItem),
@@ -709,12 +709,12 @@ pub const REFUSED: [(&[u8], Edit, EditFault); 48] = [
     ),
     (
         b"\x95\x04\x00\x00\x00\x00\x00\x00\x00N0N.",
-        Edit::Replace(0, Opcode::Stop, b""),
+        Edit::Replace(0, (Opcode::Stop, b"")),
         EditFault::StopItem,
     ),
     (
         b"\x95\x04\x00\x00\x00\x00\x00\x00\x00N0N.",
-        Edit::Replace(0, Opcode::None, b""),
+        Edit::Replace(0, (Opcode::None, b"")),
         EditFault::FrameItem,
     ),
     (
@@ -769,7 +769,7 @@ pub const REFUSED: [(&[u8], Edit, EditFault); 48] = [
     ),
     (
         b"\x95\x03\x00\x00\x00\x00\x00\x00\x00N.X",
-        Edit::Insert(3, Opcode::None, b""),
+        Edit::Insert(3, (Opcode::None, b"")),
         EditFault::AfterStop,
     ),
     (

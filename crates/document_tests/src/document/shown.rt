@@ -4,8 +4,8 @@ ghost use Rattle.std.specs.Prelude.{◌≡◌, ◌+◌, ◌≤◌, length, IfOk,
 ghost use Rattle.pickle_doc.specs.Document.{Contents, items_of};
 ghost use Rattle.pickle_doc.specs.Turn.{Leads};
 
-use pickle_doc::{DocFault, Document, EditFault, EditRecord, End};
-use pickle_ops::{Failed, Opcode, ToWrite, op_of};
+use pickle_doc::{DocFault, Document, Edit, EditFault, EditRecord, End};
+use pickle_ops::{Failed, Op, OpFault, Opcode, ToWrite, op_of};
 use std::alloc::Global;
 
 /// An item: where it begins, its name, the place of the FRAME whose member it is, and its identity.
@@ -19,20 +19,13 @@ pub struct Shown {
     pub end: End,
 }
 
-/// An edit.
-#[derive(Clone, Copy)]
-pub enum Edit {
-    Replace(usize, Opcode, &'static [u8]),
-    Insert(usize, Opcode, &'static [u8]),
-    Delete(usize),
-    Frame(usize, usize),
-    Unframe(usize),
-}
+/// An edit as a table has it: its opcode, and the bytes of the argument.
+pub type Spelled = Edit<(Opcode, &'static [u8])>;
 
 /// A document, an edit that is accepted, and the document after it.
 pub struct Row {
     pub before: Shown,
-    pub edit: Edit,
+    pub edit: Spelled,
     pub after: Shown,
 }
 
@@ -205,38 +198,25 @@ pub fn turn(
     shows(alloc, document, want)
 }
 
+/// The edit that a table has, with an opcode of its own.
+fn edit_of(alloc: Global, edit: &Spelled) -> Result<Edit<Op>, OpFault> {
+    Ok(match edit {
+        Edit::Replace(k, (opcode, arg)) => Edit::Replace(*k, op_of(alloc, *opcode, arg)?),
+        Edit::Insert(k, (opcode, arg)) => Edit::Insert(*k, op_of(alloc, *opcode, arg)?),
+        Edit::Delete(k) => Edit::Delete(*k),
+        Edit::Frame(k, count) => Edit::Frame(*k, *count),
+        Edit::Unframe(k) => Edit::Unframe(*k),
+    })
+}
+
 /// Makes an edit. The record leads back, and there is room for that.
-pub fn make(alloc: Global, document: &mut Document, edit: &Edit) -> Result<EditRecord, EditFault>
+pub fn make(alloc: Global, document: &mut Document, edit: &Spelled) -> Result<EditRecord, EditFault>
     ensures back { IfOk result (λ r. (e : Contents) × Leads r document.new.contents e × (length (items_of e) ≤ length (items_of document.new.contents) + document.new.room)) }
     ensures err { OnErr result (document.new ≡ document.old) }
 {
-    let record = match edit {
-        Edit::Replace(k, opcode, arg) => {
-            let Ok(op) = op_of(alloc, *opcode, arg) else {
-                return Err(EditFault::Memory);
-            };
-            document.replace(*k, op)?
-        }
-        Edit::Insert(k, opcode, arg) => {
-            let Ok(op) = op_of(alloc, *opcode, arg) else {
-                return Err(EditFault::Memory);
-            };
-            document.insert(*k, op)?
-        }
-        Edit::Delete(k) => document.delete(*k)?,
-        Edit::Frame(k, count) => document.frame(*k, *count)?,
-        Edit::Unframe(k) => document.unframe(*k)?,
+    let Ok(edit) = edit_of(alloc, edit) else {
+        return Err(EditFault::Memory);
     };
+    let record = document.edit(edit)?;
     Ok(record)
-}
-
-/// The place of an edit.
-pub fn place_of(edit: &Edit) -> usize {
-    match edit {
-        Edit::Replace(k, _, _) => *k,
-        Edit::Insert(k, _, _) => *k,
-        Edit::Delete(k) => *k,
-        Edit::Frame(k, _) => *k,
-        Edit::Unframe(k) => *k,
-    }
 }
