@@ -5,7 +5,7 @@ use pickle_ops::Page;
 use pickle_script::{Stop, calls, calls_many};
 use std::alloc::Global;
 use std::test::Fail;
-use test_equipment::{insist_on_paper, paper, taken, written_out};
+use test_equipment::{insist_on_paper, page_over, paper, taken, written_out};
 
 /// Bytes that are read as several pickles or as one, what they would import and call, and the status.
 type Row = (bool, &'static [u8], &'static str, u8);
@@ -99,15 +99,17 @@ fn refused_memory(rt: HostRuntime) -> Result<(), Fail> {
 
 /// A sink is not called again after it has failed.
 #[test]
-fn failing_sink(rt: HostRuntime) {
+fn failing_sink(rt: HostRuntime) -> Result<(), Fail> {
     for (many, bytes, text, status) in [SHELL, FILLED, TWO] {
         for fails_at in 0..text.len() as u64 + 1 {
-            let mut sink = Failing::new(fails_at);
+            let mut sink = page_over(rt.alloc(), Failing::new(fails_at))?;
             let answer = write(rt.alloc(), many, bytes, &mut sink);
+            let answer = written_out(&mut sink, answer);
             let whole = fails_at == text.len() as u64;
             assert_eq!(rt; answer, if whole { Ok(status) } else { Err(Stop::Write) });
-            assert_eq!(rt; sink.calls, fails_at);
-            assert_eq!(rt; sink.later_calls, 0);
+            assert_eq!(rt; sink.get_ref().calls, fails_at);
+            assert_eq!(rt; sink.get_ref().later_calls, 0);
         }
     }
+    Ok(())
 }

@@ -2,9 +2,9 @@
 
 use crate::listings::Failing;
 use pickle_script::{Stop, list, list_many, objects, objects_many};
-use std::alloc::Global;
+use std::alloc::{AllocError, Global};
 use std::test::Fail;
-use test_equipment::{insist_on_paper, paper, taken, written_out};
+use test_equipment::{insist_on_paper, page_over, paper, taken, written_out};
 
 /// Bytes, what is listed of them, what their objects are, and the status of both.
 struct Row {
@@ -180,8 +180,8 @@ fn refused_memory(rt: HostRuntime) -> Result<(), Fail> {
 }
 
 /// Whether a sink that fails at this call took all before it, and is not called again.
-fn breaks_right(alloc: Global, task: Task, row: &Row, fails_at: u64) -> bool {
-    let mut sink = Failing::new(fails_at);
+fn breaks_right(alloc: Global, task: Task, row: &Row, fails_at: u64) -> Result<bool, AllocError> {
+    let mut sink = page_over(alloc, Failing::new(fails_at))?;
     let answer = match task {
         Task::List => list_many(alloc, row.bytes, &mut sink),
         Task::Objects => objects_many(alloc, row.bytes, &mut sink),
@@ -191,17 +191,20 @@ fn breaks_right(alloc: Global, task: Task, row: &Row, fails_at: u64) -> bool {
     } else {
         Err(Stop::Write)
     };
-    answer == wanted && sink.calls == fails_at && sink.later_calls == 0
+    let answer = written_out(&mut sink, answer);
+    let failing = sink.get_ref();
+    Ok(answer == wanted && failing.calls == fails_at && failing.later_calls == 0)
 }
 
 #[test]
-fn failing_sink(rt: HostRuntime) {
+fn failing_sink(rt: HostRuntime) -> Result<(), Fail> {
     for (k, row) in ROWS.iter().enumerate() {
         for task in [Task::List, Task::Objects] {
             for fails_at in 0..=text_of(row, task).len() as u64 {
-                let is_right = breaks_right(rt.alloc(), task, row, fails_at);
+                let is_right = breaks_right(rt.alloc(), task, row, fails_at)?;
                 assert!(rt; is_right, "row {k}, call {fails_at}");
             }
         }
     }
+    Ok(())
 }
