@@ -36,7 +36,7 @@ loop-byte-preserved g c =
     let at = c.loop-byte-test.true in
     record {
       fed = λ s old given w.
-          let f = c.feed_byte.ensures.feeds s old (given ++ take c.loop-byte.byte-index c.args.bytes.now) (c.loop-byte.invariant.fed s old given w) in
+          let f = c.in_ok-feed_byte.ensures.feeds s old (given ++ take c.loop-byte.byte-index c.args.bytes.now) (c.loop-byte.invariant.fed s old given w) in
           fed_on _ _ _ _ _ _ _ _ f (ap Ok c.in-GoesOn.is) (one_byte given c.args.bytes.now c.loop-byte.byte-index _ at refl);
       calm = λ none.
           let before = no_newline_before c.args.bytes.now c.loop-byte.byte-index _ at refl none in
