@@ -56,7 +56,11 @@ impl Operands for Lean {
     }
 
     fn under(&self) -> &[ObjId] {
-        self.stack.under()
+        if self.stack.depth() == 0 {
+            &[]
+        } else {
+            self.stack.under()
+        }
     }
 
     fn has_entry(&self, key: u64) -> bool {
