@@ -13,7 +13,7 @@ import sys
 import tempfile
 
 # the bars: instructions for each opcode, and how many times as many for twice the file
-INSTRUCTIONS = {'a': 450, 'b': 450, 'c': 280, 'e': 350}
+INSTRUCTIONS = {'a': 270, 'b': 290, 'c': 180, 'e': 230}
 TWICE = 2.05
 # how many times as long as the bare loop at most, how many times faster than pickletools at least, bytes of memory for each
 # opcode besides the file, how many times as long as a copy of the text for one long string

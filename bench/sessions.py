@@ -7,7 +7,7 @@ import tempfile
 
 # commands a second, how many times as long for twice the way, how many times as long for places by offset, seconds for 10,000 edits at
 # one place and 1,000 at random ones, bytes of memory for each opcode besides the file
-A_SECOND, TWICE, BY_OFFSET, ONE_PLACE, RANDOM_PLACES, BYTES_AN_OPCODE = 500_000, 2.3, 2, 0.1, 5, 160
+A_SECOND, TWICE, BY_OFFSET, ONE_PLACE, RANDOM_PLACES, BYTES_AN_OPCODE = 2_000_000, 2.3, 2, 0.1, 5, 90
 
 
 def verdict(holds):
