@@ -4,10 +4,13 @@ import os
 import subprocess
 import sys
 import tempfile
+import time
 
 # commands a second, how many times as long for twice the way, how many times as long for places by offset, seconds for 10,000 edits at
 # one place and 1,000 at random ones, bytes of memory for each opcode besides the file
 A_SECOND, TWICE, BY_OFFSET, ONE_PLACE, RANDOM_PLACES, BYTES_AN_OPCODE = 2_000_000, 2.3, 2, 0.1, 5, 90
+# microseconds for a line over a pipe and its answer
+A_LINE = 20
 
 
 def verdict(holds):
@@ -52,6 +55,22 @@ def near_places(program, path, middle):
         number, offset, times, BY_OFFSET, verdict(times <= BY_OFFSET))
 
 
+def seconds_over_a_pipe(program, path, count):
+    """The seconds from the first of some `step` lines to the last answer, where each line waits for the answer before it."""
+    with subprocess.Popen([program, 'debug', path], stdin=subprocess.PIPE, stdout=subprocess.PIPE, bufsize=0) as process:
+        start = time.perf_counter()
+        for _ in range(count):
+            process.stdin.write(b'step\n')
+            process.stdout.read(100)
+        return time.perf_counter() - start
+
+
+def over_a_pipe(program, path, count):
+    """What is said of a `step` line from another program."""
+    line = min(seconds_over_a_pipe(program, path, count) for _ in range(3)) / count * 1e6
+    return 'A `step` line over a pipe and its answer: %.1f microseconds, bar %s: %s.' % (line, A_LINE, verdict(line <= A_LINE))
+
+
 def edits_row(tests, what, name, bar, base):
     """A line of the table of edits; the tests also open and write the document, which takes as long as the base."""
     seconds = min(measure([tests, 'document::' + name])[0] for _ in range(3)) - base
@@ -75,6 +94,7 @@ def main():
         print(conversation_row(program, 'to the end and to the start by goto, ten times', (one, ways.replace(b'%d', b'%d' % million)),
                                (two, ways.replace(b'%d', b'%d' % (2 * million))), 0), flush=True)
         print('\n' + near_places(program, one, half), flush=True)
+        print('\n' + over_a_pipe(program, one, half // 10), flush=True)
         _, memory = measure([program, 'debug', one], b'run\n')
         each = (memory - os.path.getsize(one)) / million
         print('\nMemory of `run` to the end: %.0f bytes for each opcode besides the file, bar %d: %s.' % (

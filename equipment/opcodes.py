@@ -43,11 +43,12 @@ NAMED = {
     "equipment/fuzz.py": {"STEP", "F1", "F3", "F7"},
     "equipment/count_calls.py": set(),
     "equipment/real_pickles/answers.py": {"F2", "S3"},
-    "python/picklestep/scan/begins.py": {"HEAD"},
+    "python/picklestep/scan/begins.py": {"HEAD", "ZF"},
+    "python/tests/test_answers.py": {"F1", "F2", "S2", "S3"},
 }
 
-# Kinds of objects that come from elsewhere or from a call.
-OPAQUE = {"Global", "StackGlobal", "Call", "New", "NewEx", "Inst", "Obj", "PersistentLine", "Persistent", "Ext"}
+# The rows of opcodes that make an object of their own, whatever their kind.
+MAKERS = {"Buffer", "ReadOnly"}
 
 
 @dataclass(frozen=True)
@@ -127,8 +128,8 @@ def fault_of_bench(root: Path) -> str:
 def texts(file: Path) -> Iterator[str]:
     """The literal texts of a Python file."""
     for node in ast.walk(ast.parse(file.read_text(encoding="utf-8"))):
-        if isinstance(node, ast.Constant) and isinstance(node.value, str):
-            yield node.value
+        if isinstance(node, ast.Constant) and isinstance(node.value, (str, bytes)):
+            yield node.value if isinstance(node.value, str) else node.value.decode("ascii", "replace")
 
 
 def fault_of_names(root: Path, file: str, others: set[str]) -> str:
@@ -138,12 +139,29 @@ def fault_of_names(root: Path, file: str, others: set[str]) -> str:
     return difference(sorted(words - names), [])
 
 
+def fault_of_rows(root: Path) -> str:
+    """The unit tests have a row for each opcode, which a comment names."""
+    text = (root / "crates/unit_tests/src/machine/rows.rt").read_text(encoding="utf-8")
+    found = re.findall(r"^    // ([A-Z][A-Z0-9_]+)$", text, re.MULTILINE)
+    return difference(found, [record.name for record in records(root)])
+
+
 def fault_of_sets(root: Path) -> str:
     """What count_calls.py says of opcodes is what the rows and kinds of the table say."""
     table = records(root)
-    opaque = {record.name for record in table if first_word(record.kind) in OPAQUE or record.row == "Buffer"}
+    # The kinds that come from elsewhere or from a call have lines as 'Kind::StackGlobal => Class::Opaque'.
+    kinds = set(re.findall(r"Kind::(\w+)(?:\(_\))? => Class::Opaque", (root / "crates/pickle_ops/src/kind.rt").read_text(encoding="utf-8")))
+    opaque = {record.name for record in table if first_word(record.kind) in kinds or record.row == "Buffer"}
     fills = {record.name for record in table if first_word(record.row) in ("Change", "CutChange")}
     return difference(count_calls.OPAQUE, opaque) or difference(count_calls.FILLS | {"BUILD"}, fills)
+
+
+def fault_of_page(root: Path) -> str:
+    """The page in a browser knows which opcodes make no object."""
+    file = "python/picklestep/view/lines.py"
+    found = next(text for text in texts(root / file) if text.startswith("PROTO "))
+    wanted = {record.name for record in records(root) if record.kind == "_" and record.row not in MAKERS}
+    return difference(set(found.split()), wanted)
 
 
 def fault_of_fuzzer(root: Path) -> str:
@@ -157,8 +175,10 @@ def trials(root: Path) -> list[Trial]:
     return [
         Trial("the table of opcodes, against pickletools", functools.partial(fault_of_table, root)),
         Trial("the table of the unit tests, against pickletools", functools.partial(fault_of_test, root)),
+        Trial("the rows of the unit tests, one for each opcode", functools.partial(fault_of_rows, root)),
         Trial("the opcodes of bench/plain.c", functools.partial(fault_of_bench, root)),
         Trial("the opcodes that count_calls.py knows of", functools.partial(fault_of_sets, root)),
+        Trial("the opcodes that make no object, on the page", functools.partial(fault_of_page, root)),
         Trial("the arguments that the fuzzer makes", functools.partial(fault_of_fuzzer, root)),
         *(Trial(f"the names of opcodes in {file}", functools.partial(fault_of_names, root, file, others)) for file, others in NAMED.items()),
     ]

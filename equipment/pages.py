@@ -22,7 +22,7 @@ CHECKLISTS = [
     (
         "To add an opcode",
         r"\b(STACK_GLOBAL|StackGlobal)\b",
-        ["crates/*/src/**/*.rt", "crates/*/specs/**/*.antt", "bench/*", "equipment/**/*.py", "python/picklestep/**/*.py"],
+        ["crates/*/src/**/*.rt", "crates/*/specs/**/*.antt", "bench/*", "equipment/**/*.py", "python/picklestep/**/*.py", "python/tests/*.py"],
     ),
     (
         "To add a word of the debugger",

@@ -79,6 +79,13 @@ class Documents(unittest.TestCase):
             self.assertEqual(sum(name not in lines.MAKE_NONE for name in names), len(picklestep.objects(data)), name)
         self.assertEqual(seen, {*map(str.encode, lines.opcode_names())})
 
+    def test_views_of_what_is_only_read(self) -> None:
+        """READONLY_BUFFER makes no object where its own can only be read already."""
+        with opened(b'C\x01a\x98\x97\x98\x98N\x87.') as document:
+            document.move('run', 0)
+            self.assertEqual(document.state()['made'], 5)
+            self.assertEqual([document.about(number)['maker'] for number in range(5)], [0, 2, 3, 5, 6])
+
     def test_moves(self) -> None:
         with opened(SYSTEM) as document:
             self.assertEqual(document.move('step', 0), 'at 1')

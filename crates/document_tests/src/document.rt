@@ -18,7 +18,8 @@ use crate::document::rows::{
     BESIDE_FRAMES, EMPTY_FRAMES, FRAMES, FRAMES_THAT_LIE, IN_FRAMES, NO_FRAMES, REFUSED,
 };
 use crate::document::shown::{
-    Row, Spelled, Wrong, are_alike, have_same_ids, make, open, shows, turn, written,
+    Row, Spelled, Wrong, are_alike, have_same_ids, make, make_by_name, open, shows, swap_to,
+    written,
 };
 use pickle_doc::{Document, Edit, EditFault, End, there_and_back};
 use pickle_ops::Opcode;
@@ -34,9 +35,9 @@ fn try_row(alloc: Global, many: bool, row: &Row) -> Result<(), Wrong> {
         return Err(Wrong::Place);
     }
     shows(alloc, &document, &row.after)?;
-    turn(alloc, &mut document, &mut record, &row.before)?;
-    turn(alloc, &mut document, &mut record, &row.after)?;
-    turn(alloc, &mut document, &mut record, &row.before)
+    swap_to(alloc, &mut document, &mut record, &row.before)?;
+    swap_to(alloc, &mut document, &mut record, &row.after)?;
+    swap_to(alloc, &mut document, &mut record, &row.before)
 }
 
 /// Tries a row of one pickle, and of many where that is the same: where no byte follows STOP.
@@ -96,6 +97,26 @@ fn empty_frames(rt: HostRuntime) {
 #[test]
 fn edits_without_frames(rt: HostRuntime) {
     assert_eq!(rt; first_wrong(rt.alloc(), &NO_FRAMES), None);
+}
+
+/// Makes the edit of a row by the call that has its name.
+fn try_by_name(alloc: Global, row: &Row) -> Result<(), Wrong> {
+    let mut document = open(alloc, false, row.before.bytes)?;
+    let record = make_by_name(alloc, &mut document, &row.edit)?;
+    if record.place() != row.edit.place() {
+        return Err(Wrong::Place);
+    }
+    shows(alloc, &document, &row.after)
+}
+
+#[test]
+fn edits_by_their_names(rt: HostRuntime) {
+    let tables: [&[Row]; 3] = [&IN_FRAMES, &BESIDE_FRAMES, &FRAMES];
+    for rows in &tables {
+        for row in *rows {
+            assert_eq!(rt; try_by_name(rt.alloc(), row), Ok(()));
+        }
+    }
 }
 
 #[test]

@@ -43,8 +43,8 @@ module _ (E : El) {M : Type 1} {𝓤 : Ura M} (𝓛 : Logic 𝓤) (b : ℕ) wher
   abbrev s : ℕ
   s = sz E
 
-  abbrev Row : ℕ → List (Place E) → Fml
-  Row = places (R E) b
+  abbrev GapBuffer : ℕ → List (Place E) → Fml
+  GapBuffer = places (R E) b
 
   abbrev One : ℕ → Place E → Fml
   One = place (R E) b
@@ -61,34 +61,34 @@ module _ (E : El) {M : Type 1} {𝓤 : Ura M} (𝓛 : Logic 𝓤) (b : ℕ) wher
   -- the row without its place i
   abbrev pub Besides : ℕ → List (Place E) → ℕ → Fml
   Besides o [] i = ftrue
-  Besides o (c ∷ cs) zero = Row (o + s) cs
+  Besides o (c ∷ cs) zero = GapBuffer (o + s) cs
   Besides o (c ∷ cs) (suc i) = fsep (One o c) (Besides (o + s) cs i)
 
-  pub place_out : (cs : List (Place E)) (i o at : ℕ) → at ≡ i * s + o → i < length cs → ent 𝓤 (sem 𝓛 (Row o cs)) (sep 𝓤 (sem 𝓛 (One at (get_or cs i None))) (sem 𝓛 (Besides o cs i)))
+  pub place_out : (cs : List (Place E)) (i o at : ℕ) → at ≡ i * s + o → i < length cs → ent 𝓤 (sem 𝓛 (GapBuffer o cs)) (sep 𝓤 (sem 𝓛 (One at (get_or cs i None))) (sem 𝓛 (Besides o cs i)))
   place_out [] i o at e lt = absurd (omega arith)
-  place_out (c ∷ cs) zero o at e lt = qed 𝓛 (‵ (Row o (c ∷ cs)) ∷ []) ∵ fsplit ! $ rewrite ! 0 (λ (k : ℕ). ‵ (One k c)) {x = at} (omega (arith, zero-mul s)) refl $ done !
-  place_out (c ∷ cs) (suc i) o at e lt = qed 𝓛 (‵ (Row o (c ∷ cs)) ∷ []) ∵ fsplit ! $ move ! (1 ∷ []) $
+  place_out (c ∷ cs) zero o at e lt = qed 𝓛 (‵ (GapBuffer o (c ∷ cs)) ∷ []) ∵ fsplit ! $ rewrite ! 0 (λ (k : ℕ). ‵ (One k c)) {x = at} (omega (arith, zero-mul s)) refl $ done !
+  place_out (c ∷ cs) (suc i) o at e lt = qed 𝓛 (‵ (GapBuffer o (c ∷ cs)) ∷ []) ∵ fsplit ! $ move ! (1 ∷ []) $
       use1 𝓛 (‵ (One at (get_or cs i None)) ⊛ ‵ (Besides (o + s) cs i)) (place_out cs i (o + s) at (omega (arith, suc-mul i s)) (omega arith)) $ split ! $ move ! (2 ∷ 1 ∷ []) $ fjoin ! $ move ! (1 ∷ 0 ∷ []) $ done !
 
-  pub place_in : (cs : List (Place E)) (i o at : ℕ) (n : Place E) → at ≡ i * s + o → i < length cs → ent 𝓤 (sep 𝓤 (sem 𝓛 (One at n)) (sem 𝓛 (Besides o cs i))) (sem 𝓛 (Row o (set cs i n)))
+  pub place_in : (cs : List (Place E)) (i o at : ℕ) (n : Place E) → at ≡ i * s + o → i < length cs → ent 𝓤 (sep 𝓤 (sem 𝓛 (One at n)) (sem 𝓛 (Besides o cs i))) (sem 𝓛 (GapBuffer o (set cs i n)))
   place_in [] i o at n e lt = absurd (omega arith)
-  place_in (c ∷ cs) zero o at n e lt = qed 𝓛 (‵ (One at n) ∷ ‵ (Row (o + s) cs) ∷ []) ∵ rewrite ! 0 (λ (k : ℕ). ‵ (One k n)) {x = o} (omega (arith, zero-mul s)) refl $ fjoin ! $ done !
+  place_in (c ∷ cs) zero o at n e lt = qed 𝓛 (‵ (One at n) ∷ ‵ (GapBuffer (o + s) cs) ∷ []) ∵ rewrite ! 0 (λ (k : ℕ). ‵ (One k n)) {x = o} (omega (arith, zero-mul s)) refl $ fjoin ! $ done !
   place_in (c ∷ cs) (suc i) o at n e lt = qed 𝓛 (‵ (One at n) ∷ ‵ (Besides o (c ∷ cs) (suc i)) ∷ []) ∵ move ! (1 ∷ []) $ fsplit ! $ move ! (2 ∷ 1 ∷ []) $
-      use2 𝓛 (‵ (Row (o + s) (set cs i n))) (place_in cs i (o + s) at n (omega (arith, suc-mul i s)) (omega arith)) $ move ! (1 ∷ 0 ∷ []) $ fjoin ! $ done !
+      use2 𝓛 (‵ (GapBuffer (o + s) (set cs i n))) (place_in cs i (o + s) at n (omega (arith, suc-mul i s)) (omega arith)) $ move ! (1 ∷ 0 ∷ []) $ fjoin ! $ done !
 
   pub place_shown : (κ : Lft) (cs : List (Place E)) (i o at : ℕ) → at ≡ i * s + o → i < length cs → ent 𝓤 (sem 𝓛 (places_seen (R E) b o cs κ)) (sem 𝓛 (place_seen (R E) b at (get_or cs i None) κ))
   place_shown κ [] i o at e lt = absurd (omega arith)
   place_shown κ (c ∷ cs) zero o at e lt = qed 𝓛 (‵ (places_seen (R E) b o (c ∷ cs) κ) ∷ []) ∵ fsplit ! $ keep ! (0 ∷ []) $ rewrite ! 0 (λ (k : ℕ). ‵ (place_seen (R E) b k c κ)) {x = at} (omega (arith, zero-mul s)) refl $ done !
   place_shown κ (c ∷ cs) (suc i) o at e lt = qed 𝓛 (‵ (places_seen (R E) b o (c ∷ cs) κ) ∷ []) ∵ fsplit ! $ drop ! $ by ! (place_shown κ cs i (o + s) at (omega (arith, suc-mul i s)) (omega arith))
 
-  pub of_room : (n o : ℕ) → ent 𝓤 (H.room (ty_array (elτ E) n) b o) (sem 𝓛 (Row o (replicate n None)))
+  pub of_room : (n o : ℕ) → ent 𝓤 (H.room (ty_array (elτ E) n) b o) (sem 𝓛 (GapBuffer o (replicate n None)))
   of_room zero o = qed 𝓛 (‵ (froom (ty_array (elτ E) 0) b o) ∷ []) ∵ keep ! [] $ done !
   of_room (suc n) o = qed 𝓛 (‵ (froom (ty_array (elτ E) (suc n)) b o) ∷ []) ∵
       use1 𝓛 (‵ (froom (elτ E) b o) ⊛ ‵ (froom (ty_array (elτ E) n) b (o + s))) (𝓛.laws.room_uncons (elτ E) n b o) $ split ! $
       use1 𝓛 (‵ (One o None)) (𝓛.laws.room-raw (elτ E) b o) $ frame ! $ by ! (of_room n (o + s))
 
-  pub to_room : (n o : ℕ) → ent 𝓤 (sem 𝓛 (Row o (replicate n None))) (H.room (ty_array (elτ E) n) b o)
+  pub to_room : (n o : ℕ) → ent 𝓤 (sem 𝓛 (GapBuffer o (replicate n None))) (H.room (ty_array (elτ E) n) b o)
   to_room zero o = 𝓛.laws.room_nil (elτ E) b o
-  to_room (suc n) o = qed 𝓛 (‵ (One o None) ∷ ‵ (Row (o + s) (replicate n None)) ∷ []) ∵
+  to_room (suc n) o = qed 𝓛 (‵ (One o None) ∷ ‵ (GapBuffer (o + s) (replicate n None)) ∷ []) ∵
       use1 𝓛 (‵ (froom (elτ E) b o)) (𝓛.laws.raw-room (elτ E) b o) $ move ! (1 ∷ []) $
       use1 𝓛 (‵ (froom (ty_array (elτ E) n) b (o + s))) (to_room n (o + s)) $ move ! (1 ∷ []) $ by ! (𝓛.laws.room_cons (elτ E) n b o)

@@ -2,4 +2,4 @@
 pub mod List
 pub mod Ownership
 pub mod Places
-pub mod Row
+pub mod GapBuffer

@@ -5,7 +5,7 @@ use Rattle.pickle_doc.specs.declared.item.Item.{Item}
 use Rattle.pickle_doc.specs.DocUnit.{sizes}
 use Rattle.pickle_doc.specs.Document.{Contents, items_of}
 use Rattle.pickle_doc.specs.Place.{offset_at, IsPlaceAt}
-use Rattle.pickle_doc.specs.Inside.ByOffset.{Stands}
+use Rattle.pickle_doc.specs.Inside.ByOffset.{IsAtOffset}
 use Rattle.pickle_doc.proofs.Readers.{sizes-less}
 
 pub sizes-rise : (items : List Item) (j k : ℕ) → j < k → k ≤ length items → sizes (take j items) < sizes (take k items)
@@ -14,7 +14,7 @@ sizes-rise [] j (suc k) h l = absurd (omega arith)
 sizes-rise (i ∷ items) zero (suc k) h l = omega arith
 sizes-rise (i ∷ items) (suc j) (suc k) h l = omega (arith, sizes-rise items j k (omega arith) (omega arith))
 
--- ---- forth
+-- ---- forward
 
 -- the places before this one have lower offsets
 abbrev pub AreLower : ℕ → ℕ → List Item → Type 0
@@ -29,13 +29,13 @@ lower-more items place offset a o = λ j h. elim (cases_lt j place) [
   | inr here ↦ let e : j ≡ place = omega (arith, h, here) in omega (arith, ap (λ (m : ℕ). sizes (take m items)) e, o)
 ]
 
-pub none-forth : (items : List Item) (place offset : ℕ) → AreLower place offset items → offset < sizes (take place items) → Stands None offset items
-none-forth items place offset a o = λ k l e. elim (cases_lt k place) [
+pub none-forward : (items : List Item) (place offset : ℕ) → AreLower place offset items → offset < sizes (take place items) → IsAtOffset None offset items
+none-forward items place offset a o = λ k l e. elim (cases_lt k place) [
   | inl less ↦ let low = a k less in absurd (omega (arith, low, e))
   | inr here ↦ let high = sizes-less items place k here in absurd (omega (arith, high, e, o))
 ]
 
-pub none-left : (items : List Item) (offset : ℕ) → AreLower (length items) offset items → (sizes (take (length items) items) ≡ offset → ⊥) → Stands None offset items
+pub none-left : (items : List Item) (offset : ℕ) → AreLower (length items) offset items → (sizes (take (length items) items) ≡ offset → ⊥) → IsAtOffset None offset items
 none-left items offset a o = λ k l e. elim (cases_lt k (length items)) [
   | inl less ↦ let low = a k less in absurd (omega (arith, low, e))
   | inr here ↦ let last : length items ≡ k = omega (arith, l, here) in o (ap (λ (m : ℕ). sizes (take m items)) last ∙ e)
@@ -56,7 +56,7 @@ higher-more items place next offset n a o = λ j h l. elim (cases_lt place j) [
   | inr here ↦ let e : j ≡ place = omega (arith, h, here, n) in omega (arith, ap (λ (m : ℕ). sizes (take m items)) e, o)
 ]
 
-pub none-back : (items : List Item) (place offset : ℕ) → AreHigher place offset items → sizes (take place items) < offset → Stands None offset items
+pub none-back : (items : List Item) (place offset : ℕ) → AreHigher place offset items → sizes (take place items) < offset → IsAtOffset None offset items
 none-back items place offset a o = λ k l e. elim (cases_lt place k) [
   | inl more ↦ let high = a k more l in absurd (omega (arith, high, e))
   | inr here ↦ let low = sizes-less items k place here in absurd (omega (arith, low, e, o))
@@ -68,7 +68,7 @@ some-before items (suc place) offset h = omega arith
 
 -- ---- places of a document
 
-pub place_is : (d : Contents) (items : List Item) (offset : ℕ) (r : Option ℕ) → items_of d ≡ items → Stands r offset items → IsPlaceAt d offset r
+pub place_is : (d : Contents) (items : List Item) (offset : ℕ) (r : Option ℕ) → items_of d ≡ items → IsAtOffset r offset items → IsPlaceAt d offset r
 place_is d items offset (Some k) own (l, e) = rw (own, le-leb k (length items) l) (ap Some e)
 place_is d items offset None own h = λ k e. elim (cases_lt (length items) k) [
   | inl past ↦ let none : None ≡ Some offset = rw (own, lt-leb k (length items) past) at e in cc
@@ -77,7 +77,7 @@ place_is d items offset None own h = λ k e. elim (cases_lt (length items) k) [
       let same : sizes (take k items) ≡ offset = cc in h k within same
 ]
 
-pub only_place : (d : Contents) (items : List Item) (offset : ℕ) (r : Option ℕ) → items_of d ≡ items → Stands r offset items → (k : ℕ) → offset_at d k ≡ Some offset → r ≡ Some k
+pub only_place : (d : Contents) (items : List Item) (offset : ℕ) (r : Option ℕ) → items_of d ≡ items → IsAtOffset r offset items → (k : ℕ) → offset_at d k ≡ Some offset → r ≡ Some k
 only_place d items offset None own h k e = absurd (place_is d items offset None own h k e)
 only_place d items offset (Some j) own (l, is) k e = elim (cases_lt (length items) k) [
   | inl past ↦ let none : None ≡ Some offset = rw (own, lt-leb k (length items) past) at e in cc

@@ -9,7 +9,7 @@ use Rattle.pickle_doc.specs.declared.stream.NextRef.TheVariants as next
 use Rattle.pickle_doc.specs.DocUnit.{is_frame, ends_reading, bytes_of, frame_number}
 use Rattle.pickle_doc.specs.Document.{Contents, document_bytes, IsDocument, size_limit, ended_by}
 use Rattle.pickle_doc.specs.Place.{ops_of}
-use Rattle.pickle_doc.specs.Fitting.{Fits, IsLast, left_behind}
+use Rattle.pickle_doc.specs.Fitting.{FitsFrom, IsLast, left_behind}
 use Rattle.pickle_doc.specs.Unread.{IsNextItem, Unread, Follows, unread_at, IsPlaced}
 use Rattle.pickle_doc.proofs.Opcodes.{frame_goes}
 use Rattle.pickle_doc.proofs.Fits.{reaches}
@@ -44,7 +44,7 @@ with_rest left rest = record { rest = rest; left = left }
 record Next (d : Contents) (k : ℕ) (behind : Unread) (o : Operation) : Type 0 where
   pub ops : drop k (ops_of d) ≡ o ∷ drop (k + 1) (ops_of d)
   pub tail : behind.rest ≡ d.tail
-  pub fit : Fits d.many behind.left (o ∷ drop (k + 1) (ops_of d)) d.tail (ended_by d)
+  pub fit : FitsFrom d.many behind.left (o ∷ drop (k + 1) (ops_of d)) d.tail (ended_by d)
   pub within : k < length (ops_of d)
 
 next_of : (d : Contents) (k ahead : ℕ) (behind : Unread) (o : Operation) → IsPlaced d k ahead behind → slice_get (ops_of d) k ≡ Some o → Next d k behind o
@@ -52,16 +52,16 @@ next_of d k ahead behind o p e =
     let ops = drop_next (ops_of d) k o e in
     let here = slice_get_within (ops_of d) k o e in
     let there = p.stands here in
-    record { ops = ops; tail = there.0; fit = subst (λ (xs : List Operation). Fits d.many behind.left xs d.tail (ended_by d)) ops there.1; within = here }
+    record { ops = ops; tail = there.0; fit = subst (λ (xs : List Operation). FitsFrom d.many behind.left xs d.tail (ended_by d)) ops there.1; within = here }
 
 rest_of : (d : Contents) (k : ℕ) (behind : Unread) (o : Operation) → Next d k behind o
     → (unread_at d k behind).rest ≡ spelling o ++ (bytes_of (drop (k + 1) (ops_of d)) ++ behind.rest)
 rest_of d k behind o n =
     ap (λ (xs : List Operation). bytes_of xs ++ behind.rest) n.ops ∙ append_assoc (spelling o) (bytes_of (drop (k + 1) (ops_of d))) behind.rest
 
-number_within : (left : ℕ) (o : Operation) (ops : List Operation) (rest tail : List ℕ) (d : Contents) → Fits d.many left (o ∷ ops) tail (ended_by d) → rest ≡ tail → is_frame o.opcode ≡ true → frame_number o ≤ length (bytes_of ops ++ rest)
+number_within : (left : ℕ) (o : Operation) (ops : List Operation) (rest tail : List ℕ) (d : Contents) → FitsFrom d.many left (o ∷ ops) tail (ended_by d) → rest ≡ tail → is_frame o.opcode ≡ true → frame_number o ≤ length (bytes_of ops ++ rest)
 number_within left o ops rest tail d f e hit =
-    let next : Fits d.many (left_behind left o) ops tail (ended_by d) = rw (frame_goes d.many o.opcode hit) at f.1 in
+    let next : FitsFrom d.many (left_behind left o) ops tail (ended_by d) = rw (frame_goes d.many o.opcode hit) at f.1 in
     let number : left_behind left o ≡ frame_number o = rw hit refl in
     let far = reaches d.many ops (left_behind left o) tail (ended_by d) next in
     let same : length (bytes_of ops ++ rest) ≡ length (bytes_of ops ++ tail) = ap (λ (t : List ℕ). length (bytes_of ops ++ t)) e in
@@ -91,7 +91,7 @@ size_next d k behind o n =
     omega (arith, ap (λ (xs : List Operation). length (bytes_of xs)) n.ops, length-append (spelling o) (bytes_of (drop (k + 1) (ops_of d))))
 
 goes_on : (d : Contents) (k : ℕ) (behind : Unread) (o : Operation) → Next d k behind o → k + 1 < length (ops_of d)
-    → Fits d.many (left_behind behind.left o) (drop (k + 1) (ops_of d)) d.tail (ended_by d)
+    → FitsFrom d.many (left_behind behind.left o) (drop (k + 1) (ops_of d)) d.tail (ended_by d)
 goes_on d k behind o n h = elim (cases_Bool (ends_reading d.many o.opcode)) [
   | inl last ↦
       let f : IsLast (left_behind behind.left o) (drop (k + 1) (ops_of d)) d.tail (ended_by d) = rw last at n.fit.1 in

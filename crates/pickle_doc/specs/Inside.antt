@@ -3,6 +3,6 @@ pub mod ByOffset
 pub mod Grouping
 pub mod Joined
 pub mod Kept
-pub mod Mark
-pub mod Turn
+pub mod Bookmark
+pub mod Swap
 pub mod Walk

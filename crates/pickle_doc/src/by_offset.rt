@@ -3,11 +3,11 @@
 ghost use Rattle.std.specs.Prelude.{◌≡◌, ◌≤◌, length, take};
 ghost use Rattle.pickle_doc.specs.Document.{size_limit};
 ghost use Rattle.pickle_doc.specs.DocUnit.{sizes};
-ghost use Rattle.pickle_doc.specs.Inside.Mark.{IsMark};
-ghost use Rattle.pickle_doc.specs.Inside.ByOffset.{Stands};
+ghost use Rattle.pickle_doc.specs.Inside.Bookmark.{IsBookmark};
+ghost use Rattle.pickle_doc.specs.Inside.ByOffset.{IsAtOffset};
 
+use crate::bookmark::Bookmark;
 use crate::item::Item;
-use crate::mark::Mark;
 use gap_list::GapList;
 
 /// The place with this offset, which no place before the first one here has.
@@ -16,7 +16,7 @@ fn place_from(items: &GapList<Item>, from: usize, start: u64, offset: u64) -> Op
     requires start { start ≡ sizes (take from items.now.items) }
     requires order { start ≤ offset }
     requires small { sizes items.now.items ≤ size_limit }
-    ensures { Stands result offset items.now.items }
+    ensures { IsAtOffset result offset items.now.items }
 {
     let len = items.len();
     let mut at = start;
@@ -40,7 +40,7 @@ fn place_back(items: &GapList<Item>, from: usize, start: u64, offset: u64) -> Op
     requires place { from ≤ length items.now.items }
     requires start { start ≡ sizes (take from items.now.items) }
     requires order { offset ≤ start }
-    ensures { Stands result offset items.now.items }
+    ensures { IsAtOffset result offset items.now.items }
 {
     let mut place = from;
     let mut at = start;
@@ -54,37 +54,37 @@ fn place_back(items: &GapList<Item>, from: usize, start: u64, offset: u64) -> Op
     None
 }
 
-/// The place with this offset. This goes over the items between it and a mark, or from the first place where that is nearer.
-pub(crate) fn place_by(items: &GapList<Item>, mark: Mark, offset: u64) -> Option<usize>
-    requires { IsMark mark items.now.items }
-    ensures { Stands result offset items.now.items }
+/// The place with this offset. This goes over the items between it and a bookmark, or from the first place where that is nearer.
+pub(crate) fn place_by(items: &GapList<Item>, bookmark: Bookmark, offset: u64) -> Option<usize>
+    requires { IsBookmark bookmark items.now.items }
+    ensures { IsAtOffset result offset items.now.items }
 {
-    if mark.offset <= offset {
-        place_from(items, mark.place, mark.offset, offset)
-    } else if mark.offset - offset <= offset {
-        place_back(items, mark.place, mark.offset, offset)
+    if bookmark.offset <= offset {
+        place_from(items, bookmark.place, bookmark.offset, offset)
+    } else if bookmark.offset - offset <= offset {
+        place_back(items, bookmark.place, bookmark.offset, offset)
     } else {
         place_from(items, 0, 0, offset)
     }
 }
 
-/// The place with this offset. This goes over the items between it and the nearest of the first place, a mark, and a place that
+/// The place with this offset. This goes over the items between it and the nearest of the first place, a bookmark, and a place that
 /// begins at this start. Nearness is counted in bytes: each item has one at least, so these are never fewer than the
 /// items.
 pub(crate) fn place_near(
     items: &GapList<Item>,
-    mark: Mark,
+    bookmark: Bookmark,
     from: usize,
     start: u64,
     offset: u64,
 ) -> Option<usize>
-    requires mark { IsMark mark items.now.items }
+    requires bookmark { IsBookmark bookmark items.now.items }
     requires place { from ≤ length items.now.items }
     requires start { start ≡ sizes (take from items.now.items) }
-    ensures { Stands result offset items.now.items }
+    ensures { IsAtOffset result offset items.now.items }
 {
-    if offset.min(offset.abs_diff(mark.offset)) <= offset.abs_diff(start) {
-        place_by(items, mark, offset)
+    if offset.min(offset.abs_diff(bookmark.offset)) <= offset.abs_diff(start) {
+        place_by(items, bookmark, offset)
     } else if start <= offset {
         place_from(items, from, start, offset)
     } else {

@@ -9,10 +9,10 @@ use std::alloc::AllocError;
 impl Document {
     ghost use Rattle.std.specs.Prelude.{◌≡◌, true, ◌+◌, ◌^◌, ◌⊎◌, ◌<◌, ◌≤◌, length, IfOk, IfErr, OnOk, OnErr, Some, None, if◌then◌else◌};
     ghost use Rattle.pickle_doc.specs.Document.{items_of, document_bytes, IsDocument, IsReadAgain, size_limit};
-    ghost use Rattle.pickle_doc.specs.Edit.{with_units, given_one, new_item, replaced, inserted, deleted, framed, unframed};
+    ghost use Rattle.pickle_doc.specs.Edit.{with_units, raised_next, new_item, replaced, inserted, deleted, framed, unframed};
     ghost use Rattle.pickle_doc.specs.Edit.{replace_fault, insert_fault, delete_fault, frame_fault, unframe_fault};
-    ghost use Rattle.pickle_doc.specs.Edit.{lent, edit_place, adds_item, edit_fault, edited, given_by, KeepsRoom};
-    ghost use Rattle.pickle_doc.specs.Turn.{Leads, place_of};
+    ghost use Rattle.pickle_doc.specs.Edit.{lent, edit_place, adds_item, edit_fault, edited, raised_next_by, KeepsRoom};
+    ghost use Rattle.pickle_doc.specs.Swap.{EditLeads, record_place};
 
     /// Why an edit is refused; none where it can be made, if there is memory. This takes none.
     pub fn edit_fault(&self, edit: &Edit<&Op>) -> Option<EditFault>
@@ -33,8 +33,8 @@ impl Document {
         requires document { IsDocument self.now.contents }
         requires small { length (document_bytes self.now.contents) ≤ size_limit }
         ensures few { adds_item edit ≡ true → self.now.contents.next < 2 ^ 32 }
-        ensures place { place_of result ≡ edit_place edit }
-        ensures leads { Leads result (given_by edit self.now.contents) (edited edit self.now.contents) }
+        ensures place { record_place result ≡ edit_place edit }
+        ensures leads { EditLeads result (raised_next_by edit self.now.contents) (edited edit self.now.contents) }
         ensures room { length (items_of (edited edit self.now.contents)) ≤ length (items_of self.now.contents) + (if adds_item edit then 1 else 0) }
     {
         match edit {
@@ -54,18 +54,18 @@ impl Document {
         ensures memory { OnErr result (self.old.room ≡ 0) }
         ensures err { OnErr result (self.new ≡ self.old) }
         ensures ok { OnOk result (self.new.contents ≡ edited edit self.old.contents) }
-        ensures place { IfOk result (λ r. place_of r ≡ edit_place edit) }
-        ensures back { IfOk result (λ r. Leads r self.new.contents (given_by edit self.old.contents)) }
+        ensures place { IfOk result (λ r. record_place r ≡ edit_place edit) }
+        ensures back { IfOk result (λ r. EditLeads r self.new.contents (raised_next_by edit self.old.contents)) }
         ensures again { OnOk result (IsReadAgain self.new.contents) }
         ensures document { OnOk result (IsDocument self.new.contents) }
         ensures small { OnOk result (length (document_bytes self.new.contents) ≤ size_limit) }
         ensures total { KeepsRoom edit (length (items_of self.old.contents) + self.old.room) (length (items_of self.new.contents) + self.new.room) }
     {
         let adds = edit.adds_item();
-        self.make_room_where(adds)?;
+        self.make_room_if(adds)?;
         self.go_to(edit.place());
         let mut record = self.record_of(edit);
-        self.give_identity_where(adds);
+        self.raise_next_if(adds);
         self.swap(&mut record);
         Ok(record)
     }
@@ -78,8 +78,8 @@ impl Document {
         ensures err { OnErr result (self.new ≡ self.old) }
         ensures none { OnOk result (edit_fault edit self.old.contents ≡ None) }
         ensures ok { OnOk result (self.new.contents ≡ edited edit self.old.contents) }
-        ensures place { IfOk result (λ r. place_of r ≡ edit_place edit) }
-        ensures back { IfOk result (λ r. Leads r self.new.contents (given_by edit self.old.contents)) }
+        ensures place { IfOk result (λ r. record_place r ≡ edit_place edit) }
+        ensures back { IfOk result (λ r. EditLeads r self.new.contents (raised_next_by edit self.old.contents)) }
         ensures again { OnOk result (IsReadAgain self.new.contents) }
         ensures total { KeepsRoom edit (length (items_of self.old.contents) + self.old.room) (length (items_of self.new.contents) + self.new.room) }
     {
@@ -100,8 +100,8 @@ impl Document {
         ensures err { OnErr result (self.new ≡ self.old) }
         ensures none { OnOk result (replace_fault self.old.contents k op ≡ None) }
         ensures ok { OnOk result (self.new.contents ≡ with_units self.old.contents (replaced k op self.old.contents.units)) }
-        ensures place { IfOk result (λ r. place_of r ≡ k) }
-        ensures back { IfOk result (λ r. Leads r self.new.contents self.old.contents) }
+        ensures place { IfOk result (λ r. record_place r ≡ k) }
+        ensures back { IfOk result (λ r. EditLeads r self.new.contents self.old.contents) }
         ensures again { OnOk result (IsReadAgain self.new.contents) }
         ensures total { length (items_of self.new.contents) + self.new.room ≡ length (items_of self.old.contents) + self.old.room }
     {
@@ -120,9 +120,9 @@ impl Document {
         ensures memory { OnErr result (insert_fault self.old.contents k op ≡ None → self.old.room ≡ 0) }
         ensures err { OnErr result (self.new ≡ self.old) }
         ensures none { OnOk result (insert_fault self.old.contents k op ≡ None) }
-        ensures ok { OnOk result (self.new.contents ≡ given_one (with_units self.old.contents (inserted k (new_item self.old.contents op) self.old.contents.units))) }
-        ensures place { IfOk result (λ r. place_of r ≡ k) }
-        ensures back { IfOk result (λ r. Leads r self.new.contents (given_one self.old.contents)) }
+        ensures ok { OnOk result (self.new.contents ≡ raised_next (with_units self.old.contents (inserted k (new_item self.old.contents op) self.old.contents.units))) }
+        ensures place { IfOk result (λ r. record_place r ≡ k) }
+        ensures back { IfOk result (λ r. EditLeads r self.new.contents (raised_next self.old.contents)) }
         ensures again { OnOk result (IsReadAgain self.new.contents) }
         ensures total { length (items_of self.old.contents) + self.old.room ≤ length (items_of self.new.contents) + self.new.room }
     {
@@ -138,8 +138,8 @@ impl Document {
         ensures err { OnErr result (self.new ≡ self.old) }
         ensures none { OnOk result (delete_fault self.old.contents k ≡ None) }
         ensures ok { OnOk result (self.new.contents ≡ with_units self.old.contents (deleted k self.old.contents.units)) }
-        ensures place { IfOk result (λ r. place_of r ≡ k) }
-        ensures back { IfOk result (λ r. Leads r self.new.contents self.old.contents) }
+        ensures place { IfOk result (λ r. record_place r ≡ k) }
+        ensures back { IfOk result (λ r. EditLeads r self.new.contents self.old.contents) }
         ensures again { OnOk result (IsReadAgain self.new.contents) }
         ensures total { length (items_of self.new.contents) + self.new.room ≡ length (items_of self.old.contents) + self.old.room }
     {
@@ -159,9 +159,9 @@ impl Document {
         ensures memory { OnErr result (frame_fault self.old.contents k count ≡ None → self.old.room ≡ 0) }
         ensures err { OnErr result (self.new ≡ self.old) }
         ensures none { OnOk result (frame_fault self.old.contents k count ≡ None) }
-        ensures ok { OnOk result (self.new.contents ≡ given_one (with_units self.old.contents (framed k count self.old.contents.next self.old.contents.units))) }
-        ensures place { IfOk result (λ r. place_of r ≡ k) }
-        ensures back { IfOk result (λ r. Leads r self.new.contents (given_one self.old.contents)) }
+        ensures ok { OnOk result (self.new.contents ≡ raised_next (with_units self.old.contents (framed k count self.old.contents.next self.old.contents.units))) }
+        ensures place { IfOk result (λ r. record_place r ≡ k) }
+        ensures back { IfOk result (λ r. EditLeads r self.new.contents (raised_next self.old.contents)) }
         ensures again { OnOk result (IsReadAgain self.new.contents) }
         ensures total { length (items_of self.old.contents) + self.old.room ≤ length (items_of self.new.contents) + self.new.room }
     {
@@ -178,8 +178,8 @@ impl Document {
         ensures err { OnErr result (self.new ≡ self.old) }
         ensures none { OnOk result (unframe_fault self.old.contents k ≡ None) }
         ensures ok { OnOk result (self.new.contents ≡ with_units self.old.contents (unframed k self.old.contents.units)) }
-        ensures place { IfOk result (λ r. place_of r ≡ k) }
-        ensures back { IfOk result (λ r. Leads r self.new.contents self.old.contents) }
+        ensures place { IfOk result (λ r. record_place r ≡ k) }
+        ensures back { IfOk result (λ r. EditLeads r self.new.contents self.old.contents) }
         ensures again { OnOk result (IsReadAgain self.new.contents) }
         ensures total { length (items_of self.new.contents) + self.new.room ≡ length (items_of self.old.contents) + self.old.room }
     {

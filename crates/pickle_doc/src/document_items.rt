@@ -27,11 +27,12 @@ impl<'a> Model for DocumentItems<'a> {
 
 impl<'a> DocumentItems<'a> {
     ghost use Rattle.std.specs.Prelude.{◌≡◌, ◌≤◌, length};
-    ghost use Rattle.pickle_doc.specs.Document.{document_bytes, IsReadAgain, size_limit};
+    ghost use Rattle.pickle_doc.specs.Document.{document_bytes, IsDocument, IsReadAgain, size_limit};
 
     /// A reader of the items of this document.
     pub fn new(document: &'a Document) -> DocumentItems<'a>
         ensures value { result ≡ record { rest = document_bytes document.now.contents; left = 0 } }
+        ensures document { IsDocument document.now.contents }
         ensures again { IsReadAgain document.now.contents }
         ensures small { length (document_bytes document.now.contents) ≤ size_limit }
     {

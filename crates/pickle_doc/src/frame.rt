@@ -4,7 +4,7 @@ use crate::document::Document;
 use crate::edit::{EditFault, has_frame};
 use crate::fault::LIMIT;
 use crate::item::Item;
-use crate::record::{Change, EditRecord};
+use crate::record::{EditRecord, ItemChange};
 use crate::walk::{total_size, unfinished_frame};
 use pickle_ops::Op;
 
@@ -12,8 +12,8 @@ impl Document {
     ghost use Rattle.std.specs.Prelude.{◌≡◌, ◌+◌, ◌^◌, ◌⊎◌, ◌==◌, ◌&&◌, ◌<◌, ◌≤◌, length, None};
     ghost use Rattle.pickle_doc.specs.DocUnit.{flat};
     ghost use Rattle.pickle_doc.specs.Document.{items_of};
-    ghost use Rattle.pickle_doc.specs.Edit.{with_units, given_one, framed, frame_fault};
-    ghost use Rattle.pickle_doc.specs.Turn.{Leads, place_of};
+    ghost use Rattle.pickle_doc.specs.Edit.{with_units, raised_next, framed, frame_fault};
+    ghost use Rattle.pickle_doc.specs.Swap.{EditLeads, record_place};
 
     /// Why no frame can be put round this many items from item k on; none where one can, if there is memory. This takes none.
     pub fn frame_fault(&self, k: usize, count: usize) -> Option<EditFault>
@@ -26,13 +26,13 @@ impl Document {
         if count > len - k {
             return Some(EditFault::NoSuchItem);
         }
-        if has_frame(&self.items, k, count) {
+        if has_frame(&self.items, k, k + count) {
             return Some(EditFault::FrameItem);
         }
         if self.is_after_stop(k) {
             return Some(EditFault::AfterStop);
         }
-        if unfinished_frame(&self.items, self.mark, k).is_some() {
+        if unfinished_frame(&self.items, self.bookmark, k).is_some() {
             return Some(EditFault::AlreadyFramed);
         }
         if self.next >= 0x1_0000_0000 {
@@ -49,17 +49,15 @@ impl Document {
     pub(crate) fn framing(&self, k: usize, count: usize) -> EditRecord
         requires { frame_fault self.now.contents k count ≡ None }
         ensures few { self.now.contents.next < 2 ^ 32 }
-        ensures place { place_of result ≡ k }
-        ensures leads { Leads result (given_one self.now.contents) (given_one (with_units self.now.contents (framed k count self.now.contents.next self.now.contents.units))) }
+        ensures place { record_place result ≡ k }
+        ensures leads { EditLeads result (raised_next self.now.contents) (raised_next (with_units self.now.contents (framed k count self.now.contents.next self.now.contents.units))) }
         ensures room { length (flat (framed k count self.now.contents.next self.now.contents.units)) ≡ length (items_of self.now.contents) + 1 }
     {
-        // that there are this many items follows from the length alone
-        let _len = self.items.len();
-        let first = total_size(&self.items, self.mark, k);
-        let number = total_size(&self.items, self.mark, k + count) - first;
+        let first = total_size(&self.items, self.bookmark, k);
+        let number = total_size(&self.items, self.bookmark, k + count) - first;
         EditRecord {
             place: k,
-            change: Change::Put(Item {
+            change: ItemChange::Put(Item {
                 id: self.next as u32,
                 op: Op::frame(number),
             }),

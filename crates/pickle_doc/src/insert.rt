@@ -5,15 +5,15 @@ use crate::edit::{EditFault, resized};
 use crate::fault::LIMIT;
 use crate::item::Item;
 use crate::next::{is_frame, is_stop};
-use crate::record::{Change, EditRecord};
+use crate::record::{EditRecord, ItemChange};
 use pickle_ops::Op;
 
 impl Document {
     ghost use Rattle.std.specs.Prelude.{◌≡◌, ◌+◌, ◌^◌, ◌⊎◌, ◌==◌, ◌&&◌, ◌<◌, ◌≤◌, length, None};
     ghost use Rattle.pickle_doc.specs.DocUnit.{flat};
     ghost use Rattle.pickle_doc.specs.Document.{items_of};
-    ghost use Rattle.pickle_doc.specs.Edit.{with_units, given_one, new_item, inserted, insert_fault};
-    ghost use Rattle.pickle_doc.specs.Turn.{Leads, place_of};
+    ghost use Rattle.pickle_doc.specs.Edit.{with_units, raised_next, new_item, inserted, insert_fault};
+    ghost use Rattle.pickle_doc.specs.Swap.{EditLeads, record_place};
 
     /// Why an opcode cannot be put before item k, or last; none where it can, if there is memory. This takes none.
     pub fn insertion_fault(&self, k: usize, op: &Op) -> Option<EditFault>
@@ -46,15 +46,15 @@ impl Document {
     pub(crate) fn insertion(&self, k: usize, op: Op) -> EditRecord
         requires { insert_fault self.now.contents k op ≡ None }
         ensures few { self.now.contents.next < 2 ^ 32 }
-        ensures place { place_of result ≡ k }
-        ensures leads { Leads result (given_one self.now.contents) (given_one (with_units self.now.contents (inserted k (new_item self.now.contents op) self.now.contents.units))) }
+        ensures place { record_place result ≡ k }
+        ensures leads { EditLeads result (raised_next self.now.contents) (raised_next (with_units self.now.contents (inserted k (new_item self.now.contents op) self.now.contents.units))) }
         ensures room { length (flat (inserted k (new_item self.now.contents op) self.now.contents.units)) ≡ length (items_of self.now.contents) + 1 }
     {
         let size = op.arg().len() as u64 + 1;
-        let frame = resized(&self.items, self.mark, k, 0, size);
+        let frame = resized(&self.items, self.bookmark, k, 0, size);
         EditRecord {
             place: k,
-            change: Change::Put(Item {
+            change: ItemChange::Put(Item {
                 id: self.next as u32,
                 op,
             }),

@@ -5,7 +5,7 @@ use crate::edit::{EditFault, plain_size, resized};
 use crate::fault::LIMIT;
 use crate::item::Item;
 use crate::next::{is_frame, is_stop};
-use crate::record::{Change, EditRecord};
+use crate::record::{EditRecord, ItemChange};
 use pickle_ops::Op;
 
 impl Document {
@@ -13,7 +13,7 @@ impl Document {
     ghost use Rattle.pickle_doc.specs.DocUnit.{flat};
     ghost use Rattle.pickle_doc.specs.Document.{items_of};
     ghost use Rattle.pickle_doc.specs.Edit.{with_units, replaced, replace_fault};
-    ghost use Rattle.pickle_doc.specs.Turn.{Leads, place_of};
+    ghost use Rattle.pickle_doc.specs.Swap.{EditLeads, record_place};
 
     /// Why an opcode cannot replace item k; none where it can. This takes no memory.
     pub fn replace_fault(&self, k: usize, op: &Op) -> Option<EditFault>
@@ -44,18 +44,18 @@ impl Document {
     /// What replaces item k by an opcode.
     pub(crate) fn replacement(&self, k: usize, op: Op) -> EditRecord
         requires { replace_fault self.now.contents k op ≡ None }
-        ensures place { place_of result ≡ k }
-        ensures leads { Leads result self.now.contents (with_units self.now.contents (replaced k op self.now.contents.units)) }
+        ensures place { record_place result ≡ k }
+        ensures leads { EditLeads result self.now.contents (with_units self.now.contents (replaced k op self.now.contents.units)) }
         ensures room { length (flat (replaced k op self.now.contents.units)) ≡ length (items_of self.now.contents) }
     {
         let item = self.items.at(k);
         let id = item.id;
         let old = item.op.size() as u64;
         let size = op.arg().len() as u64 + 1;
-        let frame = resized(&self.items, self.mark, k, old, size);
+        let frame = resized(&self.items, self.bookmark, k, old, size);
         EditRecord {
             place: k,
-            change: Change::Set(Item { id, op }),
+            change: ItemChange::Set(Item { id, op }),
             frame,
         }
     }

@@ -7,11 +7,11 @@ use Rattle.std.proofs.lemmas.List.{append-nil, take-append-drop, take_more, take
 use Rattle.std.proofs.lemmas.List.Concat.{flat_map-append}
 use Rattle.std.proofs.lemmas.Grind.{common_steps}
 use Rattle.pickle_io.specs.Text.{◌⧺◌}
-use Rattle.pickle_io.specs.Device.{Told, AppendsFront, Wrote, Broke, Writes, WroteAllBut, each, each_below}
+use Rattle.pickle_io.specs.Device.{Told, AppendsPrefix, Wrote, Broke, Writes, WroteAllBut, each, each_below}
 
 -- ---- fronts
 
-AppendsFront-then : (a b c : Option (List ℕ)) (front text : List ℕ) → Appends a b front → AppendsFront b c text → AppendsFront a c (front ++ text)
+AppendsFront-then : (a b c : Option (List ℕ)) (front text : List ℕ) → Appends a b front → AppendsPrefix b c text → AppendsPrefix a c (front ++ text)
 AppendsFront-then None b c front text p q = tt
 AppendsFront-then (Some x) None c front text p q = absurd p
 AppendsFront-then (Some x) (Some y) None front text p q = tt
@@ -19,7 +19,7 @@ AppendsFront-then (Some x) (Some y) (Some z) front text p q =
     (front ++ q.0, (q.1.0, ap (λ (t : List ℕ). front ++ t) q.1.1 ∙ sym (append_assoc front q.0 q.1.0)), q.2 ∙ ap (λ (t : List ℕ). t ++ q.0) p ∙ append_assoc x front q.0)
 
 -- a front of a text is one of what is longer
-pub AppendsFront-more : (a b : Option (List ℕ)) (text more : List ℕ) → AppendsFront a b text → AppendsFront a b (text ++ more)
+pub AppendsFront-more : (a b : Option (List ℕ)) (text more : List ℕ) → AppendsPrefix a b text → AppendsPrefix a b (text ++ more)
 AppendsFront-more None b text more p = tt
 AppendsFront-more (Some x) None text more p = tt
 AppendsFront-more (Some x) (Some y) text more p = (p.0, (p.1.0 ++ more, ap (λ (t : List ℕ). t ++ more) p.1.1 ∙ append_assoc p.0 p.1.0 more), p.2)

@@ -2,7 +2,7 @@
 use Rattle.std.proofs.Common.{◌≡◌, ℕ, ◌+◌, ◌-◌, ◌≤◌, List, [], ◌∷◌, ◌++◌, length, take, drop, Option, None, Some, refl, sym, ap, subst, ◌∙◌, append_assoc, arith}
 use Rattle.std.specs.Io.KnownBytes.{Appends, append_known}
 use Rattle.std.proofs.lemmas.List.{append-nil, length-drop, take_all, take-append-drop, drop-drop}
-use Rattle.pickle_io.specs.Device.{Told, holding, AppendsFront, Wrote, Broke}
+use Rattle.pickle_io.specs.Device.{Told, holding, AppendsPrefix, Wrote, Broke}
 use Rattle.pickle_io.proofs.Devices.{Wrote-trans}
 
 pushed : (known : Option (List ℕ)) (held text : List ℕ) → Appends (append_known known held) (append_known known (held ++ text)) text
@@ -22,7 +22,7 @@ handed (Some bytes) (Some more) text held p = ap (λ (t : List ℕ). t ++ held) 
 pub holding-less : (old new : Told) (text held : List ℕ) → Wrote old new text → Wrote (holding old (text ++ held)) (holding new held) []
 holding-less old new text held p = record { taken = handed old.taken new.taken text held p.taken; calm = p.calm }
 
-stays : (old new : Option (List ℕ)) (held : List ℕ) → AppendsFront old new [] → AppendsFront (append_known old held) (append_known new held) []
+stays : (old new : Option (List ℕ)) (held : List ℕ) → AppendsPrefix old new [] → AppendsPrefix (append_known old held) (append_known new held) []
 stays None new held p = tt
 stays (Some bytes) None held p = tt
 stays (Some bytes) (Some more) held ([], r, e) = ([], ([], refl), ap (λ (t : List ℕ). t ++ held) (e ∙ append-nil bytes) ∙ sym (append-nil (bytes ++ held)))

@@ -30,6 +30,37 @@ fn hand_on<S: Sink>(sink: &mut S, text: &[u8], from: usize) -> (usize, Result<()
     (place, Ok(()))
 }
 
+/// Copies a block of N bytes over as many.
+#[inline(always)]
+fn copy_array<const N: usize>(text: &mut [u8], block: &[u8])
+    requires text { length text.old ≡ N }
+    requires block { length block.now ≡ N }
+    ensures { text.new ≡ block.now }
+{
+    if let Some(bytes) = block.as_array::<N>() {
+        if let Some(place) = text.as_mut_array::<N>() {
+            *place = *bytes;
+        }
+    }
+}
+
+/// Copies a block over as many bytes. Where the caller's block has a known length, it is an array, which one or two stores copy; a
+/// slice would first be tested for overlap.
+#[inline(always)]
+fn copy_block(text: &mut [u8], block: &[u8])
+    requires { length text.old ≡ length block.now }
+    ensures { text.new ≡ block.now }
+{
+    match block.len() {
+        1 => copy_array::<1>(text, block),
+        2 => copy_array::<2>(text, block),
+        8 => copy_array::<8>(text, block),
+        16 => copy_array::<16>(text, block),
+        20 => copy_array::<20>(text, block),
+        _ => text.copy_from_slice(block),
+    }
+}
+
 /// Copies a part to this place of a text. Answers the place after its first n bytes.
 #[inline(always)]
 fn copy_at(text: &mut [u8], at: usize, part: &[u8], n: usize) -> usize
@@ -40,8 +71,21 @@ fn copy_at(text: &mut [u8], at: usize, part: &[u8], n: usize) -> usize
     ensures place { result ≡ at + n }
 {
     let end = at + part.len();
-    text[at..end].copy_from_slice(part);
+    copy_block(&mut text[at..end], part);
     at + n
+}
+
+/// Copies a text to this place of another. Answers the place after it.
+#[inline(always)]
+fn copy_text(text: &mut [u8], at: usize, part: &[u8]) -> usize
+    requires room { at + length part.now ≤ length text.old }
+    ensures text { take (at + length part.now) text.new ≡ take at text.old ++ part.now }
+    ensures len { length text.new ≡ length text.old }
+    ensures place { result ≡ at + length part.now }
+{
+    let end = at + part.len();
+    text[at..end].copy_from_slice(part);
+    end
 }
 
 /// A sink that hands on what it takes in blocks, since a call of a device for each text would take most of the time. What it has
@@ -126,18 +170,18 @@ impl<S: Sink + Drop> Buffered<S> {
 }
 
 impl<S: Sink + Drop> Sink for Buffered<S> {
-    ghost use Rattle.std.specs.Prelude.{◌-◌};
+    ghost use Rattle.std.specs.Prelude.{◌-◌, ◌+◌};
 
     ghost told = { λ b. holding (S.told b.sink) (drop b.start (take b.len b.text.items)) };
 
-    ghost held = { λ b. b.len - b.start };
+    ghost held = { λ b. b.len - b.start + S.held b.sink };
 
     fn write(&mut self, bytes: &[u8]) -> Result<usize, Failed> {
         if self.len == self.text.len() {
             self.empty()?;
         }
         let n = bytes.len().min(self.text.len() - self.len);
-        self.len = copy_at(self.text.as_mut_slice(), self.len, &bytes[..n], n);
+        self.len = copy_text(self.text.as_mut_slice(), self.len, &bytes[..n]);
         Ok(n)
     }
 
@@ -180,7 +224,7 @@ impl<S: Sink + Drop> Page for Buffered<S> {
 
     #[inline(always)]
     fn push_text(&mut self, text: &[u8]) {
-        self.len = copy_at(self.text.as_mut_slice(), self.len, text, text.len());
+        self.len = copy_text(self.text.as_mut_slice(), self.len, text);
     }
 
     #[inline(always)]

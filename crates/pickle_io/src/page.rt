@@ -26,7 +26,7 @@ pub trait Page: Sink {
         ensures text { Wrote (Self.told self.old) (Self.told self.new) (take m first.now ++ take n second.now) }
         ensures room { room self.new + m + n ≡ room self.old };
 
-    /// The same of three.
+    /// The same of three parts, of which the second is taken whole.
     fn push_three(&mut self, first: &[u8], m: usize, second: &[u8; 2], third: &[u8], n: usize)
         requires room { length first.now + 2 + length third.now ≤ room self.old }
         requires first { m ≤ length first.now }

@@ -1,5 +1,5 @@
-//! Texts of numbers and bytes. A `push_` has the room that it asks for; a `write_` makes room, and where that fails, a beginning of the
-//! text was written, as by `write_all`.
+//! Texts of numbers and bytes. A `push_` requires the room that it takes, and cannot fail; a public `write_` makes room, and where that
+//! fails, a beginning of the text was written, as by `write_all`.
 
 ghost use Rattle.std.specs.Prelude.{◌≡◌, ◌+◌, ◌≤◌, ◌∷◌, [], OnOk, true, decimal};
 ghost use Rattle.std.specs.Fmt.{signed_decimal};
@@ -57,7 +57,8 @@ pub fn write_decimal<P: Page>(number: u64, page: &mut P) -> Result<(), Failed>
 /// written.
 #[tactic(auto, using(crate::proofs::Devices::page_steps))]
 pub fn write_signed<P: Page>(number: i128, page: &mut P) -> Result<(), Failed>
-    ensures { Writes (P.told page.old) (P.told page.new) result (signed_decimal number) }
+    ensures text { Writes (P.told page.old) (P.told page.new) result (signed_decimal number) }
+    ensures room { OnOk result (60 ≤ P.room page.new) }
 {
     page.make_room()?;
     push_signed(number, page);

@@ -18,7 +18,7 @@ use std::marker::Model;
 pub struct Lean {
     classes: Vec<Class>,
     stack: Stack,
-    memo: Memo,
+    pub(crate) memo: Memo,
     many: bool,
     stopped: bool,
 }
@@ -78,7 +78,7 @@ impl Lean {
     ghost use Rattle.std.specs.Option.{option_map};
     ghost use Rattle.pickle_ops.specs.declared.kind.Kind.{Kind};
     ghost use Rattle.pickle_ops.specs.Row.{count_of, values_of};
-    ghost use Rattle.pickle_machine.specs.State.{start, stack_size, Marked, place_of};
+    ghost use Rattle.pickle_machine.specs.State.{start, stack_size, Marked, top_mark_place};
     ghost use Rattle.pickle_machine.specs.Move.{refusal_of, next_of, takes_mark, fresh, push, without, cut, put_on, put, last_of, change_top, changes_of};
     ghost use Rattle.pickle_machine.specs.Outline.{outline, sample};
 
@@ -93,13 +93,6 @@ impl Lean {
             many,
             stopped: false,
         }
-    }
-
-    /// Its state is an outline.
-    fn is_outline(&self)
-        ensures { self.now ≡ outline self.now }
-    {
-        let _entries = self.memo.len();
     }
 
     /// How many objects are on the stack, in all sections.
@@ -152,7 +145,7 @@ impl Lean {
         self.stack.make_room()?;
         let id = self.classes.len() as u32;
         self.classes.push(class)?;
-        self.stack.put(id);
+        self.stack.push(id);
         Ok(())
     }
 
@@ -166,7 +159,7 @@ impl Lean {
         let id = self.classes.len() as u32;
         self.classes.push(class)?;
         self.stack.drop_last(n);
-        self.stack.put(id);
+        self.stack.push(id);
         Ok(())
     }
 
@@ -180,7 +173,7 @@ impl Lean {
         let id = self.classes.len() as u32;
         self.classes.push(class)?;
         self.stack.cut();
-        self.stack.put(id);
+        self.stack.push(id);
         Ok(())
     }
 
@@ -204,7 +197,7 @@ impl Lean {
         ensures ok { OnOk result (self.new ≡ outline (put_on id self.old)) }
     {
         self.stack.make_room()?;
-        self.stack.put(id);
+        self.stack.push(id);
         Ok(())
     }
 
@@ -276,7 +269,7 @@ impl Lean {
         ensures ok { OnOk result (self.new ≡ outline (put key self.old)) }
     {
         let id = deep(self.stack.top(), 0);
-        self.memo.put(key, id)
+        self.memo.insert(key, id)
     }
 
     /// A row that is not refused: the outline of the next state. An error comes only where memory runs out.

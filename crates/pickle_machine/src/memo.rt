@@ -14,11 +14,11 @@ pub struct Memo {
 
 impl Model for Memo {
     ghost use Rattle.std.specs.Prelude.{ℕ, List, ◌++◌};
-    ghost use Rattle.pickle_machine.specs.Inside.Memo.{numbered};
+    ghost use Rattle.pickle_machine.specs.Inside.Memo.{entries_from};
 
     ghost Value = { List (ℕ × ℕ) };
 
-    ghost view = { λ m. numbered 0 m.row.items ++ m.rest.entries };
+    ghost view = { λ m. entries_from 0 m.row.items ++ m.rest.entries };
 }
 
 #[tactic(auto, using(crate::proofs::Memos::memo_rules))]
@@ -68,7 +68,7 @@ impl Memo {
 
     /// Maps a key to an object. An error comes only where memory runs out.
     #[inline]
-    pub fn put(&mut self, key: u64, id: ObjId) -> Result<(), AllocError>
+    pub fn insert(&mut self, key: u64, id: ObjId) -> Result<(), AllocError>
         ensures ok { OnOk result (self.new ≡ insert_entry nat_cmp self.old key id) }
     {
         let count = self.row.len() as u64;

@@ -1,4 +1,5 @@
 -- What only proofs and the contracts of private functions cite. No contract of a public item needs it.
 pub mod Content
-pub mod Kept
+pub mod Decimal
+pub mod ArgBytes
 pub mod Sizes

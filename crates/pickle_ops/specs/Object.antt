@@ -11,5 +11,5 @@ pub record Object : Type 0 where
   pub changes : List Change
 
 -- an object of at most this many parts, to which nothing was done, takes no memory of its own
-abbrev pub most_parts_beside : ℕ
-most_parts_beside = 3
+abbrev pub most_inline_parts : ℕ
+most_inline_parts = 3

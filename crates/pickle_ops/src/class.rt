@@ -1,6 +1,7 @@
 //! What an opcode may take an object for, and what it asks of one.
 
 use crate::opcode::Opcode;
+use crate::opcodes;
 use crate::row::Filling;
 
 /// What an opcode may take an object for. Objects of one class meet the same demands.
@@ -45,6 +46,33 @@ pub enum Demand {
     Target(Filling),
 }
 
+/// The class of the kind of a record. It names kinds and no opcodes, since a kind cannot be made without its argument.
+macro_rules! class {
+    (() { $code:literal $name:literal $protocol:literal $form:ident $row:tt $kind:tt $($rest:tt)* }) => { class!($kind) };
+    (($kind:ident $holds:ident)) => { class!($kind) };
+    (LegacyString) => { Class::Text };
+    (LegacyLine) => { Class::Text };
+    (Text) => { Class::Text };
+    (TextLine) => { Class::Text };
+    (Bytes) => { Class::ReadOnly };
+    (ByteArray) => { Class::ByteArray };
+    (Tuple) => { Class::Tuple };
+    (List) => { Class::List };
+    (Set) => { Class::Set };
+    (Dict) => { Class::Dict };
+    (Global) => { Class::Opaque };
+    (StackGlobal) => { Class::Opaque };
+    (Call) => { Class::Opaque };
+    (New) => { Class::Opaque };
+    (NewEx) => { Class::Opaque };
+    (Inst) => { Class::Opaque };
+    (Obj) => { Class::Opaque };
+    (PersistentLine) => { Class::Opaque };
+    (Persistent) => { Class::Opaque };
+    (Ext) => { Class::Opaque };
+    ($plain:tt) => { Class::Plain };
+}
+
 impl Class {
     ghost use Rattle.std.specs.Prelude.{◌≡◌, List, ℕ};
     ghost use Rattle.pickle_ops.specs.Class.{class_meets, is_any};
@@ -56,42 +84,7 @@ impl Class {
     pub fn of(opcode: Opcode) -> Class
         ensures { (arg : List ℕ) → result ≡ class_of (kind_of_opcode opcode arg) }
     {
-        match opcode {
-            Opcode::String => Class::Text,
-            Opcode::BinString => Class::Text,
-            Opcode::ShortBinString => Class::Text,
-            Opcode::BinBytes => Class::ReadOnly,
-            Opcode::ShortBinBytes => Class::ReadOnly,
-            Opcode::BinBytes8 => Class::ReadOnly,
-            Opcode::ByteArray8 => Class::ByteArray,
-            Opcode::Unicode => Class::Text,
-            Opcode::ShortBinUnicode => Class::Text,
-            Opcode::BinUnicode => Class::Text,
-            Opcode::BinUnicode8 => Class::Text,
-            Opcode::EmptyList => Class::List,
-            Opcode::List => Class::List,
-            Opcode::EmptyTuple => Class::Tuple,
-            Opcode::Tuple => Class::Tuple,
-            Opcode::Tuple1 => Class::Tuple,
-            Opcode::Tuple2 => Class::Tuple,
-            Opcode::Tuple3 => Class::Tuple,
-            Opcode::EmptyDict => Class::Dict,
-            Opcode::Dict => Class::Dict,
-            Opcode::EmptySet => Class::Set,
-            Opcode::Ext1 => Class::Opaque,
-            Opcode::Ext2 => Class::Opaque,
-            Opcode::Ext4 => Class::Opaque,
-            Opcode::Global => Class::Opaque,
-            Opcode::StackGlobal => Class::Opaque,
-            Opcode::Reduce => Class::Opaque,
-            Opcode::Inst => Class::Opaque,
-            Opcode::Obj => Class::Opaque,
-            Opcode::NewObj => Class::Opaque,
-            Opcode::NewObjEx => Class::Opaque,
-            Opcode::PersId => Class::Opaque,
-            Opcode::BinPersId => Class::Opaque,
-            _ => Class::Plain,
-        }
+        opcodes!(match opcode => class!())
     }
 
     /// Whether it may be of any type.

@@ -49,16 +49,16 @@ const _: () = prove!(size_of::<Object>() == 40);
 
 impl Model for Object {
     ghost use Rattle.pickle_ops.specs.Object.{Object};
-    ghost use Rattle.pickle_ops.specs.Inside.Content.{parts_of, changes_of};
+    ghost use Rattle.pickle_ops.specs.Inside.Content.{parts_of, made_changes};
 
     ghost Value = { Object };
 
-    ghost view = { λ o. record { kind = o.kind; parts = parts_of o.made; changes = changes_of o.made } };
+    ghost view = { λ o. record { kind = o.kind; parts = parts_of o.made; changes = made_changes o.made } };
 }
 
 impl Object {
     ghost use Rattle.std.specs.Prelude.{◌≡◌, ◌-◌, ◌<◌, [], ◌++◌, length, take, IfOk, OnOk, OnErr};
-    ghost use Rattle.pickle_ops.specs.Object.{most_parts_beside};
+    ghost use Rattle.pickle_ops.specs.Object.{most_inline_parts};
 
     /// A new object, which has no part and to which nothing was done. A machine makes one for each step that makes an
     /// object of nothing.
@@ -75,7 +75,7 @@ impl Object {
     /// others. It fails only where memory runs out, and only where there are more than three parts.
     pub fn of_parts(alloc: Global, kind: Kind, parts: &[ObjId]) -> Result<Object, AllocError>
         ensures ok { IfOk result (λ o. o ≡ record { kind = kind; parts = parts.now; changes = [] }) }
-        ensures err { OnErr result (most_parts_beside < length parts.now) }
+        ensures err { OnErr result (most_inline_parts < length parts.now) }
     {
         let made = match *parts {
             [] => Made::Nothing,

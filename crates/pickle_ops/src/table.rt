@@ -1,7 +1,7 @@
 //! The table of what opcodes do.
 
 ghost use Rattle.std.specs.Prelude.{◌≡◌, ◌<◌, length, IfOk, OnErr};
-ghost use Rattle.pickle_ops.specs.Argument.{most_beside};
+ghost use Rattle.pickle_ops.specs.Argument.{most_inline};
 ghost use Rattle.pickle_ops.specs.Row.{row_of, kind_of};
 ghost use Rattle.pickle_ops.specs.Table.{int_kind};
 
@@ -74,7 +74,7 @@ impl Kind {
     /// bytes, and there are so many that share it that they cannot be counted.
     pub fn of(op: &Op) -> Result<Kind, AllocError>
         ensures ok { IfOk result (λ k. k ≡ kind_of op.now) }
-        ensures err { OnErr result (most_beside < length op.now.arg) }
+        ensures err { OnErr result (most_inline < length op.now.arg) }
     {
         opcodes!(match op.opcode() => kind!(op))
     }

@@ -5,14 +5,14 @@ use Rattle.std.proofs.KnownBytes.{Consumes-nil, Consumes-trans}
 use Rattle.pickle_io.specs.declared.sink.Failed.{Failed}
 use Rattle.pickle_io.specs.Device.{Told, KeepsOrForgets}
 use Rattle.pickle_io.proofs.Devices.{Wrote-none}
-use Rattle.pickle_session.specs.Allowed.{Standing}
+use Rattle.pickle_session.specs.Allowed.{SessionState}
 use Rattle.pickle_script.specs.declared.line.Line.{Line}
 use Rattle.pickle_script.specs.declared.line.Syntax.{Syntax}
 use Rattle.pickle_script.specs.Script.{last_line, lines_of}
-use Rattle.pickle_script.specs.Transcript.{IsRead, Runs, up_to_quit}
+use Rattle.pickle_script.specs.Transcript.{IsRead, PrintsAll, up_to_quit}
 use Rattle.pickle_script.specs.Conversation.{Gave, Finishes, StopsReading, StopsWriting}
 use Rattle.pickle_script.specs.declared.outcome.Outcome.{Outcome}
-use Rattle.pickle_script.specs.Inside.Progress.{is_refused, Pending, shortened, WritesLine, SoFar, HasQuit, Breaks, HasBroken, IsWhole, IsBroken}
+use Rattle.pickle_script.specs.Inside.Progress.{was_refused, Pending, line_start, WritesLine, SoFar, HasQuit, BreaksInLine, HasBroken, IsComplete, IsBroken}
 use Rattle.pickle_script.proofs.Cuts.{nothing, IsCut-none}
 use Rattle.pickle_script.proofs.Feeding.{pend, shortened-nil, nil-shortened, Runs-push, Wrote-push, up_to_quit-none, up_to_quit-last, up_to_quit-more, gives_so, refused_so, last_breaks}
 
@@ -23,20 +23,20 @@ last_line-some : (l : List ℕ) → l ≢ [] → last_line l ≡ l ∷ []
 last_line-some [] h = absurd (h refl)
 last_line-some (b ∷ bs) h = refl
 
-rest_nil : (s q : Standing) (old new : Told) (given : List ℕ) (held : Pending) → (w : SoFar s old given q new held) → held.line ≡ [] → w.cut.rest ≡ []
+rest_nil : (s q : SessionState) (old new : Told) (given : List ℕ) (held : Pending) → (w : SoFar s old given q new held) → held.line ≡ [] → w.cut.rest ≡ []
 rest_nil s q old new given held w e = shortened-nil w.cut.rest (sym (ap (λ (x : Pending). x.line) w.holds) ∙ e)
 
-rest_some : (s q : Standing) (old new : Told) (given : List ℕ) (held : Pending) → (w : SoFar s old given q new held) → held.line ≢ [] → lines_of w.cut ≡ w.cut.complete ++ w.cut.rest ∷ []
+rest_some : (s q : SessionState) (old new : Told) (given : List ℕ) (held : Pending) → (w : SoFar s old given q new held) → held.line ≢ [] → lines_of w.cut ≡ w.cut.complete ++ w.cut.rest ∷ []
 rest_some s q old new given held w n =
-    let line : held.line ≡ shortened w.cut.rest = ap (λ (x : Pending). x.line) w.holds in
-    let some : w.cut.rest ≢ [] = λ (x : w.cut.rest ≡ []). n (line ∙ ap shortened x ∙ nil-shortened) in
+    let line : held.line ≡ line_start w.cut.rest = ap (λ (x : Pending). x.line) w.holds in
+    let some : w.cut.rest ≢ [] = λ (x : w.cut.rest ≡ []). n (line ∙ ap line_start x ∙ nil-shortened) in
     ap (λ (ls : List (List ℕ)). w.cut.complete ++ ls) (last_line-some w.cut.rest some)
 
 -- ---- the source has ended
 
 -- no line has begun
-pub ends_at_line : (s q : Standing) (old new : Told) (given : List ℕ) (held : Pending) (answer : ℕ)
-    → SoFar s old given q new held → held.line ≡ [] → answer ≡ status held.refused → IsWhole s old given q new answer
+pub ends_at_line : (s q : SessionState) (old new : Told) (given : List ℕ) (held : Pending) (answer : ℕ)
+    → SoFar s old given q new held → held.line ≡ [] → answer ≡ status held.refused → IsComplete s old given q new answer
 ends_at_line s q old new given held answer w n e =
     let all : lines_of w.cut ≡ w.cut.complete = ap (λ (l : List ℕ). w.cut.complete ++ last_line l) (rest_nil s q old new given held w n) ∙ append-nil w.cut.complete in
     let obeyed : w.cut.complete ≡ up_to_quit (lines_of w.cut) = sym (ap up_to_quit all ∙ up_to_quit-none w.cut.complete w.no_quit) in
@@ -44,45 +44,45 @@ ends_at_line s q old new given held answer w n e =
       cut = w.cut;
       is_cut = w.is_cut;
       texts = w.texts;
-      transcript = subst (λ (ls : List (List ℕ)). Runs s ls w.texts q) obeyed w.runs;
+      transcript = subst (λ (ls : List (List ℕ)). PrintsAll s ls w.texts q) obeyed w.runs;
       wrote = w.wrote;
       status_is = e ∙ ap (λ (x : Pending). status x.refused) w.holds;
     }
 
 -- the last line has no newline
-pub ends_after_last : (s q r : Standing) (old a b : Told) (given : List ℕ) (held next : Pending) (says : Result Line Syntax) (this : Outcome) (answer : ℕ)
-    → SoFar s old given q a held → held.line ≢ [] → IsRead held.line says → WritesLine says q r a b (Ok this) → next ≡ pend [] (held.refused || is_refused this) → answer ≡ status next.refused
-    → IsWhole s old given r b answer
+pub ends_after_last : (s q r : SessionState) (old a b : Told) (given : List ℕ) (held next : Pending) (says : Result Line Syntax) (this : Outcome) (answer : ℕ)
+    → SoFar s old given q a held → held.line ≢ [] → IsRead held.line says → WritesLine says q r a b (Ok this) → next ≡ pend [] (held.refused || was_refused this) → answer ≡ status next.refused
+    → IsComplete s old given r b answer
 ends_after_last s q r old a b given held next says this answer w n e x is st =
     let all = rest_some s q old a given held w n in
     let obeyed : w.cut.complete ++ w.cut.rest ∷ [] ≡ up_to_quit (lines_of w.cut) = sym (ap up_to_quit all ∙ up_to_quit-last w.cut.complete w.cut.rest w.no_quit) in
-    let runs = Runs-push s q r w.cut.complete w.texts w.cut.rest x.text w.runs (gives_so s q r old a given held says x.text w e x.gives) in
+    let runs = Runs-push s q r w.cut.complete w.texts w.cut.rest x.text w.runs (gives_so s q r old a given held says x.text w e x.prints) in
     record {
       cut = w.cut;
       is_cut = w.is_cut;
       texts = w.texts ++ x.text ∷ [];
-      transcript = subst (λ (ls : List (List ℕ)). Runs s ls (w.texts ++ x.text ∷ []) r) obeyed runs;
+      transcript = subst (λ (ls : List (List ℕ)). PrintsAll s ls (w.texts ++ x.text ∷ []) r) obeyed runs;
       wrote = Wrote-push old a b w.texts x.text w.wrote x.writes;
       status_is = st ∙ ap (λ (y : Pending). status y.refused) is ∙ ap status (refused_so s q old a given held this x.text w x.refuses);
     }
 
-pub breaks_in_last : (s q r : Standing) (old a b : Told) (given : List ℕ) (held : Pending) (says : Result Line Syntax) (e : Failed)
+pub breaks_in_last : (s q r : SessionState) (old a b : Told) (given : List ℕ) (held : Pending) (says : Result Line Syntax) (e : Failed)
     → SoFar s old given q a held → held.line ≢ [] → IsRead held.line says → WritesLine says q r a b (Err e) → IsBroken s old given r b
 breaks_in_last s q r old a b given held says e w n is x = record {
   cut = w.cut;
   is_cut = w.is_cut;
-  breaks = subst (λ (ls : List (List ℕ)). Breaks s old ls r b) (sym (rest_some s q old a given held w n)) (last_breaks s q r old a b given held says e w is x);
+  breaks = subst (λ (ls : List (List ℕ)). BreaksInLine s old ls r b) (sym (rest_some s q old a given held w n)) (last_breaks s q r old a b given held says e w is x);
 }
 
 -- ---- the blocks of a source
 
 -- how far a conversation has come with what the source gave
-pub record Moment (s : Standing) (source source' : Option (List ℕ)) (sink : Told) (q : Standing) (sink' : Told) (held : Pending) : Type 0 where
+pub record Moment (s : SessionState) (source source' : Option (List ℕ)) (sink : Told) (q : SessionState) (sink' : Told) (held : Pending) : Type 0 where
   pub given : List ℕ
   pub gave : Consumes source source' given
   pub so_far : SoFar s sink given q sink' held
 
-pub nothing_yet : (s : Standing) (a : Option (List ℕ)) (b : Told) (held : Pending) → held ≡ pend [] false → Moment s a a b s b held
+pub nothing_yet : (s : SessionState) (a : Option (List ℕ)) (b : Told) (held : Pending) → held ≡ pend [] false → Moment s a a b s b held
 nothing_yet s a b held e = record {
   given = [];
   gave = Consumes-nil a;
@@ -103,7 +103,7 @@ Gave-past (Some x) None c given p q = absurd p
 Gave-past (Some x) (Some y) None given p q = (y, p)
 Gave-past (Some x) (Some y) (Some z) given p q = p ∙ ap (λ (t : List ℕ). given ++ t) (sym q)
 
-pub stops_reading : (s q : Standing) (a b c : Option (List ℕ)) (sink sink' : Told) (held : Pending) → Moment s a b sink q sink' held → KeepsOrForgets b c → StopsReading s q a c sink sink'
+pub stops_reading : (s q : SessionState) (a b c : Option (List ℕ)) (sink sink' : Told) (held : Pending) → Moment s a b sink q sink' held → KeepsOrForgets b c → StopsReading s q a c sink sink'
 stops_reading s q a b c sink sink' held m k =
     let w = m.so_far in
     record { given = m.given; gave = Gave-past a b c m.given m.gave k; cut = w.cut; is_cut = w.is_cut; texts = w.texts; runs = w.runs; no_quit = w.no_quit; wrote = w.wrote }
@@ -114,12 +114,12 @@ gave_nothing a b c given buffer n p q e =
     let none : given ++ take n buffer ≡ given = ap (λ (k : ℕ). given ++ take k buffer) e ∙ append-nil given in
     subst (λ (t : List ℕ). Consumes a c t) none (Consumes-trans a b c given (take n buffer) p q)
 
-pub finishes_whole : (s q : Standing) (a b : Option (List ℕ)) (sink sink' : Told) (given : List ℕ) (answer : ℕ) → Consumes a b given → IsAtEnd b → IsWhole s sink given q sink' answer
+pub finishes_whole : (s q : SessionState) (a b : Option (List ℕ)) (sink sink' : Told) (given : List ℕ) (answer : ℕ) → Consumes a b given → IsAtEnd b → IsComplete s sink given q sink' answer
     → Finishes s q answer a b sink sink'
 finishes_whole s q a b sink sink' given answer g e w =
     record { given = given; gave = g; cut = w.cut; is_cut = w.is_cut; texts = w.texts; transcript = w.transcript; wrote = w.wrote; status_is = w.status_is; ends = inr e }
 
-pub finishes_quit : (s q : Standing) (a b : Option (List ℕ)) (sink sink' : Told) (given : List ℕ) (held : Pending) (answer : ℕ) → Consumes a b given → HasQuit s sink given q sink' held → answer ≡ status held.refused
+pub finishes_quit : (s q : SessionState) (a b : Option (List ℕ)) (sink sink' : Told) (given : List ℕ) (held : Pending) (answer : ℕ) → Consumes a b given → HasQuit s sink given q sink' held → answer ≡ status held.refused
     → Finishes s q answer a b sink sink'
 finishes_quit s q a b sink sink' given held answer g w e = record {
   given = given;
@@ -127,13 +127,13 @@ finishes_quit s q a b sink sink' given held answer g w e = record {
   cut = w.cut;
   is_cut = w.is_cut;
   texts = w.texts;
-  transcript = subst (λ (ls : List (List ℕ)). Runs s ls w.texts q) (sym (up_to_quit-more w.cut.complete (last_line w.cut.rest) w.quits)) w.transcript;
+  transcript = subst (λ (ls : List (List ℕ)). PrintsAll s ls w.texts q) (sym (up_to_quit-more w.cut.complete (last_line w.cut.rest) w.quits)) w.transcript;
   wrote = w.wrote;
   status_is = e ∙ ap status w.refused;
   ends = inl w.quits;
 }
 
-pub breaks_at_end : (s q : Standing) (a b : Option (List ℕ)) (sink sink' : Told) (given : List ℕ) → Consumes a b given → IsAtEnd b → IsBroken s sink given q sink' → StopsWriting s q a b sink sink'
+pub breaks_at_end : (s q : SessionState) (a b : Option (List ℕ)) (sink sink' : Told) (given : List ℕ) → Consumes a b given → IsAtEnd b → IsBroken s sink given q sink' → StopsWriting s q a b sink sink'
 breaks_at_end s q a b sink sink' given g e w =
     let x = w.breaks in
     record {
@@ -152,7 +152,7 @@ breaks_at_end s q a b sink sink' given g e w =
       broke = x.broke;
     }
 
-pub breaks_before : (s q : Standing) (a b : Option (List ℕ)) (sink sink' : Told) (given : List ℕ) → Consumes a b given → HasBroken s sink given q sink' → StopsWriting s q a b sink sink'
+pub breaks_before : (s q : SessionState) (a b : Option (List ℕ)) (sink sink' : Told) (given : List ℕ) → Consumes a b given → HasBroken s sink given q sink' → StopsWriting s q a b sink sink'
 breaks_before s q a b sink sink' given g w =
     let x = w.breaks in
     record {

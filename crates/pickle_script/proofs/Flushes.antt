@@ -5,16 +5,16 @@ use Rattle.std.specs.Io.KnownBytes.{Appends}
 use Rattle.std.proofs.lemmas.List.{take_more}
 use Rattle.std.proofs.lemmas.List.Folds.{list_any-append}
 use Rattle.pickle_io.specs.declared.sink.Failed.{Failed}
-use Rattle.pickle_io.specs.Device.{Told, AppendsFront, Wrote, Broke}
+use Rattle.pickle_io.specs.Device.{Told, AppendsPrefix, Wrote, Broke}
 use Rattle.pickle_io.proofs.Devices.{Wrote-trans, Broke-after}
-use Rattle.pickle_session.specs.Allowed.{Standing}
+use Rattle.pickle_session.specs.Allowed.{SessionState}
 use Rattle.pickle_script.specs.declared.line.Line.{Line}
 use Rattle.pickle_script.specs.declared.line.Syntax.{Syntax}
 use Rattle.pickle_script.specs.Script.{Cut, HasNoNewline, IsCut, joined}
-use Rattle.pickle_script.specs.Transcript.{Runs, IsTranscript, is_quit, has_quit, up_to_quit}
+use Rattle.pickle_script.specs.Transcript.{PrintsAll, IsTranscript, is_quit, has_quit, up_to_quit}
 use Rattle.pickle_script.specs.Conversation.{AppendsPast, BrokePast}
 use Rattle.pickle_script.specs.declared.outcome.Outcome.{Outcome}
-use Rattle.pickle_script.specs.Inside.Progress.{Pending, WritesLine, SoFar, HasQuit, Breaks, HasBroken}
+use Rattle.pickle_script.specs.Inside.Progress.{Pending, WritesLine, SoFar, HasQuit, BreaksInLine, HasBroken}
 use Rattle.pickle_script.proofs.Cuts.{is_newline}
 use Rattle.pickle_script.proofs.Feeding.{concat-push, up_to-last, up_to_quit-none}
 
@@ -23,7 +23,7 @@ use Rattle.pickle_script.proofs.Feeding.{concat-push, up_to-last, up_to_quit-non
 Wrote-flushed : (a b c : Told) (text : List ℕ) → Wrote a b text → Wrote b c [] → Wrote a c text
 Wrote-flushed a b c text p q = subst (λ (t : List ℕ). Wrote a c t) (append-nil text) (Wrote-trans a b c text [] p q)
 
-pub quit_flushed : (s q : Standing) (old a b : Told) (given : List ℕ) (held : Pending) → HasQuit s old given q a held → Wrote a b [] → HasQuit s old given q b held
+pub quit_flushed : (s q : SessionState) (old a b : Told) (given : List ℕ) (held : Pending) → HasQuit s old given q a held → Wrote a b [] → HasQuit s old given q b held
 quit_flushed s q old a b given held w f = record {
   cut = w.cut;
   is_cut = w.is_cut;
@@ -34,15 +34,15 @@ quit_flushed s q old a b given held w f = record {
   refused = w.refused;
 }
 
-pub line_flushed : (says : Result Line Syntax) (q r : Standing) (a b c : Told) (this : Outcome) → WritesLine says q r a b (Ok this) → Wrote b c [] → WritesLine says q r a c (Ok this)
-line_flushed says q r a b c this x f = record { text = x.text; gives = x.gives; writes = Wrote-flushed a b c x.text x.writes f; refuses = x.refuses }
+pub line_flushed : (says : Result Line Syntax) (q r : SessionState) (a b c : Told) (this : Outcome) → WritesLine says q r a b (Ok this) → Wrote b c [] → WritesLine says q r a c (Ok this)
+line_flushed says q r a b c this x f = record { text = x.text; prints = x.prints; writes = Wrote-flushed a b c x.text x.writes f; refuses = x.refuses }
 
 -- ---- the sink fails
 
-pub line_unflushed : (says : Result Line Syntax) (q r : Standing) (a b c : Told) (this : Outcome) (e : Failed) → WritesLine says q r a b (Ok this) → Broke b c [] → WritesLine says q r a c (Err e)
+pub line_unflushed : (says : Result Line Syntax) (q r : SessionState) (a b c : Told) (this : Outcome) (e : Failed) → WritesLine says q r a b (Ok this) → Broke b c [] → WritesLine says q r a c (Err e)
 line_unflushed says q r a b c this e x f = record {
   text = x.text;
-  gives = x.gives;
+  prints = x.prints;
   writes = subst (λ (t : List ℕ). Broke a c t) (append-nil x.text) (Broke-after a b c x.text [] x.writes f);
   refuses = tt;
 }
@@ -51,7 +51,7 @@ no_front : (front rest : List ℕ) → [] ≡ front ++ rest → front ≡ []
 no_front [] rest e = refl
 no_front (b ∷ bs) rest e = absurd cc
 
-AppendsPast-whole : (a b c : Option (List ℕ)) (whole text : List ℕ) → Appends a b (whole ++ text) → AppendsFront b c [] → AppendsPast a c whole text
+AppendsPast-whole : (a b c : Option (List ℕ)) (whole text : List ℕ) → Appends a b (whole ++ text) → AppendsPrefix b c [] → AppendsPast a c whole text
 AppendsPast-whole None b c whole text p q = tt
 AppendsPast-whole (Some x) None c whole text p q = absurd p
 AppendsPast-whole (Some x) (Some y) None whole text p q = tt
@@ -78,7 +78,7 @@ last_of t (u ∷ us) =
     record { before = t ∷ r.before; last = r.last; are = ap (λ (x : List (List ℕ)). t ∷ x) r.are }
 
 -- where a line was obeyed there is a last text
-last_text : (s q : Standing) (l : List ℕ) (ls ts : List (List ℕ)) → Runs s (l ∷ ls) ts q → LastText ts
+last_text : (s q : SessionState) (l : List ℕ) (ls ts : List (List ℕ)) → PrintsAll s (l ∷ ls) ts q → LastText ts
 last_text s q l ls [] r = absurd r
 last_text s q l ls (t ∷ ts) r = last_of t ts
 
@@ -106,12 +106,12 @@ last_obeyed l (k ∷ ks) = go (is_quit l) refl (last_obeyed k ks)
       no_quit = rw (e, r.no_quit) refl;
     }
 
-flush_breaks : (s q : Standing) (old a b : Told) (ls ts : List (List ℕ)) → ls ≢ [] → IsTranscript s ls ts q → Wrote old a (concat ts) → Broke a b [] → Breaks s old ls q b
+flush_breaks : (s q : SessionState) (old a b : Told) (ls ts : List (List ℕ)) → ls ≢ [] → IsTranscript s ls ts q → Wrote old a (concat ts) → Broke a b [] → BreaksInLine s old ls q b
 flush_breaks s q old a b [] ts some r w f = absurd (some refl)
 flush_breaks s q old a b (l ∷ ls) ts some r w f =
     let o = last_obeyed l ls in
     let x = last_text s q l (if is_quit l then [] else up_to_quit ls) ts r in
-    let obeyed : Runs s (o.before ++ o.last ∷ []) ts q = subst (λ (ks : List (List ℕ)). Runs s ks ts q) o.obeyed r in
+    let obeyed : PrintsAll s (o.before ++ o.last ∷ []) ts q = subst (λ (ks : List (List ℕ)). PrintsAll s ks ts q) o.obeyed r in
     let wrote : Wrote old a (concat x.before ++ x.last) = subst (λ (t : List ℕ). Wrote old a t) (ap concat x.are ∙ concat-push x.before x.last) w in
     record {
       before = o.before;
@@ -120,7 +120,7 @@ flush_breaks s q old a b (l ∷ ls) ts some r w f =
       are = o.are;
       texts = x.before;
       text = x.last;
-      runs = subst (λ (us : List (List ℕ)). Runs s (o.before ++ o.last ∷ []) us q) x.are obeyed;
+      runs = subst (λ (us : List (List ℕ)). PrintsAll s (o.before ++ o.last ∷ []) us q) x.are obeyed;
       no_quit = o.no_quit;
       broke = BrokePast-whole old a b (concat x.before) x.last wrote f;
     }
@@ -131,7 +131,7 @@ some_quits : (ls : List (List ℕ)) → has_quit ls ≡ true → ls ≢ []
 some_quits [] h = absurd cc
 some_quits (l ∷ ls) h = λ (e : l ∷ ls ≡ []). absurd cc
 
-pub quit_unflushed : (s q : Standing) (old a b : Told) (given : List ℕ) (held : Pending) → HasQuit s old given q a held → Broke a b [] → HasBroken s old given q b
+pub quit_unflushed : (s q : SessionState) (old a b : Told) (given : List ℕ) (held : Pending) → HasQuit s old given q a held → Broke a b [] → HasBroken s old given q b
 quit_unflushed s q old a b given held w f = record {
   cut = w.cut;
   is_cut = w.is_cut;
@@ -176,10 +176,10 @@ some_line given bytes c p h = λ (e : c.complete ≡ []).
     let has : has_newline (given ++ bytes) ≡ true = list_any-append (λ b. b == 10) given bytes ∙ ap (λ (t : Bool). has_newline given || t) h ∙ or_true (has_newline given) in
     no_newline (given ++ bytes) (subst HasNoNewline rest p.rest) has
 
-pub so_far_unflushed : (s q : Standing) (old a b : Told) (given bytes : List ℕ) (held : Pending) → SoFar s old (given ++ bytes) q a held → has_newline bytes ≡ true → Broke a b []
+pub so_far_unflushed : (s q : SessionState) (old a b : Told) (given bytes : List ℕ) (held : Pending) → SoFar s old (given ++ bytes) q a held → has_newline bytes ≡ true → Broke a b []
     → HasBroken s old (given ++ bytes) q b
 so_far_unflushed s q old a b given bytes held w h f =
-    let runs = subst (λ (ls : List (List ℕ)). Runs s ls w.texts q) (sym (up_to_quit-none w.cut.complete w.no_quit)) w.runs in
+    let runs = subst (λ (ls : List (List ℕ)). PrintsAll s ls w.texts q) (sym (up_to_quit-none w.cut.complete w.no_quit)) w.runs in
     record {
       cut = w.cut;
       is_cut = w.is_cut;

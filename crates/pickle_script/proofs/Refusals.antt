@@ -19,7 +19,7 @@ use Rattle.pickle_session.specs.declared.reply.Fault.{Fault}
 use Rattle.pickle_session.specs.declared.reply.Why.{Why}
 use Rattle.pickle_session.specs.declared.reply.Reply.TheVariants as reply
 use Rattle.pickle_script.specs.declared.line.Syntax.{Syntax}
-use Rattle.pickle_script.specs.PlaceText.{sign_if, item_line, line_at, items_text, cursor_text, where_text}
+use Rattle.pickle_script.specs.PlaceText.{sign_if, session_line, session_line_at, items_text, cursor_text, where_text}
 use Rattle.pickle_script.specs.ReplyText.{refused_command, ran_text, placed_text, reply_text, syntax_line, no_object_line, no_item_line}
 use Rattle.pickle_script.specs.Transcript.{is_refusal}
 
@@ -114,21 +114,21 @@ sign_begins : (holds : Bool) → eqb 114 (sign_if 62 holds) ≡ false
 sign_begins true = refl
 sign_begins false = refl
 
-item_begins : (s : Session) (k : ℕ) (o : Operation) → begins_so (item_line s k o) ≡ false
-unfolding item_line ◌⧺◌
+item_begins : (s : Session) (k : ℕ) (o : Operation) → begins_so (session_line s k o) ≡ false
+unfolding session_line ◌⧺◌
 item_begins s k o = sign_begins (k == s.cursor)
 
-line_begins : (s : Session) (k : ℕ) → begins_so (line_at s k) ≡ false
-unfolding line_at
+line_begins : (s : Session) (k : ℕ) → begins_so (session_line_at s k) ≡ false
+unfolding session_line_at
 line_begins s k = go (item_at s.document k)
   where
-    go : (o : Option Operation) → begins_so (option_map_or (item_line s k) o []) ≡ false
+    go : (o : Option Operation) → begins_so (option_map_or (session_line s k) o []) ≡ false
     go None = refl
     go (Some o) = item_begins s k o
 
 pub items_accept : (s : Session) → false ≡ is_refusal (items_text s)
 unfolding items_text
-items_accept s = accepts (each_below (line_at s) (len_of s.document)) (lines_begin (line_at s) (len_of s.document) (λ k. line_begins s k))
+items_accept s = accepts (each_below (session_line_at s) (len_of s.document)) (lines_begin (session_line_at s) (len_of s.document) (λ k. line_begins s k))
 
 first_begins : (id : ℕ) (o : Object) (rest : List ℕ) → begins_so (first_line 0 id o ⧺ rest) ≡ false
 unfolding first_line ◌⧺◌ digits

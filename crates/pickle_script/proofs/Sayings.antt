@@ -10,14 +10,14 @@ use Rattle.pickle_script.specs.declared.keyword.PlainWord.{PlainWord}
 use Rattle.pickle_script.specs.declared.keyword.PlainWord.TheVariants as plain
 use Rattle.pickle_script.specs.declared.keyword.PlaceWord.{PlaceWord}
 use Rattle.pickle_script.specs.declared.keyword.PlaceWord.TheVariants as placed
-use Rattle.pickle_script.specs.Grammar.{op_in, alone, plain_line, place_action, number_first, place_first, show_says, place_says, frame_says, and_then, Answers}
+use Rattle.pickle_script.specs.Grammar.{op_in, alone, plain_line, place_action, number_first, place_first, show_says, place_says, frame_says, and_then, AnswersWords}
 
 -- a line without an operation
 abbrev IsFree : Result Line Syntax → Type 0
 IsFree (Ok l) = op_in l ≡ None
 IsFree (Err f) = Unit {0}
 
-answered : (says answer : Result Line Syntax) → IsFree says → answer ≡ says → Answers says answer
+answered : (says answer : Result Line Syntax) → IsFree says → answer ≡ says → AnswersWords says answer
 answered (Ok l) answer free e = rw e (refl, rw free tt)
 answered (Err f) answer free e = e
 
@@ -49,20 +49,20 @@ free_then : {A : Type 0} (r : Result A Syntax) (f : A → Result Line Syntax) �
 free_then (Ok x) f h = h x
 free_then (Err e) f h = tt
 
-pub plain_answers : (w : PlainWord) (words : List (List ℕ)) (answer : Result Line Syntax) → answer ≡ alone (plain_line w) words → Answers (alone (plain_line w) words) answer
+pub plain_answers : (w : PlainWord) (words : List (List ℕ)) (answer : Result Line Syntax) → answer ≡ alone (plain_line w) words → AnswersWords (alone (plain_line w) words) answer
 plain_answers w words answer e = answered (alone (plain_line w) words) answer (free_alone (plain_line w) words (free_plain w)) e
 
-pub show_answers : (words : List (List ℕ)) (answer : Result Line Syntax) → answer ≡ show_says words → Answers (show_says words) answer
+pub show_answers : (words : List (List ℕ)) (answer : Result Line Syntax) → answer ≡ show_says words → AnswersWords (show_says words) answer
 show_answers words answer e =
     answered (show_says words) answer
     (free_then (number_first words) (λ (p : ℕ × List (List ℕ)). alone (line.Query (query.Show p.0)) p.1) (λ p. free_alone (line.Query (query.Show p.0)) p.1 refl)) e
 
-pub place_answers : (w : PlaceWord) (words : List (List ℕ)) (answer : Result Line Syntax) → answer ≡ place_says w words → Answers (place_says w words) answer
+pub place_answers : (w : PlaceWord) (words : List (List ℕ)) (answer : Result Line Syntax) → answer ≡ place_says w words → AnswersWords (place_says w words) answer
 place_answers w words answer e =
     answered (place_says w words) answer
     (free_then (place_first words) (λ (p : Place × List (List ℕ)). alone (line.At p.0 (place_action w)) p.1) (λ p. free_alone (line.At p.0 (place_action w)) p.1 (free_place p.0 w))) e
 
-pub frame_answers : (words : List (List ℕ)) (answer : Result Line Syntax) → answer ≡ frame_says words → Answers (frame_says words) answer
+pub frame_answers : (words : List (List ℕ)) (answer : Result Line Syntax) → answer ≡ frame_says words → AnswersWords (frame_says words) answer
 frame_answers words answer e =
     answered (frame_says words) answer
     (free_then (place_first words) (λ (p : Place × List (List ℕ)). and_then (number_first p.1) (λ (q : ℕ × List (List ℕ)). alone (line.At p.0 (action.Frame q.0)) q.1))

@@ -3,13 +3,13 @@
 use Rattle.std.specs.Prelude.{◌≡◌, ℕ, ◌≤◌, List, [], ◌∷◌, ◌++◌, true, false, ◌⊎◌, Option, None, Some, ⊤}
 use Rattle.std.specs.List.{concat}
 use Rattle.std.specs.Io.KnownBytes.{Consumes, IsAtEnd}
-use Rattle.pickle_io.specs.Device.{Told, IsFront, HasFailed, Wrote}
+use Rattle.pickle_io.specs.Device.{Told, IsPrefix, HasFailed, Wrote}
 use Rattle.pickle_script.specs.Script.{Cut, IsCut, lines_of}
-use Rattle.pickle_session.specs.Allowed.{Standing}
-use Rattle.pickle_script.specs.Transcript.{Runs, IsTranscript, has_quit, status_of}
+use Rattle.pickle_session.specs.Allowed.{SessionState}
+use Rattle.pickle_script.specs.Transcript.{PrintsAll, IsTranscript, has_quit, status_of}
 
 -- A transcript of what the source gave was written. A line that quits is among it, or the source has said its end.
-pub record Finishes (s after : Standing) (status : ℕ) (source source' : Option (List ℕ)) (sink sink' : Told) : Type 0 where
+pub record Finishes (s after : SessionState) (status : ℕ) (source source' : Option (List ℕ)) (sink sink' : Told) : Type 0 where
   pub given : List ℕ
   pub gave : Consumes source source' given
   pub cut : Cut
@@ -23,17 +23,17 @@ pub record Finishes (s after : Standing) (status : ℕ) (source source' : Option
 -- the bytes that a source gave before it failed; after that it may no longer report what it has
 abbrev pub Gave : Option (List ℕ) → Option (List ℕ) → List ℕ → Type 0
 Gave None new given = ⊤
-Gave (Some bytes) None given = IsFront given bytes
+Gave (Some bytes) None given = IsPrefix given bytes
 Gave (Some bytes) (Some rest) given = bytes ≡ given ++ rest
 
 -- The source failed. The lines that it gave whole were obeyed and no other, and their texts were written.
-pub record StopsReading (s after : Standing) (source source' : Option (List ℕ)) (sink sink' : Told) : Type 0 where
+pub record StopsReading (s after : SessionState) (source source' : Option (List ℕ)) (sink sink' : Told) : Type 0 where
   pub given : List ℕ
   pub gave : Gave source source' given
   pub cut : Cut
   pub is_cut : IsCut given cut
   pub texts : List (List ℕ)
-  pub runs : Runs s cut.complete texts after
+  pub runs : PrintsAll s cut.complete texts after
   pub no_quit : has_quit cut.complete ≡ false
   pub wrote : Wrote sink sink' (concat texts)
 
@@ -41,7 +41,7 @@ pub record StopsReading (s after : Standing) (source source' : Option (List ℕ)
 abbrev pub AppendsPast : Option (List ℕ) → Option (List ℕ) → List ℕ → List ℕ → Type 0
 AppendsPast None new whole next = ⊤
 AppendsPast (Some bytes) None whole next = ⊤
-AppendsPast (Some bytes) (Some more) whole next = (front : List ℕ) × IsFront front next × (more ≡ bytes ++ (whole ++ front))
+AppendsPast (Some bytes) (Some more) whole next = (front : List ℕ) × IsPrefix front next × (more ≡ bytes ++ (whole ++ front))
 
 -- a whole text was written and then a front of another, and then a failure came
 pub record BrokePast (old new : Told) (whole next : List ℕ) : Type 0 where
@@ -55,7 +55,7 @@ AreGiven cut source' lines = (lines ≡ cut.complete) ⊎ (IsAtEnd source' × (l
 
 -- The sink failed in the text of some line. That line and those before it were obeyed, the texts of those before it
 -- were taken whole, and none after it was obeyed.
-pub record StopsWriting (s after : Standing) (source source' : Option (List ℕ)) (sink sink' : Told) : Type 0 where
+pub record StopsWriting (s after : SessionState) (source source' : Option (List ℕ)) (sink sink' : Told) : Type 0 where
   pub given : List ℕ
   pub gave : Consumes source source' given
   pub cut : Cut
@@ -66,6 +66,6 @@ pub record StopsWriting (s after : Standing) (source source' : Option (List ℕ)
   pub are_given : AreGiven cut source' (before ++ last ∷ later)
   pub texts : List (List ℕ)
   pub text : List ℕ
-  pub runs : Runs s (before ++ last ∷ []) (texts ++ text ∷ []) after
+  pub runs : PrintsAll s (before ++ last ∷ []) (texts ++ text ∷ []) after
   pub no_quit : has_quit before ≡ false
   pub broke : BrokePast sink sink' (concat texts) text

@@ -16,10 +16,6 @@ end_text (end.Fault f offset) = fault_text f ⧺ codes " at " ⧺ decimal offset
 
 -- faults of an opcode: those that a tail has too are printed likewise
 unfoldable pub op_fault_text : OpFault → List ℕ
-op_fault_text fault.Ended = fault_text tail.Ended
-op_fault_text (fault.UnknownOpcode byte) = fault_text (tail.UnknownOpcode byte)
-op_fault_text fault.Truncated = fault_text tail.Truncated
-op_fault_text fault.NegativeLength = fault_text tail.NegativeLength
-op_fault_text fault.BadArgument = fault_text tail.BadArgument
+op_fault_text (fault.Front f) = fault_text (tail.Front f)
 op_fault_text fault.TooLong = codes "F9 too long"
 op_fault_text fault.Memory = codes "M out of memory"

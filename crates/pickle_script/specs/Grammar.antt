@@ -242,7 +242,7 @@ OpFails (Some o) syntax.Memory = ⊤
 OpFails _ _ = ⊥
 
 -- an answer where the words say this: their fault; or what they say, or else the fault of their operation
-abbrev pub Answers : Result Line Syntax → Result Line Syntax → Type 0
-Answers (Err f) answer = answer ≡ Err f
-Answers (Ok says) (Ok l) = (l ≡ says) × IsSpelledOp (op_in says)
-Answers (Ok says) (Err f) = OpFails (op_in says) f
+abbrev pub AnswersWords : Result Line Syntax → Result Line Syntax → Type 0
+AnswersWords (Err f) answer = answer ≡ Err f
+AnswersWords (Ok says) (Ok l) = (l ≡ says) × IsSpelledOp (op_in says)
+AnswersWords (Ok says) (Err f) = OpFails (op_in says) f

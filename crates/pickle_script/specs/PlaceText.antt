@@ -68,14 +68,14 @@ unfoldable pub place_columns : ℕ → ℕ → List ℕ
 place_columns k offset = right_aligned 5 (decimal k) ⧺ codes " " ⧺ right_aligned 5 (decimal offset)
 
 -- the line of an item at a place
-unfoldable pub item_line : Session → ℕ → Operation → List ℕ
-item_line s k o =
+unfoldable pub session_line : Session → ℕ → Operation → List ℕ
+session_line s k o =
     signs (k == s.cursor) (has_break s k) ⧺ place_columns k (offset_of s.document k) ⧺ codes ": " ⧺ op_text o ⧺ newline
 
 -- where there is an item
-unfoldable pub line_at : Session → ℕ → List ℕ
-line_at s k = option_map_or (item_line s k) (item_at s.document k) []
+unfoldable pub session_line_at : Session → ℕ → List ℕ
+session_line_at s k = option_map_or (session_line s k) (item_at s.document k) []
 
 -- the lines of all items
 unfoldable pub items_text : Session → List ℕ
-items_text s = each_below (line_at s) (len_of s.document)
+items_text s = each_below (session_line_at s) (len_of s.document)

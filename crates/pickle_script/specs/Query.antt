@@ -37,5 +37,5 @@ asks_memory (query.Show n) t = nat_lt n (length t.heap)
 asks_memory query.Where t = false
 
 -- the texts that are allowed: what is shown, or that memory runs out
-abbrev pub IsTold : Query → Session → State → List ℕ → Type 0
-IsTold query s t text = (text ≡ query_text query s t) ⊎ ((asks_memory query t ≡ true) × (text ≡ syntax_line syntax.Memory))
+abbrev pub IsQueryText : Query → Session → State → List ℕ → Type 0
+IsQueryText query s t text = (text ≡ query_text query s t) ⊎ ((asks_memory query t ≡ true) × (text ≡ syntax_line syntax.Memory))

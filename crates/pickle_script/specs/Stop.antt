@@ -10,11 +10,11 @@ use Rattle.pickle_script.specs.declared.stop.Stop.{Stop}
 use Rattle.pickle_script.specs.declared.stop.Stop.TheVariants as stop
 
 -- the words of a stop
-abbrev pub words_of : Stop → List ℕ
-words_of stop.Read = codes "cannot read"
-words_of stop.Write = codes "cannot write"
-words_of stop.TooLarge = codes "too large"
-words_of stop.Memory = codes "out of memory"
+abbrev pub stop_words : Stop → List ℕ
+stop_words stop.Read = codes "cannot read"
+stop_words stop.Write = codes "cannot write"
+stop_words stop.TooLarge = codes "too large"
+stop_words stop.Memory = codes "out of memory"
 
 -- why a run is not finished where there is no document
 abbrev pub stop_of : DocFault → Stop

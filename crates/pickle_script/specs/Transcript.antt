@@ -10,7 +10,7 @@ use Rattle.pickle_session.specs.declared.reply.Fault.TheVariants as fault
 use Rattle.pickle_session.specs.declared.reply.Reply.{Reply}
 use Rattle.pickle_session.specs.declared.reply.Reply.TheVariants as reply
 use Rattle.pickle_session.specs.Session.{state_at}
-use Rattle.pickle_session.specs.Allowed.{Standing, Answers, Goes, IsFree}
+use Rattle.pickle_session.specs.Allowed.{SessionState, Answers, Goes, IsFree}
 use Rattle.pickle_script.specs.declared.line.Line.{Line}
 use Rattle.pickle_script.specs.declared.line.Line.TheVariants as line
 use Rattle.pickle_script.specs.declared.line.Query.{Query}
@@ -20,17 +20,17 @@ use Rattle.pickle_script.specs.declared.line.Action.{Action}
 use Rattle.pickle_script.specs.declared.line.Syntax.{Syntax}
 use Rattle.pickle_script.specs.Grammar as grammar
 use Rattle.pickle_script.specs.ReplyText.{reply_text, syntax_line, no_item_line}
-use Rattle.pickle_script.specs.Query.{IsTold}
+use Rattle.pickle_script.specs.Query.{IsQueryText}
 
 -- ---- one line: the session before it, its text, and the session after it
 
 -- a text about the session, which stays as it is
-pub record Tells (p : Standing) (says text : List ℕ) (q : Standing) : Type 0 where
+pub record PrintsText (p : SessionState) (says text : List ℕ) (q : SessionState) : Type 0 where
   pub text_is : text ≡ says
   pub unchanged : q ≡ p
 
 -- an answer that is allowed to the command, and its text; a step that is free finds memory
-pub record Replies (c : Command) (p : Standing) (text : List ℕ) (q : Standing) : Type 0 where
+pub record Replies (c : Command) (p : SessionState) (text : List ℕ) (q : SessionState) : Type 0 where
   pub answer : Reply
   pub answers : Answers c p answer q.session
   pub goes : Goes c p answer q
@@ -38,47 +38,47 @@ pub record Replies (c : Command) (p : Standing) (text : List ℕ) (q : Standing)
   pub text_is : text ≡ reply_text (end_of q.session.document) answer
 
 -- the command at the place that has this offset; or, where none has it, that there is none
-pub record RepliesAt (offset : ℕ) (a : Action) (p : Standing) (text : List ℕ) (q : Standing) : Type 0 where
+pub record RepliesAt (offset : ℕ) (a : Action) (p : SessionState) (text : List ℕ) (q : SessionState) : Type 0 where
   pub found : Option ℕ
   pub is_found : IsPlaceAt p.session.document offset found
-  pub gives : MatchOption found (Tells p (no_item_line offset) text q) (λ k. Replies (grammar.command_at a k) p text q)
+  pub prints : MatchOption found (PrintsText p (no_item_line offset) text q) (λ k. Replies (grammar.command_at a k) p text q)
 
-abbrev pub GivesAt : Place → Action → Standing → List ℕ → Standing → Type 0
-GivesAt (place.Number k) a p text q = Replies (grammar.command_at a k) p text q
-GivesAt (place.Offset offset) a p text q = RepliesAt offset a p text q
+abbrev pub PrintsAt : Place → Action → SessionState → List ℕ → SessionState → Type 0
+PrintsAt (place.Number k) a p text q = Replies (grammar.command_at a k) p text q
+PrintsAt (place.Offset offset) a p text q = RepliesAt offset a p text q
 
 -- what is shown of the session and of the state that running the items before the cursor on an empty machine gives
-pub record Shows (query : Query) (p : Standing) (text : List ℕ) (q : Standing) : Type 0 where
+pub record Shows (query : Query) (p : SessionState) (text : List ℕ) (q : SessionState) : Type 0 where
   pub state : State
   pub reached : state_at p.session.document p.session.cursor ≡ Some state
-  pub told : IsTold query p.session state text
+  pub told : IsQueryText query p.session state text
   pub unchanged : q ≡ p
 
-abbrev pub GivesBy : Result Line Syntax → Standing → List ℕ → Standing → Type 0
-GivesBy (Ok line.Nothing) p text q = Tells p [] text q
-GivesBy (Ok (line.Command c)) p text q = Replies c p text q
-GivesBy (Ok (line.At place a)) p text q = GivesAt place a p text q
-GivesBy (Ok (line.Query query)) p text q = Shows query p text q
-GivesBy (Ok line.Quit) p text q = Tells p [] text q
-GivesBy (Err f) p text q = Tells p (syntax_line f) text q
+abbrev pub PrintsBy : Result Line Syntax → SessionState → List ℕ → SessionState → Type 0
+PrintsBy (Ok line.Nothing) p text q = PrintsText p [] text q
+PrintsBy (Ok (line.Command c)) p text q = Replies c p text q
+PrintsBy (Ok (line.At place a)) p text q = PrintsAt place a p text q
+PrintsBy (Ok (line.Query query)) p text q = Shows query p text q
+PrintsBy (Ok line.Quit) p text q = PrintsText p [] text q
+PrintsBy (Err f) p text q = PrintsText p (syntax_line f) text q
 
 -- what a line may be read as: what it says, or its first fault, or running out of memory for the operation that it names
 abbrev pub IsRead : List ℕ → Result Line Syntax → Type 0
-IsRead bytes says = grammar.Answers (grammar.line_says bytes) says
+IsRead bytes says = grammar.AnswersWords (grammar.line_says bytes) says
 
-pub record Gives (p : Standing) (bytes text : List ℕ) (q : Standing) : Type 0 where
+pub record Prints (p : SessionState) (bytes text : List ℕ) (q : SessionState) : Type 0 where
   pub says : Result Line Syntax
   pub is_read : IsRead bytes says
-  pub gives : GivesBy says p text q
+  pub prints : PrintsBy says p text q
 
 -- ---- line after line
 
 -- the texts that the lines give, and the session after the last of them
-abbrev pub Runs : Standing → List (List ℕ) → List (List ℕ) → Standing → Type 0
-Runs p [] [] q = q ≡ p
-Runs p (bytes ∷ lines) (text ∷ texts) q = (mid : Standing) × Gives p bytes text mid × Runs mid lines texts q
-Runs p [] (text ∷ texts) q = ⊥
-Runs p (bytes ∷ lines) [] q = ⊥
+abbrev pub PrintsAll : SessionState → List (List ℕ) → List (List ℕ) → SessionState → Type 0
+PrintsAll p [] [] q = q ≡ p
+PrintsAll p (bytes ∷ lines) (text ∷ texts) q = (mid : SessionState) × Prints p bytes text mid × PrintsAll mid lines texts q
+PrintsAll p [] (text ∷ texts) q = ⊥
+PrintsAll p (bytes ∷ lines) [] q = ⊥
 
 abbrev pub quits : Result Line Syntax → Bool
 quits (Ok line.Quit) = true
@@ -100,8 +100,8 @@ up_to_quit [] = []
 up_to_quit (bytes ∷ lines) = bytes ∷ (if is_quit bytes then [] else up_to_quit lines)
 
 -- the texts of a transcript of the lines, and the session after it: after a line that quits nothing is obeyed
-abbrev pub IsTranscript : Standing → List (List ℕ) → List (List ℕ) → Standing → Type 0
-IsTranscript p lines texts q = Runs p (up_to_quit lines) texts q
+abbrev pub IsTranscript : SessionState → List (List ℕ) → List (List ℕ) → SessionState → Type 0
+IsTranscript p lines texts q = PrintsAll p (up_to_quit lines) texts q
 
 -- ---- the status
 

@@ -29,11 +29,7 @@ pub(crate) fn write_op_fault<S: Page>(fault: OpFault, sink: &mut S) -> Result<()
     ensures { Writes (S.told sink.old) (S.told sink.new) result (op_fault_text fault) }
 {
     match fault {
-        OpFault::Ended => write_fault_text(TailFault::Ended, sink),
-        OpFault::UnknownOpcode(byte) => write_fault_text(TailFault::UnknownOpcode(byte), sink),
-        OpFault::Truncated => write_fault_text(TailFault::Truncated, sink),
-        OpFault::NegativeLength => write_fault_text(TailFault::NegativeLength, sink),
-        OpFault::BadArgument => write_fault_text(TailFault::BadArgument, sink),
+        OpFault::Front(fault) => write_fault_text(TailFault::Front(fault), sink),
         OpFault::TooLong => write_all(sink, b"F9 too long"),
         OpFault::Memory => write_all(sink, b"M out of memory"),
     }

@@ -2,7 +2,7 @@
 
 ghost use Rattle.std.specs.Prelude.{◌≡◌, ℕ, List, MatchResult, Ok, Err};
 ghost use Rattle.hex.specs.Hex.{decode_of, is_hex_digit};
-ghost use Rattle.pickle_script.specs.Grammar.{words_of, alone, plain_line, number_first, place_of, place_first, show_says, place_says, frame_says, name_first, arg_last, last_bytes, bytes_of_word, op_action, op_says, word_says, line_says, Answers};
+ghost use Rattle.pickle_script.specs.Grammar.{words_of, alone, plain_line, number_first, place_of, place_first, show_says, place_says, frame_says, name_first, arg_last, last_bytes, bytes_of_word, op_action, op_says, word_says, line_says, AnswersWords};
 ghost use Rattle.pickle_script.specs.Inside.Words.{is_hex, fault_syntax};
 
 use crate::keyword::{
@@ -168,7 +168,7 @@ fn make_op(
     opcode: Opcode,
     arg: &[u8],
 ) -> Result<Line, Syntax>
-    ensures { Answers (Ok (Line.At place (op_action word (record { opcode = opcode; arg = arg.now })))) result }
+    ensures { AnswersWords (Ok (Line.At place (op_action word (record { opcode = opcode; arg = arg.now })))) result }
 {
     match op_of(alloc, opcode, arg) {
         Ok(op) => Ok(Line::At(place, op_action(word, op))),
@@ -184,7 +184,7 @@ fn make_line(
     opcode: Opcode,
     hex: &[u8],
 ) -> Result<Line, Syntax>
-    ensures { (bytes : List ℕ) → decode_of hex.now ≡ Ok bytes → Answers (Ok (Line.At place (op_action word (record { opcode = opcode; arg = bytes })))) result }
+    ensures { (bytes : List ℕ) → decode_of hex.now ≡ Ok bytes → AnswersWords (Ok (Line.At place (op_action word (record { opcode = opcode; arg = bytes })))) result }
 {
     match hex::decode(alloc, hex) {
         Ok(arg) => make_op(alloc, word, place, opcode, arg.as_slice()),
@@ -194,7 +194,7 @@ fn make_line(
 
 /// What a line says by a place, an opcode's name and its argument.
 fn read_op(alloc: Global, word: OpWord, rest: &[u8]) -> Result<Line, Syntax>
-    ensures { Answers (op_says word (words_of rest.now)) result }
+    ensures { AnswersWords (op_says word (words_of rest.now)) result }
 {
     let (place, rest) = place_first(rest)?;
     let (opcode, rest) = name_first(rest)?;
@@ -205,7 +205,7 @@ fn read_op(alloc: Global, word: OpWord, rest: &[u8]) -> Result<Line, Syntax>
 /// What a line says by its first word, where that is known.
 #[tactic(auto, using(crate::proofs::Sayings::saying_steps))]
 fn read_words(alloc: Global, word: Option<Word>, rest: &[u8]) -> Result<Line, Syntax>
-    ensures { Answers (word_says word (words_of rest.now)) result }
+    ensures { AnswersWords (word_says word (words_of rest.now)) result }
 {
     match word {
         None => Err(Syntax::UnknownWord),
@@ -222,7 +222,7 @@ fn read_words(alloc: Global, word: Option<Word>, rest: &[u8]) -> Result<Line, Sy
 /// comes only where none of these but `BadOp` could, of a line that names an operation.
 #[tactic(auto, unfolding(crate::specs::Grammar::line_says))]
 pub fn read_command(alloc: Global, bytes: &[u8]) -> Result<Line, Syntax>
-    ensures { Answers (line_says bytes.now) result }
+    ensures { AnswersWords (line_says bytes.now) result }
 {
     if bytes.len() > LONGEST {
         return Err(Syntax::LineTooLong);

@@ -1,9 +1,10 @@
 //! The items of a session's document, a line each.
 
-ghost use Rattle.std.specs.Prelude.{◌≡◌, ◌+◌, IfOk};
+ghost use Rattle.std.specs.Prelude.{◌≡◌, ◌+◌, ◌≤◌, length, IfOk};
 ghost use Rattle.pickle_io.specs.Device.{Writes};
+ghost use Rattle.pickle_doc.specs.Document.{document_bytes, size_limit};
 ghost use Rattle.pickle_doc.specs.Place.{offset_of};
-ghost use Rattle.pickle_script.specs.PlaceText.{sign_if, signs, op_text, place_columns, item_line, line_at, items_text};
+ghost use Rattle.pickle_script.specs.PlaceText.{sign_if, signs, op_text, place_columns, session_line, session_line_at, items_text};
 
 use pickle_ops::{Failed, Op, Page, write_all, write_arg_text};
 use pickle_session::{Past, Session};
@@ -48,7 +49,7 @@ fn write_op<S: Page>(op: &Op, sink: &mut S) -> Result<(), Failed>
 }
 
 /// Writes the line of the item at a place, which begins at this offset.
-#[tactic(auto, using(pickle_io::proofs::Devices::text_steps), unfolding(crate::specs::PlaceText::item_line))]
+#[tactic(auto, using(pickle_io::proofs::Devices::text_steps), unfolding(crate::specs::PlaceText::session_line))]
 fn write_item<P: Past, S: Page>(
     session: &Session<P>,
     place: usize,
@@ -57,7 +58,7 @@ fn write_item<P: Past, S: Page>(
     sink: &mut S,
 ) -> Result<(), Failed>
     requires { offset ≡ offset_of session.now.session.document place }
-    ensures { Writes (S.told sink.old) (S.told sink.new) result (item_line session.now.session place op.now) }
+    ensures { Writes (S.told sink.old) (S.told sink.new) result (session_line session.now.session place op.now) }
 {
     let at_cursor = place == session.cursor();
     write_all(sink, &signs(at_cursor, session.has_break(place)))?;
@@ -68,20 +69,19 @@ fn write_item<P: Past, S: Page>(
 }
 
 /// Writes the line of the item at a place, and answers the offset of the place after it.
-#[tactic(auto, using(pickle_io::proofs::Devices::text_steps, crate::proofs::PlaceLemmas::offset_steps), unfolding(crate::specs::PlaceText::line_at))]
+#[tactic(auto, using(pickle_io::proofs::Devices::text_steps, crate::proofs::PlaceLemmas::offset_steps), unfolding(crate::specs::PlaceText::session_line_at))]
 fn write_line_at<P: Past, S: Page>(
     session: &Session<P>,
     place: usize,
     offset: u64,
     sink: &mut S,
 ) -> Result<u64, Failed>
-    requires { offset ≡ offset_of session.now.session.document place }
-    ensures line { Writes (S.told sink.old) (S.told sink.new) result (line_at session.now.session place) }
+    requires small { length (document_bytes session.now.session.document) ≤ size_limit }
+    requires offset { offset ≡ offset_of session.now.session.document place }
+    ensures line { Writes (S.told sink.old) (S.told sink.new) result (session_line_at session.now.session place) }
     ensures offset { IfOk result (λ next. next ≡ offset_of session.now.session.document (place + 1)) }
 {
-    let document = session.document();
-    let _total = document.total();
-    match document.item(place) {
+    match session.document().item(place) {
         None => Ok(offset),
         Some(op) => {
             let next = offset + op.size() as u64;

@@ -14,6 +14,7 @@ use std::alloc::Global;
 /// Writes the listing of the pickle, and answers its status: 1 where an item is refused or the bytes have a fault, else 0.
 /// `Stop::TooLarge` where there are more bytes than `LIMIT`, `Stop::Memory` where memory runs out, `Stop::Write` where the sink
 /// fails; what was written then is a beginning of the listing.
+/// The sink may still hold a part of what was written: the caller flushes it.
 pub fn list<S: Page>(alloc: Global, bytes: &[u8], sink: &mut S) -> Result<u8, Stop>
     ensures listed { IfOk result (IsListed false bytes.now (S.told sink.old) (S.told sink.new)) }
 

@@ -11,11 +11,11 @@ pub enum Outcome {
 
 impl Outcome {
     ghost use Rattle.std.specs.Prelude.{◌≡◌};
-    ghost use Rattle.pickle_script.specs.Inside.Progress.{is_refused};
+    ghost use Rattle.pickle_script.specs.Inside.Progress.{was_refused};
 
     /// Whether it is a refusal.
     pub fn is_refused(self) -> bool
-        ensures { result ≡ is_refused self }
+        ensures { result ≡ was_refused self }
     {
         match self {
             Outcome::Accepted => false,

@@ -29,7 +29,7 @@ impl Model for Pending {
 impl Pending {
     ghost use Rattle.std.specs.Prelude.{◌≡◌, ◌↔◌, ◌||◌, [], IfOk, IsTrue, false, if◌then◌else◌};
     ghost use Rattle.pickle_script.specs.Transcript.{IsRead};
-    ghost use Rattle.pickle_script.specs.Inside.Progress.{longer, is_refused};
+    ghost use Rattle.pickle_script.specs.Inside.Progress.{longer, was_refused};
 
     /// No byte of a line, and no line refused. All the room that is ever needed is made here; it fails
     /// only where memory runs out.
@@ -68,7 +68,7 @@ impl Pending {
 
     /// Begins another line; this became of the one that ends.
     pub fn end_line(&mut self, outcome: Outcome)
-        ensures { self.new ≡ record { line = []; refused = (self.old.refused || is_refused outcome) } }
+        ensures { self.new ≡ record { line = []; refused = (self.old.refused || was_refused outcome) } }
     {
         let refused = outcome.is_refused();
         self.line.clear();

@@ -1,7 +1,7 @@
 //! What is shown of a session.
 
 ghost use Rattle.std.specs.Prelude.{◌≡◌, ◌<◌, ◌≤◌, length, MatchOption, Ok};
-ghost use Rattle.pickle_script.specs.Inside.Progress.{WritesTold, WritesLine};
+ghost use Rattle.pickle_script.specs.Inside.Progress.{WritesQuery, WritesLine};
 
 use crate::items::write_items;
 use crate::line::{Line, Query, Syntax};
@@ -17,8 +17,6 @@ use std::alloc::Global;
 fn object_of<P: Past>(session: &Session<P>, number: u64) -> Option<ObjId>
     ensures { MatchOption result (length session.now.machine.state.heap ≤ number) (λ id. (id ≡ number) × (id < length session.now.machine.state.heap)) }
 {
-    let _cursor = session.cursor();
-    let _total = session.document().total();
     if number < session.machine().objects() as u64 {
         Some(number as ObjId)
     } else {
@@ -34,7 +32,7 @@ fn write_missing<P: Past, K: Page>(
     sink: &mut K,
 ) -> Result<Outcome, Failed>
     requires { length session.now.machine.state.heap ≤ number }
-    ensures { WritesTold (Query.Show number) session.now.session session.now.machine.state (K.told sink.old) (K.told sink.new) result }
+    ensures { WritesQuery (Query.Show number) session.now.session session.now.machine.state (K.told sink.old) (K.told sink.new) result }
 {
     write_no_such_object(sink)?;
     Ok(Outcome::Refused)
@@ -49,7 +47,7 @@ fn write_object_of<P: Past, K: Page>(
     sink: &mut K,
 ) -> Result<Outcome, Failed>
     requires { id < length session.now.machine.state.heap }
-    ensures { WritesTold (Query.Show id) session.now.session session.now.machine.state (K.told sink.old) (K.told sink.new) result }
+    ensures { WritesQuery (Query.Show id) session.now.session session.now.machine.state (K.told sink.old) (K.told sink.new) result }
 {
     match write_show(alloc, session.machine(), id, sink) {
         Ok(()) => Ok(Outcome::Accepted),
@@ -68,7 +66,7 @@ fn write_shown<P: Past, K: Page>(
     number: u64,
     sink: &mut K,
 ) -> Result<Outcome, Failed>
-    ensures { WritesTold (Query.Show number) session.now.session session.now.machine.state (K.told sink.old) (K.told sink.new) result }
+    ensures { WritesQuery (Query.Show number) session.now.session session.now.machine.state (K.told sink.old) (K.told sink.new) result }
 {
     match object_of(session, number) {
         Some(id) => write_object_of(alloc, session, id, sink),

@@ -15,6 +15,7 @@ use std::alloc::Global;
 /// to the end or to one that is refused, a line for each result, and a closing line where one is refused or the bytes have a fault; 1
 /// with such a line, else 0. `Stop::TooLarge` comes where there are more bytes than `LIMIT`, and `Stop::Memory` where memory runs
 /// out: nothing was written then. `Stop::Write` comes from the sink: what was written is a beginning of the report.
+/// The sink may still hold a part of what was written: the caller flushes it.
 pub fn objects<S: Page>(alloc: Global, bytes: &[u8], sink: &mut S) -> Result<u8, Stop>
     ensures reported { IfOk result (IsReported false bytes.now (S.told sink.old) (S.told sink.new)) }
 

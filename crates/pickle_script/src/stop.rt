@@ -1,7 +1,7 @@
 //! Why a run of the program was not finished.
 
 ghost use Rattle.std.specs.Prelude.{◌≡◌};
-ghost use Rattle.pickle_script.specs.Stop.{words_of, stop_of, stop_of_read, stop_of_text};
+ghost use Rattle.pickle_script.specs.Stop.{stop_words, stop_of, stop_of_read, stop_of_text};
 
 use pickle_doc::DocFault;
 use pickle_ops::{Failed, ReadStop};
@@ -77,7 +77,7 @@ impl From<TextStop> for Stop {
 
 /// The words that the program prints for a stop.
 pub fn line_of(stop: &Stop) -> &'static str
-    ensures { result.now ≡ words_of stop.now }
+    ensures { result.now ≡ stop_words stop.now }
 {
     match stop {
         Stop::Read => "cannot read",

@@ -6,7 +6,7 @@ ghost use Rattle.pickle_doc.specs.declared.fault.End.{End};
 ghost use Rattle.pickle_script.specs.ReplyText.{reply_text};
 ghost use Rattle.pickle_script.specs.Transcript.{is_refusal, quits};
 ghost use Rattle.pickle_script.specs.Conversation.{Finishes, StopsReading, StopsWriting};
-ghost use Rattle.pickle_script.specs.Inside.Progress.{WritesLine, Feeds, Ends, is_refused};
+ghost use Rattle.pickle_script.specs.Inside.Progress.{WritesLine, Feeds, Ends, was_refused};
 
 use crate::line::{Action, Line, Place, Syntax};
 use crate::outcome::{Flow, Outcome};
@@ -38,7 +38,7 @@ fn refuse<P: Past, K: Page>(
 /// What a reply says became of its line.
 #[tactic(auto, using(crate::proofs::Refusals::refusal_steps))]
 fn outcome_of(reply: Reply) -> Outcome
-    ensures { (e : End) → is_refused result ≡ is_refusal (reply_text e reply) }
+    ensures { (e : End) → was_refused result ≡ is_refusal (reply_text e reply) }
 {
     match reply {
         Reply::At(_) => Outcome::Accepted,
@@ -160,7 +160,7 @@ fn feed_byte<P: Past, K: Page>(
 }
 
 /// Takes bytes of the script: obeys each line that ends in them, up to one that quits, and lets the sink hand on what it holds of
-/// their texts. Without such a line there is nothing to hand on.
+/// their texts. Without such a line they have none.
 fn feed<P: Past, K: Page>(
     alloc: Global,
     session: &mut Session<P>,
@@ -240,8 +240,8 @@ fn go_on<P: Past, S: Source, K: Page>(
 }
 
 /// Reads commands from the source and obeys them one by one, until one quits or the source ends, and answers the status: 1 where a line
-/// was refused, else 0. The text of each line is written before the next line is obeyed. Before more is read, and at the
-/// end, the sink hands on what it holds.
+/// was refused, else 0. The text of each line is written before the next line is obeyed. Where lines were obeyed, the sink hands
+/// on what it holds before more is read, so that it waits for no answer, and at the end.
 ///
 /// `Memory` comes only before anything was read. `Read` and `Write` come where the source or the sink fails: the
 /// session is that of the lines obeyed so far, a line of which only a part was read is not among them, and of the text
@@ -264,7 +264,7 @@ pub fn converse<P: Past, S: Source, K: Page>(
     ensures memory { result ≡ Err Stop.Memory → (session.new ≡ session.old) × (source.new ≡ source.old) × (sink.new ≡ sink.old) }
     ensures no_other { result ≢ Err Stop.TooLarge }
 
-    // Before each read, so that it waits for no answer, and at the end the sink has handed on what it holds.
+    // At the end nothing is held back.
     ensures handed { result ≢ Err Stop.Write → K.held sink.old ≡ 0 → K.held sink.new ≡ 0 }
 {
     let mut pending = Pending::new(alloc)?;

@@ -7,8 +7,8 @@ use Rattle.pickle_session.specs.declared.reply.Fault.{Fault}
 use Rattle.pickle_session.specs.declared.reply.Fault.TheVariants as fault
 use Rattle.pickle_session.specs.declared.reply.Reply.{Reply}
 use Rattle.pickle_session.specs.declared.reply.Reply.TheVariants as reply
-use Rattle.pickle_session.specs.Session.{Was, Session, Answer, Obeys, goes_to, refuses, turn_fault, len_of, place_in, undone_by}
-use Rattle.pickle_session.specs.Allowed.{Standing, Answers, goes_beyond, takes_memory}
+use Rattle.pickle_session.specs.Session.{Snapshot, Session, Answer, Obeys, goes_to, refuses, history_fault, len_of, place_in, undone_by}
+use Rattle.pickle_session.specs.Allowed.{SessionState, Answers, goes_beyond, takes_memory}
 use Rattle.pickle_session.specs.Laws.{goes_back}
 use Rattle.std.specs.Prelude.{nat_lt, not}
 use Rattle.pickle_session.specs.Opening.{IsOpened}
@@ -16,14 +16,14 @@ use Rattle.pickle_session.specs.Undo.{oldest, undone, version_bytes}
 use Rattle.pickle_session.specs.Reaching.{Reaches, IsReached, undos, OpenedStays}
 use Rattle.pickle_session.proofs.Oldest.{allowed}
 
-reaches_keep : (cs : List Command) (p q : Standing) → Reaches cs p q → oldest q.session ≡ oldest p.session
-reaches_keep [] p q h = ap (λ (x : Standing). oldest x.session) h
+reaches_keep : (cs : List Command) (p q : SessionState) → Reaches cs p q → oldest q.session ≡ oldest p.session
+reaches_keep [] p q h = ap (λ (x : SessionState). oldest x.session) h
 reaches_keep (c ∷ cs) p q (r, m, a, h) = reaches_keep cs m q h ∙ allowed c p r m.session a
 
-oldest_opened : (many : Bool) (bytes : List ℕ) (p : Standing) → IsOpened many bytes p → version_bytes (oldest p.session) ≡ bytes
+oldest_opened : (many : Bool) (bytes : List ℕ) (p : SessionState) → IsOpened many bytes p → version_bytes (oldest p.session) ≡ bytes
 oldest_opened many bytes p o = rw o.begun.past o.document.whole
 
-kept : (many : Bool) (bytes : List ℕ) (cs : List Command) (q : Standing) → IsReached many bytes cs q → version_bytes (oldest q.session) ≡ bytes
+kept : (many : Bool) (bytes : List ℕ) (cs : List Command) (q : SessionState) → IsReached many bytes cs q → version_bytes (oldest q.session) ≡ bytes
 kept many bytes cs q (p, o, h) = ap version_bytes (reaches_keep cs p q h) ∙ oldest_opened many bytes p o
 
 not_refused : (f : Option Fault) (s : Session) (D : Type 0) (a : Answer) → f ≡ None → MatchOption f D (λ f. a ≡ refuses f s) → D
@@ -31,25 +31,25 @@ not_refused None s D a e x = x
 not_refused (Some f) s D a e x = absurd cc
 
 -- an Undo at the start, by what there is to undo
-undo_at : (ws : List Was) (p : Standing) (r : Reply) (t : Session) → p.session.past ≡ ws → p.session.cursor ≡ 0 → 0 < length ws → Answers command.Undo p r t
+undo_at : (ws : List Snapshot) (p : SessionState) (r : Reply) (t : Session) → p.session.past ≡ ws → p.session.cursor ≡ 0 → 0 < length ws → Answers command.Undo p r t
     → (r ≡ reply.Undone (place_in ws)) × (t ≡ undone_by ws p.session)
 undo_at [] p r t e z h a = absurd (omega (arith, h))
 undo_at (w ∷ ws) p r t e z h (inl o) =
-    let b : record { reply = r; after = t } ≡ record { reply = reply.Undone (place_in p.session.past); after = undone_by p.session.past p.session } = not_refused (turn_fault fault.NothingToUndo p.session.past p.session.cursor) p.session _ _ (rw (e, z, le-ltb w.place 0 (omega arith)) refl) o in
-    (ap (λ (x : Answer). x.reply) b ∙ ap (λ (x : List Was). reply.Undone (place_in x)) e, ap (λ (x : Answer). x.after) b ∙ ap (λ (x : List Was). undone_by x p.session) e)
+    let b : record { reply = r; after = t } ≡ record { reply = reply.Undone (place_in p.session.past); after = undone_by p.session.past p.session } = not_refused (history_fault fault.NothingToUndo p.session.past p.session.cursor) p.session _ _ (rw (e, z, le-ltb w.place 0 (omega arith)) refl) o in
+    (ap (λ (x : Answer). x.reply) b ∙ ap (λ (x : List Snapshot). reply.Undone (place_in x)) e, ap (λ (x : Answer). x.after) b ∙ ap (λ (x : List Snapshot). undone_by x p.session) e)
 undo_at (w ∷ ws) p r t e z h (inr m) = let f = m.takes in cc
 
-accepted : (p : Standing) (r : Reply) (t : Session) → p.session.cursor ≡ 0 → 0 < length p.session.past → Answers command.Undo p r t
+accepted : (p : SessionState) (r : Reply) (t : Session) → p.session.cursor ≡ 0 → 0 < length p.session.past → Answers command.Undo p r t
     → (r ≡ reply.Undone (place_in p.session.past)) × (t ≡ undone p.session)
 accepted p r t z h a = undo_at p.session.past p r t refl z h a
 
-undos_empty : (ws : List Was) (m t : Standing) → m.session.past ≡ ws → m.session.cursor ≡ 0 → Reaches (undos (length ws)) m t → t.session.past ≡ []
-undos_empty [] m t e z h = ap (λ (x : Standing). x.session.past) h ∙ e
+undos_empty : (ws : List Snapshot) (m t : SessionState) → m.session.past ≡ ws → m.session.cursor ≡ 0 → Reaches (undos (length ws)) m t → t.session.past ≡ []
+undos_empty [] m t e z h = ap (λ (x : SessionState). x.session.past) h ∙ e
 undos_empty (w ∷ ws) m t e z (r, n, a, h) =
     let u : n.session ≡ undone_by (w ∷ ws) m.session = (undo_at (w ∷ ws) m r n.session e z (omega arith) a).1 in
     undos_empty ws n t (ap (λ (s : Session). s.past) u) (ap (λ (s : Session). s.cursor) u ∙ z) h
 
-pub to_start : (q : Standing) (k : ℕ) (t : Session) → Answers (command.Goto 0) q (reply.At k) t → t ≡ record q.session { cursor = 0 }
+pub to_start : (q : SessionState) (k : ℕ) (t : Session) → Answers (command.Goto 0) q (reply.At k) t → t ≡ record q.session { cursor = 0 }
 to_start q k t (inl o) =
     let b : record { reply = reply.At k; after = t } ≡ goes_to 0 q.session = rw (le-ltb (len_of q.session.document) 0 (omega arith), le-ltb q.session.cursor 0 (omega arith)) at o in
     ap (λ (x : Answer). x.after) b
@@ -58,7 +58,7 @@ to_start q k t (inr m) = let f = m.reply in absurd cc
 pub oldest_left : (t : Session) → t.past ≡ [] → version_bytes (oldest t) ≡ document_bytes t.document
 oldest_left t e = rw e refl
 
-given : (many : Bool) (bytes : List ℕ) (cs : List Command) (q m t : Standing) → IsReached many bytes cs q → Answers (command.Goto 0) q (reply.At 0) m.session
+given : (many : Bool) (bytes : List ℕ) (cs : List Command) (q m t : SessionState) → IsReached many bytes cs q → Answers (command.Goto 0) q (reply.At 0) m.session
     → Reaches (undos (length q.session.past)) m t → (document_bytes t.session.document ≡ bytes) × (t.session.past ≡ [])
 given many bytes cs q m t i a h =
     let went : m.session ≡ record q.session { cursor = 0 } = to_start q 0 m.session a in
@@ -71,11 +71,11 @@ opened_stays = record { kept = kept; accepted = accepted; given = given }
 
 -- ---- one command more
 
-pub reaches_more : (cs : List Command) (p q : Standing) (c : Command) (r : Reply) (t : Standing) → Reaches cs p q → Answers c q r t.session → Reaches (cs ++ c ∷ []) p t
-reaches_more [] p q c r t h a = (r, t, subst (λ (x : Standing). Answers c x r t.session) h a, refl)
+pub reaches_more : (cs : List Command) (p q : SessionState) (c : Command) (r : Reply) (t : SessionState) → Reaches cs p q → Answers c q r t.session → Reaches (cs ++ c ∷ []) p t
+reaches_more [] p q c r t h a = (r, t, subst (λ (x : SessionState). Answers c x r t.session) h a, refl)
 reaches_more (b ∷ cs) p q c r t (s, m, x, h) a = (s, m, x, reaches_more cs m q c r t h a)
 
-pub reaches_none : (p : Standing) → Reaches [] p p
+pub reaches_none : (p : SessionState) → Reaches [] p p
 reaches_none p = refl
 
 -- ---- going back
@@ -84,7 +84,7 @@ not_true : (b : Bool) → not b ≡ true → b ≡ false
 not_true false h = refl
 not_true true h = absurd cc
 
-no_memory : (c : Command) (p : Standing) → goes_beyond c p ≡ false → goes_back c p.session ≡ true → takes_memory c p ≡ false
+no_memory : (c : Command) (p : SessionState) → goes_beyond c p ≡ false → goes_back c p.session ≡ true → takes_memory c p ≡ false
 no_memory command.Back p e h = e
 no_memory (command.Goto k) p e h = rw (not_true (nat_lt p.session.cursor k) h) e
 no_memory (command.Clear k) p e h = refl
@@ -93,34 +93,34 @@ no_memory command.Redo p e h = refl
 no_memory _ p e h = absurd cc
 
 -- nothing lies further back than all records lead
-near_all : (c : Command) (p : Standing) → p.past.limit ≡ None → goes_beyond c p ≡ false
+near_all : (c : Command) (p : SessionState) → p.past.limit ≡ None → goes_beyond c p ≡ false
 near_all command.Back p e = rw e refl
 near_all (command.Goto k) p e = rw e refl
 near_all _ p e = refl
 
-pub told_near : (c : Command) (p : Standing) (r : Reply) (t : Session) → goes_beyond c p ≡ false → goes_back c p.session ≡ true → Answers c p r t → Obeys c p.session (record { reply = r; after = t })
+pub told_near : (c : Command) (p : SessionState) (r : Reply) (t : Session) → goes_beyond c p ≡ false → goes_back c p.session ≡ true → Answers c p r t → Obeys c p.session (record { reply = r; after = t })
 told_near c p r t e h (inl o) = o
 told_near c p r t e h (inr m) = let x : true ≡ false = sym m.takes ∙ no_memory c p e h in absurd cc
 
-pub told_back : (c : Command) (p : Standing) (r : Reply) (t : Session) → p.past.limit ≡ None → goes_back c p.session ≡ true → Answers c p r t → Obeys c p.session (record { reply = r; after = t })
+pub told_back : (c : Command) (p : SessionState) (r : Reply) (t : Session) → p.past.limit ≡ None → goes_back c p.session ≡ true → Answers c p r t → Obeys c p.session (record { reply = r; after = t })
 told_back c p r t e h a = told_near c p r t (near_all c p e) h a
 
-pub starts : (p : Standing) (r : Reply) (t : Session) → p.past.limit ≡ None → Answers (command.Goto 0) p r t → r ≡ reply.At 0
+pub starts : (p : SessionState) (r : Reply) (t : Session) → p.past.limit ≡ None → Answers (command.Goto 0) p r t → r ≡ reply.At 0
 starts p r t e a =
     let o = told_back (command.Goto 0) p r t e (rw (le-ltb p.session.cursor 0 (omega arith)) refl) a in
     let b : record { reply = r; after = t } ≡ goes_to 0 p.session = rw (le-ltb (len_of p.session.document) 0 (omega arith), le-ltb p.session.cursor 0 (omega arith)) at o in
     ap (λ (x : Answer). x.reply) b
 
-cursor_stays : (ws : List Was) (s : Session) → (undone_by ws s).cursor ≡ s.cursor
+cursor_stays : (ws : List Snapshot) (s : Session) → (undone_by ws s).cursor ≡ s.cursor
 cursor_stays [] s = refl
 cursor_stays (w ∷ ws) s = refl
 
-pub undo_at_start : (p : Standing) (r : Reply) (t : Session) → p.session.cursor ≡ 0 → 0 < length p.session.past → Answers command.Undo p r t → t.cursor ≡ 0
+pub undo_at_start : (p : SessionState) (r : Reply) (t : Session) → p.session.cursor ≡ 0 → 0 < length p.session.past → Answers command.Undo p r t → t.cursor ≡ 0
 undo_at_start p r t z h a = ap (λ (s : Session). s.cursor) (undo_at p.session.past p r t refl z h a).1 ∙ cursor_stays p.session.past p.session ∙ z
 
-shorter : (ws : List Was) (s : Session) → s.past ≡ ws → 0 < length ws → length (undone_by ws s).past < length ws
+shorter : (ws : List Snapshot) (s : Session) → s.past ≡ ws → 0 < length ws → length (undone_by ws s).past < length ws
 shorter [] s e h = absurd (omega (arith, h))
 shorter (w ∷ ws) s e h = omega arith
 
-pub undo_shorter : (p : Standing) (r : Reply) (t : Session) → p.session.cursor ≡ 0 → 0 < length p.session.past → Answers command.Undo p r t → length t.past < length p.session.past
+pub undo_shorter : (p : SessionState) (r : Reply) (t : Session) → p.session.cursor ≡ 0 → 0 < length p.session.past → Answers command.Undo p r t → length t.past < length p.session.past
 undo_shorter p r t z h a = rw (undo_at p.session.past p r t refl z h a).1 (shorter p.session.past p.session refl h)

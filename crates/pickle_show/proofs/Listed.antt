@@ -14,6 +14,7 @@ use Rattle.pickle_io.proofs.Devices.{Wrote-none, Wrote-trans, Broke-after}
 use Rattle.pickle_doc.specs.declared.item.Item.{Item}
 use Rattle.pickle_doc.specs.declared.fault.TailFault.{TailFault}
 use Rattle.pickle_doc.specs.declared.fault.TailFault.TheVariants as tails
+use Rattle.pickle_ops.specs.declared.fault.FrontFault.TheVariants as at_front
 use Rattle.pickle_doc.specs.declared.fault.Finish.{Finish}
 use Rattle.pickle_doc.specs.declared.fault.Finish.TheVariants as finish
 use Rattle.pickle_doc.specs.DocUnit.{sizes, is_stop, ends_reading}
@@ -33,7 +34,7 @@ use Rattle.pickle_machine.specs.Run.{run}
 use Rattle.pickle_machine.specs.Move.{move, outcome, next_of, refusal_of, refusal_at, takes_mark, fresh}
 use Rattle.pickle_machine.proofs.HeapGrowth.{fresh_heap}
 use Rattle.pickle_machine.specs.Outline.{outline, plain, bared}
-use Rattle.pickle_doc.specs.Stream.{StandsAt, IsDone, Gives}
+use Rattle.pickle_doc.specs.Stream.{HasRead, IsDone, IsItemAt}
 use Rattle.pickle_machine.proofs.Outlines.{refusals_read_outlines, moves_read_outlines, fresh_reads_outlines}
 use Rattle.pickle_doc.proofs.Ends.{finish_at, finish_stopped}
 use Rattle.pickle_doc.proofs.Streams.{stands_first, item_is, fault_is}
@@ -44,7 +45,7 @@ use Rattle.pickle_show.specs.declared.stop.TextStop.{TextStop}
 use Rattle.pickle_show.specs.ReportLine.{fault_line}
 use Rattle.pickle_show.specs.Line.{item_line, refused_line, left_line, kept_line, protocol_line, raised}
 use Rattle.pickle_show.specs.Listing.{note_with, note_unless, key_note, line_at, left_by, lines, end_lines, end_status}
-use Rattle.pickle_show.specs.Inside.Marks.{last_of, followed}
+use Rattle.pickle_show.specs.Inside.Marks.{last_element, followed}
 use Rattle.pickle_show.specs.Inside.Answer.{IsAnswer}
 use Rattle.pickle_show.specs.Written.{IsListed, BreaksListing, BeginsListing, CutsListing}
 use Rattle.pickle_show.proofs.Listings.{Progress, Progress-none, Progress-more, Progress-fresh, line_is, begun_so_far, broken_so_far, broken_lines, EndsWith, line_first, refused, ended, end_breaks, end_written, within, place_within, offset_within, ops_within}
@@ -58,7 +59,7 @@ use Rattle.pickle_show.proofs.Stops.{none_last, neither, no_bytes, stays_fresh, 
 pub record Listed (many : Bool) (bytes : List ℕ) (old new : Told) (rest : List ℕ) (left k offset : ℕ) (outlined : State) (opened : List ℕ) (highest : Option ℕ) : Type 0 where
   pub d : Contents
   pub reads : ReadsAs many bytes d
-  pub stands : StandsAt d k rest left
+  pub stands : HasRead d k rest left
   pub s : State
   pub outlines : outline (fresh s) ≡ outlined
   pub progress : Progress d k offset s (fresh s).marked opened highest
@@ -82,12 +83,12 @@ listed_none many bytes a some small = record {
 
 -- the line of an item, by the outline
 abbrev pub line_of : Operation → ℕ → State → List ℕ → List ℕ
-line_of o offset t opened = item_line o offset (length t.marked) (note_unless (refusal_of (row_of o) t) (note_with o t (last_of opened)))
+line_of o offset t opened = item_line o offset (length t.marked) (note_unless (refusal_of (row_of o) t) (note_with o t (last_element opened)))
 
 -- by its refusal
 line_by : (o : Operation) (offset : ℕ) (t : State) (opened : List ℕ) (r : Option Refusal) → refusal_of (row_of o) t ≡ r
-    → line_of o offset t opened ≡ item_line o offset (length t.marked) (note_unless r (note_with o t (last_of opened)))
-line_by o offset t opened r e = ap (λ (x : Option Refusal). item_line o offset (length t.marked) (note_unless x (note_with o t (last_of opened)))) e
+    → line_of o offset t opened ≡ item_line o offset (length t.marked) (note_unless r (note_with o t (last_element opened)))
+line_by o offset t opened r e = ap (λ (x : Option Refusal). item_line o offset (length t.marked) (note_unless x (note_with o t (last_element opened)))) e
 
 takes_outlined : (r : Row) (s : State) → takes_mark r (outline s) ≡ takes_mark r s
 takes_outlined (row.Cut c) s = refl
@@ -106,10 +107,10 @@ note_outlined o s x =
     ∙ ap (λ (n : Option Note). if takes_mark (row_of o) s then option_map note.MarkAt x else n) (key_outlined o.opcode s)
 
 line_outlined : (o : Operation) (offset : ℕ) (s : State) (opened : List ℕ)
-    → line_of o offset (outline s) opened ≡ item_line o offset (length s.marked) (note_unless (refusal_of (row_of o) s) (note_with o s (last_of opened)))
+    → line_of o offset (outline s) opened ≡ item_line o offset (length s.marked) (note_unless (refusal_of (row_of o) s) (note_with o s (last_element opened)))
 line_outlined o offset s opened =
-    ap (λ (n : Option Note). item_line o offset (length s.marked) (note_unless (refusal_of (row_of o) (outline s)) n)) (note_outlined o s (last_of opened))
-    ∙ ap (λ (r : Option Refusal). item_line o offset (length s.marked) (note_unless r (note_with o s (last_of opened)))) (refusals_read_outlines (row_of o) s)
+    ap (λ (n : Option Note). item_line o offset (length s.marked) (note_unless (refusal_of (row_of o) (outline s)) n)) (note_outlined o s (last_element opened))
+    ∙ ap (λ (r : Option Refusal). item_line o offset (length s.marked) (note_unless r (note_with o s (last_element opened)))) (refusals_read_outlines (row_of o) s)
 
 -- what is there: the item in the document, and its line
 record There (d : Contents) (k offset : ℕ) (o : Operation) (t : State) (opened : List ℕ) : Type 0 where
@@ -130,7 +131,7 @@ there bytes a b rest left k offset t opened highest o w n =
 pub record WithLine (many : Bool) (bytes : List ℕ) (old new : Told) (rest : List ℕ) (left k offset : ℕ) (o : Operation) (outlined : State) (opened : List ℕ) (highest : Option ℕ) : Type 0 where
   pub d : Contents
   pub reads : ReadsAs many bytes d
-  pub gives : Gives d k o (drop (size_of o) rest) (left_behind left o)
+  pub gives : IsItemAt d k o (drop (size_of o) rest) (left_behind left o)
   pub s : State
   pub outlines : outline (fresh s) ≡ outlined
   pub progress : Progress d k offset s (fresh s).marked opened highest
@@ -138,10 +139,10 @@ pub record WithLine (many : Bool) (bytes : List ℕ) (old new : Told) (rest : Li
 
 pub with_line : {many : Bool} (bytes : List ℕ) (a b c : Told) (rest : List ℕ) (left k offset : ℕ) (o : Operation) (t : State) (opened : List ℕ) (highest : Option ℕ)
     → Listed many bytes a b rest left k offset t opened highest → IsNextItem left rest o (size_of o) → refusal_of (row_of o) t ≡ None
-    → Wrote b c (item_line o offset (length t.marked) (note_with o t (last_of opened))) → WithLine many bytes a c rest left k offset o t opened highest
+    → Wrote b c (item_line o offset (length t.marked) (note_with o t (last_element opened))) → WithLine many bytes a c rest left k offset o t opened highest
 with_line bytes a b c rest left k offset o t opened highest w n none q =
     let here = there bytes a b rest left k offset t opened highest o w n in
-    let line : List ℕ = item_line o offset (length t.marked) (note_with o t (last_of opened)) in
+    let line : List ℕ = item_line o offset (length t.marked) (note_with o t (last_element opened)) in
     let whole : lines_with w.d k ≡ lines w.d k ++ line = ap (λ (l : List ℕ). lines w.d k ++ l) (here.line ∙ line_by o offset t opened None none) in
     record {
       d = w.d;
@@ -155,10 +156,10 @@ with_line bytes a b c rest left k offset o t opened highest w n none q =
 
 pub line_breaks : {many : Bool} (bytes : List ℕ) (a b c : Told) (rest : List ℕ) (left k offset : ℕ) (o : Operation) (t : State) (opened : List ℕ) (highest : Option ℕ)
     → Listed many bytes a b rest left k offset t opened highest → IsNextItem left rest o (size_of o) → refusal_of (row_of o) t ≡ None
-    → Broke b c (item_line o offset (length t.marked) (note_with o t (last_of opened))) → BreaksListing many bytes a c
+    → Broke b c (item_line o offset (length t.marked) (note_with o t (last_element opened))) → BreaksListing many bytes a c
 line_breaks bytes a b c rest left k offset o t opened highest w n none q =
     let here = there bytes a b rest left k offset t opened highest o w n in
-    let line : List ℕ = item_line o offset (length t.marked) (note_with o t (last_of opened)) in
+    let line : List ℕ = item_line o offset (length t.marked) (note_with o t (last_element opened)) in
     let whole : lines_with w.d k ≡ lines w.d k ++ line = ap (λ (l : List ℕ). lines w.d k ++ l) (here.line ∙ line_by o offset t opened None none) in
     let front : Broke a c (lines_with w.d k) = rw whole (Broke-after a b c (lines w.d k) line w.written q) in
     (w.d, w.reads, broken_so_far a c w.d k w.s w.progress.reached (within (ops_of w.d) k o here.at) front)
@@ -244,7 +245,7 @@ pub record Moved (many : Bool) (bytes : List ℕ) (old new : Told) (rest : List 
   pub d : Contents
   pub reads : ReadsAs many bytes d
   pub there : item_at d k ≡ Some o
-  pub goes : MatchBool (ends_reading many o.opcode) (IsDone d (k + 1) rest None) (StandsAt d (k + 1) rest left)
+  pub goes : MatchBool (ends_reading many o.opcode) (IsDone d (k + 1) rest None) (HasRead d (k + 1) rest left)
   pub s : State
   pub outlines : outline s ≡ outlined
   pub stays : is_stop o.opcode ≡ false → fresh s ≡ s
@@ -270,7 +271,7 @@ moved bytes a b rest left k offset o t u kind opened next highest w f is e m =
       d = w.d;
       reads = w.reads;
       there = w.gives.there;
-      goes = subst (λ (m : Bool). MatchBool (ends_reading m o.opcode) (IsDone w.d (k + 1) (drop (size_of o) rest) None) (StandsAt w.d (k + 1) (drop (size_of o) rest) (left_behind left o))) w.reads.mode w.gives.goes;
+      goes = subst (λ (m : Bool). MatchBool (ends_reading m o.opcode) (IsDone w.d (k + 1) (drop (size_of o) rest) None) (HasRead w.d (k + 1) (drop (size_of o) rest) (left_behind left o))) w.reads.mode w.gives.goes;
       s = after;
       outlines = sym same;
       stays = stays_fresh o (kind_of o) k w.s;
@@ -366,10 +367,10 @@ stop_last false bytes a b rest left k offset o t opened highest w hit last =
     let done : IsDone w.d (k + 1) rest None = rw hit at w.goes in
     record { all = done.all; tail = done.tail; finish = sym (finish_stopped w.d done.ended) }
 stop_last true bytes a b rest left k offset o t opened highest w hit last =
-    let stands : StandsAt w.d (k + 1) rest left = rw hit at w.goes in
-    let done = fault_is w.d (k + 1) left rest tails.Ended stands (Ended, no_bytes rest last, refl) in
+    let stands : HasRead w.d (k + 1) rest left = rw hit at w.goes in
+    let done = fault_is w.d (k + 1) left rest (tails.Front at_front.Ended) stands (Ended, no_bytes rest last, refl) in
     let stop : (length rest == 0 && ends_with_stop (take (k + 1) (items_of w.d))) ≡ true = rw last (last_taken (items_of w.d) k o w.there ∙ hit) in
-    record { all = done.all; tail = done.tail; finish = sym (finish_at w.d tails.Ended true done.ended (last_of_all w.d (k + 1) rest true done.all done.tail stop)) }
+    record { all = done.all; tail = done.tail; finish = sym (finish_at w.d (tails.Front at_front.Ended) true done.ended (last_of_all w.d (k + 1) rest true done.all done.tail stop)) }
 
 -- after STOP, where none begins
 pub stop_closes : {many : Bool} (bytes : List ℕ) (a b c : Told) (rest : List ℕ) (left k offset : ℕ) (o : Operation) (t : State) (opened : List ℕ) (highest : Option ℕ)

@@ -18,7 +18,7 @@ use Rattle.pickle_machine.specs.Move.{move, refusal_of, refusal_at, begun, fresh
 use Rattle.pickle_machine.specs.Run.{run}
 use Rattle.pickle_show.specs.Line.{item_line, refused_line, protocol_line, raised, highest_protocol}
 use Rattle.pickle_show.specs.Listing.{topmost_offset, note_with, note_unless, line_at, left_by, lines, reached, end_lines, end_status, refused_lines, listing, listing_to}
-use Rattle.pickle_show.specs.Inside.Marks.{last_of, followed, mark_offsets}
+use Rattle.pickle_show.specs.Inside.Marks.{last_element, followed, mark_offsets}
 use Rattle.pickle_show.specs.Written.{BeganListing}
 use Rattle.pickle_show.proofs.Moves.{move_heap, refused_move, move_marks, marks_grow, offsets_follow}
 use Rattle.pickle_show.proofs.Places.{offset_next, offset_small, length-bytes_of, highest_protocol-push, run-suc, reached_here, reached_last, is_reached, lines_with, lines-suc, lines_first}
@@ -57,7 +57,7 @@ within ops k o e = elim (slice_get_cases ops k).1 [
 take_next : (ops : List Operation) (k : ℕ) (o : Operation) → slice_get ops k ≡ Some o → take (k + 1) ops ≡ take k ops ++ (o ∷ [])
 take_next ops k o e = take_more ops k o (within ops k o e) ∙ ap (λ (p : Operation). take k ops ++ (p ∷ [])) (get_or_from_slice_get ops k o o e)
 
-pub last-mark_offsets : (d : Contents) (ms : List Marked) → last_of (mark_offsets d ms) ≡ topmost_offset d ms
+pub last-mark_offsets : (d : Contents) (ms : List Marked) → last_element (mark_offsets d ms) ≡ topmost_offset d ms
 last-mark_offsets d [] = slice_get_past [] 0 (omega arith)
 last-mark_offsets d (m ∷ ms) =
     let n : ℕ = length (mark_offsets d ms) in
@@ -71,7 +71,7 @@ last-mark_offsets d (m ∷ ms) =
 
 -- the line that is written for it
 pub line_is : (d : Contents) (k offset : ℕ) (o : Operation) (s : State) (opened : List ℕ) → item_at d k ≡ Some o → run (start d.many) (ops_of d) k ≡ Some s → offset ≡ offset_of d k
-    → opened ≡ mark_offsets d (fresh s).marked → line_at d k ≡ item_line o offset (length (fresh s).marked) (note_unless (refusal_of (row_of o) (fresh s)) (note_with o (fresh s) (last_of opened)))
+    → opened ≡ mark_offsets d (fresh s).marked → line_at d k ≡ item_line o offset (length (fresh s).marked) (note_unless (refusal_of (row_of o) (fresh s)) (note_with o (fresh s) (last_element opened)))
 unfolding line_at
 line_is d k offset o s opened e r f m = rw (e, r, f, m, last-mark_offsets d (fresh s).marked) refl
 

@@ -34,7 +34,7 @@ use Rattle.pickle_show.specs.Column.{right_aligned, newline}
 use Rattle.pickle_show.specs.declared.event.Event.{Event}
 use Rattle.pickle_show.specs.Event.{before_of, top_of, is_view, made_event, filled_event, event_of}
 use Rattle.pickle_show.specs.CallsLine.{event_text, event_line, line_of}
-use Rattle.pickle_show.specs.Calls.{Entry, entry_at, calls}
+use Rattle.pickle_show.specs.Calls.{CountedText, entry_at, calls}
 use Rattle.pickle_show.specs.CallsLaws.{OneText, IsStep, NoLineNoReach, Makes, Changes, LinesReach}
 use Rattle.pickle_show.proofs.Walking.{entry_is}
 use Rattle.pickle_show.proofs.Steps.{pushed_unseen, pushed_shown, none_made, Same, Grown, after_changes, got_changes, top_is, fills_unseen, fills_shown, is_there, not_there}
@@ -289,7 +289,7 @@ pub no_line_no_reach : NoLineNoReach
 no_line_no_reach d k s t step none id o there opaque =
     let m = moves_at d k s t step in
     let from : State = fresh s in
-    let here : (entry_at d k).text ≡ line_of (offset_of d k) t.heap (event_of (row_of m.item) (before_of from) t) = ap (λ (e : Entry). e.text) (entry_is d k m.item s t m.there step.before step.after) in
+    let here : (entry_at d k).text ≡ line_of (offset_of d k) t.heap (event_of (row_of m.item) (before_of from) t) = ap (λ (e : CountedText). e.text) (entry_is d k m.item s t m.there step.before step.after) in
     let nothing : event_of (row_of m.item) (before_of from) t ≡ None = no_line _ _ _ (sym here ∙ none) in
     let at : event_of (row_of m.item) (before_of from) (next m.item k s) ≡ None = ap (λ (u : State). event_of (row_of m.item) (before_of from) u) m.leads ∙ nothing in
     ap (λ (h : List Object). slice_get h id) (sym (fresh_heap s))
@@ -299,7 +299,7 @@ pub lines_reach : LinesReach
 lines_reach d k s t step some =
     let m = moves_at d k s t step in
     let from : State = fresh s in
-    let here : (entry_at d k).text ≡ line_of (offset_of d k) t.heap (event_of (row_of m.item) (before_of from) t) = ap (λ (e : Entry). e.text) (entry_is d k m.item s t m.there step.before step.after) in
+    let here : (entry_at d k).text ≡ line_of (offset_of d k) t.heap (event_of (row_of m.item) (before_of from) t) = ap (λ (e : CountedText). e.text) (entry_is d k m.item s t m.there step.before step.after) in
     let event = a_line (offset_of d k) t.heap (event_of (row_of m.item) (before_of from) t) (λ e. some (here ∙ e)) in
     let at : event_of (row_of m.item) (before_of from) (next m.item k s) ≡ Some event.0 = ap (λ (u : State). event_of (row_of m.item) (before_of from) u) m.leads ∙ event.1 in
     let all : IsShown (row_of m.item) from t = subst (λ (u : State). IsShown (row_of m.item) from u) m.leads (row_shown (row_of m.item) (kind_of m.item) k from event.0 m.accepted at) in

@@ -9,7 +9,7 @@ use Rattle.pickle_doc.specs.declared.fault.Finish.{Finish}
 use Rattle.pickle_doc.specs.DocUnit.{bytes_of}
 use Rattle.pickle_doc.specs.Document.{Contents, items_of, document_bytes, ended_by, finish_of, IsDocument, ReadsAs, size_limit}
 use Rattle.pickle_doc.specs.Place.{ops_of, tail_offset, end_at, end_of}
-use Rattle.pickle_doc.specs.Fitting.{Fits}
+use Rattle.pickle_doc.specs.Fitting.{FitsFrom}
 use Rattle.pickle_doc.proofs.Ends.{same_finish}
 use Rattle.pickle_doc.proofs.Fits.{one_reading}
 use Rattle.pickle_doc.proofs.Units.{length_bytes, small_document, document_fits}
@@ -32,9 +32,9 @@ items_bytes d = sym (length_bytes (items_of d))
 reads_alike : (d e : Contents) → IsDocument d → length (document_bytes d) ≤ size_limit → ReadsAs d.many (document_bytes d) e → RunsAlike d e
 reads_alike d e is few r =
     let small : length (document_bytes d) < 2 ^ 64 = omega (arith, few) in
-    let own : Fits d.many 0 (ops_of d) d.tail (ended_by d) = document_fits d is.formed (small_document (document_bytes d) d small refl is.formed.reach) in
-    let read : Fits e.many 0 (ops_of e) e.tail (ended_by e) = document_fits e r.document.formed (small_document (document_bytes d) e small r.whole r.document.formed.reach) in
-    let fit : Fits d.many 0 (ops_of e) e.tail (ended_by e) = subst (λ (m : Bool). Fits m 0 (ops_of e) e.tail (ended_by e)) r.mode read in
+    let own : FitsFrom d.many 0 (ops_of d) d.tail (ended_by d) = document_fits d is.formed (small_document (document_bytes d) d small refl is.formed.reach) in
+    let read : FitsFrom e.many 0 (ops_of e) e.tail (ended_by e) = document_fits e r.document.formed (small_document (document_bytes d) e small r.whole r.document.formed.reach) in
+    let fit : FitsFrom d.many 0 (ops_of e) e.tail (ended_by e) = subst (λ (m : Bool). FitsFrom m 0 (ops_of e) e.tail (ended_by e)) r.mode read in
     let one = one_reading d.many (ops_of e) (ops_of d) 0 e.tail d.tail (ended_by e) (ended_by d) fit own r.whole in
     let finish : finish_of e ≡ finish_of d = same_finish e d r.mode one.same_ops one.same_tail one.ended in
     let at : tail_offset e ≡ tail_offset d = items_bytes e ∙ ap (λ (ops : List Operation). length (bytes_of ops)) one.same_ops ∙ sym (items_bytes d) in

@@ -4,8 +4,12 @@ use Rattle.std.specs.Prelude.{decimal}
 use Rattle.std.proofs.lemmas.List.{append-nil, replicate-append-replicate}
 use Rattle.pickle_io.specs.Text.{◌⧺◌}
 use Rattle.pickle_io.specs.Device.{Told, Wrote, Broke}
-use Rattle.pickle_io.proofs.Devices.{Wrote-trans, Broke-after, Broke-first}
+use Rattle.pickle_io.proofs.Devices.{Wrote-none, Wrote-trans, Broke-after, Broke-first}
 use Rattle.pickle_show.specs.Column.{blanks, right_aligned}
+
+-- none
+pub no_blanks : (a : Told) (n : ℕ) → n ≡ 0 → Wrote a a (blanks n)
+no_blanks a n e = rw e (Wrote-none a)
 
 more : (count left n : ℕ) → n ≤ left → left ≤ count → blanks (count - (left - n)) ≡ blanks (count - left) ++ blanks n
 more count left n h k =

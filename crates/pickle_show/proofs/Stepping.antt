@@ -14,15 +14,16 @@ use Rattle.pickle_doc.specs.Tail.{HasTailFault}
 use Rattle.pickle_doc.specs.Fitting.{left_behind}
 use Rattle.pickle_doc.specs.Unread.{IsNextItem}
 use Rattle.pickle_doc.specs.Place.{ops_of, item_at, tail_offset, end_at}
-use Rattle.pickle_doc.specs.Stream.{StandsAt, IsDone}
+use Rattle.pickle_doc.specs.Stream.{HasRead, IsDone}
 use Rattle.pickle_doc.proofs.Ends.{finish_at, finish_stopped}
 use Rattle.pickle_doc.proofs.Streams.{stands_first, item_is, fault_is}
 use Rattle.pickle_doc.proofs.Units.{length_bytes}
 use Rattle.pickle_machine.specs.declared.refusal.Refusal.{Refusal}
 use Rattle.pickle_machine.specs.State.{State, start}
 use Rattle.pickle_machine.specs.Move.{move, refusal_at}
+use Rattle.pickle_machine.specs.Run.{run}
 use Rattle.pickle_show.specs.declared.report.Closing.TheVariants as closing
-use Rattle.pickle_show.specs.Report.{closing_at, state_at, refused_on, Closes}
+use Rattle.pickle_show.specs.Report.{closing_at, refused_on, Closes}
 use Rattle.pickle_show.specs.Inside.Ending.{EndsIn}
 use Rattle.pickle_show.proofs.Runs.{run_nothing, run_next, few_items, last_taken}
 
@@ -30,8 +31,8 @@ use Rattle.pickle_show.proofs.Runs.{run_nothing, run_next, few_items, last_taken
 pub record Walked (many : Bool) (bytes rest : List ℕ) (left k : ℕ) (s : State) (last : Bool) : Type 0 where
   pub d : Contents
   pub reads : ReadsAs many bytes d
-  pub stands : StandsAt d k rest left
-  pub reached : state_at d k ≡ Some s
+  pub stands : HasRead d k rest left
+  pub reached : run (start d.many) (ops_of d) k ≡ Some s
   pub heap : length s.heap ≤ k
   pub ends : ends_with_stop (take k (items_of d)) ≡ last
 
@@ -94,8 +95,8 @@ pub record Moved (many : Bool) (bytes rest : List ℕ) (left k : ℕ) (o : Opera
   pub d : Contents
   pub reads : ReadsAs many bytes d
   pub there : item_at d k ≡ Some o
-  pub goes : MatchBool (ends_reading many o.opcode) (IsDone d (k + 1) rest None) (StandsAt d (k + 1) rest left)
-  pub reached : state_at d (k + 1) ≡ Some s
+  pub goes : MatchBool (ends_reading many o.opcode) (IsDone d (k + 1) rest None) (HasRead d (k + 1) rest left)
+  pub reached : run (start d.many) (ops_of d) (k + 1) ≡ Some s
   pub heap : length s.heap ≤ k + 1
 
 pub moved : (many : Bool) (bytes rest : List ℕ) (left k : ℕ) (o : Operation) (s t : State) (last : Bool)
@@ -107,7 +108,7 @@ moved many bytes rest left k o s t last w n m h =
       d = w.d;
       reads = w.reads;
       there = g.there;
-      goes = subst (λ (x : Bool). MatchBool (ends_reading x o.opcode) (IsDone w.d (k + 1) (drop (size_of o) rest) None) (StandsAt w.d (k + 1) (drop (size_of o) rest) (left_behind left o))) w.reads.mode g.goes;
+      goes = subst (λ (x : Bool). MatchBool (ends_reading x o.opcode) (IsDone w.d (k + 1) (drop (size_of o) rest) None) (HasRead w.d (k + 1) (drop (size_of o) rest) (left_behind left o))) w.reads.mode g.goes;
       reached = run_next (start w.d.many) (ops_of w.d) o k s t w.reached g.there m;
       heap = omega (arith, h, w.heap);
     }
@@ -115,7 +116,7 @@ moved many bytes rest left k o s t last w n m h =
 pub goes_on : (many : Bool) (bytes rest : List ℕ) (left k : ℕ) (o : Operation) (s : State) → Moved many bytes rest left k o s → ends_reading many o.opcode ≡ false
     → Walked many bytes rest left (k + 1) s (is_stop o.opcode)
 goes_on many bytes rest left k o s w miss =
-    let stands : StandsAt w.d (k + 1) rest left = rw miss at w.goes in
+    let stands : HasRead w.d (k + 1) rest left = rw miss at w.goes in
     record { d = w.d; reads = w.reads; stands = stands; reached = w.reached; heap = w.heap; ends = last_taken (items_of w.d) k o w.there }
 
 pub stop_ends : (many : Bool) (bytes rest : List ℕ) (left k : ℕ) (o : Operation) (s : State) → Moved many bytes rest left k o s → ends_reading many o.opcode ≡ true → EndsIn many bytes s closing.Stopped

@@ -15,7 +15,7 @@ use Rattle.pickle_doc.specs.Tail.{HasTailFault}
 use Rattle.pickle_doc.specs.Fitting.{left_behind}
 use Rattle.pickle_doc.specs.Unread.{IsNextItem}
 use Rattle.pickle_doc.specs.Place.{ops_of, item_at, offset_of, tail_offset}
-use Rattle.pickle_doc.specs.Stream.{StandsAt, IsDone}
+use Rattle.pickle_doc.specs.Stream.{HasRead, IsDone}
 use Rattle.pickle_doc.proofs.Ends.{finish_at, finish_stopped}
 use Rattle.pickle_doc.proofs.Streams.{stands_first, item_is, fault_is}
 use Rattle.pickle_ops.specs.declared.row.Row.{Row}
@@ -41,9 +41,9 @@ use Rattle.pickle_show.specs.declared.event.Event.{Event}
 use Rattle.pickle_show.specs.declared.event.Event.TheVariants as event
 use Rattle.pickle_show.specs.declared.totals.Totals.{Totals}
 use Rattle.pickle_show.specs.Event.{before_of, event_of, object_is}
-use Rattle.pickle_show.specs.CallsLine.{line_of, imports_of, calls_of, end_text, one_if, is_import, is_call}
-use Rattle.pickle_show.specs.Calls.{Entry, no_entry, entry, entry_at, entries, closing_of, closing_to, kept_by, calls, calls_to}
-use Rattle.pickle_show.specs.CallsWritten.{TellsCalls, BreaksCalls, BeginsCalls, CutsCalls}
+use Rattle.pickle_show.specs.CallsLine.{line_of, imports_of, calls_of, calls_end_text, one_if, is_import, is_call}
+use Rattle.pickle_show.specs.Calls.{CountedText, no_entry, counted_text, entry_at, entries, closing_of, closing_to, kept_by, calls, calls_to}
+use Rattle.pickle_show.specs.CallsWritten.{CompletesCalls, BreaksCalls, BeginsCalls, CutsCalls}
 
 -- ---- what items come to
 
@@ -65,7 +65,7 @@ calls-suc d k = refl
 
 -- item k, where it has a move
 pub entry_is : (d : Contents) (k : ℕ) (o : Operation) (s t : State) → item_at d k ≡ Some o → run (start d.many) (ops_of d) k ≡ Some s → run (start d.many) (ops_of d) (suc k) ≡ Some t
-    → entry_at d k ≡ entry (offset_of d k) t.heap (event_of (row_of o) (before_of (fresh s)) t)
+    → entry_at d k ≡ counted_text (offset_of d k) t.heap (event_of (row_of o) (before_of (fresh s)) t)
 unfolding entry_at
 entry_is d k o s t e r f = rw (e, r, f) refl
 
@@ -92,10 +92,10 @@ event_is o k s t e = event_by s.stopped (row_of o) s t (accepted (refusal_at o s
 
 -- what is written for it
 entry_here : (d : Contents) (k offset : ℕ) (o : Operation) (s t : State) → item_at d k ≡ Some o → run (start d.many) (ops_of d) k ≡ Some s → move o k s ≡ Ok t → offset ≡ offset_of d k
-    → entry_at d k ≡ entry offset t.heap (event_of (row_of o) (before_of s) t)
+    → entry_at d k ≡ counted_text offset t.heap (event_of (row_of o) (before_of s) t)
 entry_here d k offset o s t e r m f =
     let next : run (start d.many) (ops_of d) (suc k) ≡ Some t = rw (run-suc (start d.many) (ops_of d) k o s e r, m) refl in
-    entry_is d k o s t e r next ∙ ap (λ (x : Option Event). entry (offset_of d k) t.heap x) (sym (event_is o k s t m)) ∙ ap (λ (n : ℕ). entry n t.heap (event_of (row_of o) (before_of s) t)) (sym f)
+    entry_is d k o s t e r next ∙ ap (λ (x : Option Event). counted_text (offset_of d k) t.heap x) (sym (event_is o k s t m)) ∙ ap (λ (n : ℕ). counted_text n t.heap (event_of (row_of o) (before_of s) t)) (sym f)
 
 one_or_none : (b : _) → one_if b ≤ 1
 one_or_none true = omega arith
@@ -135,7 +135,7 @@ unfolding ◌⧺◌
 begins_at d k j s le =
     let first = entries_first d k j le in
     let c : Closing = closing_to d j (refused_on (item_at d j) s) in
-    let last : List ℕ = end_text (entries d j).imports (entries d j).calls (kept_by d c) c in
+    let last : List ℕ = calls_end_text (entries d j).imports (entries d j).calls (kept_by d c) c in
     (first.0 ++ last, ap (λ (t : List ℕ). t ++ last) first.1 ∙ append_assoc (entries d k).text first.0 last)
 
 -- where place k is reached, the text begins with the lines before it
@@ -164,7 +164,7 @@ pub record Progress (d : Contents) (k offset : ℕ) (s : State) (totals : Totals
 pub record Walked (many : Bool) (bytes : List ℕ) (old new : Told) (rest : List ℕ) (left k offset : ℕ) (s : State) (totals : Totals) (last : Bool) : Type 0 where
   pub d : Contents
   pub reads : ReadsAs many bytes d
-  pub stands : StandsAt d k rest left
+  pub stands : HasRead d k rest left
   pub progress : Progress d k offset s totals
   pub written : Wrote old new (entries d k).text
   pub ends : ends_with_stop (take k (items_of d)) ≡ last
@@ -178,8 +178,8 @@ walked_none many bytes a some small = record {
   progress = record {
     reached = run_nothing (start some.0.many) (ops_of some.0) ∙ ap (λ (b : Bool). Some (start b)) some.1.mode;
     stands = refl;
-    imports = sym (ap (λ (e : Entry). e.imports) (entries-zero some.0));
-    calls = sym (ap (λ (e : Entry). e.calls) (entries-zero some.0));
+    imports = sym (ap (λ (e : CountedText). e.imports) (entries-zero some.0));
+    calls = sym (ap (λ (e : CountedText). e.calls) (entries-zero some.0));
     heap = omega arith;
     few_imports = omega arith;
     few_calls = omega arith;
@@ -192,7 +192,7 @@ walked_none many bytes a some small = record {
 
 -- the text is what is written so far and the last lines, with these counts and this closing
 pub record EndsWith (d : Contents) (front : List ℕ) (totals : Totals) (kept : ℕ) (c : Closing) : Type 0 where
-  pub whole : (calls d).text ≡ front ++ end_text totals.imports totals.calls kept c
+  pub whole : (calls d).text ≡ front ++ calls_end_text totals.imports totals.calls kept c
   pub answers : (calls d).status ≡ closing_status c
 
 refused : (d : Contents) (k offset : ℕ) (o : Operation) (s : State) (totals : Totals) (r : Refusal) → Progress d k offset s totals → item_at d k ≡ Some o → refusal_at o s ≡ Some r
@@ -228,24 +228,24 @@ pub record Closes (many : Bool) (bytes : List ℕ) (old new : Told) (totals : To
   pub ends : EndsWith d front totals kept c
 
 closed : {many : Bool} (bytes : List ℕ) (a b e : Told) (totals : Totals) (kept : ℕ) (c : Closing) → Closes many bytes a b totals kept c
-    → Wrote b e (end_text totals.imports totals.calls kept c) → TellsCalls many bytes a e (closing_status c)
+    → Wrote b e (calls_end_text totals.imports totals.calls kept c) → CompletesCalls many bytes a e (closing_status c)
 closed bytes a b e totals kept c w q =
-    let all : Wrote a e (calls w.d).text = rw w.ends.whole (Wrote-trans a b e w.front (end_text totals.imports totals.calls kept c) w.written q) in
+    let all : Wrote a e (calls w.d).text = rw w.ends.whole (Wrote-trans a b e w.front (calls_end_text totals.imports totals.calls kept c) w.written q) in
     (w.d, w.reads, (all, sym w.ends.answers))
 
 close_breaks : {many : Bool} (bytes : List ℕ) (a b e : Told) (totals : Totals) (kept : ℕ) (c : Closing) → Closes many bytes a b totals kept c
-    → Broke b e (end_text totals.imports totals.calls kept c) → BreaksCalls many bytes a e
+    → Broke b e (calls_end_text totals.imports totals.calls kept c) → BreaksCalls many bytes a e
 close_breaks bytes a b e totals kept c w q =
-    let all : Broke a e (calls w.d).text = rw w.ends.whole (Broke-after a b e w.front (end_text totals.imports totals.calls kept c) w.written q) in
+    let all : Broke a e (calls w.d).text = rw w.ends.whole (Broke-after a b e w.front (calls_end_text totals.imports totals.calls kept c) w.written q) in
     (w.d, w.reads, all)
 
 pub closes_ok : {many : Bool} (bytes : List ℕ) (a b e : Told) (totals : Totals) (kept : ℕ) (c : Closing) (r : Result ℕ TextStop) → Closes many bytes a b totals kept c
-    → Writes b e r (end_text totals.imports totals.calls kept c) → IfOk r (λ x. x ≡ closing_status c) → IfOk r (TellsCalls many bytes a e)
+    → Writes b e r (calls_end_text totals.imports totals.calls kept c) → IfOk r (λ x. x ≡ closing_status c) → IfOk r (CompletesCalls many bytes a e)
 closes_ok bytes a b e totals kept c (Ok x) w q is = rw is (closed bytes a b e totals kept c w q)
 closes_ok bytes a b e totals kept c (Err x) w q is = tt
 
 pub closes_err : {many : Bool} (bytes : List ℕ) (a b e : Told) (totals : Totals) (kept : ℕ) (c : Closing) (r : Result ℕ TextStop) → Closes many bytes a b totals kept c
-    → Writes b e r (end_text totals.imports totals.calls kept c) → IfErr r (λ x. x ≡ stop.Failed) → IfErr r (CutsCalls many bytes a e)
+    → Writes b e r (calls_end_text totals.imports totals.calls kept c) → IfErr r (λ x. x ≡ stop.Failed) → IfErr r (CutsCalls many bytes a e)
 closes_err bytes a b e totals kept c (Ok x) w q is = tt
 closes_err bytes a b e totals kept c (Err x) w q is = rw is (close_breaks bytes a b e totals kept c w q)
 
@@ -302,7 +302,7 @@ line_breaks bytes a b c rest left k offset o s t totals w n m q =
     let g = item_is w.d k left rest o (size_of o) w.stands n in
     let next : run (start w.d.many) (ops_of w.d) (suc k) ≡ Some t = rw (run-suc (start w.d.many) (ops_of w.d) k o s g.there w.progress.reached, m) refl in
     let here : (entry_at w.d k).text ≡ line_of offset t.heap (event_of (row_of o) (before_of s) t) =
-    ap (λ (e : Entry). e.text) (entry_here w.d k offset o s t g.there w.progress.reached m w.progress.stands) in
+    ap (λ (e : CountedText). e.text) (entry_here w.d k offset o s t g.there w.progress.reached m w.progress.stands) in
     let line : (entries w.d (suc k)).text ≡ (entries w.d k).text ++ line_of offset t.heap (event_of (row_of o) (before_of s) t) =
     text-suc w.d k ∙ ap (λ (l : List ℕ). (entries w.d k).text ++ l) here in
     let front : Broke a c (entries w.d (suc k)).text = rw line (Broke-after a b c (entries w.d k).text (line_of offset t.heap (event_of (row_of o) (before_of s) t)) w.written q) in
@@ -324,7 +324,7 @@ pub record Moved (many : Bool) (bytes : List ℕ) (old new : Told) (rest : List 
   pub d : Contents
   pub reads : ReadsAs many bytes d
   pub there : item_at d k ≡ Some o
-  pub goes : MatchBool (ends_reading many o.opcode) (IsDone d (k + 1) rest None) (StandsAt d (k + 1) rest left)
+  pub goes : MatchBool (ends_reading many o.opcode) (IsDone d (k + 1) rest None) (HasRead d (k + 1) rest left)
   pub progress : Progress d (k + 1) offset s totals
   pub written : Wrote old new (entries d (k + 1)).text
 
@@ -338,18 +338,18 @@ moved bytes a b c rest left k offset o s t totals next w n m q i j =
     let g = item_is w.d k left rest o (size_of o) w.stands n in
     let r : Option Event = event_of (row_of o) (before_of s) t in
     let after : run (start w.d.many) (ops_of w.d) (suc k) ≡ Some t = rw (run-suc (start w.d.many) (ops_of w.d) k o s g.there w.progress.reached, m) refl in
-    let here : entry_at w.d k ≡ entry offset t.heap r = entry_here w.d k offset o s t g.there w.progress.reached m w.progress.stands in
+    let here : entry_at w.d k ≡ counted_text offset t.heap r = entry_here w.d k offset o s t g.there w.progress.reached m w.progress.stands in
     let line : (entries w.d (suc k)).text ≡ (entries w.d k).text ++ line_of offset t.heap r =
-    text-suc w.d k ∙ ap (λ (e : Entry). (entries w.d k).text ++ e.text) here in
+    text-suc w.d k ∙ ap (λ (e : CountedText). (entries w.d k).text ++ e.text) here in
     let imports : (entries w.d (suc k)).imports ≡ (entries w.d k).imports + imports_of t.heap r =
-    imports-suc w.d k ∙ ap (λ (e : Entry). (entries w.d k).imports + e.imports) here in
+    imports-suc w.d k ∙ ap (λ (e : CountedText). (entries w.d k).imports + e.imports) here in
     let calls : (entries w.d (suc k)).calls ≡ (entries w.d k).calls + calls_of t.heap r =
-    calls-suc w.d k ∙ ap (λ (e : Entry). (entries w.d k).calls + e.calls) here in
+    calls-suc w.d k ∙ ap (λ (e : CountedText). (entries w.d k).calls + e.calls) here in
     record {
       d = w.d;
       reads = w.reads;
       there = g.there;
-      goes = subst (λ (x : Bool). MatchBool (ends_reading x o.opcode) (IsDone w.d (k + 1) (drop (size_of o) rest) None) (StandsAt w.d (k + 1) (drop (size_of o) rest) (left_behind left o))) w.reads.mode g.goes;
+      goes = subst (λ (x : Bool). MatchBool (ends_reading x o.opcode) (IsDone w.d (k + 1) (drop (size_of o) rest) None) (HasRead w.d (k + 1) (drop (size_of o) rest) (left_behind left o))) w.reads.mode g.goes;
       progress = record {
         reached = rw (add-one k) after;
         stands = rw w.progress.stands (sym (offset_next w.d k o g.there));
@@ -365,7 +365,7 @@ moved bytes a b c rest left k offset o s t totals next w n m q i j =
 pub goes_on : {many : Bool} (bytes : List ℕ) (a b : Told) (rest : List ℕ) (left k offset : ℕ) (o : Operation) (s : State) (totals : Totals)
     → Moved many bytes a b rest left k offset o s totals → ends_reading many o.opcode ≡ false → Walked many bytes a b rest left (k + 1) offset s totals (is_stop o.opcode)
 goes_on bytes a b rest left k offset o s totals w miss =
-    let stands : StandsAt w.d (k + 1) rest left = rw miss at w.goes in
+    let stands : HasRead w.d (k + 1) rest left = rw miss at w.goes in
     record { d = w.d; reads = w.reads; stands = stands; progress = w.progress; written = w.written; ends = last_taken (items_of w.d) k o w.there }
 
 pub stop_closes : {many : Bool} (bytes : List ℕ) (a b : Told) (rest : List ℕ) (left k offset : ℕ) (o : Operation) (s : State) (totals : Totals) (n : ℕ)

@@ -6,10 +6,10 @@ use Rattle.std.proofs.lemmas.List.{length-replicate}
 use Rattle.pickle_io.specs.Text.{◌⧺◌}
 use Rattle.pickle_ops.specs.Object.{Object}
 use Rattle.pickle_io.specs.Device.{each}
-use Rattle.pickle_show.specs.ReportLine.{newline}
+use Rattle.pickle_show.specs.Column.{newline}
 use Rattle.pickle_show.specs.ObjectText.{id_text, next_text, object_text}
-use Rattle.pickle_show.specs.Show.{Place, again_line, first_line, at_depth, found, content, walk, show_text}
-use Rattle.pickle_show.specs.Inside.Walking.{unseen, place_line, seen_after, entered, pending, left_text, walk_text}
+use Rattle.pickle_show.specs.Show.{WalkPlace, again_line, first_line, at_depth, found, content, walk, show_text}
+use Rattle.pickle_show.specs.Inside.Walking.{unseen, place_line, seen_after, entered, pending, unwritten_text, walk_text}
 
 -- a line is not empty
 pub one_line : (a b : List ℕ) → length (a ⧺ b) ≡ length a + length b
@@ -38,19 +38,19 @@ pending-push depth [] ids =
     rw (e, append-nil) refl
 pending-push depth (f ∷ stack) ids =
     let e : (depth + 1) + length stack ≡ depth + suc (length stack) = omega arith in
-    ap (λ (t : List Place). t ++ at_depth depth f) (pending-push (depth + 1) stack ids)
+    ap (λ (t : List WalkPlace). t ++ at_depth depth f) (pending-push (depth + 1) stack ids)
     ∙ append_assoc (at_depth ((depth + 1) + length stack) ids) (pending (depth + 1) stack) (at_depth depth f)
     ∙ ap (λ (d : ℕ). at_depth d ids ++ (pending (depth + 1) stack ++ at_depth depth f)) e
 
 -- ---- the walk at one place
 
-walk-again : (n : ℕ) (heap : List Object) (seen : List Bool) (p : Place) (places : List Place) → found heap seen p.id ≡ None
+walk-again : (n : ℕ) (heap : List Object) (seen : List Bool) (p : WalkPlace) (places : List WalkPlace) → found heap seen p.id ≡ None
     → walk n heap seen (p ∷ places) ≡ again_line p.depth p.id ++ walk n heap seen places
 unfolding walk ◌⧺◌ each
 walk-again zero heap seen p places e = refl
 walk-again (suc n) heap seen p places e = rw e refl
 
-walk-first : (n m : ℕ) (heap : List Object) (seen : List Bool) (p : Place) (places : List Place) (o : Object) → found heap seen p.id ≡ Some o → n ≡ suc m
+walk-first : (n m : ℕ) (heap : List Object) (seen : List Bool) (p : WalkPlace) (places : List WalkPlace) (o : Object) → found heap seen p.id ≡ Some o → n ≡ suc m
     → walk n heap seen (p ∷ places) ≡ first_line p.depth p.id o ++ walk m heap (set seen p.id true) (at_depth (p.depth + 1) (content o) ++ places)
 unfolding walk ◌⧺◌
 walk-first n m heap seen p places o e h = rw (h, e) refl
@@ -75,21 +75,21 @@ room-left heap seen id o n cap e same h = let less = fits heap seen id o e same 
 
 -- ---- what is left, step by step
 
-pub left-none : (heap : List Object) (seen : List Bool) → left_text heap seen [] ≡ []
-unfolding left_text walk each
+pub left-none : (heap : List Object) (seen : List Bool) → unwritten_text heap seen [] ≡ []
+unfolding unwritten_text walk each
 left-none heap seen = go (unseen seen)
   where
     go : (n : ℕ) → walk n heap seen [] ≡ []
     go zero = refl
     go (suc n) = refl
 
-left-empty : (heap : List Object) (seen : List Bool) (stack : List (List ℕ)) → left_text heap seen (stack ++ [] ∷ []) ≡ left_text heap seen stack
-unfolding left_text
+left-empty : (heap : List Object) (seen : List Bool) (stack : List (List ℕ)) → unwritten_text heap seen (stack ++ [] ∷ []) ≡ unwritten_text heap seen stack
+unfolding unwritten_text
 left-empty heap seen stack = ap (walk (unseen seen) heap seen) (pending-push 1 stack [])
 
 left-next : (heap : List Object) (seen : List Bool) (stack : List (List ℕ)) (id : ℕ) (rest : List ℕ) (depth : ℕ) → length seen ≡ length heap → depth ≡ length stack + 1
-    → left_text heap seen (stack ++ (id ∷ rest) ∷ []) ≡ place_line depth id (found heap seen id) ++ left_text heap (seen_after seen id (found heap seen id)) ((stack ++ rest ∷ []) ++ entered (found heap seen id))
-unfolding left_text
+    → unwritten_text heap seen (stack ++ (id ∷ rest) ∷ []) ≡ place_line depth id (found heap seen id) ++ unwritten_text heap (seen_after seen id (found heap seen id)) ((stack ++ rest ∷ []) ++ entered (found heap seen id))
+unfolding unwritten_text
 left-next heap seen stack id rest depth same d = go (found heap seen id) refl
   where
     e : 1 + length stack ≡ depth
@@ -97,7 +97,7 @@ left-next heap seen stack id rest depth same d = go (found heap seen id) refl
 
     places : pending 1 (stack ++ (id ∷ rest) ∷ []) ≡ record { depth = depth; id = id } ∷ pending 1 (stack ++ rest ∷ [])
     places = pending-push 1 stack (id ∷ rest) ∙ ap (λ (k : ℕ). at_depth k (id ∷ rest) ++ pending 1 stack) e
-        ∙ ap (λ (ps : List Place). record { depth = depth; id = id } ∷ ps) (ap (λ (k : ℕ). at_depth k rest ++ pending 1 stack) (sym e) ∙ sym (pending-push 1 stack rest))
+        ∙ ap (λ (ps : List WalkPlace). record { depth = depth; id = id } ∷ ps) (ap (λ (k : ℕ). at_depth k rest ++ pending 1 stack) (sym e) ∙ sym (pending-push 1 stack rest))
 
     go : (f : Option Object) → found heap seen id ≡ f
         → walk (unseen seen) heap seen (pending 1 (stack ++ (id ∷ rest) ∷ [])) ≡ place_line depth id f ++ walk (unseen (seen_after seen id f)) heap (seen_after seen id f) (pending 1 ((stack ++ rest ∷ []) ++ entered f))
@@ -109,12 +109,12 @@ left-next heap seen stack id rest depth same d = go (found heap seen id) refl
         ap (λ (n : ℕ). at_depth n (content o) ++ pending 1 (stack ++ rest ∷ [])) (sym k) ∙ sym (pending-push 1 (stack ++ rest ∷ []) (content o)) in
         ap (walk (unseen seen) heap seen) places
         ∙ walk-first (unseen seen) (unseen (set seen id true)) heap seen (record { depth = depth; id = id }) (pending 1 (stack ++ rest ∷ [])) o h (fits heap seen id o h same)
-        ∙ ap (λ (ps : List Place). first_line depth id o ++ walk (unseen (set seen id true)) heap (set seen id true) ps) inner
+        ∙ ap (λ (ps : List WalkPlace). first_line depth id o ++ walk (unseen (set seen id true)) heap (set seen id true) ps) inner
 
 -- the first place: nothing is on the stack
 pub left-first : (heap : List Object) (id : ℕ) (seen : List Bool) → seen ≡ replicate (length heap) false
     → show_text heap id ≡ walk_text heap seen id
-unfolding left_text show_text ◌⧺◌
+unfolding unwritten_text show_text ◌⧺◌
 left-first heap id seen s = rw (← s) (go (found heap seen id) refl)
   where
     all : unseen seen ≡ length heap
@@ -127,23 +127,23 @@ left-first heap id seen s = rw (← s) (go (found heap seen id) refl)
         → walk (length heap) heap seen (record { depth = 0; id = id } ∷ []) ≡ place_line 0 id f ++ walk (unseen (seen_after seen id f)) heap (seen_after seen id f) (pending 1 (entered f))
     go None h = walk-again (length heap) heap seen (record { depth = 0; id = id }) [] h ∙ ap (λ (n : ℕ). again_line 0 id ++ walk n heap seen []) (sym all)
     go (Some o) h = walk-first (length heap) (unseen (set seen id true)) heap seen (record { depth = 0; id = id }) [] o h (sym all ∙ fits heap seen id o h same)
-        ∙ ap (λ (ps : List Place). first_line 0 id o ++ walk (unseen (set seen id true)) heap (set seen id true) ps) (append-nil (at_depth 1 (content o)))
+        ∙ ap (λ (ps : List WalkPlace). first_line 0 id o ++ walk (unseen (set seen id true)) heap (set seen id true) ps) (append-nil (at_depth 1 (content o)))
 
 -- ---- the loop over the stack
 
 -- an object whose content was walked leaves the stack
-pub left-popped : (heap : List Object) (seen : List Bool) (old new : List (List ℕ)) (frame : List ℕ) → old ≡ new ++ frame ∷ [] → frame ≡ [] → left_text heap seen old ≡ left_text heap seen new
-left-popped heap seen old new frame e h = ap (left_text heap seen) (e ∙ ap (λ (f : List ℕ). new ++ f ∷ []) h) ∙ left-empty heap seen new
+pub left-popped : (heap : List Object) (seen : List Bool) (old new : List (List ℕ)) (frame : List ℕ) → old ≡ new ++ frame ∷ [] → frame ≡ [] → unwritten_text heap seen old ≡ unwritten_text heap seen new
+left-popped heap seen old new frame e h = ap (unwritten_text heap seen) (e ∙ ap (λ (f : List ℕ). new ++ f ∷ []) h) ∙ left-empty heap seen new
 
 -- the next place of the object on top of the stack
 pub left-stepped : (heap : List Object) (seen seen-new : List Bool) (old popped pushed new : List (List ℕ)) (frame rest : List ℕ) (depth id : ℕ)
     → length seen ≡ length heap → old ≡ popped ++ frame ∷ [] → frame ≡ id ∷ rest → pushed ≡ popped ++ rest ∷ [] → depth ≡ length popped + 1
     → seen-new ≡ seen_after seen id (found heap seen id) → new ≡ pushed ++ entered (found heap seen id)
-    → left_text heap seen old ≡ place_line depth id (found heap seen id) ++ left_text heap seen-new new
+    → unwritten_text heap seen old ≡ place_line depth id (found heap seen id) ++ unwritten_text heap seen-new new
 left-stepped heap seen seen-new old popped pushed new frame rest depth id same o f p d s n =
-    ap (left_text heap seen) (o ∙ ap (λ (x : List ℕ). popped ++ x ∷ []) f) ∙ left-next heap seen popped id rest depth same d
-    ∙ ap (λ (x : List Bool). place_line depth id (found heap seen id) ++ left_text heap x ((popped ++ rest ∷ []) ++ entered (found heap seen id))) (sym s)
-    ∙ ap (λ (x : List (List ℕ)). place_line depth id (found heap seen id) ++ left_text heap seen-new x) (ap (λ (y : List (List ℕ)). y ++ entered (found heap seen id)) (sym p) ∙ sym n)
+    ap (unwritten_text heap seen) (o ∙ ap (λ (x : List ℕ). popped ++ x ∷ []) f) ∙ left-next heap seen popped id rest depth same d
+    ∙ ap (λ (x : List Bool). place_line depth id (found heap seen id) ++ unwritten_text heap x ((popped ++ rest ∷ []) ++ entered (found heap seen id))) (sym s)
+    ∙ ap (λ (x : List (List ℕ)). place_line depth id (found heap seen id) ++ unwritten_text heap seen-new x) (ap (λ (y : List (List ℕ)). y ++ entered (found heap seen id)) (sym p) ∙ sym n)
 
 -- ---- lines are long enough for the walk to end
 
@@ -161,10 +161,10 @@ line-long depth id (Some o) =
     omega (arith, x, y, z)
 
 pub smaller-popped : (heap : List Object) (seen : List Bool) (old new : List (List ℕ)) (frame : List ℕ) → old ≡ new ++ frame ∷ [] → frame ≡ []
-    → length (left_text heap seen new) + length new < length (left_text heap seen old) + length old
+    → length (unwritten_text heap seen new) + length new < length (unwritten_text heap seen old) + length old
 smaller-popped heap seen old new frame e h =
     let l : length old ≡ length new + 1 = ap length e ∙ length-append new (frame ∷ []) in
-    let t : length (left_text heap seen old) ≡ length (left_text heap seen new) = ap length (left-popped heap seen old new frame e h) in
+    let t : length (unwritten_text heap seen old) ≡ length (unwritten_text heap seen new) = ap length (left-popped heap seen old new frame e h) in
     omega (arith, l, t)
 
 entered-short : (f : Option Object) → length (entered f) ≤ 1
@@ -174,10 +174,10 @@ entered-short (Some o) = omega arith
 pub smaller-stepped : (heap : List Object) (seen seen-new : List Bool) (old popped pushed new : List (List ℕ)) (frame rest : List ℕ) (depth id : ℕ)
     → length seen ≡ length heap → old ≡ popped ++ frame ∷ [] → frame ≡ id ∷ rest → pushed ≡ popped ++ rest ∷ [] → depth ≡ length popped + 1
     → seen-new ≡ seen_after seen id (found heap seen id) → new ≡ pushed ++ entered (found heap seen id)
-    → length (left_text heap seen-new new) + length new < length (left_text heap seen old) + length old
+    → length (unwritten_text heap seen-new new) + length new < length (unwritten_text heap seen old) + length old
 smaller-stepped heap seen seen-new old popped pushed new frame rest depth id same o f p d s n =
-    let t : length (left_text heap seen old) ≡ length (place_line depth id (found heap seen id)) + length (left_text heap seen-new new) =
-    ap length (left-stepped heap seen seen-new old popped pushed new frame rest depth id same o f p d s n) ∙ length-append (place_line depth id (found heap seen id)) (left_text heap seen-new new) in
+    let t : length (unwritten_text heap seen old) ≡ length (place_line depth id (found heap seen id)) + length (unwritten_text heap seen-new new) =
+    ap length (left-stepped heap seen seen-new old popped pushed new frame rest depth id same o f p d s n) ∙ length-append (place_line depth id (found heap seen id)) (unwritten_text heap seen-new new) in
     let l : length old ≡ length popped + 1 = ap length o ∙ length-append popped (frame ∷ []) in
     let q : length pushed ≡ length popped + 1 = ap length p ∙ length-append popped (rest ∷ []) in
     let r : length new ≡ length pushed + length (entered (found heap seen id)) = ap length n ∙ length-append pushed (entered (found heap seen id)) in

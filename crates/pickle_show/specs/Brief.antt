@@ -107,9 +107,9 @@ unfoldable pub next_brief : List Object → ℕ → List ℕ
 next_brief heap id = codes ", " ⧺ brief_text heap id
 
 -- objects with commas between them
-abbrev pub joined : List Object → List ℕ → List ℕ
-joined heap [] = []
-joined heap (id ∷ ids) = brief_text heap id ⧺ each (next_brief heap) ids
+abbrev pub comma_list : List Object → List ℕ → List ℕ
+comma_list heap [] = []
+comma_list heap (id ∷ ids) = brief_text heap id ⧺ each (next_brief heap) ids
 
 -- how many objects more there are, if any
 unfoldable pub more_text : ℕ → List ℕ
@@ -117,7 +117,7 @@ more_text n = if n == 0 then [] else codes ", +" ⧺ decimal n
 
 -- the first objects in brackets, and how many more there are
 unfoldable pub briefs_text : List Object → List ℕ → List ℕ
-briefs_text heap ids = codes "(" ⧺ joined heap (take most_objects ids) ⧺ more_text (length ids - most_objects) ⧺ codes ")"
+briefs_text heap ids = codes "(" ⧺ comma_list heap (take most_objects ids) ⧺ more_text (length ids - most_objects) ⧺ codes ")"
 
 -- an object that is given to a call, or becomes a state: of a tuple its parts, of any other object what it is in brief
 unfoldable pub kind_value : List Object → ℕ → Kind → List ℕ → List ℕ

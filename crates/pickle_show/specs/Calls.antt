@@ -21,35 +21,35 @@ use Rattle.pickle_show.specs.Report.{closing_status, refused_on}
 use Rattle.pickle_show.specs.Listing.{reached}
 use Rattle.pickle_show.specs.declared.event.Event.{Event}
 use Rattle.pickle_show.specs.Event.{before_of, event_of}
-use Rattle.pickle_show.specs.CallsLine.{line_of, imports_of, calls_of, end_text}
+use Rattle.pickle_show.specs.CallsLine.{line_of, imports_of, calls_of, calls_end_text}
 
 -- ---- what items come to
 
 -- a text, and how many imports and calls it is: of one item a line or nothing, of several their lines
-pub record Entry : Type 0 where
+pub record CountedText : Type 0 where
   pub text : List ℕ
   pub imports : ℕ
   pub calls : ℕ
 
-abbrev pub entry : ℕ → List Object → Option Event → Entry
-entry offset heap e = record { text = line_of offset heap e; imports = imports_of heap e; calls = calls_of heap e }
+abbrev pub counted_text : ℕ → List Object → Option Event → CountedText
+counted_text offset heap e = record { text = line_of offset heap e; imports = imports_of heap e; calls = calls_of heap e }
 
-abbrev pub no_entry : Entry
+abbrev pub no_entry : CountedText
 no_entry = record { text = []; imports = 0; calls = 0 }
 
 -- from the state before the item, as its move is taken on it, to the one after it
-abbrev pub entry_on : ℕ → Option Operation → Option State → Option State → Entry
-entry_on offset (Some o) (Some s) (Some t) = entry offset t.heap (event_of (row_of o) (before_of (fresh s)) t)
+abbrev pub entry_on : ℕ → Option Operation → Option State → Option State → CountedText
+entry_on offset (Some o) (Some s) (Some t) = counted_text offset t.heap (event_of (row_of o) (before_of (fresh s)) t)
 entry_on offset (Some o) (Some s) None = no_entry
 entry_on offset (Some o) None t = no_entry
 entry_on offset None s t = no_entry
 
 -- what item k comes to
-unfoldable pub entry_at : Contents → ℕ → Entry
+unfoldable pub entry_at : Contents → ℕ → CountedText
 entry_at d k = entry_on (offset_of d k) (item_at d k) (run (start d.many) (ops_of d) k) (run (start d.many) (ops_of d) (suc k))
 
 -- what the first n items come to
-unfoldable pub entries : Contents → ℕ → Entry
+unfoldable pub entries : Contents → ℕ → CountedText
 entries d zero = no_entry
 entries d (suc k) =
     record { text = (entries d k).text ⧺ (entry_at d k).text; imports = (entries d k).imports + (entry_at d k).imports; calls = (entries d k).calls + (entry_at d k).calls }
@@ -73,8 +73,8 @@ kept_by d (closing.Refused k r) = 0
 kept_by d (closing.Fault f offset) = 0
 
 -- what the items come to, and the last lines
-abbrev pub with_end : Contents → Entry → Closing → Output
-with_end d e c = record { text = e.text ⧺ end_text e.imports e.calls (kept_by d c) c; status = closing_status c }
+abbrev pub with_end : Contents → CountedText → Closing → Output
+with_end d e c = record { text = e.text ⧺ calls_end_text e.imports e.calls (kept_by d c) c; status = closing_status c }
 
 -- k being the greatest place that is reached
 abbrev pub calls_to : Contents → ℕ → Option State → Output

@@ -140,5 +140,5 @@ unfoldable pub totals_line : ℕ → ℕ → List ℕ
 totals_line imports calls = decimal imports ⧺ codes " imports, " ⧺ decimal calls ⧺ codes " calls" ⧺ newline
 
 -- how many imports and calls there are, how many bytes STOP left, and how the reading ended
-unfoldable pub end_text : ℕ → ℕ → ℕ → Closing → List ℕ
-end_text imports calls kept c = totals_line imports calls ⧺ kept_line kept ⧺ closing_line c
+unfoldable pub calls_end_text : ℕ → ℕ → ℕ → Closing → List ℕ
+calls_end_text imports calls kept c = totals_line imports calls ⧺ kept_line kept ⧺ closing_line c

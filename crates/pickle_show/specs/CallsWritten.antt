@@ -3,11 +3,11 @@
 use Rattle.std.specs.Prelude.{ℕ, Bool, List}
 use Rattle.pickle_io.specs.Device.{Told}
 use Rattle.pickle_show.specs.declared.stop.TextStop.{TextStop}
-use Rattle.pickle_show.specs.Output.{Tells, Breaks, Begins, Cuts}
+use Rattle.pickle_show.specs.Output.{Completes, Breaks, Begins, Cuts}
 use Rattle.pickle_show.specs.Calls.{calls}
 
-abbrev pub TellsCalls : Bool → List ℕ → Told → Told → ℕ → Type 0
-TellsCalls many bytes old new status = Tells calls many bytes old new status
+abbrev pub CompletesCalls : Bool → List ℕ → Told → Told → ℕ → Type 0
+CompletesCalls many bytes old new status = Completes calls many bytes old new status
 
 abbrev pub BreaksCalls : Bool → List ℕ → Told → Told → Type 0
 BreaksCalls many bytes old new = Breaks calls many bytes old new

@@ -3,7 +3,7 @@
 use Rattle.std.specs.Prelude.{ℕ, List, codes, decimal}
 use Rattle.pickle_io.specs.Text.{◌⧺◌}
 use Rattle.pickle_io.specs.Device.{each}
-use Rattle.pickle_show.specs.ReportLine.{newline}
+use Rattle.pickle_show.specs.Column.{newline}
 use Rattle.pickle_show.specs.ObjectText.{id_text}
 
 -- a key, and the object that the memo has under it

@@ -10,7 +10,7 @@ use Rattle.pickle_ops.specs.declared.object.Change.{Change}
 use Rattle.pickle_ops.specs.declared.object.Change.TheVariants as change
 use Rattle.pickle_ops.specs.Object.{Object}
 use Rattle.pickle_io.specs.Device.{each}
-use Rattle.pickle_show.specs.ReportLine.{newline}
+use Rattle.pickle_show.specs.Column.{newline}
 
 -- an object by its number
 unfoldable pub id_text : ℕ → List ℕ

@@ -27,8 +27,8 @@ BeganOutput output d old new = (rest : List ℕ) × WroteAllBut old new (output 
 -- ---- of bytes: the text of the document that they read as, as several pickles or as one
 
 -- the whole text was written, and this is its status
-abbrev pub Tells : (Contents → Output) → Bool → List ℕ → Told → Told → ℕ → Type 0
-Tells output many bytes old new status = (d : Contents) × ReadsAs many bytes d × WroteOutput output d old new status
+abbrev pub Completes : (Contents → Output) → Bool → List ℕ → Told → Told → ℕ → Type 0
+Completes output many bytes old new status = (d : Contents) × ReadsAs many bytes d × WroteOutput output d old new status
 
 -- a beginning of it was written, and then the sink failed
 abbrev pub Breaks : (Contents → Output) → Bool → List ℕ → Told → Told → Type 0

@@ -15,7 +15,8 @@ use Rattle.pickle_machine.specs.Run.{run}
 use Rattle.pickle_io.specs.Device.{Told, Wrote, Broke, each}
 use Rattle.pickle_show.specs.declared.report.Closing.{Closing}
 use Rattle.pickle_show.specs.declared.report.Closing.TheVariants as closing
-use Rattle.pickle_show.specs.ReportLine.{newline, item_refused, fault_line}
+use Rattle.pickle_show.specs.Column.{newline}
+use Rattle.pickle_show.specs.ReportLine.{item_refused, fault_line}
 use Rattle.pickle_show.specs.ObjectText.{next_text, objects_text}
 
 -- ---- the results, and the closing line
@@ -23,13 +24,13 @@ use Rattle.pickle_show.specs.ObjectText.{next_text, objects_text}
 unfoldable pub result_line : ℕ → List ℕ
 result_line id = codes "result" ⧺ next_text id ⧺ newline
 
-unfoldable pub refused_line : ℕ → Refusal → List ℕ
-refused_line place r = codes "refused: " ⧺ item_refused place r ⧺ newline
+unfoldable pub refused_item_line : ℕ → Refusal → List ℕ
+refused_item_line place r = codes "refused: " ⧺ item_refused place r ⧺ newline
 
 -- where STOP ends the run there is no closing line
 unfoldable pub closing_line : Closing → List ℕ
 closing_line closing.Stopped = []
-closing_line (closing.Refused place r) = refused_line place r
+closing_line (closing.Refused place r) = refused_item_line place r
 closing_line (closing.Fault f offset) = fault_line f offset
 
 -- the status: 0 where nothing is refused and nothing is at fault
@@ -49,10 +50,6 @@ closing_at false f offset = closing.Fault f offset
 
 -- ---- the report of a document
 
--- the state that the first n items reach from nothing, if each of them has a move
-abbrev pub state_at : Contents → ℕ → Option State
-state_at d n = run (start d.many) (ops_of d) n
-
 -- why the machine refuses an item, if it is there and is refused
 abbrev pub refused_on : Option Operation → State → Option Refusal
 refused_on (Some o) s = refusal_at o s
@@ -71,7 +68,7 @@ pub record IsReport (d : Contents) (text : List ℕ) (status : ℕ) : Type 0 whe
   pub place : ℕ
   pub state : State
   pub closing : Closing
-  pub reached : state_at d place ≡ Some state
+  pub reached : run (start d.many) (ops_of d) place ≡ Some state
   pub closes : Closes d place state closing
   pub lines : text ≡ report_text state.heap state.results closing
   pub answers : status ≡ closing_status closing

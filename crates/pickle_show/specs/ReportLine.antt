@@ -5,11 +5,10 @@ use Rattle.std.specs.Fmt.{signed_decimal}
 use Rattle.pickle_io.specs.Text.{◌⧺◌, hexadecimal}
 use Rattle.pickle_doc.specs.declared.fault.TailFault.{TailFault}
 use Rattle.pickle_doc.specs.declared.fault.TailFault.TheVariants as tail
+use Rattle.pickle_ops.specs.declared.fault.FrontFault.TheVariants as at_front
 use Rattle.pickle_machine.specs.declared.refusal.Refusal.{Refusal}
 use Rattle.pickle_machine.specs.declared.refusal.Refusal.TheVariants as refusal
-
-abbrev pub newline : List ℕ
-newline = 10 ∷ []
+use Rattle.pickle_show.specs.Column.{newline}
 
 -- ---- refusals
 
@@ -52,28 +51,28 @@ item_refused place r = codes "item " ⧺ decimal place ⧺ codes ": " ⧺ refusa
 -- ---- faults
 
 -- the words of a fault, and after them the byte that is no code
-unfoldable pub fault_words : TailFault → List ℕ
-fault_words tail.Ended = codes "F1 ended"
-fault_words (tail.UnknownOpcode byte) = codes "F2 unknown opcode 0x"
-fault_words tail.Truncated = codes "F3 truncated"
-fault_words tail.NegativeLength = codes "F4 negative length"
-fault_words tail.BadArgument = codes "F5 bad argument"
-fault_words tail.FrameInFrame = codes "F6 frame in a frame"
-fault_words tail.FramePastEnd = codes "F7 frame past the end"
-fault_words tail.FrameCrossed = codes "F8 frame crossed"
+unfoldable pub tail_words : TailFault → List ℕ
+tail_words (tail.Front at_front.Ended) = codes "F1 ended"
+tail_words (tail.Front (at_front.UnknownOpcode byte)) = codes "F2 unknown opcode 0x"
+tail_words (tail.Front at_front.Truncated) = codes "F3 truncated"
+tail_words (tail.Front at_front.NegativeLength) = codes "F4 negative length"
+tail_words (tail.Front at_front.BadArgument) = codes "F5 bad argument"
+tail_words tail.FrameInFrame = codes "F6 frame in a frame"
+tail_words tail.FramePastEnd = codes "F7 frame past the end"
+tail_words tail.FrameCrossed = codes "F8 frame crossed"
 
 unfoldable pub fault_byte : TailFault → List ℕ
-fault_byte (tail.UnknownOpcode byte) = hexadecimal (byte ∷ [])
-fault_byte tail.Ended = []
-fault_byte tail.Truncated = []
-fault_byte tail.NegativeLength = []
-fault_byte tail.BadArgument = []
+fault_byte (tail.Front (at_front.UnknownOpcode byte)) = hexadecimal (byte ∷ [])
+fault_byte (tail.Front at_front.Ended) = []
+fault_byte (tail.Front at_front.Truncated) = []
+fault_byte (tail.Front at_front.NegativeLength) = []
+fault_byte (tail.Front at_front.BadArgument) = []
 fault_byte tail.FrameInFrame = []
 fault_byte tail.FramePastEnd = []
 fault_byte tail.FrameCrossed = []
 
 unfoldable pub fault_text : TailFault → List ℕ
-fault_text f = fault_words f ⧺ fault_byte f
+fault_text f = tail_words f ⧺ fault_byte f
 
 -- the fault of a tail at this offset
 unfoldable pub fault_line : TailFault → ℕ → List ℕ

@@ -9,7 +9,7 @@ use Rattle.pickle_ops.specs.declared.object.Change.{Change}
 use Rattle.pickle_ops.specs.declared.object.Change.TheVariants as change
 use Rattle.pickle_ops.specs.Object.{Object}
 use Rattle.pickle_io.specs.Device.{each}
-use Rattle.pickle_show.specs.ReportLine.{newline}
+use Rattle.pickle_show.specs.Column.{newline}
 use Rattle.pickle_show.specs.ObjectText.{next_text, object_text}
 
 -- ---- content
@@ -38,12 +38,12 @@ again_line depth id = decimal depth ⧺ next_text id ⧺ newline
 -- ---- the walk
 
 -- a place of the walk: how deep it is, and which object is there
-pub record Place : Type 0 where
+pub record WalkPlace : Type 0 where
   pub depth : ℕ
   pub id : ℕ
 
 -- objects that are at one depth
-abbrev pub at_depth : ℕ → List ℕ → List Place
+abbrev pub at_depth : ℕ → List ℕ → List WalkPlace
 at_depth depth [] = []
 at_depth depth (id ∷ ids) = record { depth = depth; id = id } ∷ at_depth depth ids
 
@@ -51,13 +51,13 @@ at_depth depth (id ∷ ids) = record { depth = depth; id = id } ∷ at_depth dep
 abbrev pub found : List Object → List Bool → ℕ → Option Object
 found heap seen id = if get_or seen id false then None else slice_get heap id
 
-abbrev pub again : Place → List ℕ
+abbrev pub again : WalkPlace → List ℕ
 again p = again_line p.depth p.id
 
 -- The lines of the places that are still to be walked, the next one first. At its first place is the object, and its
 -- content is walked next, one deeper; a later place is one short line. The first number counts the objects that were not
 -- seen: where none is left, each place is a short line.
-unfoldable pub walk : ℕ → List Object → List Bool → List Place → List ℕ
+unfoldable pub walk : ℕ → List Object → List Bool → List WalkPlace → List ℕ
 walk zero heap seen places = each again places
 walk (suc n) heap seen [] = []
 walk (suc n) heap seen (p ∷ places) =

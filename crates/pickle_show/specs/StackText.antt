@@ -4,16 +4,16 @@ use Rattle.std.specs.Prelude.{ℕ, List, [], ◌∷◌, codes, decimal}
 use Rattle.pickle_io.specs.Text.{◌⧺◌}
 use Rattle.pickle_machine.specs.State.{Marked, State}
 use Rattle.pickle_io.specs.Device.{each}
-use Rattle.pickle_show.specs.ReportLine.{newline}
+use Rattle.pickle_show.specs.Column.{newline}
 use Rattle.pickle_show.specs.ObjectText.{next_text}
 
 -- a mark, by the place of its item
-unfoldable pub mark_text : ℕ → List ℕ
-mark_text place = codes " (" ⧺ decimal place
+unfoldable pub stack_mark_text : ℕ → List ℕ
+stack_mark_text place = codes " (" ⧺ decimal place
 
 -- a section of the stack, and the mark above it
 unfoldable pub section_text : List ℕ → ℕ → List ℕ
-section_text ids place = each next_text ids ⧺ mark_text place
+section_text ids place = each next_text ids ⧺ stack_mark_text place
 
 -- the sections under the top one, the lowest first
 unfoldable pub marked_text : List Marked → List ℕ

@@ -4,7 +4,7 @@ use Rattle.pickle_io.specs.Device.{Told}
 use Rattle.pickle_doc.specs.Document.{Contents}
 use Rattle.pickle_show.specs.declared.stop.TextStop.{TextStop}
 use Rattle.pickle_show.specs.declared.stop.TextStop.TheVariants as stop
-use Rattle.pickle_show.specs.Output.{WroteOutput, BrokeOutput, BeganOutput, Tells, Breaks, Begins, Cuts}
+use Rattle.pickle_show.specs.Output.{WroteOutput, BrokeOutput, BeganOutput, Completes, Breaks, Begins, Cuts}
 use Rattle.pickle_show.specs.Listing.{listing}
 
 -- ---- of a document
@@ -25,7 +25,7 @@ CutListing d old new stop.Memory = BeganListing d old new
 -- ---- of bytes: the listing of the document that they read as, as many pickles or as one
 
 abbrev pub IsListed : Bool → List ℕ → Told → Told → ℕ → Type 0
-IsListed many bytes old new status = Tells listing many bytes old new status
+IsListed many bytes old new status = Completes listing many bytes old new status
 
 abbrev pub BreaksListing : Bool → List ℕ → Told → Told → Type 0
 BreaksListing many bytes old new = Breaks listing many bytes old new

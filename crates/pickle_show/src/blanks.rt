@@ -43,14 +43,17 @@ fn write_many_blanks<P: Page>(count: usize, page: &mut P) -> Result<(), Failed>
     Ok(())
 }
 
-/// Writes blanks. `Failed` comes from the sink.
+/// Writes blanks, mostly none. `Failed` comes from the sink.
+#[tactic(auto, using(crate::proofs::Spaces::no_blanks))]
 #[inline(always)]
 pub fn write_blanks<P: Page>(count: usize, page: &mut P) -> Result<(), Failed>
     requires { 224 ≤ P.room page.old }
     ensures text { Writes (P.told page.old) (P.told page.new) result (blanks count) }
     ensures room { OnOk result (208 ≤ P.room page.new) }
 {
-    if count <= 16 {
+    if count == 0 {
+        Ok(())
+    } else if count <= 16 {
         push_blanks(count, page);
         Ok(())
     } else {

@@ -2,7 +2,7 @@
 
 ghost use Rattle.pickle_io.specs.Text.{◌⧺◌};
 ghost use Rattle.pickle_io.specs.Device.{Writes, each};
-ghost use Rattle.pickle_show.specs.Brief.{over_text, cut_quoted, cut_after, cut_long, kind_brief, brief_text, next_brief, joined, more_text, briefs_text, kind_value, value_text};
+ghost use Rattle.pickle_show.specs.Brief.{over_text, cut_quoted, cut_after, cut_long, kind_brief, brief_text, next_brief, comma_list, more_text, briefs_text, kind_value, value_text};
 
 use crate::front::front;
 use crate::kind::write_kind;
@@ -138,7 +138,7 @@ fn write_some<S: Page>(
 /// Writes objects in brief with commas between them.
 #[tactic(auto, using(pickle_io::proofs::Devices::text_steps))]
 fn write_joined<S: Page>(heap: &[Object], ids: &[ObjId], sink: &mut S) -> Result<(), Failed>
-    ensures { Writes (S.told sink.old) (S.told sink.new) result (joined heap.now ids.now) }
+    ensures { Writes (S.told sink.old) (S.told sink.new) result (comma_list heap.now ids.now) }
 {
     match ids.split_first() {
         None => Ok(()),

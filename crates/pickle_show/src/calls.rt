@@ -2,16 +2,16 @@
 
 ghost use Rattle.std.specs.Prelude.{◌≡◌, ◌≤◌, length, IfOk, IfErr};
 ghost use Rattle.pickle_doc.specs.Document.{Contents, ReadsAs, size_limit};
-ghost use Rattle.pickle_show.specs.CallsWritten.{TellsCalls, CutsCalls};
+ghost use Rattle.pickle_show.specs.CallsWritten.{CompletesCalls, CutsCalls};
 
 use crate::calls_line::write_line;
 use crate::end::write_end;
 use crate::event::{Before, event_of};
-use crate::report::{Closing, closing_at, machine_of, step_over};
+use crate::report::{Closing, closing_at, step_over};
 use crate::stop::TextStop;
 use crate::totals::Totals;
 use pickle_doc::{ItemSource, Items, NextRef, ends_reading, is_stop};
-use pickle_machine::Refusal;
+use pickle_machine::{Machine, Refusal};
 use pickle_ops::{Page, Row};
 use std::alloc::Global;
 
@@ -29,11 +29,11 @@ pub fn calls_of_items<'a, I: ItemSource<'a>, S: Page>(
     requires first { (I.unread source).left ≡ 0 }
     requires small { length (I.unread source).rest ≤ size_limit }
     requires document { (d : Contents) × ReadsAs many (I.unread source).rest d }
-    ensures ok { IfOk result (TellsCalls many (I.unread source).rest (S.told sink.old) (S.told sink.new)) }
+    ensures ok { IfOk result (CompletesCalls many (I.unread source).rest (S.told sink.old) (S.told sink.new)) }
     ensures err { IfErr result (CutsCalls many (I.unread source).rest (S.told sink.old) (S.told sink.new)) }
 {
     let mut reader = source;
-    let mut machine = machine_of(alloc, many);
+    let mut machine = Machine::start(alloc, many);
     let mut totals = Totals::new();
     let mut offset = 0;
     let mut place = 0;
@@ -76,7 +76,7 @@ pub fn calls_of_bytes<S: Page>(
     sink: &mut S,
 ) -> Result<u8, TextStop>
     requires { length bytes.now ≤ size_limit }
-    ensures ok { IfOk result (TellsCalls many bytes.now (S.told sink.old) (S.told sink.new)) }
+    ensures ok { IfOk result (CompletesCalls many bytes.now (S.told sink.old) (S.told sink.new)) }
     ensures err { IfErr result (CutsCalls many bytes.now (S.told sink.old) (S.told sink.new)) }
 {
     calls_of_items(alloc, many, Items::new(bytes), sink)

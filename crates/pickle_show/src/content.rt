@@ -9,13 +9,13 @@ use std::marker::Model;
 
 /// What is left of the content of an object: a value whose key was taken out, parts, and changes.
 #[derive(Drop)]
-pub(crate) struct Content<'a> {
+pub(crate) struct RemainingContent<'a> {
     value: Option<ObjId>,
     parts: &'a [ObjId],
     changes: &'a [Change],
 }
 
-impl<'a> Model for Content<'a> {
+impl<'a> Model for RemainingContent<'a> {
     ghost use Rattle.std.specs.Prelude.{ℕ, List, ◌++◌};
     ghost use Rattle.std.specs.Option.{option_to_list};
     ghost use Rattle.std.specs.List.{flat_map};
@@ -26,12 +26,12 @@ impl<'a> Model for Content<'a> {
     ghost view = { λ c. option_to_list c.value ++ c.parts.now ++ flat_map change_ids c.changes.now };
 }
 
-impl<'a> Content<'a> {
+impl<'a> RemainingContent<'a> {
     /// All that an object contains.
-    pub(crate) fn of(object: &'a Object) -> Content<'a>
+    pub(crate) fn of(object: &'a Object) -> RemainingContent<'a>
         ensures { result ≡ content object.now }
     {
-        Content {
+        RemainingContent {
             value: None,
             parts: object.parts(),
             changes: object.changes(),
@@ -39,7 +39,7 @@ impl<'a> Content<'a> {
     }
 
     /// The next object, and what is left after it.
-    pub(crate) fn next(&self) -> Option<(ObjId, Content<'a>)>
+    pub(crate) fn next(&self) -> Option<(ObjId, RemainingContent<'a>)>
         ensures { MatchOption result (self.now ≡ []) (λ p. self.now ≡ p.0 ∷ p.1) }
     {
         let parts = self.parts;
@@ -47,7 +47,7 @@ impl<'a> Content<'a> {
         match self.value {
             Some(id) => Some((
                 id,
-                Content {
+                RemainingContent {
                     value: None,
                     parts,
                     changes,
@@ -59,13 +59,13 @@ impl<'a> Content<'a> {
 }
 
 /// The next part, or else the first object of the next change.
-fn next_part<'a>(parts: &'a [ObjId], changes: &'a [Change]) -> Option<(ObjId, Content<'a>)>
+fn next_part<'a>(parts: &'a [ObjId], changes: &'a [Change]) -> Option<(ObjId, RemainingContent<'a>)>
     ensures { MatchOption result (parts.now ++ flat_map change_ids changes.now ≡ []) (λ p. parts.now ++ flat_map change_ids changes.now ≡ p.0 ∷ p.1) }
 {
     match parts.split_first() {
         Some((first, rest)) => Some((
             *first,
-            Content {
+            RemainingContent {
                 value: None,
                 parts: rest,
                 changes,
@@ -76,7 +76,10 @@ fn next_part<'a>(parts: &'a [ObjId], changes: &'a [Change]) -> Option<(ObjId, Co
 }
 
 /// The first object of the next change, where no part is left.
-fn next_change<'a>(parts: &'a [ObjId], changes: &'a [Change]) -> Option<(ObjId, Content<'a>)>
+fn next_change<'a>(
+    parts: &'a [ObjId],
+    changes: &'a [Change],
+) -> Option<(ObjId, RemainingContent<'a>)>
     requires { parts.now ≡ [] }
     ensures { MatchOption result (flat_map change_ids changes.now ≡ []) (λ p. flat_map change_ids changes.now ≡ p.0 ∷ p.1) }
 {
@@ -87,7 +90,11 @@ fn next_change<'a>(parts: &'a [ObjId], changes: &'a [Change]) -> Option<(ObjId, 
 }
 
 /// The first object of a change, and what is left after it, where no part is left.
-fn take_change<'a>(change: Change, parts: &'a [ObjId], rest: &'a [Change]) -> (ObjId, Content<'a>)
+fn take_change<'a>(
+    change: Change,
+    parts: &'a [ObjId],
+    rest: &'a [Change],
+) -> (ObjId, RemainingContent<'a>)
     requires { parts.now ≡ [] }
     ensures { change_ids change ++ flat_map change_ids rest.now ≡ result.0 ∷ result.1 }
 {
@@ -99,7 +106,7 @@ fn take_change<'a>(change: Change, parts: &'a [ObjId], rest: &'a [Change]) -> (O
     };
     (
         id,
-        Content {
+        RemainingContent {
             value,
             parts,
             changes: rest,

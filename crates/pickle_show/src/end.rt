@@ -3,7 +3,7 @@
 ghost use Rattle.std.specs.Prelude.{◌≡◌, IfOk, IfErr};
 ghost use Rattle.pickle_io.specs.Device.{Writes};
 ghost use Rattle.pickle_show.specs.Report.{closing_status};
-ghost use Rattle.pickle_show.specs.CallsLine.{totals_line, end_text};
+ghost use Rattle.pickle_show.specs.CallsLine.{totals_line, calls_end_text};
 
 use crate::line::write_kept_line;
 use crate::report::{Closing, status_of, write_closing};
@@ -24,14 +24,14 @@ fn write_totals<S: Page>(totals: Totals, sink: &mut S) -> Result<(), Failed>
 }
 
 /// Writes the last lines.
-#[tactic(auto, using(pickle_io::proofs::Devices::text_steps), unfolding(crate::specs::CallsLine::end_text))]
+#[tactic(auto, using(pickle_io::proofs::Devices::text_steps), unfolding(crate::specs::CallsLine::calls_end_text))]
 fn write_last_lines<S: Page>(
     totals: Totals,
     kept: u64,
     closing: Closing,
     sink: &mut S,
 ) -> Result<(), Failed>
-    ensures { Writes (S.told sink.old) (S.told sink.new) result (end_text totals.imports totals.calls kept closing) }
+    ensures { Writes (S.told sink.old) (S.told sink.new) result (calls_end_text totals.imports totals.calls kept closing) }
 {
     write_totals(totals, sink)?;
     write_kept_line(kept, sink)?;
@@ -46,7 +46,7 @@ pub fn write_end<S: Page>(
     closing: Closing,
     sink: &mut S,
 ) -> Result<u8, TextStop>
-    ensures text { Writes (S.told sink.old) (S.told sink.new) result (end_text totals.imports totals.calls kept closing) }
+    ensures text { Writes (S.told sink.old) (S.told sink.new) result (calls_end_text totals.imports totals.calls kept closing) }
     ensures status { IfOk result (λ status. status ≡ closing_status closing) }
     ensures failed { IfErr result (λ e. e ≡ TextStop.Failed) }
 {

@@ -193,12 +193,11 @@ pub fn list_items<'a, I: ItemSource<'a>, S: Page>(
                     let marks = lean.marks_len();
                     let most = highest.get();
                     return answer(
-                        write_refused_item(&op, &offset, marks, refusal, most, sink),
+                        write_refused_item(&op.again(), &offset, marks, refusal, most, sink),
                         1,
                     );
                 }
-                let marks = opened.as_slice();
-                write_item(&op, &offset, row, &lean, marks, sink)?;
+                write_item(&op, &offset, row, &lean, &opened, sink)?;
                 let class = Class::of(op.opcode());
                 perform(&mut lean, &mut opened, row, class, place, &offset)?;
                 offset.advance(op.size() as u64);

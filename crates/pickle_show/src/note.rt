@@ -3,7 +3,7 @@
 ghost use Rattle.std.specs.Prelude.{◌≡◌};
 ghost use Rattle.pickle_ops.specs.Row.{row_of};
 ghost use Rattle.pickle_show.specs.Listing.{note_with};
-ghost use Rattle.pickle_show.specs.Inside.Marks.{last_of};
+ghost use Rattle.pickle_show.specs.Inside.Marks.{last_element};
 
 use pickle_machine::Lean;
 use pickle_ops::{OpRef, Opcode, Row};
@@ -17,14 +17,15 @@ pub enum Note {
     As(u64),
 }
 
-/// The note of an operation that is not refused; `opened` has the offsets of the open marks, the topmost last.
+/// The note of an operation that is not refused; `opened` has the offsets of the open marks, the topmost last. It is no slice, since a
+/// slice would be made of it for each operation, and few look at it.
 #[inline(always)]
-pub fn note_of(op: &OpRef<'_>, row: Row, lean: &Lean, opened: &[u64]) -> Option<Note>
+pub fn note_of(op: &OpRef<'_>, row: Row, lean: &Lean, opened: &Vec<u64>) -> Option<Note>
     requires { row ≡ row_of op.now }
-    ensures { result ≡ note_with op.now lean.now (last_of opened.now) }
+    ensures { result ≡ note_with op.now lean.now (last_element opened.now.items) }
 {
     if lean.takes_mark(row) {
-        match opened.last() {
+        match opened.as_slice().last() {
             Some(offset) => Some(Note::MarkAt(*offset)),
             None => None,
         }

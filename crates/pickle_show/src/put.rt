@@ -9,7 +9,7 @@ ghost use Rattle.pickle_ops.specs.Row.{row_of};
 ghost use Rattle.pickle_show.specs.Column.{blanks, left_aligned, newline};
 ghost use Rattle.pickle_show.specs.Line.{offset_column, code_column, note_text, described, named, item_line};
 ghost use Rattle.pickle_show.specs.Listing.{note_with};
-ghost use Rattle.pickle_show.specs.Inside.Marks.{last_of};
+ghost use Rattle.pickle_show.specs.Inside.Marks.{last_element};
 
 use crate::blanks::write_blanks;
 use crate::column::code_block;
@@ -145,7 +145,7 @@ fn write_named<P: Page>(op: &OpRef<'_>, note: Option<Note>, page: &mut P) -> Res
 {
     match note {
         None => write_name(op, page),
-        Some(note) => write_noted(op, note, page),
+        Some(note) => write_noted(&op.again(), note, page),
     }
 }
 
@@ -169,15 +169,15 @@ pub fn write_item<P: Page>(
     offset: &Offset,
     row: Row,
     lean: &Lean,
-    opened: &[u64],
+    opened: &Vec<u64>,
     page: &mut P,
 ) -> Result<(), Failed>
     requires row { row ≡ row_of op.now }
     requires marks { length lean.now.marked < 2 ^ 32 }
-    ensures { Writes (P.told page.old) (P.told page.new) result (item_line op.now offset.now (length lean.now.marked) (note_with op.now lean.now (last_of opened.now))) }
+    ensures { Writes (P.told page.old) (P.told page.new) result (item_line op.now offset.now (length lean.now.marked) (note_with op.now lean.now (last_element opened.now.items))) }
 {
     write_head(op.opcode(), offset, lean.marks_len(), page)?;
-    // No earlier: it is used at once, and takes no room while the head is written.
+    // No earlier: it is used at once, and takes no register while the head is written.
     let note = note_of(op, row, lean, opened);
     write_rest(op, note, page)
 }

@@ -5,7 +5,7 @@ ghost use Rattle.pickle_doc.specs.Document.{Contents, ReadsAs, size_limit};
 ghost use Rattle.pickle_machine.specs.State.{start};
 ghost use Rattle.pickle_machine.specs.Move.{move, refusal_at};
 ghost use Rattle.pickle_io.specs.Device.{Writes, each};
-ghost use Rattle.pickle_show.specs.Report.{result_line, refused_line, closing_line, closing_status, closing_at, report_text, WroteReport, BrokeReport, IsReported, BreaksReport};
+ghost use Rattle.pickle_show.specs.Report.{result_line, refused_item_line, closing_line, closing_status, closing_at, report_text, WroteReport, BrokeReport, IsReported, BreaksReport};
 ghost use Rattle.pickle_show.specs.Inside.Ending.{EndsIn};
 
 use crate::object::{write_next, write_objects};
@@ -51,9 +51,9 @@ fn write_results<S: Page>(ids: &[ObjId], sink: &mut S) -> Result<(), Failed>
 }
 
 /// Writes the line of an item that is refused. Where the sink fails, a beginning of the line was written.
-#[tactic(auto, using(pickle_io::proofs::Devices::text_steps), unfolding(crate::specs::Report::refused_line))]
+#[tactic(auto, using(pickle_io::proofs::Devices::text_steps), unfolding(crate::specs::Report::refused_item_line))]
 fn write_refused<S: Page>(place: usize, refusal: Refusal, sink: &mut S) -> Result<(), Failed>
-    ensures { Writes (S.told sink.old) (S.told sink.new) result (refused_line place refusal) }
+    ensures { Writes (S.told sink.old) (S.told sink.new) result (refused_item_line place refusal) }
 {
     write_all(sink, b"refused: ")?;
     write_item_refused(place, refusal, sink)?;
@@ -179,17 +179,6 @@ fn run_items<'a, I: ItemSource<'a>>(
     }
 }
 
-/// A machine that has done nothing, for several pickles or for one.
-pub fn machine_of(alloc: Global, many: bool) -> Machine
-    ensures { result.state ≡ start many }
-{
-    if many {
-        Machine::new_many(alloc)
-    } else {
-        Machine::new(alloc)
-    }
-}
-
 /// Writes the report of the items that a source gives from the first on, as several pickles or as one, and answers its status. A
 /// machine of its own runs the items from nothing, to the end or to the first that is refused; no item and no step is kept. Then
 /// come the lines of all objects that they made, a line `result #n` for each result, and where an item is refused or the tail has a
@@ -211,7 +200,7 @@ pub fn report_of_items<'a, I: ItemSource<'a>, S: Page>(
     ensures failed { result ≡ Err TextStop.Failed → BreaksReport many (I.unread source).rest (S.told sink.old) (S.told sink.new) }
     ensures memory { result ≡ Err TextStop.Memory → sink.new ≡ sink.old }
 {
-    let mut machine = machine_of(alloc, many);
+    let mut machine = Machine::start(alloc, many);
     let closing = run_items(alloc, many, source, &mut machine)?;
     let status = write_report(&machine, closing, sink)?;
     Ok(status)
@@ -246,7 +235,6 @@ pub fn write_document_report<S: Page>(
     ensures failed { result ≡ Err TextStop.Failed → BrokeReport document.now.contents (S.told sink.old) (S.told sink.new) }
     ensures memory { result ≡ Err TextStop.Memory → sink.new ≡ sink.old }
 {
-    let _total = document.total();
     let items = DocumentItems::new(document);
     report_of_items(alloc, document.is_many(), items, sink)
 }

@@ -2,11 +2,11 @@
 
 ghost use Rattle.std.specs.Prelude.{◌≡◌};
 ghost use Rattle.pickle_io.specs.Device.{Writes};
-ghost use Rattle.pickle_show.specs.ReportLine.{refusal_words, refusal_number, refusal_text, item_refused, fault_words, fault_byte, fault_text, fault_line};
+ghost use Rattle.pickle_show.specs.ReportLine.{refusal_words, refusal_number, refusal_text, item_refused, tail_words, fault_byte, fault_text, fault_line};
 
 use pickle_doc::TailFault;
 use pickle_machine::Refusal;
-use pickle_ops::{Failed, Page, write_all, write_decimal, write_hex, write_signed};
+use pickle_ops::{Failed, FrontFault, Page, write_all, write_decimal, write_hex, write_signed};
 
 /// The words of a refusal.
 #[tactic(auto, unfolding(crate::specs::ReportLine::refusal_words))]
@@ -75,16 +75,16 @@ pub(crate) fn write_item_refused<S: Page>(
 }
 
 /// The words of a fault.
-#[tactic(auto, unfolding(crate::specs::ReportLine::fault_words))]
+#[tactic(auto, unfolding(crate::specs::ReportLine::tail_words))]
 fn words_of_fault(fault: TailFault) -> &'static str
-    ensures { result.now ≡ fault_words fault }
+    ensures { result.now ≡ tail_words fault }
 {
     match fault {
-        TailFault::Ended => "F1 ended",
-        TailFault::UnknownOpcode(_) => "F2 unknown opcode 0x",
-        TailFault::Truncated => "F3 truncated",
-        TailFault::NegativeLength => "F4 negative length",
-        TailFault::BadArgument => "F5 bad argument",
+        TailFault::Front(FrontFault::Ended) => "F1 ended",
+        TailFault::Front(FrontFault::UnknownOpcode(_)) => "F2 unknown opcode 0x",
+        TailFault::Front(FrontFault::Truncated) => "F3 truncated",
+        TailFault::Front(FrontFault::NegativeLength) => "F4 negative length",
+        TailFault::Front(FrontFault::BadArgument) => "F5 bad argument",
         TailFault::FrameInFrame => "F6 frame in a frame",
         TailFault::FramePastEnd => "F7 frame past the end",
         TailFault::FrameCrossed => "F8 frame crossed",
@@ -97,7 +97,7 @@ fn write_fault_byte<S: Page>(fault: TailFault, sink: &mut S) -> Result<(), Faile
     ensures { Writes (S.told sink.old) (S.told sink.new) result (fault_byte fault) }
 {
     match fault {
-        TailFault::UnknownOpcode(byte) => write_hex(&[byte], sink),
+        TailFault::Front(FrontFault::UnknownOpcode(byte)) => write_hex(&[byte], sink),
         _ => Ok(()),
     }
 }

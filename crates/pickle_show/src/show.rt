@@ -5,9 +5,9 @@ ghost use Rattle.std.specs.Option.{option_copied};
 ghost use Rattle.std.specs.Vec.{vec_capacity};
 ghost use Rattle.pickle_io.specs.Device.{Wrote, Broke, Writes};
 ghost use Rattle.pickle_show.specs.Show.{again_line, first_line, found, show_text};
-ghost use Rattle.pickle_show.specs.Inside.Walking.{unseen, place_line, seen_after, entered, left_text, walk_text};
+ghost use Rattle.pickle_show.specs.Inside.Walking.{unseen, place_line, seen_after, entered, unwritten_text, walk_text};
 
-use crate::content::Content;
+use crate::content::RemainingContent;
 use crate::object::{write_next, write_object};
 use crate::stop::TextStop;
 use pickle_machine::Machine;
@@ -66,7 +66,7 @@ fn visit<'a, S: Page>(
     machine: &'a Machine,
     depth: usize,
     id: ObjId,
-    stack: &mut Vec<Content<'a>>,
+    stack: &mut Vec<RemainingContent<'a>>,
     seen: &mut Vec<bool>,
     sink: &mut S,
 ) -> Result<(), Failed>
@@ -83,7 +83,7 @@ fn visit<'a, S: Page>(
         Some(object) => {
             write_first(depth, id, object, sink)?;
             seen[id as usize] = true;
-            stack.push_reserved(Content::of(object));
+            stack.push_reserved(RemainingContent::of(object));
             Ok(())
         }
     }
@@ -92,13 +92,13 @@ fn visit<'a, S: Page>(
 /// Writes what the stack has still to show. It keeps what is left of each object on the way down.
 fn go_on<'a, S: Page>(
     machine: &'a Machine,
-    stack: &mut Vec<Content<'a>>,
+    stack: &mut Vec<RemainingContent<'a>>,
     seen: &mut Vec<bool>,
     sink: &mut S,
 ) -> Result<(), Failed>
     requires seen { length seen.old.items ≡ length machine.now.state.heap }
     requires room { length stack.old.items + unseen seen.old.items ≤ vec_capacity stack.old }
-    ensures { Writes (S.told sink.old) (S.told sink.new) result (left_text machine.now.state.heap seen.old.items stack.old.items) }
+    ensures { Writes (S.told sink.old) (S.told sink.new) result (unwritten_text machine.now.state.heap seen.old.items stack.old.items) }
 {
     while let Some(content) = stack.pop() {
         if let Some((id, rest)) = content.next() {
@@ -114,7 +114,7 @@ fn go_on<'a, S: Page>(
 fn walk_from<'a, S: Page>(
     machine: &'a Machine,
     id: ObjId,
-    stack: &mut Vec<Content<'a>>,
+    stack: &mut Vec<RemainingContent<'a>>,
     seen: &mut Vec<bool>,
     sink: &mut S,
 ) -> Result<(), Failed>

@@ -5,7 +5,7 @@ ghost use Rattle.std.specs.Option.{option_to_list};
 ghost use Rattle.pickle_io.specs.Device.{Writes, each};
 ghost use Rattle.pickle_machine.specs.State.{objects_below, stack_of};
 ghost use Rattle.pickle_show.specs.ObjectText.{next_text};
-ghost use Rattle.pickle_show.specs.StackText.{mark_text, section_text, marked_text, stack_text};
+ghost use Rattle.pickle_show.specs.StackText.{stack_mark_text, section_text, marked_text, stack_text};
 ghost use Rattle.pickle_show.specs.Inside.Between.{between};
 
 use crate::object::write_next;
@@ -13,9 +13,9 @@ use pickle_machine::Machine;
 use pickle_ops::{Failed, Page, write_all, write_decimal};
 
 /// Writes a mark, by the place of its item.
-#[tactic(auto, using(pickle_io::proofs::Devices::text_steps), unfolding(crate::specs::StackText::mark_text))]
+#[tactic(auto, using(pickle_io::proofs::Devices::text_steps), unfolding(crate::specs::StackText::stack_mark_text))]
 fn write_mark<S: Page>(place: usize, sink: &mut S) -> Result<(), Failed>
-    ensures { Writes (S.told sink.old) (S.told sink.new) result (mark_text place) }
+    ensures { Writes (S.told sink.old) (S.told sink.new) result (stack_mark_text place) }
 {
     write_all(sink, b" (")?;
     write_decimal(place as u64, sink)

@@ -27,7 +27,7 @@ struct NewFile {
 impl NewFile {
     /// Makes a file in the folder of `target`. Its name does not hold that of `target`, since it would be too long where that is as
     /// long as a name can be.
-    fn beside(rt: &HostRuntime, target: &PathBuf, mode: u32) -> Result<NewFile, Stop> {
+    fn next_to(rt: &HostRuntime, target: &PathBuf, mode: u32) -> Result<NewFile, Stop> {
         for number in 1..=MOST_NAMES {
             let name = format!(in rt.alloc(); "picklestep-save-{number}.unfinished")?;
             let path = target.with_file_name(rt.alloc(), name.as_str())?;
@@ -138,7 +138,7 @@ fn replace(
 ) -> Result<(), Stop> {
     // Nobody else may read the new file before it has the mode of the old one.
     let mode = if about.is_some() { 0o600 } else { 0o666 };
-    let new = NewFile::beside(rt, target, mode)?;
+    let new = NewFile::next_to(rt, target, mode)?;
     let filled = fill(rt, document, &new, target, about);
     if filled.is_err() {
         let _ = fs::remove_file(rt, &new.path);

@@ -4,8 +4,8 @@ use Rattle.pickle_ops.specs.Spelling.{Operation}
 use Rattle.pickle_doc.specs.declared.edit.Edit.{Edit}
 use Rattle.pickle_doc.specs.declared.record.EditRecord.{EditRecord}
 use Rattle.pickle_doc.specs.Document.{Contents}
-use Rattle.pickle_doc.specs.Edit.{given_one, given_by, adds_item}
-use Rattle.pickle_doc.specs.Turn.{Leads, LeadsOn, risen}
+use Rattle.pickle_doc.specs.Edit.{raised_next, raised_next_by, adds_item}
+use Rattle.pickle_doc.specs.Swap.{EditLeads, EditLeadsOn, risen}
 
 not_risen : (d : Contents) → risen 0 d ≡ d
 not_risen d =
@@ -18,20 +18,20 @@ risen_more n m d =
     ap (λ (k : ℕ). record { many = d.many; units = d.units; tail = d.tail; next = k }) next
 
 -- the record of an edit, which may have given an identity
-pub given : (e : Edit Operation) (r : EditRecord) (d f : Contents) → Leads r d (given_by e f) → (n : ℕ) × Leads r d (risen n f)
+pub given : (e : Edit Operation) (r : EditRecord) (d f : Contents) → EditLeads r d (raised_next_by e f) → (n : ℕ) × EditLeads r d (risen n f)
 given e r d f l = go (adds_item e) l
   where
-    go : (b : Bool) → Leads r d (if b then given_one f else f) → (n : ℕ) × Leads r d (risen n f)
+    go : (b : Bool) → EditLeads r d (if b then raised_next f else f) → (n : ℕ) × EditLeads r d (risen n f)
     go true l = (1, l)
-    go false l = let P : Contents → Type 0 = λ c. Leads r d c in (0, subst P (sym (not_risen f)) l)
+    go false l = let P : Contents → Type 0 = λ c. EditLeads r d c in (0, subst P (sym (not_risen f)) l)
 
 -- a record leads from a document that differs from its own by the next identity
-pub on : LeadsOn → (r : EditRecord) (d e f : Contents) (n : ℕ) → f ≡ risen n d → Leads r d e → Leads r f (risen n e)
+pub on : EditLeadsOn → (r : EditRecord) (d e f : Contents) (n : ℕ) → f ≡ risen n d → EditLeads r d e → EditLeads r f (risen n e)
 on law r d e f n same l =
-    let P : Contents → Type 0 = λ c. Leads r c (risen n e) in
+    let P : Contents → Type 0 = λ c. EditLeads r c (risen n e) in
     subst P (sym same) (law n r d e l)
 
-pub again : (r : EditRecord) (d e f : Contents) → f ≡ d → Leads r d e → Leads r f e
+pub again : (r : EditRecord) (d e f : Contents) → f ≡ d → EditLeads r d e → EditLeads r f e
 again r d e f same l =
-    let P : Contents → Type 0 = λ c. Leads r c e in
+    let P : Contents → Type 0 = λ c. EditLeads r c e in
     subst P (sym same) l

@@ -2,7 +2,7 @@
 
 ghost use Rattle.std.specs.Prelude.{◌≡◌, ℕ, ◌+◌, ◌≤◌, length, IfOk, OnOk, OnErr};
 ghost use Rattle.pickle_doc.specs.Document.{Contents, items_of};
-ghost use Rattle.pickle_doc.specs.Turn.{Leads, risen};
+ghost use Rattle.pickle_doc.specs.Swap.{EditLeads, risen};
 
 use crate::plain::{Kind, Part, Plain};
 use crate::{Stop, written};
@@ -81,7 +81,7 @@ fn edit_of(alloc: Global, edit: &Edit<usize>) -> Result<Edit<Op>, EditFault> {
 
 /// Makes an edit of a document. The record leads back.
 fn make(alloc: Global, document: &mut Document, edit: &Edit<usize>) -> Result<EditRecord, EditFault>
-    ensures back { IfOk result (λ r. (n : ℕ) × Leads r document.new.contents (risen n document.old.contents)) }
+    ensures back { IfOk result (λ r. (n : ℕ) × EditLeads r document.new.contents (risen n document.old.contents)) }
     ensures err { OnErr result (document.new ≡ document.old) }
     ensures total { length (items_of document.old.contents) + document.old.room ≤ length (items_of document.new.contents) + document.new.room }
 {

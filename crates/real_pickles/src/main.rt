@@ -8,7 +8,7 @@ mod plain;
 
 use crate::edits::{Dice, edit_by_dice};
 use pickle_doc::{DocFault, Document, EditFault, End, LIMIT, TailFault};
-use pickle_ops::{Failed, ToWrite};
+use pickle_ops::{Failed, FrontFault, ToWrite};
 use std::alloc::{AllocError, AllocFailed, Global};
 use std::fs::File;
 use std::io::Read;
@@ -67,11 +67,11 @@ impl From<Failed> for Stop {
 /// The code of a fault, as the listing prints it.
 fn code_of(fault: TailFault) -> &'static str {
     match fault {
-        TailFault::Ended => "F1",
-        TailFault::UnknownOpcode(_) => "F2",
-        TailFault::Truncated => "F3",
-        TailFault::NegativeLength => "F4",
-        TailFault::BadArgument => "F5",
+        TailFault::Front(FrontFault::Ended) => "F1",
+        TailFault::Front(FrontFault::UnknownOpcode(_)) => "F2",
+        TailFault::Front(FrontFault::Truncated) => "F3",
+        TailFault::Front(FrontFault::NegativeLength) => "F4",
+        TailFault::Front(FrontFault::BadArgument) => "F5",
         TailFault::FrameInFrame => "F6",
         TailFault::FramePastEnd => "F7",
         TailFault::FrameCrossed => "F8",

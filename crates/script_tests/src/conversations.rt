@@ -1,7 +1,7 @@
 //! Conversations over memory, and over devices that fail; the objects of an input; the words of stops.
 
 use pickle_doc::DocFault;
-use pickle_ops::FromRead;
+use pickle_ops::{Buffered, FromRead};
 use pickle_script::{Stop, converse, line_of, objects, one_cut};
 use pickle_session::{Session, Whole};
 use std::alloc::{AllocError, Global};
@@ -423,28 +423,93 @@ fn failing_source(rt: HostRuntime) -> Result<(), Fail> {
     Ok(())
 }
 
-/// A sink that fails at each of its calls in turn: the line whose text is cut is the last that was obeyed, and the sink
-/// is not called again.
+/// How many lines end in the blocks of this many bytes, up to the block in which this line ends.
+fn lines_of_blocks(alloc: Global, line: usize, block: usize) -> Result<usize, AllocError> {
+    let (script, _) = first_lines(alloc, COUNT)?;
+    let (front, _) = first_lines(alloc, line)?;
+    let read = front.len().div_ceil(block.max(1)).saturating_mul(block);
+    Ok(count_lines(script.get(..read).unwrap_or(script.as_slice())))
+}
+
+/// Whether a session that shows this has obeyed so many lines: at least one number, at most another.
+fn has_obeyed(alloc: Global, stands: &[u8], least: usize, most: usize) -> Result<bool, Stop> {
+    for count in least..=most {
+        if standing_after(alloc, count)?.as_slice() == stands {
+            return Ok(true);
+        }
+    }
+    Ok(false)
+}
+
+/// A conversation whose source gives blocks of this many bytes, and whose sink takes at most this many bytes a call and fails after
+/// this many calls: whether all was written, or nothing where the sink has no beginning of the transcript, or was called again, or the
+/// line whose text is cut was not obeyed, or one after its block was.
+fn is_written_to_its_end(
+    alloc: Global,
+    block: usize,
+    most: usize,
+    calls: u64,
+) -> Result<Option<bool>, Stop> {
+    let (script, text) = first_lines(alloc, COUNT)?;
+    let mut session = opened(alloc, PAIR)?;
+    let mut source = Drip::new(script.as_slice(), block.max(1), u64::MAX);
+    let mut sink = page_over(alloc, Sip::new(alloc, most.max(1), calls))?;
+    let answer = converse(alloc, &mut session, &mut source, &mut sink);
+    let answer = written_out(&mut sink, answer);
+    let taken = sink.get_ref().taken();
+    let is_whole = taken.len() == text.len();
+    let wanted = if is_whole {
+        (Ok(1), 0)
+    } else {
+        (Err(Stop::Write), 1)
+    };
+    let line = count_lines(taken).saturating_add(1).min(COUNT);
+    let stands = standing(alloc, &mut session)?;
+    let last = lines_of_blocks(alloc, line, block)?;
+    let is_so = text.starts_with(taken)
+        && (answer, sink.get_ref().failures()) == wanted
+        && has_obeyed(alloc, &stands, line, last)?;
+    Ok(is_so.then_some(is_whole))
+}
+
+/// A sink that fails at each of its calls in turn, over a source that gives the lines in blocks.
 #[test]
 fn failing_sink(rt: HostRuntime) -> Result<(), Fail> {
-    let (script, text) = first_lines(rt.alloc(), COUNT)?;
-    for most in 1..8 {
-        for calls in 0..220 {
-            let mut session = opened(rt.alloc(), PAIR)?;
-            // One byte a read: what a line is answered is written out before the next is read.
-            let mut source = Drip::new(script.as_slice(), 1, u64::MAX);
-            let mut sink = page_over(rt.alloc(), Sip::new(rt.alloc(), most, calls))?;
-            let answer = converse(rt.alloc(), &mut session, &mut source, &mut sink);
-            let answer = written_out(&mut sink, answer);
-            assert!(rt; text.starts_with(sink.get_ref().taken()));
-            let whole = sink.get_ref().taken().len() == text.len();
-            assert_eq!(rt; answer, if whole { Ok(1) } else { Err(Stop::Write) });
-            assert_eq!(rt; sink.get_ref().failures(), if whole { 0 } else { 1 });
-            let count = count_lines(sink.get_ref().taken());
-            let stands = standing(rt.alloc(), &mut session)?;
-            let expected = standing_after(rt.alloc(), count.saturating_add(1))?;
-            assert_eq!(rt; stands.as_slice(), expected.as_slice());
+    for block in [1, 3, 7, 40, 1000] {
+        for most in [1, 2, 7] {
+            let mut is_done = false;
+            for calls in 0..600 {
+                if !is_done {
+                    let found = is_written_to_its_end(rt.alloc(), block, most, calls)?;
+                    assert!(rt;
+                        found.is_some(),
+                        "{calls} calls of {most}, in blocks of {block}"
+                    );
+                    is_done = found == Some(true);
+                }
+            }
+            assert!(rt; is_done);
         }
+    }
+    Ok(())
+}
+
+/// A sink that fails when the answers to a whole block are written out: all lines of the block were obeyed.
+#[test]
+fn failing_sink_after_a_block(rt: HostRuntime) -> Result<(), Fail> {
+    let (script, text) = first_lines(rt.alloc(), COUNT)?;
+    let expected = standing_after(rt.alloc(), COUNT)?;
+    for calls in 0..100 {
+        let mut session = opened(rt.alloc(), PAIR)?;
+        let mut source = FromRead::new(script.as_slice());
+        let mut sink = Buffered::new(rt.alloc(), Sip::new(rt.alloc(), 7, calls))?;
+        let answer = converse(rt.alloc(), &mut session, &mut source, &mut sink);
+        assert!(rt; text.starts_with(sink.get_ref().taken()));
+        let whole = sink.get_ref().taken().len() == text.len();
+        assert_eq!(rt; answer, if whole { Ok(1) } else { Err(Stop::Write) });
+        assert_eq!(rt; sink.get_ref().failures(), if whole { 0 } else { 1 });
+        let stands = standing(rt.alloc(), &mut session)?;
+        assert_eq!(rt; stands.as_slice(), expected.as_slice());
     }
     Ok(())
 }

@@ -155,31 +155,63 @@ fn answered_lines(script: &Script, taken: usize) -> usize {
     count
 }
 
-/// A conversation whose sink takes at most this many bytes a call and fails after this many calls: whether it came to its end, or
-/// nothing where the sink has no beginning of the transcript, or was called again, or the session is not that of the line whose
-/// text is cut.
+/// How many lines end in the blocks of this many bytes, up to the block in which this line ends.
+fn lines_of_blocks(
+    alloc: Global,
+    script: &Script,
+    line: usize,
+    block: usize,
+) -> Result<usize, AllocError> {
+    let lines = first_lines(alloc, script, script.lines.len())?;
+    let front = first_lines(alloc, script, line)?;
+    let read = front.len().div_ceil(block.max(1)).saturating_mul(block);
+    Ok(count_lines(lines.get(..read).unwrap_or(lines.as_slice())))
+}
+
+/// Whether a session that shows this has obeyed so many lines: at least one number, at most another.
+fn has_obeyed(
+    alloc: Global,
+    script: &Script,
+    stands: &[u8],
+    least: usize,
+    most: usize,
+) -> Result<bool, Fail> {
+    for count in least..=most {
+        if standing_after(alloc, script, count)?.as_slice() == stands {
+            return Ok(true);
+        }
+    }
+    Ok(false)
+}
+
+/// A conversation whose source gives blocks of this many bytes, and whose sink takes at most this many bytes a call and fails after
+/// this many calls: whether it came to its end, or nothing where the sink has no beginning of the transcript, or was called again, or
+/// the session is not that of the line whose text is cut or of one after it in its block.
 fn is_written_to_its_end(
     alloc: Global,
     script: &Script,
+    block: usize,
     most: usize,
     calls: u64,
 ) -> Result<Option<bool>, Fail> {
-    let lines = first_lines(alloc, script, script.lines.len())?;
-    let text = first_replies(alloc, script, script.lines.len())?;
+    let count = script.lines.len();
+    let lines = first_lines(alloc, script, count)?;
+    let text = first_replies(alloc, script, count)?;
     let mut session = opened(alloc, script)?;
-    // One byte a read: what a line is answered is written out before the next is read.
-    let mut source = Drip::new(&lines, 1, u64::MAX);
+    let mut source = Drip::new(&lines, block.max(1), u64::MAX);
     let mut sink = page_over(alloc, Sip::new(alloc, most.max(1), calls))?;
     let answer = converse(alloc, &mut session, &mut source, &mut sink);
     let answer = written_out(&mut sink, answer);
-    let obeyed = answered_lines(script, sink.get_ref().taken().len()).saturating_add(1);
+    let taken = sink.get_ref().taken();
+    let line = answered_lines(script, taken.len())
+        .saturating_add(1)
+        .min(count);
     let stands = standing(alloc, &mut session)?;
-    let wanted = standing_after(alloc, script, obeyed)?;
-    let is_there = stands.as_slice() == wanted.as_slice();
-    if !text.starts_with(sink.get_ref().taken()) || !is_there {
+    let last = lines_of_blocks(alloc, script, line, block)?;
+    if !text.starts_with(taken) || !has_obeyed(alloc, script, &stands, line, last)? {
         return Ok(None);
     }
-    let is_whole = sink.get_ref().taken().len() == text.len();
+    let is_whole = taken.len() == text.len();
     Ok(match answer {
         Ok(status) if is_whole && status == status_of(script) && sink.get_ref().failures() == 0 =>
             Some(true),
@@ -191,12 +223,17 @@ fn is_written_to_its_end(
 #[test]
 fn failing_sinks(rt: HostRuntime) -> Result<(), Fail> {
     for script in &DEVICES {
-        for most in [1, 2, 7] {
+        for (block, most) in [(1, 1), (2, 2), (7, 7), (40, 7), (1000, 7)] {
             let mut is_done = false;
-            for calls in 0..400 {
-                let found = is_written_to_its_end(rt.alloc(), script, most, calls)?;
-                assert!(rt; found.is_some(), "{calls} calls of {most}");
-                is_done = found == Some(true);
+            for calls in 0..2000 {
+                if !is_done {
+                    let found = is_written_to_its_end(rt.alloc(), script, block, most, calls)?;
+                    assert!(rt;
+                        found.is_some(),
+                        "{calls} calls of {most}, in blocks of {block}"
+                    );
+                    is_done = found == Some(true);
+                }
             }
             assert!(rt; is_done);
         }

@@ -16,7 +16,7 @@ use pickle_ops::Opcode;
 use pickle_session::{Command, Past, Reply, Session, Whole, Why};
 use std::alloc::{AllocError, Global};
 use std::test::Fail;
-use test_equipment::{Beside, paper, shows, taken, write_session};
+use test_equipment::{Comparison, paper, shows, taken, write_session};
 
 /// Follows a script and goes all the way back, where one request for memory may be refused; the number of rows that are as
 /// they should be, and whether the opened bytes are there again.
@@ -103,7 +103,7 @@ fn notes_of(alloc: Global, many: bool, bytes: &[u8]) -> Result<Vec<Vec<u8>>, Fai
 }
 
 /// Whether a session is at a place, and shows what is written down.
-fn stands<P: Past>(session: &Session<P>, place: usize, notes: &[Vec<u8>], bytes: &[u8]) -> bool {
+fn is_shown<P: Past>(session: &Session<P>, place: usize, notes: &[Vec<u8>], bytes: &[u8]) -> bool {
     match notes.get(place) {
         Some(note) => session.cursor() == place && shows(session, note, bytes),
         None => false,
@@ -131,7 +131,7 @@ fn walk<P: Past>(
             from.saturating_sub(k)
         };
         let reply = session.obey(alloc, &command);
-        if reply != Reply::At(place) || !stands(session, place, notes, bytes) {
+        if reply != Reply::At(place) || !is_shown(session, place, notes, bytes) {
             return false;
         }
     }
@@ -149,7 +149,7 @@ fn go_everywhere<P: Past>(
         for to in 0..notes.len() {
             let first = session.obey(alloc, &Command::Goto(from));
             let there = session.obey(alloc, &Command::Goto(to));
-            let is_there = stands(session, to, notes, bytes);
+            let is_there = is_shown(session, to, notes, bytes);
             let again = session.obey(alloc, &Command::Goto(from));
             let is_walked = walk(session, alloc, to, notes, bytes);
             if (first, there, again) != (Reply::At(from), Reply::At(to), Reply::At(from))
@@ -288,7 +288,7 @@ fn a_thousand_heights(rt: HostRuntime) -> Result<(), Fail> {
 
 /// Whether a session's document has these bytes.
 fn has_bytes<P: Past>(session: &Session<P>, bytes: &[u8]) -> bool {
-    let mut written = Beside::new(bytes);
+    let mut written = Comparison::new(bytes);
     session.document().write_bytes(&mut written).is_ok() && written.is_whole()
 }
 

@@ -15,4 +15,4 @@ pub use pages::{insist_on_paper, page_over, paper, taken, written_out};
 pub use script::{Note, ScriptFault, follow_whole, follow_window, note_whole, note_window};
 pub use session::{shows, write_session};
 pub use sip::Sip;
-pub use state::{Beside, stands, write_state};
+pub use state::{Comparison, shows_state, write_state};

@@ -1,6 +1,6 @@
 //! What a session shows as a text, by its readers.
 
-use crate::state::{Beside, write_state};
+use crate::state::{Comparison, write_state};
 use pickle_ops::{Failed, Page, write_all, write_decimal};
 use pickle_session::{Past, Session};
 
@@ -44,14 +44,14 @@ fn write_breaks<P: Past, S: Page>(session: &Session<P>, sink: &mut S) -> Result<
 
 /// Whether a session shows this, and has these bytes. It takes no memory.
 pub fn shows<P: Past>(session: &Session<P>, shown: &[u8], bytes: &[u8]) -> bool {
-    let mut beside = Beside::new(shown);
-    let mut written = Beside::new(bytes);
-    let is_told = write_session(session, &mut beside).is_ok();
+    let mut compared = Comparison::new(shown);
+    let mut written = Comparison::new(bytes);
+    let is_told = write_session(session, &mut compared).is_ok();
     let is_written = session.document().write_bytes(&mut written).is_ok();
     let offset = session.document().offset(session.cursor());
     offset == Some(session.offset())
         && is_told
         && is_written
-        && beside.is_whole()
+        && compared.is_whole()
         && written.is_whole()
 }

@@ -241,16 +241,16 @@ const ROOM: usize = 4096;
 
 /// Compares what it is written with a text. It takes no memory and never fails.
 #[derive(Drop)]
-pub struct Beside<'a> {
+pub struct Comparison<'a> {
     rest: &'a [u8],
     is_same: bool,
     room: usize,
 }
 
-impl<'a> Beside<'a> {
+impl<'a> Comparison<'a> {
     /// Nothing is written yet.
-    pub fn new(text: &'a [u8]) -> Beside<'a> {
-        Beside {
+    pub fn new(text: &'a [u8]) -> Comparison<'a> {
+        Comparison {
             rest: text,
             is_same: true,
             room: 0,
@@ -274,7 +274,7 @@ impl<'a> Beside<'a> {
     }
 }
 
-impl Sink for Beside<'_> {
+impl Sink for Comparison<'_> {
     ghost use Rattle.std.specs.Prelude.{None};
 
     ghost told = { λ _. record { taken = None; failures = 0 } };
@@ -289,7 +289,7 @@ impl Sink for Beside<'_> {
     }
 }
 
-impl Page for Beside<'_> {
+impl Page for Comparison<'_> {
     ghost room = { λ b. b.room };
 
     fn push_front(&mut self, part: &[u8], n: usize) {
@@ -323,7 +323,7 @@ impl Page for Beside<'_> {
 }
 
 /// Whether the text is the whole state of a machine. It takes no memory.
-pub fn stands(machine: &Machine, text: &[u8]) -> bool {
-    let mut beside = Beside::new(text);
-    write_state(machine, &mut beside).is_ok() && beside.is_whole()
+pub fn shows_state(machine: &Machine, text: &[u8]) -> bool {
+    let mut compared = Comparison::new(text);
+    write_state(machine, &mut compared).is_ok() && compared.is_whole()
 }

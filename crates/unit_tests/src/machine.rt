@@ -8,7 +8,7 @@ use crate::machine::rows::{ALL_SHAPES, FURTHER, OPCODES, Row, SEVERAL, WORKED};
 use pickle_machine::{Machine, Refusal};
 use std::alloc::Global;
 use std::test::Fail;
-use test_equipment::stands;
+use test_equipment::shows_state;
 
 /// Goes a whole way forwards and back, twice, and compares what is shown at each place with what is written down.
 fn walk_twice(alloc: Global, noted: &Noted) -> Result<(), Fault> {
@@ -231,7 +231,7 @@ fn try_refusal(
     let found = machine.step(rt.alloc(), op, before.len()).err();
     is_so &= found == Some(refusal);
     let note = notes.last().map(|note| note.as_slice());
-    is_so &= stands(&machine, note.unwrap_or_default());
+    is_so &= shows_state(&machine, note.unwrap_or_default());
     is_so &= machine.moves() == before.len() as u64;
     is_so &= machine.check(op) == Some(refusal);
     Ok(is_so)

@@ -12,6 +12,7 @@ from typing import Any, Dict, List, Optional, Set, Tuple
 
 from ..answers import Calls
 from ..arguments import ArgumentValue
+from ..errors import Refused
 from ..program import run_program
 from ..session import Session
 from ..sources import Input, Source
@@ -120,7 +121,18 @@ class Document:
             add_items(self.lines, given, self._options)
         self._final = read_objects(given, self._options)
         self.reaches = Reaches(Calls(run_program(['calls', given.path, *self._options], given.files).decode('ascii')))
-        self._makers = makers_of(self.lines)
+        here = self.session.where().place
+        self._makers = makers_of(self.lines, self._final, self._makes_object)
+        self.session.goto(here)
+
+    def _makes_object(self, place: int, number: int) -> bool:
+        """Whether the opcode at a place makes the object of this number. It moves the session."""
+        try:
+            self.session.goto(place + 1)
+            self.session.show(number)
+        except Refused:
+            return False
+        return True
 
     def slice(self, start: int, count: int) -> List[List[Any]]:
         """Lines of the listing, each as offset, code, name, argument, marks, kind, whether it has a breakpoint and was edited."""

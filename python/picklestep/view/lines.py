@@ -9,7 +9,7 @@ from array import array
 from bisect import bisect_right
 from dataclasses import dataclass
 from itertools import accumulate
-from typing import Dict, List, Optional, Sequence
+from typing import Callable, Dict, List, Optional, Sequence
 
 from ..errors import ProgramError
 from ..program import Process
@@ -224,18 +224,30 @@ def _shown(code: str) -> bytes:
 
 _CODES: Dict[bytes, bytes] = {opcode.name.encode('ascii'): _shown(opcode.code) for opcode in pickletools.opcodes}
 
-# Opcodes that make no object.
+# Opcodes that make no object. READONLY_BUFFER makes one or none.
 MAKE_NONE = frozenset(
     b'PROTO FRAME STOP MARK POP POP_MARK DUP PUT BINPUT LONG_BINPUT MEMOIZE GET BINGET LONG_BINGET APPEND APPENDS SETITEM SETITEMS '
     b'ADDITEMS BUILD'.split())
 
 
 _NO_MAKERS = frozenset(map(_CODES.__getitem__, MAKE_NONE))
+_VIEW = _CODES[b'READONLY_BUFFER']
+_VIEW_MADE = re.compile(rb'^#[0-9]+ readonly ', re.MULTILINE)
 
 
-def makers_of(listing: OpcodeLines) -> 'array[int]':
-    """The places of the opcodes that make the objects, in the order of these."""
-    return array('Q', (place for place, code in enumerate(_CODE.findall(listing.text)) if code not in _NO_MAKERS))
+def makers_of(listing: OpcodeLines, objects: Lines, makes_view: Callable[[int, int], bool]) -> 'array[int]':
+    """The places of the opcodes that make the objects, in the order of these.
+
+    READONLY_BUFFER makes none where its object can only be read already. Where some do not, `makes_view` is given the place of each and the
+    number that an object would have there, and answers whether it makes one.
+    """
+    codes: List[bytes] = _CODE.findall(listing.text)
+    each_makes = codes.count(_VIEW) == len(_VIEW_MADE.findall(objects.text))
+    makers = array('Q')
+    for place, code in enumerate(codes):
+        if code not in _NO_MAKERS and (code != _VIEW or each_makes or makes_view(place, len(makers))):
+            makers.append(place)
+    return makers
 
 
 def opcode_names() -> Dict[str, str]:

@@ -2,6 +2,7 @@
 
 use crate::document::shown::{Wrong, written};
 use pickle_doc::{Document, End, TailFault};
+use pickle_ops::FrontFault;
 use std::alloc::Global;
 
 /// How a reading ends, with the offset.
@@ -21,8 +22,8 @@ impl Stop {
     /// The end of the document.
     pub fn end(self) -> End {
         match self {
-            Stop::Ended(offset) => End::Fault(TailFault::Ended, offset),
-            Stop::Short(offset) => End::Fault(TailFault::Truncated, offset),
+            Stop::Ended(offset) => End::Fault(TailFault::Front(FrontFault::Ended), offset),
+            Stop::Short(offset) => End::Fault(TailFault::Front(FrontFault::Truncated), offset),
             Stop::PastEnd(offset) => End::Fault(TailFault::FramePastEnd, offset),
             Stop::Whole => End::Stopped,
         }
@@ -164,7 +165,9 @@ pub fn single_bytes(alloc: Global) -> Result<[u32; 5], Wrong> {
     let mut counts = [0u32; 5];
     for byte in 0..=255u8 {
         let (len, end) = end_of(alloc, &[byte])?;
-        let kind = if len == 0 && end == End::Fault(TailFault::UnknownOpcode(byte), 0) {
+        let kind = if len == 0
+            && end == End::Fault(TailFault::Front(FrontFault::UnknownOpcode(byte)), 0)
+        {
             0
         } else if len == 0 && end == Stop::Short(0).end() {
             1

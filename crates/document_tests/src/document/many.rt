@@ -3,7 +3,7 @@
 
 use crate::document::shown::{Row, Shown, Spelled};
 use pickle_doc::{Edit, EditFault, End, TailFault};
-use pickle_ops::Opcode;
+use pickle_ops::{FrontFault, Opcode};
 
 /// Bytes, and what they read as.
 pub const MANY: [Shown; 9] = [
@@ -11,7 +11,7 @@ pub const MANY: [Shown; 9] = [
         bytes: b"",
         items: &[],
         tail: b"",
-        end: End::Fault(TailFault::Ended, 0),
+        end: End::Fault(TailFault::Front(FrontFault::Ended), 0),
     },
     // two pickles
     Shown {
@@ -30,7 +30,7 @@ pub const MANY: [Shown; 9] = [
         bytes: b"N.\xff",
         items: &[(0, "NONE", None, 0), (1, "STOP", None, 1)],
         tail: b"\xff",
-        end: End::Fault(TailFault::UnknownOpcode(0xff), 2),
+        end: End::Fault(TailFault::Front(FrontFault::UnknownOpcode(0xff)), 2),
     },
     // the second pickle has no STOP
     Shown {
@@ -41,7 +41,7 @@ pub const MANY: [Shown; 9] = [
             (2, "NONE", None, 2),
         ],
         tail: b"",
-        end: End::Fault(TailFault::Ended, 3),
+        end: End::Fault(TailFault::Front(FrontFault::Ended), 3),
     },
     // STOP inside a frame, which goes on in the second pickle
     Shown {
@@ -61,7 +61,7 @@ pub const MANY: [Shown; 9] = [
         bytes: b"\x95\x03\0\0\0\0\0\0\0.X\x05",
         items: &[(0, "FRAME", None, 0), (9, "STOP", Some(0), 1)],
         tail: b"X\x05",
-        end: End::Fault(TailFault::Truncated, 10),
+        end: End::Fault(TailFault::Front(FrontFault::Truncated), 10),
     },
     // a frame after STOP that ends past the bytes
     Shown {
@@ -82,7 +82,7 @@ pub const MANY: [Shown; 9] = [
         bytes: b".\x95\0\0\0\0\0\0\0\0",
         items: &[(0, "STOP", None, 0), (1, "FRAME", None, 1)],
         tail: b"",
-        end: End::Fault(TailFault::Ended, 10),
+        end: End::Fault(TailFault::Front(FrontFault::Ended), 10),
     },
 ];
 
@@ -98,7 +98,7 @@ pub const MANY_EDITS: [Row; 6] = [
                 (2, "NONE", None, 2),
             ],
             tail: b"",
-            end: End::Fault(TailFault::Ended, 3),
+            end: End::Fault(TailFault::Front(FrontFault::Ended), 3),
         },
         edit: Edit::Delete(2),
         after: Shown {
@@ -118,7 +118,7 @@ pub const MANY_EDITS: [Row; 6] = [
                 (10, "NONE", Some(0), 2),
             ],
             tail: b"",
-            end: End::Fault(TailFault::Ended, 11),
+            end: End::Fault(TailFault::Front(FrontFault::Ended), 11),
         },
         edit: Edit::Delete(2),
         after: Shown {
@@ -134,7 +134,7 @@ pub const MANY_EDITS: [Row; 6] = [
             bytes: b".\x95\0\0\0\0\0\0\0\0",
             items: &[(0, "STOP", None, 0), (1, "FRAME", None, 1)],
             tail: b"",
-            end: End::Fault(TailFault::Ended, 10),
+            end: End::Fault(TailFault::Front(FrontFault::Ended), 10),
         },
         edit: Edit::Unframe(1),
         after: Shown {
@@ -208,7 +208,7 @@ pub const MANY_EDITS: [Row; 6] = [
                 (2, "NONE", None, 2),
             ],
             tail: b"",
-            end: End::Fault(TailFault::Ended, 3),
+            end: End::Fault(TailFault::Front(FrontFault::Ended), 3),
         },
         edit: Edit::Insert(3, (Opcode::Pop, b"")),
         after: Shown {
@@ -220,7 +220,7 @@ pub const MANY_EDITS: [Row; 6] = [
                 (3, "POP", None, 3),
             ],
             tail: b"",
-            end: End::Fault(TailFault::Ended, 4),
+            end: End::Fault(TailFault::Front(FrontFault::Ended), 4),
         },
     },
 ];

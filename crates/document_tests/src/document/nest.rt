@@ -2,7 +2,7 @@
 
 ghost use Rattle.std.specs.Prelude.{◌≡◌, ℕ, ◌+◌, ◌≤◌, length, OnOk};
 ghost use Rattle.pickle_doc.specs.Document.{items_of};
-ghost use Rattle.pickle_doc.specs.Turn.{risen};
+ghost use Rattle.pickle_doc.specs.Swap.{risen};
 
 use crate::document::shown::{Wrong, written};
 use pickle_doc::{Document, records_lead_on, there_and_back};

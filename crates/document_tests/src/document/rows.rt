@@ -3,7 +3,7 @@
 
 use crate::document::shown::{Row, Shown, Spelled};
 use pickle_doc::{Edit, EditFault, End, TailFault};
-use pickle_ops::Opcode;
+use pickle_ops::{FrontFault, Opcode};
 
 /// Opcodes in a frame are replaced, taken out and put in.
 pub const IN_FRAMES: [Row; 5] = [
@@ -545,14 +545,14 @@ pub const NO_FRAMES: [Row; 3] = [
             bytes: b"",
             items: &[],
             tail: b"",
-            end: End::Fault(TailFault::Ended, 0),
+            end: End::Fault(TailFault::Front(FrontFault::Ended), 0),
         },
         edit: Edit::Insert(0, (Opcode::None, b"")),
         after: Shown {
             bytes: b"N",
             items: &[(0, "NONE", None, 0)],
             tail: b"",
-            end: End::Fault(TailFault::Ended, 1),
+            end: End::Fault(TailFault::Front(FrontFault::Ended), 1),
         },
     },
     // no item: an empty frame
@@ -561,14 +561,14 @@ pub const NO_FRAMES: [Row; 3] = [
             bytes: b"",
             items: &[],
             tail: b"",
-            end: End::Fault(TailFault::Ended, 0),
+            end: End::Fault(TailFault::Front(FrontFault::Ended), 0),
         },
         edit: Edit::Frame(0, 0),
         after: Shown {
             bytes: b"\x95\x00\x00\x00\x00\x00\x00\x00\x00",
             items: &[(0, "FRAME", None, 0)],
             tail: b"",
-            end: End::Fault(TailFault::Ended, 9),
+            end: End::Fault(TailFault::Front(FrontFault::Ended), 9),
         },
     },
     // bytes after STOP stay

@@ -2,7 +2,7 @@
 
 ghost use Rattle.std.specs.Prelude.{◌≡◌, ◌+◌, ◌≤◌, length, IfOk, OnErr};
 ghost use Rattle.pickle_doc.specs.Document.{Contents, items_of};
-ghost use Rattle.pickle_doc.specs.Turn.{Leads};
+ghost use Rattle.pickle_doc.specs.Swap.{EditLeads};
 
 use pickle_doc::{DocFault, Document, Edit, EditFault, EditRecord, End};
 use pickle_ops::{Failed, Op, OpFault, Opcode, ToWrite, op_of};
@@ -185,14 +185,14 @@ pub fn shows(alloc: Global, document: &Document, want: &Shown) -> Result<(), Wro
 }
 
 /// Goes to the other side of an edit, and looks at what shows there. The record leads back, and there is room for that.
-pub fn turn(
+pub fn swap_to(
     alloc: Global,
     document: &mut Document,
     record: &mut EditRecord,
     want: &Shown,
 ) -> Result<(), Wrong>
-    requires leads { (e : Contents) × Leads record.old document.old.contents e × (length (items_of e) ≤ length (items_of document.old.contents) + document.old.room) }
-    ensures back { (e : Contents) × Leads record.new document.new.contents e × (length (items_of e) ≤ length (items_of document.new.contents) + document.new.room) }
+    requires leads { (e : Contents) × EditLeads record.old document.old.contents e × (length (items_of e) ≤ length (items_of document.old.contents) + document.old.room) }
+    ensures back { (e : Contents) × EditLeads record.new document.new.contents e × (length (items_of e) ≤ length (items_of document.new.contents) + document.new.room) }
 {
     document.swap(record);
     shows(alloc, document, want)
@@ -211,7 +211,7 @@ fn edit_of(alloc: Global, edit: &Spelled) -> Result<Edit<Op>, OpFault> {
 
 /// Makes an edit. The record leads back, and there is room for that.
 pub fn make(alloc: Global, document: &mut Document, edit: &Spelled) -> Result<EditRecord, EditFault>
-    ensures back { IfOk result (λ r. (e : Contents) × Leads r document.new.contents e × (length (items_of e) ≤ length (items_of document.new.contents) + document.new.room)) }
+    ensures back { IfOk result (λ r. (e : Contents) × EditLeads r document.new.contents e × (length (items_of e) ≤ length (items_of document.new.contents) + document.new.room)) }
     ensures err { OnErr result (document.new ≡ document.old) }
 {
     let Ok(edit) = edit_of(alloc, edit) else {
@@ -219,4 +219,22 @@ pub fn make(alloc: Global, document: &mut Document, edit: &Spelled) -> Result<Ed
     };
     let record = document.edit(edit)?;
     Ok(record)
+}
+
+/// Makes an edit by the call that has its name.
+pub fn make_by_name(
+    alloc: Global,
+    document: &mut Document,
+    edit: &Spelled,
+) -> Result<EditRecord, EditFault> {
+    let Ok(edit) = edit_of(alloc, edit) else {
+        return Err(EditFault::Memory);
+    };
+    match edit {
+        Edit::Replace(k, op) => document.replace(k, op),
+        Edit::Insert(k, op) => document.insert(k, op),
+        Edit::Delete(k) => document.delete(k),
+        Edit::Frame(k, count) => document.frame(k, count),
+        Edit::Unframe(k) => document.unframe(k),
+    }
 }

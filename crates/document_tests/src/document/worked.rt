@@ -3,6 +3,7 @@
 
 use crate::document::shown::{Shown, shows};
 use pickle_doc::{Document, End, TailFault};
+use pickle_ops::FrontFault;
 use std::test::Fail;
 
 /// Bytes, and what they read as.
@@ -27,7 +28,7 @@ const ROWS: [Shown; 19] = [
         bytes: b"",
         items: &[],
         tail: b"",
-        end: End::Fault(TailFault::Ended, 0),
+        end: End::Fault(TailFault::Front(FrontFault::Ended), 0),
     },
     // a frame that reaches past STOP
     Shown {
@@ -52,7 +53,7 @@ const ROWS: [Shown; 19] = [
         bytes: b"\x95\x01\x00\x00\x00\x00\x00\x00\x00N",
         items: &[(0, "FRAME", None, 0), (9, "NONE", Some(0), 1)],
         tail: b"",
-        end: End::Fault(TailFault::Ended, 10),
+        end: End::Fault(TailFault::Front(FrontFault::Ended), 10),
     },
     // a frame one byte past the end
     Shown {
@@ -66,14 +67,14 @@ const ROWS: [Shown; 19] = [
         bytes: b"\x95\x02\x00\x00\x00\x00\x00\x00\x00N\xff",
         items: &[(0, "FRAME", None, 0), (9, "NONE", Some(0), 1)],
         tail: b"\xff",
-        end: End::Fault(TailFault::UnknownOpcode(0xff), 10),
+        end: End::Fault(TailFault::Front(FrontFault::UnknownOpcode(0xff)), 10),
     },
     // cut short, and no crossing
     Shown {
         bytes: b"\x95\x02\x00\x00\x00\x00\x00\x00\x00NX",
         items: &[(0, "FRAME", None, 0), (9, "NONE", Some(0), 1)],
         tail: b"X",
-        end: End::Fault(TailFault::Truncated, 10),
+        end: End::Fault(TailFault::Front(FrontFault::Truncated), 10),
     },
     // a frame in a frame, though cut short
     Shown {
@@ -108,14 +109,14 @@ const ROWS: [Shown; 19] = [
         bytes: b"\x95\x01\x00\x00\x00\x00\x00\x00\x00\x8b\xff\xff\xff\xff",
         items: &[(0, "FRAME", None, 0)],
         tail: b"\x8b\xff\xff\xff\xff",
-        end: End::Fault(TailFault::NegativeLength, 9),
+        end: End::Fault(TailFault::Front(FrontFault::NegativeLength), 9),
     },
     // a bad line before a crossing
     Shown {
         bytes: b"\x95\x01\x00\x00\x00\x00\x00\x00\x00gx\n",
         items: &[(0, "FRAME", None, 0)],
         tail: b"gx\n",
-        end: End::Fault(TailFault::BadArgument, 9),
+        end: End::Fault(TailFault::Front(FrontFault::BadArgument), 9),
     },
     // one frame after another
     Shown {
@@ -134,14 +135,14 @@ const ROWS: [Shown; 19] = [
         bytes: b"\x95\x01",
         items: &[],
         tail: b"\x95\x01",
-        end: End::Fault(TailFault::Truncated, 0),
+        end: End::Fault(TailFault::Front(FrontFault::Truncated), 0),
     },
     // an argument cut short
     Shown {
         bytes: b"X\x05\x00\x00\x00ab",
         items: &[],
         tail: b"X\x05\x00\x00\x00ab",
-        end: End::Fault(TailFault::Truncated, 0),
+        end: End::Fault(TailFault::Front(FrontFault::Truncated), 0),
     },
     // leading zeros
     Shown {

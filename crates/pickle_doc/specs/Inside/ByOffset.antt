@@ -4,6 +4,6 @@ use Rattle.pickle_doc.specs.declared.item.Item.{Item}
 use Rattle.pickle_doc.specs.DocUnit.{sizes}
 
 -- this many bytes spell the items before this place; where there is none, before no place
-abbrev pub Stands : Option ℕ → ℕ → List Item → Type 0
-Stands (Some k) offset items = (k ≤ length items) × (sizes (take k items) ≡ offset)
-Stands None offset items = (k : ℕ) → k ≤ length items → sizes (take k items) ≢ offset
+abbrev pub IsAtOffset : Option ℕ → ℕ → List Item → Type 0
+IsAtOffset (Some k) offset items = (k ≤ length items) × (sizes (take k items) ≡ offset)
+IsAtOffset None offset items = (k : ℕ) → k ≤ length items → sizes (take k items) ≢ offset

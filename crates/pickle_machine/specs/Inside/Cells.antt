@@ -6,9 +6,9 @@ use Rattle.pickle_machine.specs.State.{Marked, Left}
 use Rattle.pickle_machine.specs.Sections.{Sections, with_top}
 
 -- objects are put on the top section, or on a new one above a mark
-abbrev pub given_to : Option ℕ → List ℕ → Sections → Sections
-given_to None items v = with_top v items
-given_to (Some place) items v = record v { top = items; marked = record { section = v.top; place = place } ∷ v.marked }
+abbrev pub put_back_to : Option ℕ → List ℕ → Sections → Sections
+put_back_to None items v = with_top v items
+put_back_to (Some place) items v = record v { top = items; marked = record { section = v.top; place = place } ∷ v.marked }
 
 -- where the section above the topmost of these marks begins; the lowest begins at the bottom
 abbrev pub base_of : ℕ → List Mark → ℕ
@@ -50,7 +50,7 @@ AreLeft b [] cells row = (b.height ≡ 0) × (b.depth ≡ 0)
 AreLeft b (a ∷ older) cells row = IsStack cells a.height b.height (marks_in a.depth b.depth row) × (a.depth ≤ b.depth) × AreLeft a older cells row
 
 -- a stack up to a height and a depth, on its bottom, and below it those that were left behind
-pub record Stands (cells : List ℕ) (height depth : ℕ) (row : List Mark) (bottom : Bottom) (older : List Bottom) : Type 0 where
+pub record HoldsStacks (cells : List ℕ) (height depth : ℕ) (row : List Mark) (bottom : Bottom) (older : List Bottom) : Type 0 where
   pub is : IsStack cells bottom.height height (marks_in bottom.depth depth row)
   pub low : bottom.depth ≤ depth
   pub deep : depth ≤ length row

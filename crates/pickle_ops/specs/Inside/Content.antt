@@ -11,6 +11,6 @@ parts_of (made.Two parts) = parts
 parts_of (made.Three parts) = parts
 parts_of (made.More content) = content.value.parts.items
 
-abbrev pub changes_of : Made → List Change
-changes_of (made.More content) = content.value.changes.items
-changes_of _ = []
+abbrev pub made_changes : Made → List Change
+made_changes (made.More content) = content.value.changes.items
+made_changes _ = []

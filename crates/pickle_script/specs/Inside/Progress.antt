@@ -6,7 +6,7 @@ use Rattle.pickle_io.specs.declared.sink.Failed.{Failed}
 use Rattle.pickle_io.specs.Device.{Told, Wrote, Writes}
 use Rattle.pickle_machine.specs.State.{State}
 use Rattle.pickle_session.specs.Session.{Session}
-use Rattle.pickle_session.specs.Allowed.{Standing}
+use Rattle.pickle_session.specs.Allowed.{SessionState}
 use Rattle.pickle_script.specs.declared.line.Line.{Line}
 use Rattle.pickle_script.specs.declared.line.Query.{Query}
 use Rattle.pickle_script.specs.declared.line.Syntax.{Syntax}
@@ -15,9 +15,9 @@ use Rattle.pickle_script.specs.declared.outcome.Outcome.{Outcome}
 use Rattle.pickle_script.specs.declared.outcome.Outcome.TheVariants as outcome
 use Rattle.pickle_script.specs.declared.outcome.Flow.{Flow}
 use Rattle.pickle_script.specs.declared.outcome.Flow.TheVariants as flow
-use Rattle.pickle_script.specs.Query.{IsTold}
+use Rattle.pickle_script.specs.Query.{IsQueryText}
 use Rattle.pickle_script.specs.Script.{Cut, IsCut, lines_of}
-use Rattle.pickle_script.specs.Transcript.{GivesBy, Runs, IsTranscript, has_quit, is_refusal, status_of}
+use Rattle.pickle_script.specs.Transcript.{PrintsBy, PrintsAll, IsTranscript, has_quit, is_refusal, status_of}
 use Rattle.pickle_script.specs.Conversation.{BrokePast}
 
 -- the line that has begun, and whether a line was refused
@@ -26,43 +26,43 @@ pub record Pending : Type 0 where
   pub refused : Bool
 
 -- of a line, as many bytes as show that it is too long
-unfoldable pub shortened : List ℕ → List ℕ
-shortened line = take (longest + 1) line
+unfoldable pub line_start : List ℕ → List ℕ
+line_start line = take (longest + 1) line
 
 -- one byte more, unless the line is too long already
 unfoldable pub longer : List ℕ → ℕ → List ℕ
 longer line byte = if nat_le (length line) longest then line ++ byte ∷ [] else line
 
-abbrev pub is_refused : Outcome → Bool
-is_refused outcome.Accepted = false
-is_refused outcome.Refused = true
+abbrev pub was_refused : Outcome → Bool
+was_refused outcome.Accepted = false
+was_refused outcome.Refused = true
 
 -- what a query is answered was written, and the outcome is whether it refuses
-pub record WritesTold (query : Query) (s : Session) (t : State) (old new : Told) (r : Result Outcome Failed) : Type 0 where
+pub record WritesQuery (query : Query) (s : Session) (t : State) (old new : Told) (r : Result Outcome Failed) : Type 0 where
   pub text : List ℕ
-  pub told : IsTold query s t text
+  pub told : IsQueryText query s t text
   pub writes : Writes old new r text
-  pub refuses : IfOk r (λ o. is_refused o ≡ is_refusal text)
+  pub refuses : IfOk r (λ o. was_refused o ≡ is_refusal text)
 
 -- the text that a line gives was written, and the outcome is whether it refuses
-pub record WritesLine (says : Result Line Syntax) (s after : Standing) (old new : Told) (r : Result Outcome Failed) : Type 0 where
+pub record WritesLine (says : Result Line Syntax) (s after : SessionState) (old new : Told) (r : Result Outcome Failed) : Type 0 where
   pub text : List ℕ
-  pub gives : GivesBy says s text after
+  pub prints : PrintsBy says s text after
   pub writes : Writes old new r text
-  pub refuses : IfOk r (λ o. is_refused o ≡ is_refusal text)
+  pub refuses : IfOk r (λ o. was_refused o ≡ is_refusal text)
 
 -- the complete lines of what was given were obeyed, none of them quits, and of the rest as much is held as is needed
-pub record SoFar (s : Standing) (old : Told) (given : List ℕ) (after : Standing) (new : Told) (pending : Pending) : Type 0 where
+pub record SoFar (s : SessionState) (old : Told) (given : List ℕ) (after : SessionState) (new : Told) (pending : Pending) : Type 0 where
   pub cut : Cut
   pub is_cut : IsCut given cut
   pub texts : List (List ℕ)
-  pub runs : Runs s cut.complete texts after
+  pub runs : PrintsAll s cut.complete texts after
   pub no_quit : has_quit cut.complete ≡ false
   pub wrote : Wrote old new (concat texts)
-  pub holds : pending ≡ record { line = shortened cut.rest; refused = list_any is_refusal texts }
+  pub holds : pending ≡ record { line = line_start cut.rest; refused = list_any is_refusal texts }
 
 -- a complete line quits, and those up to it were obeyed
-pub record HasQuit (s : Standing) (old : Told) (given : List ℕ) (after : Standing) (new : Told) (pending : Pending) : Type 0 where
+pub record HasQuit (s : SessionState) (old : Told) (given : List ℕ) (after : SessionState) (new : Told) (pending : Pending) : Type 0 where
   pub cut : Cut
   pub is_cut : IsCut given cut
   pub texts : List (List ℕ)
@@ -72,35 +72,35 @@ pub record HasQuit (s : Standing) (old : Told) (given : List ℕ) (after : Stand
   pub refused : pending.refused ≡ list_any is_refusal texts
 
 -- the sink failed in the text of one of the lines
-pub record Breaks (s : Standing) (old : Told) (lines : List (List ℕ)) (after : Standing) (new : Told) : Type 0 where
+pub record BreaksInLine (s : SessionState) (old : Told) (lines : List (List ℕ)) (after : SessionState) (new : Told) : Type 0 where
   pub before : List (List ℕ)
   pub last : List ℕ
   pub later : List (List ℕ)
   pub are : lines ≡ before ++ last ∷ later
   pub texts : List (List ℕ)
   pub text : List ℕ
-  pub runs : Runs s (before ++ last ∷ []) (texts ++ text ∷ []) after
+  pub runs : PrintsAll s (before ++ last ∷ []) (texts ++ text ∷ []) after
   pub no_quit : has_quit before ≡ false
   pub broke : BrokePast old new (concat texts) text
 
-pub record HasBroken (s : Standing) (old : Told) (given : List ℕ) (after : Standing) (new : Told) : Type 0 where
+pub record HasBroken (s : SessionState) (old : Told) (given : List ℕ) (after : SessionState) (new : Told) : Type 0 where
   pub cut : Cut
   pub is_cut : IsCut given cut
-  pub breaks : Breaks s old cut.complete after new
+  pub breaks : BreaksInLine s old cut.complete after new
 
 -- after some bytes the conversation goes on, has quit, or is broken
-abbrev pub Fed : Standing → Told → List ℕ → Standing → Told → Pending → Result Flow Failed → Type 0
+abbrev pub Fed : SessionState → Told → List ℕ → SessionState → Told → Pending → Result Flow Failed → Type 0
 Fed s old given after new pending (Ok flow.GoesOn) = SoFar s old given after new pending
 Fed s old given after new pending (Ok flow.Quits) = HasQuit s old given after new pending
 Fed s old given after new pending (Err e) = HasBroken s old given after new
 
 -- these bytes lead so from one moment to the next, whatever was given before
-abbrev pub Feeds : List ℕ → Standing → Told → Pending → Standing → Told → Pending → Result Flow Failed → Type 0
+abbrev pub Feeds : List ℕ → SessionState → Told → Pending → SessionState → Told → Pending → Result Flow Failed → Type 0
 Feeds bytes mid seen held after new pending r =
-    (s : Standing) (old : Told) (given : List ℕ) → SoFar s old given mid seen held → Fed s old (given ++ bytes) after new pending r
+    (s : SessionState) (old : Told) (given : List ℕ) → SoFar s old given mid seen held → Fed s old (given ++ bytes) after new pending r
 
 -- the source has ended: all lines were obeyed up to one that quits, or the sink failed in one of them
-pub record IsWhole (s : Standing) (old : Told) (given : List ℕ) (after : Standing) (new : Told) (status : ℕ) : Type 0 where
+pub record IsComplete (s : SessionState) (old : Told) (given : List ℕ) (after : SessionState) (new : Told) (status : ℕ) : Type 0 where
   pub cut : Cut
   pub is_cut : IsCut given cut
   pub texts : List (List ℕ)
@@ -108,15 +108,15 @@ pub record IsWhole (s : Standing) (old : Told) (given : List ℕ) (after : Stand
   pub wrote : Wrote old new (concat texts)
   pub status_is : status ≡ status_of texts
 
-pub record IsBroken (s : Standing) (old : Told) (given : List ℕ) (after : Standing) (new : Told) : Type 0 where
+pub record IsBroken (s : SessionState) (old : Told) (given : List ℕ) (after : SessionState) (new : Told) : Type 0 where
   pub cut : Cut
   pub is_cut : IsCut given cut
-  pub breaks : Breaks s old (lines_of cut) after new
+  pub breaks : BreaksInLine s old (lines_of cut) after new
 
-abbrev pub Ended : Standing → Told → List ℕ → Standing → Told → Result ℕ Failed → Type 0
-Ended s old given after new (Ok status) = IsWhole s old given after new status
+abbrev pub Ended : SessionState → Told → List ℕ → SessionState → Told → Result ℕ Failed → Type 0
+Ended s old given after new (Ok status) = IsComplete s old given after new status
 Ended s old given after new (Err e) = IsBroken s old given after new
 
-abbrev pub Ends : Standing → Told → Pending → Standing → Told → Result ℕ Failed → Type 0
+abbrev pub Ends : SessionState → Told → Pending → SessionState → Told → Result ℕ Failed → Type 0
 Ends mid seen held after new r =
-    (s : Standing) (old : Told) (given : List ℕ) → SoFar s old given mid seen held → Ended s old given after new r
+    (s : SessionState) (old : Told) (given : List ℕ) → SoFar s old given mid seen held → Ended s old given after new r

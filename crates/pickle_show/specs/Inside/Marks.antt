@@ -5,8 +5,8 @@ use Rattle.pickle_doc.specs.Place.{offset_of}
 use Rattle.pickle_machine.specs.State.{Marked}
 
 -- the last of a list, if there is one
-abbrev pub last_of : List ℕ → Option ℕ
-last_of xs = slice_get xs (length xs - 1)
+abbrev pub last_element : List ℕ → Option ℕ
+last_element xs = slice_get xs (length xs - 1)
 
 -- one more where there are more marks than before, one less where there are fewer
 abbrev pub followed : List ℕ → ℕ → ℕ → ℕ → List ℕ

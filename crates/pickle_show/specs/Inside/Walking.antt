@@ -2,7 +2,7 @@
 use Rattle.std.specs.Prelude.{ℕ, suc, ◌+◌, Bool, true, false, List, [], ◌∷◌, ◌++◌, set, Option, None, Some}
 use Rattle.pickle_io.specs.Text.{◌⧺◌}
 use Rattle.pickle_ops.specs.Object.{Object}
-use Rattle.pickle_show.specs.Show.{Place, content, first_line, again_line, at_depth, found, walk}
+use Rattle.pickle_show.specs.Show.{WalkPlace, content, first_line, again_line, at_depth, found, walk}
 
 -- how many objects were not seen
 abbrev pub unseen : List Bool → ℕ
@@ -27,14 +27,14 @@ entered (Some o) = content o ∷ []
 
 -- the places that are still to be walked, where the stack has what is left of the content of the objects on the way down,
 -- that of the lowest first
-abbrev pub pending : ℕ → List (List ℕ) → List Place
+abbrev pub pending : ℕ → List (List ℕ) → List WalkPlace
 pending depth [] = []
 pending depth (ids ∷ stack) = pending (depth + 1) stack ++ at_depth depth ids
 
 -- what is still to be written
-unfoldable pub left_text : List Object → List Bool → List (List ℕ) → List ℕ
-left_text heap seen stack = walk (unseen seen) heap seen (pending 1 stack)
+unfoldable pub unwritten_text : List Object → List Bool → List (List ℕ) → List ℕ
+unwritten_text heap seen stack = walk (unseen seen) heap seen (pending 1 stack)
 
 -- what is to be written from a place on, with nothing on the stack
 abbrev pub walk_text : List Object → List Bool → ℕ → List ℕ
-walk_text heap seen id = place_line 0 id (found heap seen id) ⧺ left_text heap (seen_after seen id (found heap seen id)) (entered (found heap seen id))
+walk_text heap seen id = place_line 0 id (found heap seen id) ⧺ unwritten_text heap (seen_after seen id (found heap seen id)) (entered (found heap seen id))

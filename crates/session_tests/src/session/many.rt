@@ -4,7 +4,7 @@
 use crate::session::script::{Counts, Script, Told};
 use pickle_doc::{EditFault, End, TailFault};
 use pickle_machine::Refusal;
-use pickle_ops::Opcode;
+use pickle_ops::{FrontFault, Opcode};
 use pickle_session::{Fault, Reply, Why};
 
 /// Two pickles, each of two numbers in a tuple that is memoized.
@@ -301,7 +301,7 @@ const THE_END_CHANGES: Script = Script {
         ),
         (
             Told::Step,
-            Reply::Refused(Fault::AtEnd(End::Fault(TailFault::Ended, 3))),
+            Reply::Refused(Fault::AtEnd(End::Fault(TailFault::Front(FrontFault::Ended), 3))),
             0,
             "at 3 of 3, edits 0 1: #0 none; #1 none; stack #1; result #0",
             NO_STOP,

@@ -4,7 +4,7 @@ use crate::session::further::{APPENDED_BY_MEMO, APPENDED_TO_ITSELF, BOUNDED_WIND
 use crate::session::script::{Script, Told};
 use pickle_doc::{EditFault, End, TailFault};
 use pickle_machine::Refusal;
-use pickle_ops::Opcode;
+use pickle_ops::{FrontFault, Opcode};
 use pickle_session::{Fault, Reply, Why};
 
 /// The usual dump of a list with the number 1.
@@ -656,14 +656,14 @@ const AT_A_FAULT: Script = Script {
     rows: &[
         (
             Told::Step,
-            Reply::Refused(Fault::AtEnd(End::Fault(TailFault::Truncated, 0))),
+            Reply::Refused(Fault::AtEnd(End::Fault(TailFault::Front(FrontFault::Truncated), 0))),
             0,
             "at 0 of 0: stack",
             CUT_SHORT,
         ),
         (
             Told::Run,
-            Reply::Refused(Fault::AtEnd(End::Fault(TailFault::Truncated, 0))),
+            Reply::Refused(Fault::AtEnd(End::Fault(TailFault::Front(FrontFault::Truncated), 0))),
             0,
             "at 0 of 0: stack",
             CUT_SHORT,

@@ -5,7 +5,7 @@ ghost use Rattle.std.specs.Prelude.{◌≡◌, [], IfOk, IfSome};
 use pickle_ops::{Opcode, op_of};
 use pickle_session::{Command, Fault, Past, Reply, Session, Whole, Window};
 use std::alloc::Global;
-use test_equipment::{Beside, shows};
+use test_equipment::{Comparison, shows};
 
 /// A command without an `Op` of its own: an opcode and an argument in its place.
 #[derive(Clone, Copy, Debug, PartialEq, Eq)]
@@ -167,8 +167,8 @@ fn is_counted<P: Past>(
             && new.moves == place;
     }
     let steps = new.cursor.saturating_sub(old.cursor);
-    let forth = within(window, old.kept.saturating_add(steps));
-    new.kept == forth.saturating_sub(back)
+    let forward = within(window, old.kept.saturating_add(steps));
+    new.kept == forward.saturating_sub(back)
         && session.work() == work
         && new.moves.saturating_sub(old.moves) == work
 }
@@ -242,6 +242,6 @@ pub fn go_home<P: Past>(session: &mut Session<P>, alloc: Global, bytes: &[u8]) -
             return false;
         }
     }
-    let mut written = Beside::new(bytes);
+    let mut written = Comparison::new(bytes);
     session.document().write_bytes(&mut written).is_ok() && written.is_whole()
 }

@@ -7,7 +7,7 @@ ghost use Rattle.pickle_machine.specs.Back.{Leads};
 use pickle_machine::{Machine, Refusal, StepRecord};
 use pickle_ops::{Failed, Op, OpFault, Opcode, read_op};
 use std::alloc::{AllocError, AllocFailed, Global};
-use test_equipment::{paper, stands, taken, write_state};
+use test_equipment::{paper, shows_state, taken, write_state};
 
 /// What was seen that should not be, and at which place.
 #[derive(Clone, Copy, Debug, PartialEq, Eq)]
@@ -163,7 +163,7 @@ pub fn note_down(alloc: Global, pickles: Pickles, bytes: &[u8]) -> Result<Noted,
 /// Whether the machine shows at a place what was written down there. It takes no memory.
 fn compare(machine: &Machine, notes: &[Vec<u8>], place: usize) -> Result<(), Fault> {
     match notes.get(place) {
-        Some(note) if stands(machine, note.as_slice()) => Ok(()),
+        Some(note) if shows_state(machine, note.as_slice()) => Ok(()),
         _ => Err(Fault::Differs(place)),
     }
 }

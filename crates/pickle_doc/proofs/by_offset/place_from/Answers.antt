@@ -2,7 +2,7 @@ use Rattle.std.proofs.Common.{◌+◌, ◌<◌, ◌^◌, length, take, rules, ar
 use Rattle.pickle_doc.specs.declared.item.Item.{Item}
 use Rattle.pickle_doc.specs.DocUnit.{sizes}
 use Rattle.pickle_doc.proofs.Readers.{sizes-more, sizes-take}
-use Rattle.pickle_doc.proofs.Offsets.{lower-first, lower-more, none-forth}
+use Rattle.pickle_doc.proofs.Offsets.{lower-first, lower-more, none-forward}
 use Rattle.pickle_doc.proofs.by_offset.place_from.Goals as goal
 
 pub loop-place-init : goal.loop-place-init
@@ -14,7 +14,7 @@ loop-place-init c = record {
 
 pub returns-then-at-offset-2 : goal.returns-then-at-offset-2
 returns-then-at-offset-2 c =
-    none-forth c.args.items.now.items c.loop-place.place c.args.offset c.loop-place.invariant.lower (omega (arith, c.loop-place.invariant.at, c.if-at-offset-2.true))
+    none-forward c.args.items.now.items c.loop-place.place c.args.offset c.loop-place.invariant.lower (omega (arith, c.loop-place.invariant.at, c.if-at-offset-2.true))
 
 pub overflow_add-at : goal.overflow_add-at
 overflow_add-at c =

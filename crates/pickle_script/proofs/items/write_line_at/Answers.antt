@@ -7,8 +7,6 @@ use Rattle.pickle_script.proofs.items.write_line_at.Goals as goal
 
 pub overflow_add-next : goal.overflow_add-next
 overflow_add-next g c =
-    let small : length (document_bytes c.args.session.now.session.document) ≤ size_limit =
-    omega (arith, c.total-total.ensures.value, c.total-total.ensures.within, ap (λ (d : Contents). length (document_bytes d)) c.document-document.ensures) in
     let there : item_at c.args.session.now.session.document c.args.place ≡ Some c.in-Some.op.now = search rules in
-    let fits = offset_fits c.args.session.now.session.document c.args.place c.args.offset c.in-Some.op.now small there c.requires in
+    let fits = offset_fits c.args.session.now.session.document c.args.place c.args.offset c.in-Some.op.now c.requires.small there c.requires.offset in
     omega (arith, fits, c.size.ensures)

@@ -1,13 +1,13 @@
 use Rattle.std.proofs.Common.{◌≡◌, ℕ, false, ◌++◌, List, take}
 use Rattle.pickle_io.specs.Device.{Told}
-use Rattle.pickle_session.specs.Allowed.{Standing}
+use Rattle.pickle_session.specs.Allowed.{SessionState}
 use Rattle.pickle_script.specs.Inside.Progress.{SoFar}
 use Rattle.pickle_script.proofs.Flushes.{has_newline}
 use Rattle.pickle_script.proofs.talk.feed.Given as goal
 
 abbrev pub invariant-loop-byte : goal.invariant-loop-byte
 invariant-loop-byte g l = record {
-  fed : (s : Standing) (old : Told) (given : List ℕ) → SoFar s old given l.fn.session (g.K.Sink.told l.fn.sink) l.fn.pending
+  fed : (s : SessionState) (old : Told) (given : List ℕ) → SoFar s old given l.fn.session (g.K.Sink.told l.fn.sink) l.fn.pending
       → SoFar s old (given ++ take l.byte-index l.bytes) l.session (g.K.Sink.told l.sink) l.pending;
   calm : has_newline (take l.byte-index l.bytes) ≡ false → l.sink ≡ l.fn.sink;
 }

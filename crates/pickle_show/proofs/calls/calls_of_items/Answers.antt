@@ -8,7 +8,7 @@ use Rattle.pickle_show.proofs.Walking.{walked_none, closes_ok, closes_err, refus
 use Rattle.pickle_show.proofs.calls.calls_of_items.Goals as goal
 
 pub items-init : goal.items-init
-items-init g c = rw (c.requires.first, c.machine_of-machine.ensures, c.new-totals.ensures) (walked_none _ _ _ c.requires.document c.requires.small)
+items-init g c = rw (c.requires.first, c.start-machine.ensures, c.new-totals.ensures) (walked_none _ _ _ c.requires.document c.requires.small)
 
 pub returns-in-Tail-clause-ok : goal.returns-in-Tail-clause-ok
 returns-in-Tail-clause-ok g c =

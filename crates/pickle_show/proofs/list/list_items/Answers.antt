@@ -37,14 +37,14 @@ returns-in-Some-clause-ok g c =
     let n : IsNextItem (g.I.ItemSource.unread c.items.reader).left (g.I.ItemSource.unread c.items.reader).rest c.in-Item.op (size_of c.in-Item.op)
     × (g.I.ItemSource.unread c.next.new.self ≡ record { rest = drop (size_of c.in-Item.op) (g.I.ItemSource.unread c.items.reader).rest; left = left_behind (g.I.ItemSource.unread c.items.reader).left c.in-Item.op }) = rw c.in-Item.is at c.next.ensures in
     let some : refusal_of (row_of c.in-Item.op) c.items.lean ≡ Some c.in-Some.refusal = rw c.of_ref-row.ensures at (sym c.in-Some.ensures.first) in
-    closes_ok _ _ _ _ _ _ _ _ (refused_closes _ _ _ _ _ _ _ c.in-Item.op _ _ _ c.in-Some.refusal c.items.invariant n.0 some) (rw (c.marks_len-marks.ensures, c.get-most.ensures, c.raise.ensures, c.protocol.ensures, c.opcode.ensures) at c.write_refused_item.ensures) c.answer-in-Some.ensures
+    closes_ok _ _ _ _ _ _ _ _ (refused_closes _ _ _ _ _ _ _ c.in-Item.op _ _ _ c.in-Some.refusal c.items.invariant n.0 some) (rw (c.again.ensures, c.marks_len-marks.ensures, c.get-most.ensures, c.raise.ensures, c.protocol.ensures, c.opcode.ensures) at c.write_refused_item.ensures) c.answer-in-Some.ensures
 
 pub returns-in-Some-clause-err : goal.returns-in-Some-clause-err
 returns-in-Some-clause-err g c =
     let n : IsNextItem (g.I.ItemSource.unread c.items.reader).left (g.I.ItemSource.unread c.items.reader).rest c.in-Item.op (size_of c.in-Item.op)
     × (g.I.ItemSource.unread c.next.new.self ≡ record { rest = drop (size_of c.in-Item.op) (g.I.ItemSource.unread c.items.reader).rest; left = left_behind (g.I.ItemSource.unread c.items.reader).left c.in-Item.op }) = rw c.in-Item.is at c.next.ensures in
     let some : refusal_of (row_of c.in-Item.op) c.items.lean ≡ Some c.in-Some.refusal = rw c.of_ref-row.ensures at (sym c.in-Some.ensures.first) in
-    closes_err _ _ _ _ _ _ _ _ (refused_closes _ _ _ _ _ _ _ c.in-Item.op _ _ _ c.in-Some.refusal c.items.invariant n.0 some) (rw (c.marks_len-marks.ensures, c.get-most.ensures, c.raise.ensures, c.protocol.ensures, c.opcode.ensures) at c.write_refused_item.ensures) c.answer-in-Some.ensures
+    closes_err _ _ _ _ _ _ _ _ (refused_closes _ _ _ _ _ _ _ c.in-Item.op _ _ _ c.in-Some.refusal c.items.invariant n.0 some) (rw (c.again.ensures, c.marks_len-marks.ensures, c.get-most.ensures, c.raise.ensures, c.protocol.ensures, c.opcode.ensures) at c.write_refused_item.ensures) c.answer-in-Some.ensures
 
 pub write_item-requires-clause-marks : goal.write_item-requires-clause-marks
 write_item-requires-clause-marks g c =
@@ -58,7 +58,7 @@ returns-in_err-write_item-in-Item-clause-err g c =
     let n : IsNextItem (g.I.ItemSource.unread c.items.reader).left (g.I.ItemSource.unread c.items.reader).rest c.in-Item.op (size_of c.in-Item.op)
     × (g.I.ItemSource.unread c.next.new.self ≡ record { rest = drop (size_of c.in-Item.op) (g.I.ItemSource.unread c.items.reader).rest; left = left_behind (g.I.ItemSource.unread c.items.reader).left c.in-Item.op }) = rw c.in-Item.is at c.next.ensures in
     let none : refusal_of (row_of c.in-Item.op) c.items.lean ≡ None = rw c.of_ref-row.ensures at (sym c.in_default.ensures.first) in
-    cut_failed _ _ _ _ c.from_residual.ensures.1 (line_breaks _ _ _ _ _ _ _ _ c.in-Item.op _ _ _ c.items.invariant n.0 none (rw c.as_slice-marks.ensures.value at c.in_err-write_item-in-Item.ensures))
+    cut_failed _ _ _ _ c.from_residual.ensures.1 (line_breaks _ _ _ _ _ _ _ _ c.in-Item.op _ _ _ c.items.invariant n.0 none c.in_err-write_item-in-Item.ensures)
 
 pub perform-requires-clause-heap : goal.perform-requires-clause-heap
 perform-requires-clause-heap g c =
@@ -72,7 +72,7 @@ returns-in_err-perform-in-Item-clause-err g c =
     let n : IsNextItem (g.I.ItemSource.unread c.items.reader).left (g.I.ItemSource.unread c.items.reader).rest c.in-Item.op (size_of c.in-Item.op)
     × (g.I.ItemSource.unread c.next.new.self ≡ record { rest = drop (size_of c.in-Item.op) (g.I.ItemSource.unread c.items.reader).rest; left = left_behind (g.I.ItemSource.unread c.items.reader).left c.in-Item.op }) = rw c.in-Item.is at c.next.ensures in
     let none : refusal_of (row_of c.in-Item.op) c.items.lean ≡ None = rw c.of_ref-row.ensures at (sym c.in_default.ensures.first) in
-    let w = with_line _ _ _ _ _ _ _ _ c.in-Item.op _ _ _ c.items.invariant n.0 none (rw c.as_slice-marks.ensures.value at c.in_ok-write_item-in-Item.ensures) in
+    let w = with_line _ _ _ _ _ _ _ _ c.in-Item.op _ _ _ c.items.invariant n.0 none c.in_ok-write_item-in-Item.ensures in
     cut_memory _ _ _ _ c.from_residual-in_err-perform-in-Item.ensures.1 (line_stops _ _ _ _ _ _ _ c.in-Item.op _ _ _ w)
 
 pub advance-requires : goal.advance-requires
@@ -94,7 +94,7 @@ items-preserved-then-not-is_stop g c =
     let n : IsNextItem (g.I.ItemSource.unread c.items.reader).left (g.I.ItemSource.unread c.items.reader).rest c.in-Item.op (size_of c.in-Item.op)
     × (g.I.ItemSource.unread c.next.new.self ≡ record { rest = drop (size_of c.in-Item.op) (g.I.ItemSource.unread c.items.reader).rest; left = left_behind (g.I.ItemSource.unread c.items.reader).left c.in-Item.op }) = rw c.in-Item.is at c.next.ensures in
     let none : refusal_of (row_of c.in-Item.op) c.items.lean ≡ None = rw c.of_ref-row.ensures at (sym c.in_default.ensures.first) in
-    let w = with_line _ _ _ _ _ _ _ _ c.in-Item.op _ _ _ c.items.invariant n.0 none (rw c.as_slice-marks.ensures.value at c.in_ok-write_item-in-Item.ensures) in
+    let w = with_line _ _ _ _ _ _ _ _ c.in-Item.op _ _ _ c.items.invariant n.0 none c.in_ok-write_item-in-Item.ensures in
     let kind : sample c.of-class.result ≡ plain (kind_of c.in-Item.op) = ap sample (rw c.opcode-in-Item.ensures at (c.of-class.ensures c.in-Item.op.arg)) in
     let next = rw c.of_ref-row.ensures at c.in_ok-perform-in-Item.ensures.moved in
     let m = moved _ _ _ _ _ _ _ c.in-Item.op _ _ _ _ _ _ w none kind next c.in_ok-perform-in-Item.ensures.marks in
@@ -107,7 +107,7 @@ returns-in_err-end_pickle-in-Item-clause-err g c =
     let n : IsNextItem (g.I.ItemSource.unread c.items.reader).left (g.I.ItemSource.unread c.items.reader).rest c.in-Item.op (size_of c.in-Item.op)
     × (g.I.ItemSource.unread c.next.new.self ≡ record { rest = drop (size_of c.in-Item.op) (g.I.ItemSource.unread c.items.reader).rest; left = left_behind (g.I.ItemSource.unread c.items.reader).left c.in-Item.op }) = rw c.in-Item.is at c.next.ensures in
     let none : refusal_of (row_of c.in-Item.op) c.items.lean ≡ None = rw c.of_ref-row.ensures at (sym c.in_default.ensures.first) in
-    let w = with_line _ _ _ _ _ _ _ _ c.in-Item.op _ _ _ c.items.invariant n.0 none (rw c.as_slice-marks.ensures.value at c.in_ok-write_item-in-Item.ensures) in
+    let w = with_line _ _ _ _ _ _ _ _ c.in-Item.op _ _ _ c.items.invariant n.0 none c.in_ok-write_item-in-Item.ensures in
     let kind : sample c.of-class.result ≡ plain (kind_of c.in-Item.op) = ap sample (rw c.opcode-in-Item.ensures at (c.of-class.ensures c.in-Item.op.arg)) in
     let next = rw c.of_ref-row.ensures at c.in_ok-perform-in-Item.ensures.moved in
     let m = moved _ _ _ _ _ _ _ c.in-Item.op _ _ _ _ _ _ w none kind next c.in_ok-perform-in-Item.ensures.marks in
@@ -120,7 +120,7 @@ returns-then-is_last-clause-ok g c =
     let n : IsNextItem (g.I.ItemSource.unread c.items.reader).left (g.I.ItemSource.unread c.items.reader).rest c.in-Item.op (size_of c.in-Item.op)
     × (g.I.ItemSource.unread c.next.new.self ≡ record { rest = drop (size_of c.in-Item.op) (g.I.ItemSource.unread c.items.reader).rest; left = left_behind (g.I.ItemSource.unread c.items.reader).left c.in-Item.op }) = rw c.in-Item.is at c.next.ensures in
     let none : refusal_of (row_of c.in-Item.op) c.items.lean ≡ None = rw c.of_ref-row.ensures at (sym c.in_default.ensures.first) in
-    let w = with_line _ _ _ _ _ _ _ _ c.in-Item.op _ _ _ c.items.invariant n.0 none (rw c.as_slice-marks.ensures.value at c.in_ok-write_item-in-Item.ensures) in
+    let w = with_line _ _ _ _ _ _ _ _ c.in-Item.op _ _ _ c.items.invariant n.0 none c.in_ok-write_item-in-Item.ensures in
     let kind : sample c.of-class.result ≡ plain (kind_of c.in-Item.op) = ap sample (rw c.opcode-in-Item.ensures at (c.of-class.ensures c.in-Item.op.arg)) in
     let next = rw c.of_ref-row.ensures at c.in_ok-perform-in-Item.ensures.moved in
     let m = moved _ _ _ _ _ _ _ c.in-Item.op _ _ _ _ _ _ w none kind next c.in_ok-perform-in-Item.ensures.marks in
@@ -135,7 +135,7 @@ returns-then-is_last-clause-err g c =
     let n : IsNextItem (g.I.ItemSource.unread c.items.reader).left (g.I.ItemSource.unread c.items.reader).rest c.in-Item.op (size_of c.in-Item.op)
     × (g.I.ItemSource.unread c.next.new.self ≡ record { rest = drop (size_of c.in-Item.op) (g.I.ItemSource.unread c.items.reader).rest; left = left_behind (g.I.ItemSource.unread c.items.reader).left c.in-Item.op }) = rw c.in-Item.is at c.next.ensures in
     let none : refusal_of (row_of c.in-Item.op) c.items.lean ≡ None = rw c.of_ref-row.ensures at (sym c.in_default.ensures.first) in
-    let w = with_line _ _ _ _ _ _ _ _ c.in-Item.op _ _ _ c.items.invariant n.0 none (rw c.as_slice-marks.ensures.value at c.in_ok-write_item-in-Item.ensures) in
+    let w = with_line _ _ _ _ _ _ _ _ c.in-Item.op _ _ _ c.items.invariant n.0 none c.in_ok-write_item-in-Item.ensures in
     let kind : sample c.of-class.result ≡ plain (kind_of c.in-Item.op) = ap sample (rw c.opcode-in-Item.ensures at (c.of-class.ensures c.in-Item.op.arg)) in
     let next = rw c.of_ref-row.ensures at c.in_ok-perform-in-Item.ensures.moved in
     let m = moved _ _ _ _ _ _ _ c.in-Item.op _ _ _ _ _ _ w none kind next c.in_ok-perform-in-Item.ensures.marks in
@@ -150,7 +150,7 @@ items-preserved g c =
     let n : IsNextItem (g.I.ItemSource.unread c.items.reader).left (g.I.ItemSource.unread c.items.reader).rest c.in-Item.op (size_of c.in-Item.op)
     × (g.I.ItemSource.unread c.next.new.self ≡ record { rest = drop (size_of c.in-Item.op) (g.I.ItemSource.unread c.items.reader).rest; left = left_behind (g.I.ItemSource.unread c.items.reader).left c.in-Item.op }) = rw c.in-Item.is at c.next.ensures in
     let none : refusal_of (row_of c.in-Item.op) c.items.lean ≡ None = rw c.of_ref-row.ensures at (sym c.in_default.ensures.first) in
-    let w = with_line _ _ _ _ _ _ _ _ c.in-Item.op _ _ _ c.items.invariant n.0 none (rw c.as_slice-marks.ensures.value at c.in_ok-write_item-in-Item.ensures) in
+    let w = with_line _ _ _ _ _ _ _ _ c.in-Item.op _ _ _ c.items.invariant n.0 none c.in_ok-write_item-in-Item.ensures in
     let kind : sample c.of-class.result ≡ plain (kind_of c.in-Item.op) = ap sample (rw c.opcode-in-Item.ensures at (c.of-class.ensures c.in-Item.op.arg)) in
     let next = rw c.of_ref-row.ensures at c.in_ok-perform-in-Item.ensures.moved in
     let m = moved _ _ _ _ _ _ _ c.in-Item.op _ _ _ _ _ _ w none kind next c.in_ok-perform-in-Item.ensures.marks in

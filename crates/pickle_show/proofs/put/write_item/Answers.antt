@@ -1,6 +1,6 @@
 use Rattle.std.proofs.Common.{length}
 use Rattle.pickle_show.specs.Listing.{note_with}
-use Rattle.pickle_show.specs.Inside.Marks.{last_of}
+use Rattle.pickle_show.specs.Inside.Marks.{last_element}
 use Rattle.pickle_io.proofs.Devices.{Writes-stop}
 use Rattle.pickle_show.proofs.PageLines.{line_behind, line_broken}
 use Rattle.pickle_show.proofs.put.write_item.Goals as goal
@@ -12,5 +12,5 @@ returns-in_err-write_head g c =
 
 pub returns : goal.returns
 returns g c =
-    line_behind _ _ _ c.write_rest.result c.args.op.now c.args.offset.now (length c.args.lean.now.marked) (note_with c.args.op.now c.args.lean.now (last_of c.args.opened.now))
+    line_behind _ _ _ c.write_rest.result c.args.op.now c.args.offset.now (length c.args.lean.now.marked) (note_with c.args.op.now c.args.lean.now (last_element c.args.opened.now.items))
     (rw c.note_of-note.ensures at c.write_rest.ensures) (rw (c.opcode.ensures, c.marks_len.ensures) at c.in_ok-write_head.ensures.text)

@@ -9,7 +9,7 @@ report_of_items-requires g c κs =
     ((refl, tt), rw (c.new-items.ensures.value, c.is_many.ensures) (refl, (c.new-items.ensures.small, (again.read, again.reads))))
 
 pub returns-clause-ok : goal.returns-clause-ok
-returns-clause-ok g c = wrote_document c.args.document.now.contents _ _ _ c.total-total.ensures.document c.new-items.ensures.small (rw (c.new-items.ensures.value, c.is_many.ensures) at c.report_of_items.ensures.ok)
+returns-clause-ok g c = wrote_document c.args.document.now.contents _ _ _ c.new-items.ensures.document c.new-items.ensures.small (rw (c.new-items.ensures.value, c.is_many.ensures) at c.report_of_items.ensures.ok)
 
 pub returns-clause-failed : goal.returns-clause-failed
-returns-clause-failed g c e = broke_document c.args.document.now.contents _ _ c.total-total.ensures.document c.new-items.ensures.small (rw (c.new-items.ensures.value, c.is_many.ensures) at c.report_of_items.ensures.failed e)
+returns-clause-failed g c e = broke_document c.args.document.now.contents _ _ c.new-items.ensures.document c.new-items.ensures.small (rw (c.new-items.ensures.value, c.is_many.ensures) at c.report_of_items.ensures.failed e)

@@ -1,7 +1,7 @@
 -- One place more, or an end.
 use Rattle.std.proofs.Common.{◌≡◌, [], ◌+◌, length, ◌∙◌, ap, arith, refl}
 use Rattle.std.proofs.lemmas.List.{nil_from_length}
-use Rattle.pickle_show.specs.Inside.Walking.{left_text}
+use Rattle.pickle_show.specs.Inside.Walking.{unwritten_text}
 use Rattle.pickle_io.proofs.Devices.{Writes-stop, WroteAllBut-all}
 use Rattle.pickle_show.proofs.ReportPieces.{WroteAllBut-same, WroteAllBut-piece, WroteAllBut-broke}
 use Rattle.pickle_show.proofs.Walks.{left-none, left-popped, left-stepped, smaller-popped, smaller-stepped}
@@ -44,4 +44,4 @@ returns-in_err-visit g c =
 pub returns : goal.returns
 returns g c =
     let none : c.loop-content.stack.items ≡ [] = nil_from_length _ (omega (arith, c.in_default.ensures.cases)) in
-    WroteAllBut-all _ _ _ _ c.loop-content.invariant.wrote (ap (left_text c.args.machine.now.state.heap c.loop-content.seen.items) none ∙ left-none _ _)
+    WroteAllBut-all _ _ _ _ c.loop-content.invariant.wrote (ap (unwritten_text c.args.machine.now.state.heap c.loop-content.seen.items) none ∙ left-none _ _)

@@ -2,15 +2,15 @@
 use Rattle.std.proofs.Common.{◌≡◌, ◌+◌, ◌≤◌, length}
 use Rattle.std.specs.Vec.{vec_capacity}
 use Rattle.pickle_io.specs.Device.{WroteAllBut}
-use Rattle.pickle_show.specs.Inside.Walking.{unseen, left_text}
+use Rattle.pickle_show.specs.Inside.Walking.{unseen, unwritten_text}
 use Rattle.pickle_show.proofs.show.go_on.Given as goal
 
 abbrev pub invariant-loop-content : goal.invariant-loop-content
 invariant-loop-content g l = record {
-  wrote : WroteAllBut (g.S.Sink.told l.initial.sink) (g.S.Sink.told l.sink) (left_text l.machine.state.heap l.initial.seen.items l.initial.stack.items) (left_text l.machine.state.heap l.seen.items l.stack.items);
+  wrote : WroteAllBut (g.S.Sink.told l.initial.sink) (g.S.Sink.told l.sink) (unwritten_text l.machine.state.heap l.initial.seen.items l.initial.stack.items) (unwritten_text l.machine.state.heap l.seen.items l.stack.items);
   seen : length l.seen.items ≡ length l.machine.state.heap;
   room : length l.stack.items + unseen l.seen.items ≤ vec_capacity l.stack;
 }
 
 abbrev pub decreases-loop-content : goal.decreases-loop-content
-decreases-loop-content g l = length (left_text l.machine.state.heap l.seen.items l.stack.items) + length l.stack.items
+decreases-loop-content g l = length (unwritten_text l.machine.state.heap l.seen.items l.stack.items) + length l.stack.items

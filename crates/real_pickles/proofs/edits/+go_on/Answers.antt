@@ -1,6 +1,6 @@
 use Rattle.std.proofs.Common.{◌≡◌, ◌+◌, ◌≤◌, length, ap, ◌∙◌, arith}
 use Rattle.pickle_doc.specs.Document.{Contents, items_of}
-use Rattle.pickle_doc.specs.Turn.{risen}
+use Rattle.pickle_doc.specs.Swap.{risen}
 use Rattle.real_pickles.proofs.Risen.{risen_more, on, again}
 use Rattle.real_pickles.proofs.edits.+go_on.Goals as goal
 

@@ -1,5 +1,0 @@
-use Rattle.pickle_doc.proofs.Streams.{stands_first as law}
-use Rattle.pickle_doc.proofs.stream_laws.streams_stand_first.Goals as goal
-
-pub returns : goal.returns
-returns c = law
