@@ -1,5 +1,5 @@
-//! Listings over memory. The expected texts are what `pickletools.dis` prints for these bytes, in the listing's form of arguments, notes and
-//! closing lines.
+//! Listings over memory. The expected texts are what `pickletools.dis` prints for these bytes, in the listing's form of arguments,
+//! notes and closing lines.
 
 use pickle_doc::{Document, LIMIT};
 use pickle_ops::{Opcode, op_of};

@@ -1,4 +1,4 @@
--- Marks: one item on, one item back, the frame that is unfinished there, and edits after them.
+-- Bookmarks: one item on, one item back, the frame that is unfinished there, and edits after them.
 use Rattle.std.proofs.Common.{◌≡◌, ◌+◌, ◌-◌, ◌<◌, ◌≤◌, ℕ, suc, zero, Bool, true, false, List, [], ◌∷◌, length, take, slice_get, Option, Some, None, length-append, refl, ap, sym, ◌∙◌, inl, inr, arith}
 use Rattle.std.specs.Prelude.{if◌then◌else◌, nat_lt}
 use Rattle.std.specs.List.{AllByRecursion}

@@ -116,7 +116,7 @@ impl<S: Sink + Drop> Buffered<S> {
         Buffered::with_room(alloc, sink, ROOM)
     }
 
-    /// The same with room for this many bytes, or for a line where that is more.
+    /// The same with room for this many bytes, or for a line where that is more. An error comes only where memory runs out.
     pub fn with_room(alloc: Global, sink: S, room: usize) -> Result<Buffered<S>, AllocError>
         ensures sink { IfOk result (λ b. b.sink ≡ sink) }
         ensures held { IfOk result (λ b. drop b.start (take b.len b.text.items) ≡ []) }

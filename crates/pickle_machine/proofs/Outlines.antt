@@ -16,7 +16,6 @@ use Rattle.pickle_ops.specs.declared.row.Taking.TheVariants as taking
 use Rattle.pickle_ops.specs.declared.row.Cutting.{Cutting}
 use Rattle.pickle_ops.specs.declared.row.Cutting.TheVariants as cutting
 use Rattle.pickle_ops.specs.declared.row.Filling.{Filling}
-use Rattle.pickle_ops.specs.declared.row.Filling.TheVariants as filling
 use Rattle.pickle_ops.specs.declared.object.Change.{Change}
 use Rattle.pickle_ops.specs.Object.{Object}
 use Rattle.pickle_ops.specs.Class.{class_meets}

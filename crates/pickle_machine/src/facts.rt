@@ -1,5 +1,5 @@
-//! What holds of machines at all times, as functions for proofs alone. Nobody uses what they read: the clauses of these
-//! reads tell the fact.
+//! What holds of machines at all times, as functions for proofs alone. Their values are not used: the clauses of
+//! what they call state the fact.
 
 use crate::lean::Lean;
 use crate::machine::Core;

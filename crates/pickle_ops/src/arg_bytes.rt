@@ -7,7 +7,7 @@ use std::rc::RcSlice;
 /// An argument of up to this many bytes is kept with its opcode, and takes no memory.
 const MOST: usize = 14;
 
-/// A few bytes, in the value itself.
+/// At most fourteen bytes, in the value itself.
 #[derive(Debug, Drop)]
 pub(crate) struct Inline {
     count: u8,

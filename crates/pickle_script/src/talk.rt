@@ -241,7 +241,7 @@ fn go_on<P: Past, S: Source, K: Page>(
 
 /// Reads commands from the source and obeys them one by one, until one quits or the source ends, and answers the status: 1 where a line
 /// was refused, else 0. The text of each line is written before the next line is obeyed. Where lines were obeyed, the sink hands
-/// on what it holds before more is read, so that it waits for no answer, and at the end.
+/// on what it holds before more is read, so that no answer waits for input. At the end it does so too.
 ///
 /// `Memory` comes only before anything was read. `Read` and `Write` come where the source or the sink fails: the
 /// session is that of the lines obeyed so far, a line of which only a part was read is not among them, and of the text

@@ -43,7 +43,7 @@ fn write_many_blanks<P: Page>(count: usize, page: &mut P) -> Result<(), Failed>
     Ok(())
 }
 
-/// Writes blanks, mostly none. `Failed` comes from the sink.
+/// Writes this many blanks, most often none. `Failed` comes from the sink.
 #[tactic(auto, using(crate::proofs::Spaces::no_blanks))]
 #[inline(always)]
 pub fn write_blanks<P: Page>(count: usize, page: &mut P) -> Result<(), Failed>

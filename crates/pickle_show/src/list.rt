@@ -185,8 +185,9 @@ pub fn list_items<'a, I: ItemSource<'a>, S: Page>(
                 return answer(write_fault_end(fault, at, highest.get(), sink), 1);
             }
             NextRef::Item(op) => {
-                let row = Row::of_ref(&op);
                 highest.raise(op.opcode().protocol());
+                // The row is found where it is asked for, so that both are one jump.
+                let row = Row::of_ref(&op);
                 // The machine is asked before it takes the item, whose line is written first. The line of a refused item
                 // has no note.
                 if let Some(refusal) = lean.refusal(row) {

@@ -46,7 +46,7 @@ impl Model for Offset {
 }
 
 impl Offset {
-    /// The offset that this number is.
+    /// The offset n.
     #[tactic(auto, using(crate::proofs::Offsets::offset_steps))]
     pub fn at(n: u64) -> Offset
         requires { n < 2 ^ 40 }

@@ -95,7 +95,8 @@ fn write_lines<S: Page>(machine: &Machine, closing: Closing, sink: &mut S) -> Re
 }
 
 /// Writes the lines of all objects of a machine, one for each result, and a closing line where something is refused or at fault, and
-/// answers the status: 1 with such a line, else 0. It takes no memory. `Failed` where the sink fails; a beginning of the lines was written then.
+/// answers the status: 1 with such a line, else 0. It takes no memory. `Failed` where the sink fails; a beginning of the lines was
+/// written then.
 fn write_report<S: Page>(machine: &Machine, closing: Closing, sink: &mut S) -> Result<u8, Failed>
     ensures text { Writes (S.told sink.old) (S.told sink.new) result (report_text machine.now.state.heap machine.now.state.results closing) }
     ensures status { IfOk result (λ status. status ≡ closing_status closing) }

@@ -82,7 +82,7 @@ fn debug_command<'a>(alloc: Global) -> Result<Command<'a>, AllocError>
     .arg(save_argument(alloc))
 }
 
-/// What the program takes on its command line.
+/// What the program takes on its command line. It fails only where memory runs out.
 pub fn command_line<'a>(alloc: Global) -> Result<Command<'a>, AllocError>
     ensures { IfOk result (λ c. app_of c ≡ program) }
 {

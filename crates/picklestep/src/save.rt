@@ -146,8 +146,8 @@ fn replace(
     filled
 }
 
-/// Saves a document where `path` opened this file. A device or a pipe takes the bytes, and so does a regular file that was removed while it is
-/// open, to which `/dev/stdout` may lead.
+/// Saves a document where `path` opened this file. A device or a pipe takes the bytes, and so does a regular file that was removed
+/// while it is open, to which `/dev/stdout` may lead.
 fn save_over(rt: &HostRuntime, document: &Document, path: &str, file: &File) -> Result<(), Stop> {
     let Ok(about) = file.metadata() else {
         return Err(Stop::Write);
@@ -164,8 +164,8 @@ fn save_over(rt: &HostRuntime, document: &Document, path: &str, file: &File) -> 
     write_to(rt, document, file)
 }
 
-/// Saves a document to a path. `Stop::Write` where the file, or a new one next to it, cannot be written, `Stop::Memory` where there is no room;
-/// a regular file is then as it was. A device or a pipe may have taken a beginning of the bytes.
+/// Saves a document to a path. `Stop::Write` where the file, or a new one next to it, cannot be written, `Stop::Memory` where there is
+/// no room; a regular file is then as it was. A device or a pipe may have taken a beginning of the bytes.
 pub fn save_document(rt: &HostRuntime, document: &Document, path: &str) -> Result<(), Stop> {
     // The file is opened first, and left unchanged, so that one that may not be written is not replaced.
     match OpenOptions::new().write(true).open(rt, path) {

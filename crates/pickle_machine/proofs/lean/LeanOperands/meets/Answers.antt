@@ -1,4 +1,4 @@
-use Rattle.std.proofs.Common.{◌≡◌, List, false, sym, ap, ◌∙◌}
+use Rattle.std.proofs.Common.{List, false, sym, ap, ◌∙◌}
 use Rattle.std.specs.Prelude.{slice_get}
 use Rattle.std.specs.Option.{option_map_or}
 use Rattle.pickle_ops.specs.declared.class.Class.{Class}
