@@ -5,7 +5,6 @@ use Rattle.pickle_io.specs.Text.{◌⧺◌}
 use Rattle.pickle_doc.specs.declared.edit.EditFault.{EditFault}
 use Rattle.pickle_doc.specs.declared.edit.EditFault.TheVariants as edit
 use Rattle.pickle_doc.specs.declared.fault.End.{End}
-use Rattle.pickle_machine.specs.declared.refusal.Refusal.{Refusal}
 use Rattle.pickle_session.specs.declared.reply.Fault.{Fault}
 use Rattle.pickle_session.specs.declared.reply.Fault.TheVariants as fault
 use Rattle.pickle_session.specs.declared.reply.Why.{Why}
@@ -15,7 +14,7 @@ use Rattle.pickle_session.specs.declared.reply.Reply.TheVariants as reply
 use Rattle.pickle_script.specs.declared.line.Syntax.{Syntax}
 use Rattle.pickle_script.specs.declared.line.Syntax.TheVariants as syntax
 use Rattle.pickle_show.specs.Column.{newline}
-use Rattle.pickle_show.specs.ReportLine.{refusal_text}
+use Rattle.pickle_show.specs.ReportLine.{refusal_text, item_text}
 use Rattle.pickle_script.specs.FaultText.{end_text, op_fault_text}
 
 -- ---- refused commands
@@ -44,10 +43,6 @@ fault_words fault.NothingToRedo = codes "C7 nothing to redo"
 fault_words (fault.EditBehindCursor k) = codes "C8 edit at "
 fault_words (fault.Edit f) = codes "C9 "
 fault_words fault.Memory = codes "M out of memory"
-
--- the place of a refused item, and why it is refused
-unfoldable pub item_text : ℕ → Refusal → List ℕ
-item_text k r = decimal k ⧺ codes ": " ⧺ refusal_text r
 
 unfoldable pub behind_text : List ℕ
 behind_text = codes " behind the cursor"

@@ -5,21 +5,17 @@ ghost use Rattle.pickle_io.specs.Device.{Writes};
 ghost use Rattle.pickle_script.specs.FaultText.{end_text, op_fault_text};
 
 use pickle_doc::{End, TailFault};
-use pickle_ops::{Failed, OpFault, Page, write_all, write_decimal};
-use pickle_show::write_fault_text;
+use pickle_ops::{Failed, OpFault, Page, write_all};
+use pickle_show::{write_fault_at, write_fault_text};
 
 /// Writes why a document ends.
-#[tactic(auto, using(pickle_io::proofs::Devices::text_steps), unfolding(crate::specs::FaultText::end_text))]
+#[tactic(auto, unfolding(crate::specs::FaultText::end_text))]
 pub(crate) fn write_end<S: Page>(end: End, sink: &mut S) -> Result<(), Failed>
     ensures { Writes (S.told sink.old) (S.told sink.new) result (end_text end) }
 {
     match end {
         End::Stopped => write_all(sink, b"stopped"),
-        End::Fault(fault, offset) => {
-            write_fault_text(fault, sink)?;
-            write_all(sink, b" at ")?;
-            write_decimal(offset, sink)
-        }
+        End::Fault(fault, offset) => write_fault_at(fault, offset, sink),
     }
 }
 

@@ -2,14 +2,13 @@
 
 ghost use Rattle.std.specs.Prelude.{◌≡◌};
 ghost use Rattle.pickle_io.specs.Device.{Writes};
-ghost use Rattle.pickle_script.specs.ReplyText.{edit_words, fault_words, item_text, behind_text, fault_rest, refused_command, why_text, ran_text, placed_text, reply_text};
+ghost use Rattle.pickle_script.specs.ReplyText.{edit_words, fault_words, behind_text, fault_rest, refused_command, why_text, ran_text, placed_text, reply_text};
 
 use crate::fault_text::write_end;
 use pickle_doc::{EditFault, End};
-use pickle_machine::Refusal;
 use pickle_ops::{Failed, Page, write_all, write_decimal};
 use pickle_session::{Fault, Reply, Why};
-use pickle_show::write_refusal;
+use pickle_show::{write_item_refusal, write_refusal};
 
 /// What the fault of an edit is called.
 #[tactic(auto, unfolding(crate::specs::ReplyText::edit_words))]
@@ -48,16 +47,6 @@ fn words_of_fault(fault: Fault) -> &'static str
     }
 }
 
-/// Writes the place of an item that is refused, and why.
-#[tactic(auto, using(pickle_io::proofs::Devices::text_steps), unfolding(crate::specs::ReplyText::item_text))]
-fn write_refused_item<S: Page>(place: usize, refusal: Refusal, sink: &mut S) -> Result<(), Failed>
-    ensures { Writes (S.told sink.old) (S.told sink.new) result (item_text place refusal) }
-{
-    write_decimal(place as u64, sink)?;
-    write_all(sink, b": ")?;
-    write_refusal(refusal, sink)
-}
-
 /// What comes after the place of an edit that is before the cursor.
 #[tactic(auto, unfolding(crate::specs::ReplyText::behind_text))]
 fn behind_words() -> &'static str
@@ -73,7 +62,7 @@ fn write_fault_rest<S: Page>(fault: Fault, sink: &mut S) -> Result<(), Failed>
 {
     match fault {
         Fault::AtEnd(end) => write_end(end, sink),
-        Fault::Item(place, refusal) => write_refused_item(place, refusal, sink),
+        Fault::Item(place, refusal) => write_item_refusal(place, refusal, sink),
         Fault::EditBehindCursor(place) => {
             write_decimal(place as u64, sink)?;
             write_all(sink, behind_words().as_bytes())

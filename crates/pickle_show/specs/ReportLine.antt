@@ -45,8 +45,11 @@ unfoldable pub refusal_text : Refusal → List ℕ
 refusal_text r = refusal_words r ⧺ refusal_number r
 
 -- a refused item: its place, and why the machine refuses it
+unfoldable pub item_text : ℕ → Refusal → List ℕ
+item_text place r = decimal place ⧺ codes ": " ⧺ refusal_text r
+
 unfoldable pub item_refused : ℕ → Refusal → List ℕ
-item_refused place r = codes "item " ⧺ decimal place ⧺ codes ": " ⧺ refusal_text r
+item_refused place r = codes "item " ⧺ item_text place r
 
 -- ---- faults
 
@@ -75,5 +78,8 @@ unfoldable pub fault_text : TailFault → List ℕ
 fault_text f = tail_words f ⧺ fault_byte f
 
 -- the fault of a tail at this offset
+unfoldable pub fault_at : TailFault → ℕ → List ℕ
+fault_at f offset = fault_text f ⧺ codes " at " ⧺ decimal offset
+
 unfoldable pub fault_line : TailFault → ℕ → List ℕ
-fault_line f offset = codes "fault: " ⧺ fault_text f ⧺ codes " at " ⧺ decimal offset ⧺ newline
+fault_line f offset = codes "fault: " ⧺ fault_at f offset ⧺ newline

@@ -2,7 +2,7 @@
 
 ghost use Rattle.std.specs.Prelude.{◌≡◌};
 ghost use Rattle.pickle_io.specs.Device.{Writes};
-ghost use Rattle.pickle_show.specs.ReportLine.{refusal_words, refusal_number, refusal_text, item_refused, tail_words, fault_byte, fault_text, fault_line};
+ghost use Rattle.pickle_show.specs.ReportLine.{refusal_words, refusal_number, refusal_text, item_text, item_refused, tail_words, fault_byte, fault_text, fault_at, fault_line};
 
 use pickle_doc::TailFault;
 use pickle_machine::Refusal;
@@ -59,6 +59,20 @@ pub fn write_refusal<S: Page>(refusal: Refusal, sink: &mut S) -> Result<(), Fail
     write_refusal_number(refusal, sink)
 }
 
+/// Writes the place of an item that is refused, and why. Where the sink fails, a beginning of the text was written.
+#[tactic(auto, using(pickle_io::proofs::Devices::text_steps), unfolding(crate::specs::ReportLine::item_text))]
+pub fn write_item_refusal<S: Page>(
+    place: usize,
+    refusal: Refusal,
+    sink: &mut S,
+) -> Result<(), Failed>
+    ensures { Writes (S.told sink.old) (S.told sink.new) result (item_text place refusal) }
+{
+    write_decimal(place as u64, sink)?;
+    write_all(sink, b": ")?;
+    write_refusal(refusal, sink)
+}
+
 /// Writes which item is refused, by its place, and why. Where the sink fails, a beginning of the text was written.
 #[tactic(auto, using(pickle_io::proofs::Devices::text_steps), unfolding(crate::specs::ReportLine::item_refused))]
 pub(crate) fn write_item_refused<S: Page>(
@@ -69,9 +83,7 @@ pub(crate) fn write_item_refused<S: Page>(
     ensures { Writes (S.told sink.old) (S.told sink.new) result (item_refused place refusal) }
 {
     write_all(sink, b"item ")?;
-    write_decimal(place as u64, sink)?;
-    write_all(sink, b": ")?;
-    write_refusal(refusal, sink)
+    write_item_refusal(place, refusal, sink)
 }
 
 /// The words of a fault.
@@ -111,6 +123,16 @@ pub fn write_fault_text<S: Page>(fault: TailFault, sink: &mut S) -> Result<(), F
     write_fault_byte(fault, sink)
 }
 
+/// Writes the fault of a tail, and the offset in bytes where the tail begins. Where the sink fails, a beginning of the text was written.
+#[tactic(auto, using(pickle_io::proofs::Devices::text_steps), unfolding(crate::specs::ReportLine::fault_at))]
+pub fn write_fault_at<S: Page>(fault: TailFault, offset: u64, sink: &mut S) -> Result<(), Failed>
+    ensures { Writes (S.told sink.old) (S.told sink.new) result (fault_at fault offset) }
+{
+    write_fault_text(fault, sink)?;
+    write_all(sink, b" at ")?;
+    write_decimal(offset, sink)
+}
+
 /// Writes the line of the fault of a tail that begins at this offset, in bytes. Where the sink fails, a beginning of the line was
 /// written.
 #[tactic(auto, using(pickle_io::proofs::Devices::text_steps), unfolding(crate::specs::ReportLine::fault_line))]
@@ -118,8 +140,6 @@ pub fn write_fault<S: Page>(fault: TailFault, offset: u64, sink: &mut S) -> Resu
     ensures { Writes (S.told sink.old) (S.told sink.new) result (fault_line fault offset) }
 {
     write_all(sink, b"fault: ")?;
-    write_fault_text(fault, sink)?;
-    write_all(sink, b" at ")?;
-    write_decimal(offset, sink)?;
+    write_fault_at(fault, offset, sink)?;
     write_all(sink, b"\n")
 }

@@ -230,7 +230,8 @@ MAKE_NONE = frozenset(
     b'ADDITEMS BUILD'.split())
 
 
-_NO_MAKERS = frozenset(map(_CODES.__getitem__, MAKE_NONE))
+# A name that this Python's `pickletools` does not have is in no listing that it could read.
+_NO_MAKERS = frozenset(_CODES[name] for name in MAKE_NONE if name in _CODES)
 _VIEW = _CODES[b'READONLY_BUFFER']
 _VIEW_MADE = re.compile(rb'^#[0-9]+ readonly ', re.MULTILINE)
 
