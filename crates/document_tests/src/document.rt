@@ -109,14 +109,21 @@ fn try_by_name(alloc: Global, row: &Row) -> Result<(), Wrong> {
     shows(alloc, &document, &row.after)
 }
 
-#[test]
-fn edits_by_their_names(rt: HostRuntime) {
-    let tables: [&[Row]; 3] = [&IN_FRAMES, &BESIDE_FRAMES, &FRAMES];
-    for rows in &tables {
-        for row in *rows {
-            assert_eq!(rt; try_by_name(rt.alloc(), row), Ok(()));
+/// The first row whose edit does not hold when the call that has its name makes it, by its bytes, and what is wrong there.
+fn first_wrong_by_name<'a>(alloc: Global, rows: &'a [Row]) -> Option<(&'a [u8], Wrong)> {
+    for row in rows {
+        if let Err(wrong) = try_by_name(alloc, row) {
+            return Some((row.before.bytes, wrong));
         }
     }
+    None
+}
+
+#[test]
+fn edits_by_their_names(rt: HostRuntime) {
+    assert_eq!(rt; first_wrong_by_name(rt.alloc(), &IN_FRAMES), None);
+    assert_eq!(rt; first_wrong_by_name(rt.alloc(), &BESIDE_FRAMES), None);
+    assert_eq!(rt; first_wrong_by_name(rt.alloc(), &FRAMES), None);
 }
 
 #[test]
