@@ -185,13 +185,12 @@ pub fn list_items<'a, I: ItemSource<'a>, S: Page>(
                 return answer(write_fault_end(fault, at, highest.get(), sink), 1);
             }
             NextRef::Item(op) => {
-                highest.raise(op.opcode().protocol());
-                // The row is found where it is asked for, so that both are one jump.
                 let row = Row::of_ref(&op);
                 // The machine is asked before it takes the item, whose line is written first. The line of a refused item
                 // has no note.
                 if let Some(refusal) = lean.refusal(row) {
                     let marks = lean.marks_len();
+                    highest.raise(op.opcode().protocol());
                     let most = highest.get();
                     return answer(
                         write_refused_item(&op.again(), &offset, marks, refusal, most, sink),
@@ -199,6 +198,8 @@ pub fn list_items<'a, I: ItemSource<'a>, S: Page>(
                     );
                 }
                 write_item(&op, &offset, row, &lean, &opened, sink)?;
+                // No earlier: next to the row it would be a jump of its own.
+                highest.raise(op.opcode().protocol());
                 let class = Class::of(op.opcode());
                 perform(&mut lean, &mut opened, row, class, place, &offset)?;
                 offset.advance(op.size() as u64);

@@ -59,6 +59,7 @@ fn push_filled<P: Page>(opcode: Opcode, page: &mut P)
 
 /// Puts a note.
 #[tactic(auto, using(pickle_io::proofs::Devices::text_steps), unfolding(crate::specs::Line::mark_text, crate::specs::Line::as_text))]
+#[inline(always)]
 fn push_note<P: Page>(note: Note, page: &mut P)
     requires { 40 ≤ P.room page.old }
     ensures text { Wrote (P.told page.old) (P.told page.new) (note_text note) }

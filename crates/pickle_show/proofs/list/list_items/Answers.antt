@@ -95,12 +95,12 @@ items-preserved-then-not-is_stop g c =
     × (g.I.ItemSource.unread c.next.new.self ≡ record { rest = drop (size_of c.in-Item.op) (g.I.ItemSource.unread c.items.reader).rest; left = left_behind (g.I.ItemSource.unread c.items.reader).left c.in-Item.op }) = rw c.in-Item.is at c.next.ensures in
     let none : refusal_of (row_of c.in-Item.op) c.items.lean ≡ None = rw c.of_ref-row.ensures at (sym c.in_default.ensures.first) in
     let w = with_line _ _ _ _ _ _ _ _ c.in-Item.op _ _ _ c.items.invariant n.0 none c.in_ok-write_item-in-Item.ensures in
-    let kind : sample c.of-class.result ≡ plain (kind_of c.in-Item.op) = ap sample (rw c.opcode-in-Item.ensures at (c.of-class.ensures c.in-Item.op.arg)) in
+    let kind : sample c.of-class.result ≡ plain (kind_of c.in-Item.op) = ap sample (rw c.opcode-in-Item-2.ensures at (c.of-class.ensures c.in-Item.op.arg)) in
     let next = rw c.of_ref-row.ensures at c.in_ok-perform-in-Item.ensures.moved in
     let m = moved _ _ _ _ _ _ _ c.in-Item.op _ _ _ _ _ _ w none kind next c.in_ok-perform-in-Item.ensures.marks in
-    let stop : is_stop c.in-Item.op.opcode ≡ c.is_stop.result = sym (c.is_stop.ensures ∙ ap is_stop c.opcode-in-Item-2.ensures) in
+    let stop : is_stop c.in-Item.op.opcode ≡ c.is_stop.result = sym (c.is_stop.ensures ∙ ap is_stop c.opcode-in-Item-3.ensures) in
     let miss = stop ∙ c.if-not-is_stop.true in
-    rw (n.1, c.advance.ensures, c.size.ensures, c.raise.ensures, c.protocol.ensures, c.opcode.ensures) (goes_on _ _ _ _ _ _ _ c.in-Item.op _ _ _ m miss)
+    rw (n.1, c.advance.ensures, c.size.ensures, c.raise-in-Item.ensures, c.protocol-in-Item.ensures, c.opcode-in-Item.ensures) (goes_on _ _ _ _ _ _ _ c.in-Item.op _ _ _ m miss)
 
 pub returns-in_err-end_pickle-in-Item-clause-err : goal.returns-in_err-end_pickle-in-Item-clause-err
 returns-in_err-end_pickle-in-Item-clause-err g c =
@@ -108,10 +108,10 @@ returns-in_err-end_pickle-in-Item-clause-err g c =
     × (g.I.ItemSource.unread c.next.new.self ≡ record { rest = drop (size_of c.in-Item.op) (g.I.ItemSource.unread c.items.reader).rest; left = left_behind (g.I.ItemSource.unread c.items.reader).left c.in-Item.op }) = rw c.in-Item.is at c.next.ensures in
     let none : refusal_of (row_of c.in-Item.op) c.items.lean ≡ None = rw c.of_ref-row.ensures at (sym c.in_default.ensures.first) in
     let w = with_line _ _ _ _ _ _ _ _ c.in-Item.op _ _ _ c.items.invariant n.0 none c.in_ok-write_item-in-Item.ensures in
-    let kind : sample c.of-class.result ≡ plain (kind_of c.in-Item.op) = ap sample (rw c.opcode-in-Item.ensures at (c.of-class.ensures c.in-Item.op.arg)) in
+    let kind : sample c.of-class.result ≡ plain (kind_of c.in-Item.op) = ap sample (rw c.opcode-in-Item-2.ensures at (c.of-class.ensures c.in-Item.op.arg)) in
     let next = rw c.of_ref-row.ensures at c.in_ok-perform-in-Item.ensures.moved in
     let m = moved _ _ _ _ _ _ _ c.in-Item.op _ _ _ _ _ _ w none kind next c.in_ok-perform-in-Item.ensures.marks in
-    let stop : is_stop c.in-Item.op.opcode ≡ c.is_stop.result = sym (c.is_stop.ensures ∙ ap is_stop c.opcode-in-Item-2.ensures) in
+    let stop : is_stop c.in-Item.op.opcode ≡ c.is_stop.result = sym (c.is_stop.ensures ∙ ap is_stop c.opcode-in-Item-3.ensures) in
     let hit = stop ∙ c.if-not-is_stop.false in
     cut_failed _ _ _ _ c.from_residual-in_err-end_pickle-in-Item.ensures.1 (stop_breaks _ _ _ _ _ _ _ _ c.in-Item.op _ _ _ m hit c.in_err-end_pickle-in-Item.ensures.text)
 
@@ -121,14 +121,14 @@ returns-then-is_last-clause-ok g c =
     × (g.I.ItemSource.unread c.next.new.self ≡ record { rest = drop (size_of c.in-Item.op) (g.I.ItemSource.unread c.items.reader).rest; left = left_behind (g.I.ItemSource.unread c.items.reader).left c.in-Item.op }) = rw c.in-Item.is at c.next.ensures in
     let none : refusal_of (row_of c.in-Item.op) c.items.lean ≡ None = rw c.of_ref-row.ensures at (sym c.in_default.ensures.first) in
     let w = with_line _ _ _ _ _ _ _ _ c.in-Item.op _ _ _ c.items.invariant n.0 none c.in_ok-write_item-in-Item.ensures in
-    let kind : sample c.of-class.result ≡ plain (kind_of c.in-Item.op) = ap sample (rw c.opcode-in-Item.ensures at (c.of-class.ensures c.in-Item.op.arg)) in
+    let kind : sample c.of-class.result ≡ plain (kind_of c.in-Item.op) = ap sample (rw c.opcode-in-Item-2.ensures at (c.of-class.ensures c.in-Item.op.arg)) in
     let next = rw c.of_ref-row.ensures at c.in_ok-perform-in-Item.ensures.moved in
     let m = moved _ _ _ _ _ _ _ c.in-Item.op _ _ _ _ _ _ w none kind next c.in_ok-perform-in-Item.ensures.marks in
-    let stop : is_stop c.in-Item.op.opcode ≡ c.is_stop.result = sym (c.is_stop.ensures ∙ ap is_stop c.opcode-in-Item-2.ensures) in
+    let stop : is_stop c.in-Item.op.opcode ≡ c.is_stop.result = sym (c.is_stop.ensures ∙ ap is_stop c.opcode-in-Item-3.ensures) in
     let hit = stop ∙ c.if-not-is_stop.false in
     let kept : c.unread_len-kept.result ≡ length (drop (size_of c.in-Item.op) (g.I.ItemSource.unread c.items.reader).rest) = c.unread_len-kept.ensures ∙ ap (λ (u : Unread). length u.rest) n.1 in
     let last : (not c.args.many || length (drop (size_of c.in-Item.op) (g.I.ItemSource.unread c.items.reader).rest) == 0) ≡ c.is_last.result = sym (c.is_last.ensures ∙ ap (λ (n : ℕ). not c.args.many || n == 0) kept) in
-    closes_ok _ _ _ _ _ _ _ _ (stop_closes _ _ _ _ _ _ _ _ c.in-Item.op _ _ _ m hit (last ∙ c.if-is_last.true) c.in_ok-end_pickle-in-Item.ensures.text) (rw (kept, c.get-then-is_last.ensures, c.raise.ensures, c.protocol.ensures, c.opcode.ensures) at c.write_last_end.ensures) c.answer-then-is_last.ensures
+    closes_ok _ _ _ _ _ _ _ _ (stop_closes _ _ _ _ _ _ _ _ c.in-Item.op _ _ _ m hit (last ∙ c.if-is_last.true) c.in_ok-end_pickle-in-Item.ensures.text) (rw (kept, c.get-then-is_last.ensures, c.raise-in-Item.ensures, c.protocol-in-Item.ensures, c.opcode-in-Item.ensures) at c.write_last_end.ensures) c.answer-then-is_last.ensures
 
 pub returns-then-is_last-clause-err : goal.returns-then-is_last-clause-err
 returns-then-is_last-clause-err g c =
@@ -136,14 +136,14 @@ returns-then-is_last-clause-err g c =
     × (g.I.ItemSource.unread c.next.new.self ≡ record { rest = drop (size_of c.in-Item.op) (g.I.ItemSource.unread c.items.reader).rest; left = left_behind (g.I.ItemSource.unread c.items.reader).left c.in-Item.op }) = rw c.in-Item.is at c.next.ensures in
     let none : refusal_of (row_of c.in-Item.op) c.items.lean ≡ None = rw c.of_ref-row.ensures at (sym c.in_default.ensures.first) in
     let w = with_line _ _ _ _ _ _ _ _ c.in-Item.op _ _ _ c.items.invariant n.0 none c.in_ok-write_item-in-Item.ensures in
-    let kind : sample c.of-class.result ≡ plain (kind_of c.in-Item.op) = ap sample (rw c.opcode-in-Item.ensures at (c.of-class.ensures c.in-Item.op.arg)) in
+    let kind : sample c.of-class.result ≡ plain (kind_of c.in-Item.op) = ap sample (rw c.opcode-in-Item-2.ensures at (c.of-class.ensures c.in-Item.op.arg)) in
     let next = rw c.of_ref-row.ensures at c.in_ok-perform-in-Item.ensures.moved in
     let m = moved _ _ _ _ _ _ _ c.in-Item.op _ _ _ _ _ _ w none kind next c.in_ok-perform-in-Item.ensures.marks in
-    let stop : is_stop c.in-Item.op.opcode ≡ c.is_stop.result = sym (c.is_stop.ensures ∙ ap is_stop c.opcode-in-Item-2.ensures) in
+    let stop : is_stop c.in-Item.op.opcode ≡ c.is_stop.result = sym (c.is_stop.ensures ∙ ap is_stop c.opcode-in-Item-3.ensures) in
     let hit = stop ∙ c.if-not-is_stop.false in
     let kept : c.unread_len-kept.result ≡ length (drop (size_of c.in-Item.op) (g.I.ItemSource.unread c.items.reader).rest) = c.unread_len-kept.ensures ∙ ap (λ (u : Unread). length u.rest) n.1 in
     let last : (not c.args.many || length (drop (size_of c.in-Item.op) (g.I.ItemSource.unread c.items.reader).rest) == 0) ≡ c.is_last.result = sym (c.is_last.ensures ∙ ap (λ (n : ℕ). not c.args.many || n == 0) kept) in
-    closes_err _ _ _ _ _ _ _ _ (stop_closes _ _ _ _ _ _ _ _ c.in-Item.op _ _ _ m hit (last ∙ c.if-is_last.true) c.in_ok-end_pickle-in-Item.ensures.text) (rw (kept, c.get-then-is_last.ensures, c.raise.ensures, c.protocol.ensures, c.opcode.ensures) at c.write_last_end.ensures) c.answer-then-is_last.ensures
+    closes_err _ _ _ _ _ _ _ _ (stop_closes _ _ _ _ _ _ _ _ c.in-Item.op _ _ _ m hit (last ∙ c.if-is_last.true) c.in_ok-end_pickle-in-Item.ensures.text) (rw (kept, c.get-then-is_last.ensures, c.raise-in-Item.ensures, c.protocol-in-Item.ensures, c.opcode-in-Item.ensures) at c.write_last_end.ensures) c.answer-then-is_last.ensures
 
 pub items-preserved : goal.items-preserved
 items-preserved g c =
@@ -151,12 +151,12 @@ items-preserved g c =
     × (g.I.ItemSource.unread c.next.new.self ≡ record { rest = drop (size_of c.in-Item.op) (g.I.ItemSource.unread c.items.reader).rest; left = left_behind (g.I.ItemSource.unread c.items.reader).left c.in-Item.op }) = rw c.in-Item.is at c.next.ensures in
     let none : refusal_of (row_of c.in-Item.op) c.items.lean ≡ None = rw c.of_ref-row.ensures at (sym c.in_default.ensures.first) in
     let w = with_line _ _ _ _ _ _ _ _ c.in-Item.op _ _ _ c.items.invariant n.0 none c.in_ok-write_item-in-Item.ensures in
-    let kind : sample c.of-class.result ≡ plain (kind_of c.in-Item.op) = ap sample (rw c.opcode-in-Item.ensures at (c.of-class.ensures c.in-Item.op.arg)) in
+    let kind : sample c.of-class.result ≡ plain (kind_of c.in-Item.op) = ap sample (rw c.opcode-in-Item-2.ensures at (c.of-class.ensures c.in-Item.op.arg)) in
     let next = rw c.of_ref-row.ensures at c.in_ok-perform-in-Item.ensures.moved in
     let m = moved _ _ _ _ _ _ _ c.in-Item.op _ _ _ _ _ _ w none kind next c.in_ok-perform-in-Item.ensures.marks in
-    let stop : is_stop c.in-Item.op.opcode ≡ c.is_stop.result = sym (c.is_stop.ensures ∙ ap is_stop c.opcode-in-Item-2.ensures) in
+    let stop : is_stop c.in-Item.op.opcode ≡ c.is_stop.result = sym (c.is_stop.ensures ∙ ap is_stop c.opcode-in-Item-3.ensures) in
     let hit = stop ∙ c.if-not-is_stop.false in
     let kept : c.unread_len-kept.result ≡ length (drop (size_of c.in-Item.op) (g.I.ItemSource.unread c.items.reader).rest) = c.unread_len-kept.ensures ∙ ap (λ (u : Unread). length u.rest) n.1 in
     let last : (not c.args.many || length (drop (size_of c.in-Item.op) (g.I.ItemSource.unread c.items.reader).rest) == 0) ≡ c.is_last.result = sym (c.is_last.ensures ∙ ap (λ (n : ℕ). not c.args.many || n == 0) kept) in
-    rw (n.1, c.advance.ensures, c.size.ensures, c.raise.ensures, c.protocol.ensures, c.opcode.ensures)
+    rw (n.1, c.advance.ensures, c.size.ensures, c.raise-in-Item.ensures, c.protocol-in-Item.ensures, c.opcode-in-Item.ensures)
     (next_pickle _ _ _ _ _ _ _ _ c.in-Item.op _ _ _ _ _ m hit (last ∙ c.if-is_last.false) c.in_ok-end_pickle-in-Item.ensures.text c.in_ok-end_pickle-in-Item.ensures.fresh c.in_ok-end_pickle-in-Item.ensures.marks)
