@@ -1,17 +1,13 @@
 -- What is told of a session.
-use Rattle.std.proofs.Common.{◌≡◌, ℕ, ◌^◌, ◌<◌, ◌≤◌, true, List, length, Some, Result, Ok, Err, refl, inl, inr, arith}
+use Rattle.std.proofs.Common.{◌≡◌, ℕ, ◌<◌, ◌≤◌, true, List, length, Some, Result, Ok, Err, refl, inl, inr}
 use Rattle.std.proofs.lemmas.Bool.{lt-ltb, le-ltb}
 use Rattle.pickle_io.specs.declared.sink.Failed.{Failed}
 use Rattle.pickle_io.specs.Device.{Told, Wrote, Broke}
-use Rattle.pickle_doc.specs.Document.{document_bytes, size_limit}
 use Rattle.pickle_ops.specs.Object.{Object}
 use Rattle.pickle_machine.specs.State.{State}
-use Rattle.pickle_doc.specs.Place.{ops_of}
-use Rattle.pickle_session.specs.Session.{Session, state_at, len_of}
+use Rattle.pickle_session.specs.Session.{Session, state_at}
 use Rattle.pickle_session.specs.Allowed.{SessionState}
-use Rattle.pickle_session.proofs.Trails.{run_heap}
 use Rattle.pickle_show.specs.Show.{show_text}
-use Rattle.pickle_show.proofs.Runs.{few_items}
 use Rattle.pickle_script.specs.declared.line.Line.TheVariants as line
 use Rattle.pickle_script.specs.declared.line.Query.{Query}
 use Rattle.pickle_script.specs.declared.line.Query.TheVariants as query

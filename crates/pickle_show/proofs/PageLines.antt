@@ -12,7 +12,7 @@ use Rattle.pickle_ops.specs.Spelling.{Operation}
 use Rattle.pickle_io.specs.Text.{◌⧺◌}
 use Rattle.pickle_show.specs.declared.note.Note.{Note}
 use Rattle.pickle_show.specs.Column.{blanks, left_aligned, right_aligned, newline}
-use Rattle.pickle_show.specs.Line.{offset_column, code_column, item_line, named, mark_text, as_text}
+use Rattle.pickle_show.specs.Line.{offset_column, code_column, item_line, named}
 
 -- the head of a line: where the item stands, and its code
 pub head_there : (o : Opcode) (block : List ℕ) (offset : ℕ) → take 7 block ≡ code_column o → right_aligned 5 (decimal offset) ⧺ take 7 block ≡ offset_column offset ⧺ code_column o

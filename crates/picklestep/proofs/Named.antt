@@ -9,7 +9,7 @@ use Rattle.picklestep.specs.declared.task.Task.{Task}
 use Rattle.picklestep.specs.declared.task.Task.TheVariants as task
 use Rattle.picklestep.specs.declared.task.Usage.{Usage}
 use Rattle.picklestep.specs.declared.task.Usage.TheVariants as usage
-use Rattle.picklestep.specs.CommandLine.{Matches, IsMemory, IsNamed, IsUsed, IsWindow, most_records}
+use Rattle.picklestep.specs.CommandLine.{Matches, IsMemory, IsNamed, IsWindow, most_records}
 
 -- ---- a subcommand
 

@@ -1,6 +1,5 @@
 -- The offset after an item is one of the document's.
-use Rattle.std.proofs.Common.{◌≡◌, ◌≤◌, length, ap, Some, arith, rules}
-use Rattle.pickle_doc.specs.Document.{Contents, document_bytes, size_limit}
+use Rattle.std.proofs.Common.{◌≡◌, Some, arith, rules}
 use Rattle.pickle_doc.specs.Place.{item_at}
 use Rattle.pickle_script.proofs.PlaceLemmas.{offset_fits}
 use Rattle.pickle_script.proofs.items.write_line_at.Goals as goal

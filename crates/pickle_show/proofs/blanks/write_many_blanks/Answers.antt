@@ -1,5 +1,5 @@
 -- Some blanks more, or an end.
-use Rattle.std.proofs.Common.{◌≤◌, ◌-◌, arith}
+use Rattle.std.proofs.Common.{◌≤◌, arith}
 use Rattle.pickle_io.proofs.Devices.{Writes-stop}
 use Rattle.pickle_show.proofs.Spaces.{blanks_more, blanks_stopped}
 use Rattle.pickle_show.proofs.blanks.write_many_blanks.Goals as goal

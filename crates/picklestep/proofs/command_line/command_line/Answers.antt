@@ -1,7 +1,7 @@
 use Rattle.std.proofs.Common.{◌≡◌, ◌∙◌, ap, ap₂, rules, codes}
 use Rattle.std.proofs.lemmas.Result.{IfOk-weaker}
 use Rattle.clap.specs.Words.{App, app_of, new_app, with_subcommand}
-use Rattle.picklestep.specs.CommandLine.{on_file, debug_app, wants_subcommand, program}
+use Rattle.picklestep.specs.CommandLine.{on_file, debug_app, wants_subcommand}
 use Rattle.picklestep.proofs.Plain.{third}
 use Rattle.picklestep.proofs.command_line.command_line.Goals as goal
 

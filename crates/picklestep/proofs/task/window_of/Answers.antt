@@ -1,8 +1,7 @@
-use Rattle.std.proofs.Common.{rules, ◌≡◌, sym, ◌∙◌, ap, refl, codes}
+use Rattle.std.proofs.Common.{rules, sym, ◌∙◌, codes}
 use Rattle.std.specs.contracts.prelude.UsizeFromStr.TheImpl as number
 use Rattle.clap.proofs.WalkLemmas.{one_text-rows}
 use Rattle.clap.specs.Words.{found_of}
-use Rattle.picklestep.specs.CommandLine.{IsWindow}
 use Rattle.picklestep.proofs.Named.{no_text, some_text, bad_text, is_window, no_count, no_number}
 use Rattle.picklestep.proofs.task.window_of.Goals as goal
 
