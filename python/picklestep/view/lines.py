@@ -21,7 +21,7 @@ __all__ = ['CUT', 'Line', 'Lines', 'OpcodeLines', 'add_items', 'makers_of', 'opc
 CUT = 500
 _BLOCK = 1 << 20
 _LISTED = re.compile(r' *([0-9]+): (\S+)( +)([A-Z][A-Z0-9_]*)(?: +(.*))?')
-_CODE = re.compile(rb'[ 0-9]*: (\S+).*\n')  # (each match ends where the next begins, so that none is searched for)
+_NAME = re.compile(rb'[ 0-9]*: \S+ +(\S+).*\n')  # (each match ends where the next begins, so that none is searched for)
 _LISTED_BEGIN = re.compile(rb' *[0-9]+: ')
 _ITEM = re.compile(rb'[> ][* ] *[0-9]+ +([0-9]+): ([A-Z][A-Z0-9_]*)(.*)')
 
@@ -230,9 +230,7 @@ MAKE_NONE = frozenset(
     b'ADDITEMS BUILD'.split())
 
 
-# A name that this Python's `pickletools` does not have is in no listing that it could read.
-_NO_MAKERS = frozenset(_CODES[name] for name in MAKE_NONE if name in _CODES)
-_VIEW = _CODES[b'READONLY_BUFFER']
+_VIEW = b'READONLY_BUFFER'
 _VIEW_MADE = re.compile(rb'^#[0-9]+ readonly ', re.MULTILINE)
 
 
@@ -242,11 +240,11 @@ def makers_of(listing: OpcodeLines, objects: Lines, makes_view: Callable[[int, i
     READONLY_BUFFER makes none where its object can only be read already. Where some do not, `makes_view` is given the place of each and the
     number that an object would have there, and answers whether it makes one.
     """
-    codes: List[bytes] = _CODE.findall(listing.text)
-    each_makes = codes.count(_VIEW) == len(_VIEW_MADE.findall(objects.text))
+    names: List[bytes] = _NAME.findall(listing.text)
+    each_makes = names.count(_VIEW) == len(_VIEW_MADE.findall(objects.text))
     makers = array('Q')
-    for place, code in enumerate(codes):
-        if code not in _NO_MAKERS and (code != _VIEW or each_makes or makes_view(place, len(makers))):
+    for place, name in enumerate(names):
+        if name not in MAKE_NONE and (name != _VIEW or each_makes or makes_view(place, len(makers))):
             makers.append(place)
     return makers
 
