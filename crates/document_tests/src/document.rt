@@ -109,7 +109,7 @@ fn try_by_name(alloc: Global, row: &Row) -> Result<(), Wrong> {
     shows(alloc, &document, &row.after)
 }
 
-/// The first row whose edit does not hold when the call that has its name makes it, by its bytes, and what is wrong there.
+/// The first row that goes wrong when the call with the name of its edit makes it, by its bytes, and what is wrong there.
 fn first_wrong_by_name<'a>(alloc: Global, rows: &'a [Row]) -> Option<(&'a [u8], Wrong)> {
     for row in rows {
         if let Err(wrong) = try_by_name(alloc, row) {

@@ -198,7 +198,7 @@ pub fn list_items<'a, I: ItemSource<'a>, S: Page>(
                     );
                 }
                 write_item(&op, &offset, row, &lean, &opened, sink)?;
-                // No earlier: next to the row it would be a jump of its own.
+                // After the line: next to the row the compiler makes it a jump of its own.
                 highest.raise(op.opcode().protocol());
                 let class = Class::of(op.opcode());
                 perform(&mut lean, &mut opened, row, class, place, &offset)?;

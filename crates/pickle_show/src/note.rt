@@ -17,8 +17,8 @@ pub enum Note {
     As(u64),
 }
 
-/// The note of an operation that is not refused; `opened` has the offsets of the open marks, the topmost last. It is a `Vec`: to
-/// make a slice of it for each operation costs instructions, and few operations use it.
+/// The note of an operation that is not refused; `opened` has the offsets of the open marks, the topmost last. They are a
+/// `Vec`: making a slice of it costs instructions for each operation, and few use it.
 #[inline(always)]
 pub fn note_of(op: &OpRef<'_>, row: Row, lean: &Lean, opened: &Vec<u64>) -> Option<Note>
     requires { row ≡ row_of op.now }
