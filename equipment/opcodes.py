@@ -149,8 +149,8 @@ def fault_of_rows(root: Path) -> str:
 def fault_of_sets(root: Path) -> str:
     """What count_calls.py says of opcodes is what the rows and kinds of the table say."""
     table = records(root)
-    # The kinds that come from elsewhere or from a call have lines as 'Kind::StackGlobal => Class::Opaque'.
-    kinds = set(re.findall(r"Kind::(\w+)(?:\(_\))? => Class::Opaque", (root / "crates/pickle_ops/src/kind.rt").read_text(encoding="utf-8")))
+    # The kinds that come from elsewhere or from a call have lines as '(StackGlobal) => { Class::Opaque };'.
+    kinds = set(re.findall(r"\((\w+)\) => \{ Class::Opaque \};", (root / "crates/pickle_ops/src/class.rt").read_text(encoding="utf-8")))
     opaque = {record.name for record in table if first_word(record.kind) in kinds or record.row == "Buffer"}
     fills = {record.name for record in table if first_word(record.row) in ("Change", "CutChange")}
     return difference(count_calls.OPAQUE, opaque) or difference(count_calls.FILLS | {"BUILD"}, fills)

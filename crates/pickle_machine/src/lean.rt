@@ -185,7 +185,6 @@ impl Lean {
     {
         let id = deep(self.stack.top(), 0);
         if self.meets(id, Demand::ReadOnly) {
-            self.is_outline();
             Ok(())
         } else {
             self.gather(1, Class::ReadOnly)
@@ -278,15 +277,11 @@ impl Lean {
         requires good { refusal_of row self.old ≡ None }
         ensures ok { OnOk result (self.new ≡ outline (next_of row (sample class) place self.old)) }
     {
+        // Each object has a number of 32 bits.
+        prove!(self.classes.len() < u32::MAX as usize);
         match row {
-            Row::Nothing => {
-                self.is_outline();
-                Ok(())
-            }
-            Row::Protocol(_) => {
-                self.is_outline();
-                Ok(())
-            }
+            Row::Nothing => Ok(()),
+            Row::Protocol(_) => Ok(()),
             Row::Extension(_) => self.push(class),
             Row::Push => self.push(class),
             Row::Buffer => self.push(Class::Opaque),

@@ -46,7 +46,8 @@ pub enum Demand {
     Target(Filling),
 }
 
-/// The class of the kind of a record. It names kinds and no opcodes, since a kind cannot be made without its argument.
+/// The class of a kind, by the kind's name; of a record, that of the kind in it. It takes names, since a kind cannot be made without
+/// its argument.
 macro_rules! class {
     (() { $code:literal $name:literal $protocol:literal $form:ident $row:tt $kind:tt $($rest:tt)* }) => { class!($kind) };
     (($kind:ident $holds:ident)) => { class!($kind) };
@@ -70,8 +71,12 @@ macro_rules! class {
     (PersistentLine) => { Class::Opaque };
     (Persistent) => { Class::Opaque };
     (Ext) => { Class::Opaque };
+    (Buffer) => { Class::Opaque };
+    (ReadOnly) => { Class::ReadOnly };
     ($plain:tt) => { Class::Plain };
 }
+
+pub(crate) use class;
 
 impl Class {
     ghost use Rattle.std.specs.Prelude.{◌≡◌, List, ℕ};

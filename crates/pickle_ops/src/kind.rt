@@ -1,6 +1,6 @@
 //! What an object is.
 
-use crate::class::{Class, Demand};
+use crate::class::{Class, Demand, class};
 use crate::payload::{Payload, Texts};
 
 /// What an object is, with the bytes or the number that its opcode gave it. Bytes are kept as they are in the
@@ -82,28 +82,28 @@ impl Kind {
         ensures { result ≡ class_of self.now }
     {
         match self {
-            Kind::LegacyString(_) => Class::Text,
-            Kind::LegacyLine(_) => Class::Text,
-            Kind::Text(_) => Class::Text,
-            Kind::TextLine(_) => Class::Text,
-            Kind::Bytes(_) => Class::ReadOnly,
-            Kind::ByteArray(_) => Class::ByteArray,
-            Kind::Tuple => Class::Tuple,
-            Kind::List => Class::List,
-            Kind::Set => Class::Set,
-            Kind::Dict => Class::Dict,
-            Kind::Global(_) => Class::Opaque,
-            Kind::StackGlobal => Class::Opaque,
-            Kind::Call => Class::Opaque,
-            Kind::New => Class::Opaque,
-            Kind::NewEx => Class::Opaque,
-            Kind::Inst(_) => Class::Opaque,
-            Kind::Obj => Class::Opaque,
-            Kind::PersistentLine(_) => Class::Opaque,
-            Kind::Persistent => Class::Opaque,
-            Kind::Ext(_) => Class::Opaque,
-            Kind::Buffer(_) => Class::Opaque,
-            Kind::ReadOnly => Class::ReadOnly,
+            Kind::LegacyString(_) => class!(LegacyString),
+            Kind::LegacyLine(_) => class!(LegacyLine),
+            Kind::Text(_) => class!(Text),
+            Kind::TextLine(_) => class!(TextLine),
+            Kind::Bytes(_) => class!(Bytes),
+            Kind::ByteArray(_) => class!(ByteArray),
+            Kind::Tuple => class!(Tuple),
+            Kind::List => class!(List),
+            Kind::Set => class!(Set),
+            Kind::Dict => class!(Dict),
+            Kind::Global(_) => class!(Global),
+            Kind::StackGlobal => class!(StackGlobal),
+            Kind::Call => class!(Call),
+            Kind::New => class!(New),
+            Kind::NewEx => class!(NewEx),
+            Kind::Inst(_) => class!(Inst),
+            Kind::Obj => class!(Obj),
+            Kind::PersistentLine(_) => class!(PersistentLine),
+            Kind::Persistent => class!(Persistent),
+            Kind::Ext(_) => class!(Ext),
+            Kind::Buffer(_) => class!(Buffer),
+            Kind::ReadOnly => class!(ReadOnly),
             _ => Class::Plain,
         }
     }
