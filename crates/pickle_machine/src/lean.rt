@@ -74,11 +74,10 @@ impl Operands for Lean {
 
 #[tactic(auto, using(crate::proofs::Leans::lean_rules))]
 impl Lean {
-    ghost use Rattle.std.specs.Prelude.{◌≡◌, ◌≢◌, ◌<◌, ◌≤◌, ◌-◌, ◌^◌, [], length, IfSome, IfOk, OnOk, OnErr, None, Some};
-    ghost use Rattle.std.specs.Option.{option_map};
+    ghost use Rattle.std.specs.Prelude.{◌≡◌, ◌≢◌, ◌<◌, ◌≤◌, ◌-◌, ◌^◌, [], length, IfSome, OnOk, None};
     ghost use Rattle.pickle_ops.specs.declared.kind.Kind.{Kind};
-    ghost use Rattle.pickle_ops.specs.Row.{count_of, values_of};
-    ghost use Rattle.pickle_machine.specs.State.{start, stack_size, Marked, top_mark_place};
+    ghost use Rattle.pickle_ops.specs.Row.{values_of};
+    ghost use Rattle.pickle_machine.specs.State.{start, stack_size};
     ghost use Rattle.pickle_machine.specs.Move.{refusal_of, next_of, takes_mark, fresh, push, without, cut, put_on, put, last_of, change_top, changes_of};
     ghost use Rattle.pickle_machine.specs.Outline.{outline, sample};
 
