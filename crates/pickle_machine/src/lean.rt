@@ -56,11 +56,7 @@ impl Operands for Lean {
     }
 
     fn under(&self) -> &[ObjId] {
-        if self.stack.depth() == 0 {
-            &[]
-        } else {
-            self.stack.under()
-        }
+        self.stack.under_or_none()
     }
 
     fn has_entry(&self, key: u64) -> bool {
