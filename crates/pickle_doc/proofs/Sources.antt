@@ -2,7 +2,7 @@
 use Rattle.std.proofs.Common.{◌≡◌, ℕ, zero, suc, ◌+◌, ◌-◌, ◌<◌, ◌≤◌, true, List, [], ◌∷◌, ◌++◌, length, drop, slice_get, Some, None, refl, sym, ap, subst, ◌∙◌, inl, inr, arith, length-append, append_assoc}
 use Rattle.std.proofs.lemmas.Bool.{cases_Bool}
 use Rattle.std.proofs.lemmas.List.{length-drop}
-use Rattle.std.proofs.lemmas.Option.{slice_get_within, slice_get_cases}
+use Rattle.std.proofs.lemmas.Option.{slice_get_within}
 use Rattle.pickle_ops.specs.Spelling.{Operation, spelling, size_of}
 use Rattle.pickle_doc.specs.declared.stream.NextRef.{NextRef}
 use Rattle.pickle_doc.specs.declared.stream.NextRef.TheVariants as next
@@ -13,6 +13,7 @@ use Rattle.pickle_doc.specs.Fitting.{FitsFrom, IsLast, left_behind}
 use Rattle.pickle_doc.specs.Unread.{IsNextItem, Unread, Follows, unread_at, IsPlaced}
 use Rattle.pickle_doc.proofs.Opcodes.{frame_goes}
 use Rattle.pickle_doc.proofs.Fits.{reaches}
+use Rattle.pickle_doc.proofs.Lists.{past}
 use Rattle.pickle_doc.proofs.Units.{small_document, document_fits}
 use Rattle.pickle_doc.proofs.Readings.{rest_is}
 
@@ -30,12 +31,6 @@ drop_past [] zero h = refl
 drop_past [] (suc k) h = refl
 drop_past (x ∷ xs) zero h = absurd (omega arith)
 drop_past (x ∷ xs) (suc k) h = drop_past xs k (omega arith)
-
-past : {X : Type 0} (xs : List X) (k : ℕ) → slice_get xs k ≡ None → length xs ≤ k
-past xs k e = elim (slice_get_cases xs k).1 [
-  | inl there ↦ let x : Some there.0 ≡ None = sym there.2 ∙ e in cc
-  | inr none ↦ none.0
-]
 
 abbrev with_rest : ℕ → List ℕ → Unread
 with_rest left rest = record { rest = rest; left = left }

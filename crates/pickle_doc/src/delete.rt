@@ -1,7 +1,7 @@
 //! Taking an item out.
 
 use crate::document::Document;
-use crate::edit::{EditFault, plain_size, resized};
+use crate::edit::{EditFault, plain_fault, resized};
 use crate::record::{EditRecord, ItemChange};
 
 impl Document {
@@ -15,9 +15,9 @@ impl Document {
     pub fn delete_fault(&self, k: usize) -> Option<EditFault>
         ensures { result ≡ delete_fault self.now.contents k }
     {
-        match plain_size(&self.items, k) {
-            Ok(_) => None,
-            Err(fault) => Some(fault),
+        match self.items.get(k) {
+            Some(item) => plain_fault(item),
+            None => Some(EditFault::NoSuchItem),
         }
     }
 

@@ -20,7 +20,7 @@ impl Document {
     {
         match edit {
             Edit::Replace(k, op) => self.replace_fault(*k, op),
-            Edit::Insert(k, op) => self.insertion_fault(*k, op),
+            Edit::Insert(k, op) => self.insert_fault(*k, op),
             Edit::Delete(k) => self.delete_fault(*k),
             Edit::Frame(k, count) => self.frame_fault(*k, *count),
             Edit::Unframe(k) => self.unframe_fault(*k),

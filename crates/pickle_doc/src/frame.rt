@@ -2,7 +2,6 @@
 
 use crate::document::Document;
 use crate::edit::{EditFault, has_frame};
-use crate::fault::LIMIT;
 use crate::item::Item;
 use crate::record::{EditRecord, ItemChange};
 use crate::walk::{total_size, unfinished_frame};
@@ -35,14 +34,8 @@ impl Document {
         if unfinished_frame(&self.items, self.bookmark, k).is_some() {
             return Some(EditFault::AlreadyFramed);
         }
-        if self.next >= 0x1_0000_0000 {
-            return Some(EditFault::TooManyItems);
-        }
-        let total = self.start + self.tail.len() as u64;
-        if 9 > LIMIT as u64 - total {
-            return Some(EditFault::TooLarge);
-        }
-        None
+        // A FRAME has nine bytes: its opcode, and eight of its number.
+        self.addition_fault(9)
     }
 
     /// What puts a frame round this many items from item k on.

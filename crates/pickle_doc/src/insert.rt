@@ -2,7 +2,6 @@
 
 use crate::document::Document;
 use crate::edit::{EditFault, resized};
-use crate::fault::LIMIT;
 use crate::item::Item;
 use crate::next::{is_frame, is_stop};
 use crate::record::{EditRecord, ItemChange};
@@ -16,7 +15,7 @@ impl Document {
     ghost use Rattle.pickle_doc.specs.Swap.{EditLeads, record_place};
 
     /// Why an opcode cannot be put before item k, or last; none where it can, if there is memory. This takes none.
-    pub fn insertion_fault(&self, k: usize, op: &Op) -> Option<EditFault>
+    pub fn insert_fault(&self, k: usize, op: &Op) -> Option<EditFault>
         ensures { result ≡ insert_fault self.now.contents k op.now }
     {
         let len = self.items.len();
@@ -32,14 +31,7 @@ impl Document {
         if self.is_after_stop(k) {
             return Some(EditFault::AfterStop);
         }
-        if self.next >= 0x1_0000_0000 {
-            return Some(EditFault::TooManyItems);
-        }
-        let total = self.start + self.tail.len() as u64;
-        if op.size() as u64 > LIMIT as u64 - total {
-            return Some(EditFault::TooLarge);
-        }
-        None
+        self.addition_fault(op.size() as u64)
     }
 
     /// What puts an opcode before item k.

@@ -1,7 +1,7 @@
 //! Replacing an item by an opcode.
 
 use crate::document::Document;
-use crate::edit::{EditFault, plain_size, resized};
+use crate::edit::{EditFault, plain_fault, resized};
 use crate::fault::LIMIT;
 use crate::item::Item;
 use crate::next::{is_frame, is_stop};
@@ -19,26 +19,24 @@ impl Document {
     pub fn replace_fault(&self, k: usize, op: &Op) -> Option<EditFault>
         ensures { result ≡ replace_fault self.now.contents k op.now }
     {
-        if k >= self.items.len() {
+        let Some(item) = self.items.get(k) else {
             return Some(EditFault::NoSuchItem);
-        }
+        };
         if is_stop(op.opcode()) {
             return Some(EditFault::StopItem);
         }
-        match plain_size(&self.items, k) {
-            Err(fault) => Some(fault),
-            Ok(old) => {
-                if is_frame(op.opcode()) {
-                    return Some(EditFault::FrameItem);
-                }
-                let size = op.arg().len() as u64 + 1;
-                let total = self.start - old + self.tail.len() as u64;
-                if size > LIMIT as u64 - total {
-                    return Some(EditFault::TooLarge);
-                }
-                None
-            }
+        if let Some(fault) = plain_fault(item) {
+            return Some(fault);
         }
+        if is_frame(op.opcode()) {
+            return Some(EditFault::FrameItem);
+        }
+        let size = op.arg().len() as u64 + 1;
+        let total = self.start - item.op.size() as u64 + self.tail.len() as u64;
+        if size > LIMIT as u64 - total {
+            return Some(EditFault::TooLarge);
+        }
+        None
     }
 
     /// What replaces item k by an opcode.
