@@ -14,7 +14,7 @@ returns-then-is_err-clause-answers g c =
     let none : c.edit_refusal.result ≡ None = search rules in
     let d = c.self.inside.document.contents in
     let ed = doc.lent c.args.edit.now in
-    let clear = edit_clear c.self.inside.cursor c.place-place.result _ _ _ c.edit_refusal.ensures c.edit_fault-fault.ensures none in
+    let clear = edit_clear c.self.inside.cursor (doc.edit_place c.args.edit.now) c.place-place.result _ _ c.edit_refusal.ensures c.place-place.ensures none in
     let place : doc.edit_place ed ≡ c.place-place.result = place_lent c.args.edit.now ∙ sym c.place-place.ensures in
     let here : Session = record {
       document = d;
@@ -34,7 +34,7 @@ returns-then-is_err-clause-answers g c =
 pub invariant_of-self-in-Ok-apply : goal.invariant_of-self-in-Ok-apply
 invariant_of-self-in-Ok-apply g c =
     let none : c.edit_refusal.result ≡ None = search rules in
-    let clear = edit_clear c.self.inside.cursor c.place-place.result _ _ _ c.edit_refusal.ensures c.edit_fault-fault.ensures none in
+    let clear = edit_clear c.self.inside.cursor (doc.edit_place c.args.edit.now) c.place-place.result _ _ c.edit_refusal.ensures c.place-place.ensures none in
     let e = c.apply.new.self.contents in
     let d = c.self.inside.document.contents in
     let p = c.self.inside.done in
@@ -50,7 +50,7 @@ invariant_of-self-in-Ok-apply g c =
 pub returns-in-Ok-apply-clause-answers : goal.returns-in-Ok-apply-clause-answers
 returns-in-Ok-apply-clause-answers g c =
     let none : c.edit_refusal.result ≡ None = search rules in
-    let clear = edit_clear c.self.inside.cursor c.place-place.result _ _ _ c.edit_refusal.ensures c.edit_fault-fault.ensures none in
+    let clear = edit_clear c.self.inside.cursor (doc.edit_place c.args.edit.now) c.place-place.result _ _ c.edit_refusal.ensures c.place-place.ensures none in
     let e = c.apply.new.self.contents in
     let d = c.self.inside.document.contents in
     let p = c.self.inside.done in
