@@ -5,7 +5,7 @@ use Rattle.pickle_doc.specs.Swap.{record_place}
 use Rattle.pickle_session.specs.Session.{Session, command_of, fault_of, edit_fault_at, edit_accepted}
 use Rattle.pickle_session.specs.Allowed.{SessionState}
 use Rattle.pickle_session.specs.Inside.History.{records_before, sides}
-use Rattle.pickle_session.proofs.Editing.{edit_keeps, edit_offset, edit_future, edit_clear, edit_ahead, edit_is, edit_answer, lacks_record, err_of}
+use Rattle.pickle_session.proofs.Editing.{edit_live, edit_keeps, edit_offset, edit_future, edit_clear, edit_ahead, edit_is, edit_answer, lacks_record, err_of}
 use Rattle.pickle_session.proofs.Commands.{fault_is, does_is, place_lent, record_lacks, given_items, given_many, given_sides, given_past, room_kept}
 use Rattle.pickle_session.proofs.session.Session.edit.Goals as goal
 
@@ -74,3 +74,14 @@ returns-in-Ok-apply-clause-answers g c =
     let after = c.in-Ok-apply.ensures.ok ∙ ap (λ (x : _). doc.edited x d) c.in-Ok.ensures.ok in
     edit_answer (command_of ed) _ here _ _ s good (does_is ed here _
     (edit_is d e _ c.place-place.result _ _ (sides d (records_before p rs)) (sides d (drop p rs)) _ _ after past future ∙ ap (λ (k : ℕ). edit_accepted k (doc.edited ed d) here) (sym place)))
+
+pub returns-in-Ok-apply-clause-stands : goal.returns-in-Ok-apply-clause-stands
+returns-in-Ok-apply-clause-stands g c =
+    let none : c.edit_refusal.result ≡ None = search rules in
+    let clear = edit_clear c.self.inside.cursor (doc.edit_place c.args.edit.now) c.place-place.result _ _ c.edit_refusal.ensures c.place-place.ensures none in
+    let d = c.self.inside.document.contents in
+    let r = c.in-Ok-apply.record in
+    let ed = c.in-Ok.edit in
+    let place : record_place r ≡ c.place-place.result = c.in-Ok-apply.ensures.place ∙ ap doc.edit_place c.in-Ok.ensures.ok ∙ place_lent c.args.edit.now ∙ sym c.place-place.ensures in
+    let live = edit_live d (doc.raised_next_by ed d) c.apply.new.self.contents _ _ c.place-place.result _ r c.self.invariant.0 (given_items ed d) (given_many ed d) c.in-Ok-apply.ensures.back place (edit_ahead _ _ _ clear) c.in-Ok-apply.ensures.document c.in-Ok-apply.ensures.small in
+    (rw (← c.self.view_is) c.self.invariant.0.trail.reached, live.trail.reached)
