@@ -36,7 +36,7 @@ CHECKLISTS = [
     ),
     (
         "To add a text or a command",
-        r"\bcalls_many\b|[\"']calls[\"':]|\bTask::Calls\b|\bStopsCalls\b|Cm calls|objects calls",
+        r"\bcalls_many\b|[\"']calls[\"':]|\bTask::Calls\b|\btext\.Calls\b|Cm calls|objects calls",
         ["crates/*/src/**/*.rt", "crates/*/specs/**/*.antt", "share/**/*", "equipment/*.py", "python/picklestep/*.py"],
     ),
 ]

@@ -8,7 +8,7 @@ use crate::walk::{total_size, unfinished_frame};
 use pickle_ops::Op;
 
 impl Document {
-    ghost use Rattle.std.specs.Prelude.{◌≡◌, ◌+◌, ◌^◌, ◌⊎◌, ◌==◌, ◌&&◌, ◌<◌, ◌≤◌, length, None};
+    ghost use Rattle.std.specs.Prelude.{◌≡◌, ◌+◌, ◌^◌, ◌<◌, length, None};
     ghost use Rattle.pickle_doc.specs.DocUnit.{flat};
     ghost use Rattle.pickle_doc.specs.Document.{items_of};
     ghost use Rattle.pickle_doc.specs.Edit.{with_units, raised_next, framed, frame_fault};

@@ -9,7 +9,7 @@ use crate::record::{EditRecord, ItemChange};
 use pickle_ops::Op;
 
 impl Document {
-    ghost use Rattle.std.specs.Prelude.{◌≡◌, ◌+◌, ◌^◌, ◌⊎◌, ◌==◌, ◌&&◌, ◌<◌, ◌≤◌, length, None};
+    ghost use Rattle.std.specs.Prelude.{◌≡◌, ◌+◌, ◌<◌, length, None};
     ghost use Rattle.pickle_doc.specs.DocUnit.{flat};
     ghost use Rattle.pickle_doc.specs.Document.{items_of};
     ghost use Rattle.pickle_doc.specs.Edit.{with_units, replaced, replace_fault};

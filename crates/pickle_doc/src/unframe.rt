@@ -6,7 +6,7 @@ use crate::next::is_frame;
 use crate::record::{EditRecord, ItemChange};
 
 impl Document {
-    ghost use Rattle.std.specs.Prelude.{◌≡◌, ◌+◌, ◌^◌, ◌⊎◌, ◌==◌, ◌&&◌, ◌<◌, ◌≤◌, length, None};
+    ghost use Rattle.std.specs.Prelude.{◌≡◌, ◌<◌, ◌≤◌, length, None};
     ghost use Rattle.pickle_doc.specs.DocUnit.{flat};
     ghost use Rattle.pickle_doc.specs.Document.{items_of, document_bytes, IsDocument, size_limit};
     ghost use Rattle.pickle_doc.specs.Edit.{with_units, unframed, unframe_fault};

@@ -1,13 +1,33 @@
--- What is left where nothing was written.
-use Rattle.std.proofs.Common.{ℕ, Bool, List}
+-- What is answered where there are too many bytes.
+use Rattle.std.proofs.Common.{◌≡◌, ℕ, ◌<◌, Bool, List, length, Err, refl}
 use Rattle.pickle_io.specs.Device.{Told}
 use Rattle.pickle_io.proofs.Devices.{WroteAllBut-none}
-use Rattle.pickle_doc.specs.Document.{Contents, AreBytes}
+use Rattle.pickle_doc.specs.Document.{Contents, AreBytes, size_limit}
 use Rattle.pickle_doc.proofs.Existence.{some_document}
 use Rattle.pickle_show.specs.Output.{Output, Begins}
+use Rattle.pickle_show.specs.Listing.{listing}
+use Rattle.pickle_show.specs.Calls.{calls}
+use Rattle.pickle_script.specs.declared.stop.Stop.TheVariants as stop
+use Rattle.pickle_script.specs.declared.texts.Text.{Text}
+use Rattle.pickle_script.specs.declared.texts.Text.TheVariants as text
+use Rattle.pickle_script.specs.Output.{StopsText, AnswersText}
 
 -- nothing is a beginning of any text
-pub nothing_written : (output : Contents → Output) (many : Bool) (bytes : List ℕ) (a : Told) → AreBytes bytes → Begins output many bytes a a
+nothing_written : (output : Contents → Output) (many : Bool) (bytes : List ℕ) (a : Told) → AreBytes bytes → Begins output many bytes a a
 nothing_written output many bytes a small =
     let some = some_document many bytes small in
     (some.0, some.1, ((output some.0).text, WroteAllBut-none a (output some.0).text))
+
+nothing_left : (t : Text) (many : Bool) (bytes : List ℕ) (a : Told) → AreBytes bytes → StopsText t many bytes a a stop.TooLarge
+nothing_left text.Listing many bytes a small = nothing_written listing many bytes a small
+nothing_left text.Objects many bytes a small = refl
+nothing_left text.Calls many bytes a small = nothing_written calls many bytes a small
+
+pub refused_large : {S : Type 0} (told : S → Told) (t : Text) (many : Bool) (bytes : List ℕ) (sink : S) → AreBytes bytes → size_limit < length bytes
+    → AnswersText t many bytes told sink sink (Err stop.TooLarge)
+refused_large told t many bytes sink small large = record {
+  whole = tt;
+  stopped = nothing_left t many bytes (told sink) small;
+  too_large = ((λ _. large), (λ _. refl));
+  untouched = λ _. refl;
+}

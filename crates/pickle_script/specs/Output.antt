@@ -1,22 +1,55 @@
--- What `list` and `calls` answer where they are not finished.
-use Rattle.std.specs.Prelude.{ℕ, Bool, List}
+-- The texts that are written of an input, and what is left of one that is not finished.
+-- Source: own.
+use Rattle.std.specs.Prelude.{◌≡◌, ◌<◌, ◌↔◌, ℕ, Bool, List, length, Result, Err, IfOk, IfErr}
 use Rattle.pickle_io.specs.Device.{Told}
-use Rattle.pickle_doc.specs.Document.{Contents}
+use Rattle.pickle_doc.specs.Document.{Contents, size_limit}
 use Rattle.pickle_show.specs.Output.{Output, Breaks, Begins}
 use Rattle.pickle_show.specs.Listing.{listing}
+use Rattle.pickle_show.specs.Written.{IsListed}
+use Rattle.pickle_show.specs.Report.{IsReported, BreaksReport}
 use Rattle.pickle_show.specs.Calls.{calls}
+use Rattle.pickle_show.specs.CallsWritten.{CompletesCalls}
 use Rattle.pickle_script.specs.declared.stop.Stop.{Stop}
 use Rattle.pickle_script.specs.declared.stop.Stop.TheVariants as stop
+use Rattle.pickle_script.specs.declared.texts.Text.{Text}
+use Rattle.pickle_script.specs.declared.texts.Text.TheVariants as text
 
--- what a stop leaves of a text: only Write is a failure of the sink, and nothing is read
+-- ---- whole
+
+-- the text of the document that the bytes read as was written, and this is its status
+abbrev pub CompletesText : Text → Bool → List ℕ → Told → Told → ℕ → Type 0
+CompletesText text.Listing many bytes old new status = IsListed many bytes old new status
+CompletesText text.Objects many bytes old new status = IsReported many bytes old new status
+CompletesText text.Calls many bytes old new status = CompletesCalls many bytes old new status
+
+-- ---- not finished
+
+-- what a stop leaves of a text that is written as it is found: a beginning, and only Write is a failure of the sink. Nothing is read
 abbrev pub Stops : (Contents → Output) → Bool → List ℕ → Told → Told → Stop → Type 0
 Stops output many bytes old new stop.Read = ⊥
 Stops output many bytes old new stop.Write = Breaks output many bytes old new
 Stops output many bytes old new stop.TooLarge = Begins output many bytes old new
 Stops output many bytes old new stop.Memory = Begins output many bytes old new
 
-abbrev pub StopsListing : Bool → List ℕ → Told → Told → Stop → Type 0
-StopsListing many bytes old new e = Stops listing many bytes old new e
+-- what it leaves of a report, which is written once all is run: a beginning where the sink failed, and else nothing was written
+abbrev pub StopsReport : Bool → List ℕ → Told → Told → Stop → Type 0
+StopsReport many bytes old new stop.Read = ⊥
+StopsReport many bytes old new stop.Write = BreaksReport many bytes old new
+StopsReport many bytes old new stop.TooLarge = new ≡ old
+StopsReport many bytes old new stop.Memory = new ≡ old
 
-abbrev pub StopsCalls : Bool → List ℕ → Told → Told → Stop → Type 0
-StopsCalls many bytes old new e = Stops calls many bytes old new e
+abbrev pub StopsText : Text → Bool → List ℕ → Told → Told → Stop → Type 0
+StopsText text.Listing many bytes old new e = Stops listing many bytes old new e
+StopsText text.Objects many bytes old new e = StopsReport many bytes old new e
+StopsText text.Calls many bytes old new e = Stops calls many bytes old new e
+
+-- ---- the answer
+
+-- what is answered where a text was to be written to a sink, of which `told` says what it reports
+pub record AnswersText (text : Text) (many : Bool) (bytes : List ℕ) {S : Type 0} (told : S → Told) (old new : S) (answer : Result ℕ Stop) : Type 0 where
+  pub whole : IfOk answer (CompletesText text many bytes (told old) (told new))
+  -- Write comes only where the sink has failed, Memory only where it has not, and Read never
+  pub stopped : IfErr answer (StopsText text many bytes (told old) (told new))
+  -- too many bytes, and only those, are refused before anything is written
+  pub too_large : (answer ≡ Err stop.TooLarge) ↔ (size_limit < length bytes)
+  pub untouched : answer ≡ Err stop.TooLarge → new ≡ old

@@ -55,67 +55,61 @@ pub(crate) enum Word {
     Op(OpWord),
 }
 
+/// The value beside the text that the word is, if it is one of these. This is a chain of `==`, since the proof of a `match` goes over
+/// the bytes of each text.
+macro_rules! row_of {
+    ($word:ident {}) => {
+        None
+    };
+    ($word:ident { $text:literal => $value:expr, $($rows:tt)* }) => {
+        if $word == $text.as_slice() {
+            Some($value)
+        } else {
+            row_of!($word { $($rows)* })
+        }
+    };
+}
+
 /// The first word of a line, which has no arguments.
 fn plain_word(word: &[u8]) -> Option<PlainWord>
     ensures { result ≡ plain_word word.now }
 {
-    if word == b"step".as_slice() {
-        Some(PlainWord::Step)
-    } else if word == b"back".as_slice() {
-        Some(PlainWord::Back)
-    } else if word == b"run".as_slice() {
-        Some(PlainWord::Run)
-    } else if word == b"undo".as_slice() {
-        Some(PlainWord::Undo)
-    } else if word == b"redo".as_slice() {
-        Some(PlainWord::Redo)
-    } else if word == b"items".as_slice() {
-        Some(PlainWord::Items)
-    } else if word == b"objects".as_slice() {
-        Some(PlainWord::Objects)
-    } else if word == b"stack".as_slice() {
-        Some(PlainWord::Stack)
-    } else if word == b"memo".as_slice() {
-        Some(PlainWord::Memo)
-    } else if word == b"where".as_slice() {
-        Some(PlainWord::Where)
-    } else if word == b"quit".as_slice() {
-        Some(PlainWord::Quit)
-    } else {
-        None
-    }
+    row_of!(word {
+        b"step" => PlainWord::Step,
+        b"back" => PlainWord::Back,
+        b"run" => PlainWord::Run,
+        b"undo" => PlainWord::Undo,
+        b"redo" => PlainWord::Redo,
+        b"items" => PlainWord::Items,
+        b"objects" => PlainWord::Objects,
+        b"stack" => PlainWord::Stack,
+        b"memo" => PlainWord::Memo,
+        b"where" => PlainWord::Where,
+        b"quit" => PlainWord::Quit,
+    })
 }
 
 /// The first word of a line, before a place.
 fn place_word(word: &[u8]) -> Option<PlaceWord>
     ensures { result ≡ place_word word.now }
 {
-    if word == b"goto".as_slice() {
-        Some(PlaceWord::Goto)
-    } else if word == b"break".as_slice() {
-        Some(PlaceWord::Break)
-    } else if word == b"clear".as_slice() {
-        Some(PlaceWord::Clear)
-    } else if word == b"delete".as_slice() {
-        Some(PlaceWord::Delete)
-    } else if word == b"unframe".as_slice() {
-        Some(PlaceWord::Unframe)
-    } else {
-        None
-    }
+    row_of!(word {
+        b"goto" => PlaceWord::Goto,
+        b"break" => PlaceWord::Break,
+        b"clear" => PlaceWord::Clear,
+        b"delete" => PlaceWord::Delete,
+        b"unframe" => PlaceWord::Unframe,
+    })
 }
 
 /// The first word of a line, before a place, a name and bytes.
 fn op_word(word: &[u8]) -> Option<OpWord>
     ensures { result ≡ op_word word.now }
 {
-    if word == b"replace".as_slice() {
-        Some(OpWord::Replace)
-    } else if word == b"insert".as_slice() {
-        Some(OpWord::Insert)
-    } else {
-        None
-    }
+    row_of!(word {
+        b"replace" => OpWord::Replace,
+        b"insert" => OpWord::Insert,
+    })
 }
 
 /// The first word of a line, where it is known.

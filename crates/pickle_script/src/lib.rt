@@ -4,34 +4,30 @@
 //! A run that is not finished is a `Stop`.
 #![tactic(auto)]
 
-mod calling;
 mod fault_text;
 mod grammar;
 mod items;
 mod keyword;
 mod laws;
 mod line;
-mod listing;
 mod outcome;
 mod pending;
 mod place;
 mod query;
 mod reply;
-mod report;
 mod stop;
 mod syntax;
 mod talk;
+mod texts;
 mod words;
 
-pub use calling::{calls, calls_as, calls_many};
 pub use grammar::read_command;
 pub use items::write_items;
 pub use laws::one_cut;
 pub use line::{Action, Line, Place, Query, Syntax};
-pub use listing::{list, list_as, list_many};
 pub use place::write_where;
 pub use reply::write_reply;
-pub use report::{objects, objects_as, objects_many};
 pub use stop::{Stop, line_of};
 pub use syntax::{write_no_item_at, write_no_such_object, write_syntax};
 pub use talk::converse;
+pub use texts::{Text, calls, calls_many, list, list_many, objects, objects_many, write_text};

@@ -24,3 +24,4 @@ pub mod Runs
 pub mod Reports
 pub mod Stepping
 pub mod Rereading
+pub mod Sources

@@ -17,4 +17,5 @@ pub mod StackText
 pub mod MemoText
 pub mod Report
 pub mod Output
+pub mod Source
 pub mod Inside

@@ -1,7 +1,8 @@
 //! What items would import and call, one after another.
 
-ghost use Rattle.std.specs.Prelude.{◌≡◌, ◌≤◌, length, IfOk, IfErr};
-ghost use Rattle.pickle_doc.specs.Document.{Contents, ReadsAs, size_limit};
+ghost use Rattle.std.specs.Prelude.{◌≤◌, length, IfOk, IfErr};
+ghost use Rattle.pickle_doc.specs.Document.{size_limit};
+ghost use Rattle.pickle_show.specs.Source.{GivesDocument};
 ghost use Rattle.pickle_show.specs.CallsWritten.{CompletesCalls, CutsCalls};
 
 use crate::calls_line::write_line;
@@ -26,9 +27,7 @@ pub fn calls_of_items<'a, I: ItemSource<'a>, S: Page>(
     source: I,
     sink: &mut S,
 ) -> Result<u8, TextStop>
-    requires first { (I.unread source).left ≡ 0 }
-    requires small { length (I.unread source).rest ≤ size_limit }
-    requires document { (d : Contents) × ReadsAs many (I.unread source).rest d }
+    requires { GivesDocument many (I.unread source) }
     ensures ok { IfOk result (CompletesCalls many (I.unread source).rest (S.told sink.old) (S.told sink.new)) }
     ensures err { IfErr result (CutsCalls many (I.unread source).rest (S.told sink.old) (S.told sink.new)) }
 {

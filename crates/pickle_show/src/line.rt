@@ -2,7 +2,6 @@
 
 ghost use Rattle.std.specs.Prelude.{◌≡◌};
 ghost use Rattle.pickle_io.specs.Device.{Writes};
-ghost use Rattle.pickle_io.specs.Text.{◌⧺◌};
 ghost use Rattle.pickle_show.specs.Line.{refused_line, left_text, left_line, kept_text, kept_line, kept_words, protocol_words, protocol_text, protocol_line};
 
 use crate::report_line::write_refusal;

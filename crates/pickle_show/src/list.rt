@@ -3,7 +3,7 @@
 ghost use Rattle.std.specs.Prelude.{◌≡◌, ◌≤◌, ◌<◌, ◌-◌, ◌^◌, ◌==◌, ◌||◌, [], if◌then◌else◌, length, not, None, OnOk, IfOk, IfErr};
 ghost use Rattle.pickle_io.specs.Device.{Writes};
 ghost use Rattle.pickle_io.specs.Text.{◌⧺◌};
-ghost use Rattle.pickle_doc.specs.Document.{Contents, ReadsAs, size_limit};
+ghost use Rattle.pickle_doc.specs.Document.{size_limit};
 ghost use Rattle.pickle_machine.specs.State.{stack_size};
 ghost use Rattle.pickle_machine.specs.Move.{next_of, refusal_of, fresh};
 ghost use Rattle.pickle_machine.specs.Outline.{outline, sample};
@@ -11,6 +11,7 @@ ghost use Rattle.pickle_show.specs.ReportLine.{fault_line};
 ghost use Rattle.pickle_show.specs.Line.{item_line, refused_line, left_line, kept_line, protocol_line};
 ghost use Rattle.pickle_show.specs.Inside.Marks.{followed};
 ghost use Rattle.pickle_show.specs.Inside.Answer.{IsAnswer};
+ghost use Rattle.pickle_show.specs.Source.{GivesDocument};
 ghost use Rattle.pickle_show.specs.Written.{WroteListing, CutListing, IsListed, CutsListing};
 
 use crate::highest::Highest;
@@ -165,9 +166,7 @@ pub fn list_items<'a, I: ItemSource<'a>, S: Page>(
     source: I,
     sink: &mut S,
 ) -> Result<u8, TextStop>
-    requires first { (I.unread source).left ≡ 0 }
-    requires small { length (I.unread source).rest ≤ size_limit }
-    requires document { (d : Contents) × ReadsAs many (I.unread source).rest d }
+    requires { GivesDocument many (I.unread source) }
     ensures ok { IfOk result (IsListed many (I.unread source).rest (S.told sink.old) (S.told sink.new)) }
     ensures err { IfErr result (CutsListing many (I.unread source).rest (S.told sink.old) (S.told sink.new)) }
 {

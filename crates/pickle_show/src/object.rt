@@ -1,6 +1,5 @@
 //! The text of an object, and the lines of all objects.
 
-ghost use Rattle.std.specs.Prelude.{◌≡◌};
 ghost use Rattle.pickle_io.specs.Device.{Writes, each};
 ghost use Rattle.pickle_show.specs.ObjectText.{next_text, some_parts, parts_text, set_text, change_text, object_text, object_line, objects_text};
 

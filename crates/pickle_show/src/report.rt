@@ -1,10 +1,11 @@
 //! The report of a document.
 
 ghost use Rattle.std.specs.Prelude.{◌≡◌, ◌≢◌, ◌+◌, ◌-◌, ◌^◌, ◌<◌, ◌≤◌, ◌==◌, ◌&&◌, length, Ok, Err, OnOk, OnErr, IfOk, IfErr};
-ghost use Rattle.pickle_doc.specs.Document.{Contents, ReadsAs, size_limit};
+ghost use Rattle.pickle_doc.specs.Document.{size_limit};
 ghost use Rattle.pickle_machine.specs.State.{start};
 ghost use Rattle.pickle_machine.specs.Move.{move, refusal_at};
 ghost use Rattle.pickle_io.specs.Device.{Writes, each};
+ghost use Rattle.pickle_show.specs.Source.{GivesDocument};
 ghost use Rattle.pickle_show.specs.Report.{result_line, refused_item_line, closing_line, closing_status, closing_at, report_text, WroteReport, BrokeReport, IsReported, BreaksReport};
 ghost use Rattle.pickle_show.specs.Inside.Ending.{EndsIn};
 
@@ -147,9 +148,7 @@ fn run_items<'a, I: ItemSource<'a>>(
     machine: &mut Machine,
 ) -> Result<Closing, TextStop>
     requires start { machine.old.state ≡ start many }
-    requires first { (I.unread source).left ≡ 0 }
-    requires small { length (I.unread source).rest ≤ size_limit }
-    requires document { (d : Contents) × ReadsAs many (I.unread source).rest d }
+    requires document { GivesDocument many (I.unread source) }
     ensures closes { IfOk result (EndsIn many (I.unread source).rest machine.new.state) }
     ensures memory { IfErr result (λ e. e ≡ TextStop.Memory) }
 {
@@ -194,9 +193,7 @@ pub fn report_of_items<'a, I: ItemSource<'a>, S: Page>(
     source: I,
     sink: &mut S,
 ) -> Result<u8, TextStop>
-    requires first { (I.unread source).left ≡ 0 }
-    requires small { length (I.unread source).rest ≤ size_limit }
-    requires document { (d : Contents) × ReadsAs many (I.unread source).rest d }
+    requires { GivesDocument many (I.unread source) }
     ensures ok { IfOk result (IsReported many (I.unread source).rest (S.told sink.old) (S.told sink.new)) }
     ensures failed { result ≡ Err TextStop.Failed → BreaksReport many (I.unread source).rest (S.told sink.old) (S.told sink.new) }
     ensures memory { result ≡ Err TextStop.Memory → sink.new ≡ sink.old }

@@ -85,7 +85,7 @@ fn calls_of(heap: &[Object], event: Option<Event>) -> u64
 }
 
 impl Totals {
-    ghost use Rattle.std.specs.Prelude.{◌≡◌, ◌+◌, ◌<◌, ◌≤◌, ◌-◌, ◌^◌};
+    ghost use Rattle.std.specs.Prelude.{◌≡◌, ◌+◌, ◌<◌, ◌^◌};
     ghost use Rattle.pickle_show.specs.CallsLine.{imports_of, calls_of};
 
     /// No line was written.

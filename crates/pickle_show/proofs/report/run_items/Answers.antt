@@ -9,7 +9,7 @@ use Rattle.pickle_show.proofs.Stepping.{walked_none, place_within, refused_ends,
 use Rattle.pickle_show.proofs.report.run_items.Goals as goal
 
 pub items-init : goal.items-init
-items-init g c = rw (c.requires.first, c.requires.start) (walked_none _ _ c.requires.document c.requires.small)
+items-init g c = rw (c.requires.document.first, c.requires.start) (walked_none _ _ c.requires.document.document c.requires.document.small)
 
 pub overflow_sub-total : goal.overflow_sub-total
 overflow_sub-total g c =
@@ -27,7 +27,7 @@ pub step_over-requires : goal.step_over-requires
 step_over-requires g c =
     let n : IsNextItem (g.I.ItemSource.unread c.items.reader).left (g.I.ItemSource.unread c.items.reader).rest c.in-Item.op (size_of c.in-Item.op)
     × (g.I.ItemSource.unread c.next.new.self ≡ record { rest = drop (size_of c.in-Item.op) (g.I.ItemSource.unread c.items.reader).rest; left = left_behind (g.I.ItemSource.unread c.items.reader).left c.in-Item.op }) = rw c.in-Item.is at c.next.ensures in
-    omega (arith, c.items.invariant.heap, place_within _ _ _ _ _ c.in-Item.op _ _ c.items.invariant n.0, c.requires.small)
+    omega (arith, c.items.invariant.heap, place_within _ _ _ _ _ c.in-Item.op _ _ c.items.invariant n.0, c.requires.document.small)
 
 pub returns-in-Err-clause-closes : goal.returns-in-Err-clause-closes
 returns-in-Err-clause-closes g c =
@@ -39,7 +39,7 @@ pub overflow_add-place : goal.overflow_add-place
 overflow_add-place g c =
     let n : IsNextItem (g.I.ItemSource.unread c.items.reader).left (g.I.ItemSource.unread c.items.reader).rest c.in-Item.op (size_of c.in-Item.op)
     × (g.I.ItemSource.unread c.next.new.self ≡ record { rest = drop (size_of c.in-Item.op) (g.I.ItemSource.unread c.items.reader).rest; left = left_behind (g.I.ItemSource.unread c.items.reader).left c.in-Item.op }) = rw c.in-Item.is at c.next.ensures in
-    omega (arith, place_within _ _ _ _ _ c.in-Item.op _ _ c.items.invariant n.0, c.requires.small)
+    omega (arith, place_within _ _ _ _ _ c.in-Item.op _ _ c.items.invariant n.0, c.requires.document.small)
 
 pub returns-then-ends_reading-clause-closes : goal.returns-then-ends_reading-clause-closes
 returns-then-ends_reading-clause-closes g c =

@@ -1,0 +1,89 @@
+//! The texts that are written of an input: its listing, the report of its objects, and what it would import and call.
+
+ghost use Rattle.std.specs.Prelude.{true, false};
+ghost use Rattle.pickle_script.specs.Output.{AnswersText};
+
+use crate::stop::Stop;
+use pickle_doc::LIMIT;
+use pickle_ops::Page;
+use pickle_show::{calls_of_bytes, list_bytes, report_of_bytes};
+use std::alloc::Global;
+
+/// What is written of an input.
+#[derive(Clone, Copy, Debug, PartialEq, Eq)]
+pub enum Text {
+    /// Its opcodes, as a listing.
+    Listing,
+    /// The report of the objects that they make: the lines of all objects, up to the end or to one that is refused, a line for each
+    /// result, and a closing line where one is refused or the bytes have a fault.
+    Objects,
+    /// What they would import and call: a line for each step that does so, and how many imports and calls these are.
+    Calls,
+}
+
+/// Writes a text of the pickle that the bytes are, or where `many` holds of several pickles that follow one another, and answers its
+/// status: 1 where an item is refused or the bytes have a fault, else 0.
+/// `Stop::TooLarge` where there are more bytes than `LIMIT`: nothing was written then. `Stop::Memory` where memory runs out,
+/// `Stop::Write` where the sink fails: what was written then is a beginning of the text, and of a report nothing where memory ran out.
+/// The sink may still hold a part of what was written: the caller flushes it.
+pub fn write_text<S: Page>(
+    alloc: Global,
+    text: Text,
+    many: bool,
+    bytes: &[u8],
+    sink: &mut S,
+) -> Result<u8, Stop>
+    ensures { AnswersText text many bytes.now S.told sink.old sink.new result }
+{
+    if bytes.len() > LIMIT {
+        return Err(Stop::TooLarge);
+    }
+    match text {
+        Text::Listing => Ok(list_bytes(alloc, many, bytes, sink)?),
+        Text::Objects => Ok(report_of_bytes(alloc, many, bytes, sink)?),
+        Text::Calls => Ok(calls_of_bytes(alloc, many, bytes, sink)?),
+    }
+}
+
+/// Writes the listing of the pickle, as `write_text` does.
+pub fn list<S: Page>(alloc: Global, bytes: &[u8], sink: &mut S) -> Result<u8, Stop>
+    ensures { AnswersText Text.Listing false bytes.now S.told sink.old sink.new result }
+{
+    write_text(alloc, Text::Listing, false, bytes, sink)
+}
+
+/// Writes the listing of several pickles, one after another, as `write_text` does.
+pub fn list_many<S: Page>(alloc: Global, bytes: &[u8], sink: &mut S) -> Result<u8, Stop>
+    ensures { AnswersText Text.Listing true bytes.now S.told sink.old sink.new result }
+{
+    write_text(alloc, Text::Listing, true, bytes, sink)
+}
+
+/// Writes the report of the objects that the pickle makes, as `write_text` does.
+pub fn objects<S: Page>(alloc: Global, bytes: &[u8], sink: &mut S) -> Result<u8, Stop>
+    ensures { AnswersText Text.Objects false bytes.now S.told sink.old sink.new result }
+{
+    write_text(alloc, Text::Objects, false, bytes, sink)
+}
+
+/// Writes the report of the objects that several pickles make, one after another, as `write_text` does.
+pub fn objects_many<S: Page>(alloc: Global, bytes: &[u8], sink: &mut S) -> Result<u8, Stop>
+    ensures { AnswersText Text.Objects true bytes.now S.told sink.old sink.new result }
+{
+    write_text(alloc, Text::Objects, true, bytes, sink)
+}
+
+/// Writes what the pickle would import and call, as `write_text` does.
+pub fn calls<S: Page>(alloc: Global, bytes: &[u8], sink: &mut S) -> Result<u8, Stop>
+    ensures { AnswersText Text.Calls false bytes.now S.told sink.old sink.new result }
+{
+    write_text(alloc, Text::Calls, false, bytes, sink)
+}
+
+/// Writes what several pickles, one after another, would import and call, as `write_text` does: the lines of all of them, and the
+/// counts once.
+pub fn calls_many<S: Page>(alloc: Global, bytes: &[u8], sink: &mut S) -> Result<u8, Stop>
+    ensures { AnswersText Text.Calls true bytes.now S.told sink.old sink.new result }
+{
+    write_text(alloc, Text::Calls, true, bytes, sink)
+}
