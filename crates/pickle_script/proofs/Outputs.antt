@@ -1,5 +1,5 @@
 -- What is answered where there are too many bytes.
-use Rattle.std.proofs.Common.{◌≡◌, ℕ, ◌<◌, Bool, List, length, Err, refl}
+use Rattle.std.proofs.Common.{ℕ, ◌<◌, Bool, List, length, Err, refl}
 use Rattle.pickle_io.specs.Device.{Told}
 use Rattle.pickle_io.proofs.Devices.{WroteAllBut-none}
 use Rattle.pickle_doc.specs.Document.{Contents, AreBytes, size_limit}
