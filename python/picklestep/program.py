@@ -12,7 +12,9 @@ from __future__ import annotations
 
 import contextlib
 import fcntl
+import math
 import os
+import resource
 import select
 import signal
 import subprocess
@@ -98,6 +100,12 @@ class Process:
     def stdout(self) -> int:
         """Where the program's answers come from."""
         return _pipe(self._popen.stdout)
+
+    def limit_seconds(self, seconds: float) -> None:
+        """Lets the program take this much processor time, rounded up, from its start on. The system then ends it."""
+        most = max(1, math.ceil(seconds))
+        with contextlib.suppress(OSError, ValueError):  # it has ended already, or the limit of this process is lower
+            resource.prlimit(self._popen.pid, resource.RLIMIT_CPU, (most, most + 1))
 
     def communicate(self, script: Optional[bytes], timeout: Optional[float]) -> bytes:
         """Gives the program its whole input, and answers its whole output. The program has ended then, also after an exception."""

@@ -6,9 +6,9 @@ import pickletools
 import re
 from typing import Dict, Iterator, Optional, Tuple
 
-from .blobs import Blob, Budget, BytesBlob
+from .blobs import Blob, BytesBlob
 
-__all__ = ['HEAD', 'imports_something', 'is_dotted', 'is_pickle_name', 'is_storage_name', 'kind_of', 'may_be_pickle', 'tar_number',
+__all__ = ['HEAD', 'is_dotted', 'is_pickle_name', 'is_storage_name', 'kind_of', 'may_be_pickle', 'tar_number',
            'tar_sum_fits', 'unread_kind_of']
 
 # The first bytes of a member, which show what it is.
@@ -18,10 +18,14 @@ _PICKLE_NAME = re.compile(r'.*\.(pkl|pickle|pck|pcl|pk|p|joblib|pt|pth|ckpt|dill
 _STORAGE_NAME = re.compile(r'(.*/)?(data|constants)/[0-9]+', re.DOTALL)
 _ZLIB_METHOD = 8
 
-# Containers that this package does not open. They are reported, since a loader may open them.
+# Containers that this package does not open, by where they tell so. They are reported, since a loader may open them.
 _UNREAD = {
-    b'\x28\xb5\x2f\xfd': 'zstd', b'\x04\x22\x4d\x18': 'lz4', b'7z\xbc\xaf\x27\x1c': '7z', b'Rar!\x1a\x07': 'rar',
+    b'\x28\xb5\x2f\xfd': 'zstd', b'\x04\x22\x4d\x18': 'lz4', b'\x02\x21\x4c\x18': 'lz4', b'7z\xbc\xaf\x27\x1c': '7z', b'Rar!\x1a\x07': 'rar',
+    b'LZIP': 'lzip', b'\x89HDF\r\n\x1a\n': 'HDF5', b'SQLite format 3\0': 'SQLite', b'\xce\x9a\x57\x13': 'gdbm', b'\xcd\x9a\x57\x13': 'gdbm',
+    b'\xcf\x9a\x57\x13': 'gdbm', b'BLOSC': 'blosc', b'ARROW1': 'Arrow', b'PAR1': 'Parquet',
 }
+_HDF5 = b'\x89HDF\r\n\x1a\n'
+_BERKELEY = frozenset({b'\x61\x15\x06\0', b'\x62\x31\x05\0', b'\0\x06\x15\x61', b'\0\x05\x31\x62', b'\x53\x22\x04\0'})
 
 _SHAPES: Dict[int, 'pickletools.OpcodeInfo'] = {ord(each.code): each for each in pickletools.opcodes}
 
@@ -44,7 +48,7 @@ def is_pickle_name(name: str) -> bool:
     >>> is_pickle_name('archive/data.pkl'), is_pickle_name('weights.bin')
     (True, False)
     """
-    return _PICKLE_NAME.fullmatch(name.partition('\0')[0]) is not None
+    return _PICKLE_NAME.fullmatch(name.partition('\0')[0].strip()) is not None
 
 
 def is_storage_name(name: str) -> bool:
@@ -83,6 +87,14 @@ def _is_zlib(head: bytes) -> bool:
             and (head[0] << 8 | head[1]) % 31 == 0)
 
 
+def _is_hexadecimal(text: bytes) -> bool:
+    """Whether `int` takes it for a number, as joblib does."""
+    try:
+        return int(text, 16) >= 0
+    except ValueError:
+        return False
+
+
 def kind_of(head: bytes) -> Optional[str]:
     """The container that begins so.
 
@@ -103,13 +115,23 @@ def kind_of(head: bytes) -> Optional[str]:
         return 'lzma'
     if head[257:262] == b'ustar' or tar_sum_fits(head[:512]):
         return 'tar'
-    if head[:2] == b'ZF':
+    if head[:2] == b'ZF' and _is_hexadecimal(head[2:21]):
         return 'zfile'
     return 'zlib' if _is_zlib(head) else None
 
 
 def unread_kind_of(head: bytes) -> Optional[str]:
-    """A container that begins so and is not opened."""
+    """A container that begins so and is not opened.
+
+    >>> unread_kind_of(b'SQLite format 3' + bytes(9)), unread_kind_of(b'\x50\x2a\x4d\x18')
+    ('SQLite', 'zstd or lz4 (a frame that is skipped)')
+    """
+    if len(head) > 3 and 0x50 <= head[0] <= 0x5F and head[1:4] == b'\x2a\x4d\x18':
+        return 'zstd or lz4 (a frame that is skipped)'
+    if head[12:16] in _BERKELEY:
+        return 'Berkeley DB'
+    if any(head.startswith(_HDF5, 512 << step) for step in range(5)):  # HDF5 may have a block of its user's before it
+        return 'HDF5'
     return next((kind for begin, kind in _UNREAD.items() if head.startswith(begin)), None)
 
 
@@ -128,29 +150,6 @@ def may_be_pickle(head: bytes, size: int) -> bool:
             return True  # (where a frame ends within an argument, loaders differ in how they go on)
         if name in _IMPORTS:
             return _can_be_named(argument)
-    return False
-
-
-def imports_something(blob: Blob, budget: Budget) -> bool:
-    """Whether a loader comes to an import of a plain name if it goes on wherever an opcode can be read.
-
-    The program ends in some pickles in which CPython goes on (docs/CODES.md). Where nothing else shows that the bytes are a pickle, this
-    does. They count as one, too, where the budget of opcodes is used up.
-
-    >>> from .blobs import Limits
-    >>> imports_something(BytesBlob(b'Np+1\\n0cos\\nsystem\\n'), Budget(Limits()))
-    True
-    >>> imports_something(BytesBlob(b'Np+1\\ntext\\ntext'), Budget(Limits()))
-    False
-    """
-    has_text = False
-    for name, argument in _opcodes(blob, blob.size):
-        budget.opcodes -= 1
-        if budget.opcodes < 0 or name in _IMPORTS and all(is_dotted(line) for line in argument.split(b'\n')):
-            return True
-        if name == 'STACK_GLOBAL' and has_text:
-            return True
-        has_text = has_text or ('UNICODE' in name or 'STRING' in name) and is_dotted(argument.strip(b'\'"'))
     return False
 
 

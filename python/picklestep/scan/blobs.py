@@ -3,28 +3,31 @@
 from __future__ import annotations
 
 import os
+import resource
 import tempfile
+import time
+from bisect import bisect_right
 from dataclasses import dataclass
-from typing import BinaryIO, Iterable, Iterator, cast
+from typing import BinaryIO, Iterable, Iterator, List, Sequence, Tuple, cast
 
-__all__ = ['Blob', 'Budget', 'BytesBlob', 'FileBlob', 'LimitMet', 'Limits', 'OpenedBlob', 'Part', 'spooled']
+__all__ = ['CHUNK', 'Blob', 'Budget', 'BytesBlob', 'FileBlob', 'JoinedBlob', 'LimitMet', 'Limits', 'OpenedBlob', 'Part', 'spooled']
 
 CHUNK = 1 << 18
 
 
 @dataclass(frozen=True)
 class Limits:
-    """How much is looked at.
+    """How much is looked at in one file.
 
-    In one file: unpacked bytes, members, and containers one in another. For one pickle: seconds and bytes of memory that the program may
-    take, and lines of its answer.
+    Unpacked bytes, members, containers one in another, seconds of processor time, bytes of memory (of all processes together), and lines of
+    the program's answers.
     """
 
     unpacked: int = 1 << 30
     members: int = 100_000
     depth: int = 4
-    seconds: float = 300
-    memory: int = 4 << 30
+    seconds: float = 60
+    memory: int = 1 << 30
     lines: int = 10_000_000
 
 
@@ -32,10 +35,14 @@ class LimitMet(Exception):
     """A limit is met; the text says which."""
 
 
+# This much of the memory is left to the interpreter itself.
+_OWN_MEMORY = 96 << 20
+
+
 class Budget:
     """What is left of the limits while a file is looked at.
 
-    `size` is that of the file, and `opcodes` how many are gone over in bytes in which the program found nothing.
+    `size` is that of the file, and `held` how many unpacked bytes are in memory.
     """
 
     def __init__(self, limits: Limits) -> None:
@@ -44,13 +51,34 @@ class Budget:
         self.unpacked = 0
         self.read = 0
         self.members = 0
-        self.opcodes = 1_000_000
+        self.lines = limits.lines
+        self.held = 0
+        self._begin = _processor_time()
+
+    @property
+    def seconds(self) -> float:
+        """Processor time that is left. It counts what this process took, and the programs that it started."""
+        return self.limits.seconds - (_processor_time() - self._begin)
+
+    def spend(self) -> None:
+        """Looks at the processor time."""
+        if self.seconds <= 0:
+            raise LimitMet(f'it took {self.limits.seconds:g} seconds of processor time: the rest of the file is not looked at')
+
+    def most_held(self) -> int:
+        """How many unpacked bytes may be held at once: a quarter of the memory, since a pickle takes more than its bytes to be read."""
+        return max(1 << 16, self.limits.memory // 4 - self.held)
+
+    def memory(self) -> int:
+        """What is left of the memory for a program."""
+        return max(16 << 20, self.limits.memory - self.held - _OWN_MEMORY)
 
     def unpack(self, count: int) -> None:
         """Counts unpacked bytes."""
         self.unpacked += count
         if self.unpacked > self.limits.unpacked:
             raise LimitMet(f'more than {self.limits.unpacked:,} bytes are unpacked: the rest of the file is not looked at')
+        self.spend()
 
     def look(self, count: int) -> None:
         """Counts bytes that are looked at. Those of the file and the unpacked ones may be once; members that share bytes need more."""
@@ -58,12 +86,19 @@ class Budget:
         if self.read > self.size + self.unpacked + self.limits.unpacked:
             raise LimitMet(f'members share bytes, and more than {self.limits.unpacked:,} are looked at again: the rest of the file is not '
                            'looked at')
+        self.spend()
 
     def member(self) -> None:
         """Counts a member."""
         self.members += 1
         if self.members > self.limits.members:
             raise LimitMet(f'it has more than {self.limits.members:,} members: the rest of the file is not looked at')
+
+
+def _processor_time() -> float:
+    """Seconds that this process and the programs that it waited for have taken."""
+    children = resource.getrusage(resource.RUSAGE_CHILDREN)
+    return time.process_time() + children.ru_utime + children.ru_stime
 
 
 class Blob:
@@ -88,6 +123,24 @@ class Blob:
                 return
             yield piece
             offset += len(piece)
+
+    def find(self, sign: bytes, offset: int = 0) -> int:
+        """Where these bytes first stand from an offset on, or -1."""
+        step = 512
+        while offset + len(sign) <= self.size:
+            piece = self.read(offset, step + len(sign) - 1)
+            at = piece.find(sign)
+            if at >= 0:
+                return offset + at
+            if len(piece) < len(sign):
+                return -1
+            offset += len(piece) - len(sign) + 1
+            step = CHUNK
+        return -1
+
+    def is_zeros(self, start: int, end: int) -> bool:
+        """Whether a range holds zeros only."""
+        return all(not piece.strip(b'\0') for piece in self.part(start, end - start).chunks())
 
 
 class FileBlob(Blob):
@@ -152,6 +205,46 @@ class Part(Blob):
         if not 0 <= offset < self.size:
             return b''
         return self.whole.read(self.offset + offset, min(count, self.size - offset))
+
+
+class JoinedBlob(Blob):
+    """Bytes without some ranges of them, which are cut out."""
+
+    def __init__(self, whole: Blob, cut: Sequence[Tuple[int, int]]) -> None:
+        """`cut` are the ranges, as offset and end, in order."""
+        self.whole = whole
+        self.starts: List[int] = [0]  # where each piece begins here, and in the whole
+        self.offsets: List[int] = [0]
+        kept = place = 0
+        for start, end in cut:
+            kept += start - place
+            place = end
+            self.starts.append(kept)
+            self.offsets.append(end)
+        self.size = kept + whole.size - place
+
+    def read(self, offset: int, count: int) -> bytes:
+        pieces: List[bytes] = []
+        count = min(count, self.size - offset)
+        while count > 0:
+            index = bisect_right(self.starts, offset) - 1
+            end = self.starts[index + 1] if index + 1 < len(self.starts) else self.size
+            piece = self.whole.read(self.offset_of(offset), min(count, end - offset))
+            if not piece:
+                break
+            pieces.append(piece)
+            offset += len(piece)
+            count -= len(piece)
+        return b''.join(pieces)
+
+    def offset_of(self, offset: int) -> int:
+        """Where in the whole bytes an offset is.
+
+        >>> JoinedBlob(BytesBlob(b'ab....cd'), [(2, 6)]).offset_of(2)
+        6
+        """
+        index = bisect_right(self.starts, offset) - 1
+        return self.offsets[index] + offset - self.starts[index]
 
 
 def nameless_file() -> BinaryIO:

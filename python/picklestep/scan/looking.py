@@ -1,8 +1,11 @@
-"""Looks at one file: opens containers, finds the pickles in them, and asks the program about each."""
+"""Looks at one file: opens containers, finds the pickles in them, and asks the program about each.
+
+A container that is in the one form that its usual writers write (`canonical`) is read by that. Whatever is in another form gets a note that
+counts as missed, and is then looked at by the lenient readers, as all kinds that some reader may take it for.
+"""
 
 from __future__ import annotations
 
-import ast
 import os
 import re
 import stat
@@ -10,26 +13,41 @@ import zlib
 from collections import Counter
 from dataclasses import dataclass, replace
 from importlib import import_module
-from typing import Any, BinaryIO, Callable, Dict, Iterator, List, Optional, Set, Tuple
+from typing import BinaryIO, Callable, Dict, Iterator, List, Optional, Set, Tuple
 
 from ..sources import LIMIT
 from . import tars, zips
-from .begins import HEAD, imports_something, is_pickle_name, is_storage_name, kind_of, may_be_pickle, unread_kind_of
-from .blobs import Blob, Budget, BytesBlob, FileBlob, LimitMet, Limits, OpenedBlob, spooled
-from .packed import METHODS, Decompressor, Unpacking, raw_deflate, raw_lzma
+from .arrays import array_header
+from .begins import HEAD, is_pickle_name, is_storage_name, kind_of, may_be_pickle, unread_kind_of
+from .blobs import Blob, Budget, BytesBlob, FileBlob, JoinedBlob, LimitMet, Limits, OpenedBlob, spooled
+from .canonical import Form, Member, NotCanonical, npy, streams, torch
+from .canonical import tars as strict_tars, zips as strict_zips
+from .canonical.forms import WRITERS
+from .canonical.kinds import UNREAD, asked_form, kinds_of, without_ending
+from .canonical.layouts import Layout, alone, another_import, layout_of, of_torch_tar
+from .canonical.pickles import read_pickle
+from .canonical.wide import reach_of
+from .packed import METHODS, Unpacking
 from .reading import asks_program, held, offset_of_item, why_unread
 from .results import Note, Pickle, Place, Result
 
 __all__ = ['Options', 'look', 'look_at_bytes']
 
 _URL = re.compile(r'[A-Za-z][A-Za-z0-9+.-]*(::|://)')
-_PACKED_ENDING = re.compile(r'\.(gz|gzip|bz2|xz|lzma|z|zlib)$', re.IGNORECASE)
 # The program ends at a frame in a frame, and at an opcode that crosses the end of one. Raw numbers do not get there, and CPython goes on.
 _FRAME_FAULTS = ('F6', 'F8')
 # The bytes by which a member is known to be a container: its first ones, and where the record is that closes a zip archive.
 _GLANCE = HEAD + zips.TAIL
-# joblib before 0.10: the letters ZF, then the length as 19 characters, then a zlib stream, before which joblib skips a blank.
-_ZFILE_HEADER = 21
+# Of a pickle that is too large for the program, this much is looked at.
+_FIRST_BYTES = 64 << 20
+# Kinds of streams in which a first part must unpack before they count as such.
+_BY_TRIAL = ('zlib', 'lzma', 'zfile')
+
+# More bytes than anything has.
+_ENDLESS = 1 << 62
+
+# What reads the pickles of some bytes strictly.
+_Reads = Callable[[Blob, Budget], Layout]
 
 
 @dataclass(frozen=True)
@@ -50,10 +68,15 @@ class Looker:
         self.notes: List[Note] = []
         self.others = 0
         self.at: Place = ()
+        self.name = ''
 
     def note(self, where: Place, text: str, missed: bool = False) -> None:
         """Keeps something to know about a place."""
         self.notes.append(Note(where, text, missed))
+
+    def _tell(self, where: Place, kind: str, reason: NotCanonical) -> None:
+        """Says that something is not in the form that its usual writers write."""
+        self.note(where, f'not in the form that {WRITERS[kind]}: {reason}', missed=True)
 
     # --- Bytes at hand ---
 
@@ -62,91 +85,217 @@ class Looker:
         self.at = where
         self.budget.look(min(blob.size, _GLANCE))
         head = blob.read(0, HEAD)
-        kind = None if is_gap else kind_of(head)
-        if kind is not None and self._open(kind, blob, where, names, depth):
-            # How a container begins can be opcodes. A zip archive begins with a persistent id, so it is not read whole without need.
-            if imports_something(blob, self.budget) if kind == 'zip' else kind != 'npy' and may_be_pickle(head, blob.size):
-                self._is_read(blob, head, where, names)
-            return
-        unread = unread_kind_of(head)
-        if unread is not None:
-            self.others += 1
-            self.note(where, f'{unread}: this kind of container is not opened', missed=True)
-        elif not is_gap and zips.end_of_directory(blob) is not None:
-            self._open_zip_at_end(blob, head, where, names, depth)
-        elif may_be_pickle(head, blob.size) or any(is_pickle_name(name) for name in names):
-            self.others += not self._is_read(blob, head, where, names)
-        else:
-            self.others += 1
+        kinds = [] if is_gap else self._kinds(blob, head, where, names)
+        spans: List[Tuple[int, int]] = []
+        opened = False
+        for kind in kinds:
+            opened = self._open(kind, blob, where, names, depth, spans) or opened
+        if not is_gap and 'zip' not in kinds:
+            opened = self._look_for_zip_at_end(blob, head, where, names, depth, spans) or opened
+        if not opened:
+            self._look_at_leaf(blob, head, where, names)
+        elif self._may_be_pickle_too(kinds, blob, head):
+            self._is_read(blob, head, where, names)
 
-    def _is_read(self, blob: Blob, head: bytes, where: Place, names: Tuple[str, ...]) -> bool:
+    def _kinds(self, blob: Blob, head: bytes, where: Place, names: Tuple[str, ...]) -> List[str]:
+        """The kinds of containers that some reader may take these bytes for. Several, or another one than the name asks for, are told."""
+        kinds = kinds_of(blob, head)
+        name = names[0] if names else ''
+        asked = asked_form(name) if name != self.name or not where else None  # (pandas gives a member the name of its archive)
+        if asked == 'tar' and not kinds and blob.size >= 2 * tars.BLOCK and blob.is_zeros(0, blob.size):
+            kinds = ['tar']  # an empty one
+        if asked is not None and asked not in kinds:
+            self.note(where, f'its name says {asked}, and it is not in the form that {WRITERS[asked]}', missed=True)
+        if len(kinds) > 1:
+            self.note(where, f'not in one form: readers take it for {" or ".join(kinds)}: it is looked at as each of them', missed=True)
+        return kinds
+
+    def _may_be_pickle_too(self, kinds: List[str], blob: Blob, head: bytes) -> bool:
+        """Whether a container is opcodes, too. A zip archive begins with a persistent id, so it is not read whole without need."""
+        if 'zip' in kinds:
+            return reach_of(blob, self.budget)[0] is not None
+        return kinds != ['npy'] and may_be_pickle(head, blob.size)
+
+    def _look_at_leaf(self, blob: Blob, head: bytes, where: Place, names: Tuple[str, ...]) -> None:
+        """Looks at what is no container: a pickle by its name or its first bytes, or where a loader gets somewhere in it."""
+        if not _begins_as_pickle(head, names):
+            reach, stops = reach_of(blob, self.budget)
+            if reach is None and not stops:
+                self.others += 1
+                return
+        self.others += not self._is_read(blob, head, where, names)
+
+    def _look_at_numbers(self, blob: Blob, where: Place, names: Tuple[str, ...], depth: int) -> None:
+        """Raw numbers of the size that a pickle or a header tells. They are not read, but no loader may get anywhere from their beginning."""
+        self.at = where
+        head = blob.read(0, HEAD)
+        kinds = [kind for kind in kinds_of(blob, head) if kind not in _BY_TRIAL]
+        reach, _ = reach_of(blob, self.budget, extends=False)
+        if not kinds and reach is None:
+            self.others += 1
+            return
+        found = f'begin as {" or ".join(kinds)}' if reach is None else f'lead a loader of pickles to {reach.what} at {reach.offset}'
+        self.note(where, f'raw numbers that {found}: they are looked at as that', missed=True)
+        self.look_at(blob, where, names, depth)
+
+    # --- Pickles ---
+
+    def _is_read(self, blob: Blob, head: bytes, where: Place, names: Tuple[str, ...], reads: _Reads = layout_of,
+                 is_sure: bool = False) -> bool:
         """Asks the program, and keeps its answer where the bytes are a pickle. False where they are none."""
         if blob.size > LIMIT:
-            self.note(where, f'it has more than {LIMIT:,} bytes, which is too large for the program', missed=True)
-            return True
+            self.note(where, f'it has more than {LIMIT:,} bytes, which is too large for the program: the first {_FIRST_BYTES:,} are '
+                             'looked at', missed=True)
+            blob = blob.part(0, _FIRST_BYTES)
         self.at = where
         self.budget.look(max(0, blob.size - _GLANCE))
-        limits = self.options.limits
-        with held(blob) as path:
-            answer = asks_program(path, blob.size, limits, self.options.lines)
-            is_pickle = _begins_as_pickle(head, names) or answer.is_sure or answer.end.is_stopped or answer.end.code in _FRAME_FAULTS
-            if answer.trouble is not None:
-                self.note(where, answer.trouble, missed=True)
-                is_pickle = is_pickle or not answer.is_empty
-            if not is_pickle and (answer.trouble is not None or not imports_something(blob, self.budget)):
-                return answer.trouble is not None
-            if answer.end.item is not None:
-                answer.end = replace(answer.end, offset=offset_of_item(path, answer.end.item, limits))
-        pickle = answer.pickle(where, blob.size)
-        self.pickles.append(pickle)
+        layout, told = self._layout(blob, reads)
+        opcodes = JoinedBlob(blob, layout.raw) if layout is not None and layout.raw else blob
+        pickle = self._asked(opcodes, blob, where, is_sure or _begins_as_pickle(head, names))
+        if pickle is None:
+            return False
+        self.pickles.append(replace(pickle, size=blob.size))
         why = why_unread(head, pickle)
         if why is not None:
             self.note(where, why)
+        if told is not None:
+            self.note(where, told, missed=True)
+        if layout is not None and layout.inner:
+            self._look_at_inner(blob, layout, where)
         return True
+
+    def _layout(self, blob: Blob, reads: _Reads) -> Tuple[Optional[Layout], Optional[str]]:
+        """Which bytes are opcodes, or why that is not known."""
+        try:
+            layout = reads(blob, self.budget)
+        except NotCanonical as reason:
+            kind = 'torch-legacy' if torch.MAGIC in blob.read(0, 32) else 'pickle'
+            return None, f'not in the form that {WRITERS[kind]}: {reason}'
+        other = another_import(layout, blob, self.budget)
+        if other is None:
+            return layout, None
+        return layout, f'another loader, which keeps its memo from pickle to pickle or knows no raw arrays, imports {other}'
+
+    def _asked(self, opcodes: Blob, blob: Blob, where: Place, is_pickle: bool) -> Optional[Pickle]:
+        """What the program says of opcodes, with offsets in `blob`. None where they are no pickle."""
+        offset_of = opcodes.offset_of if isinstance(opcodes, JoinedBlob) else None
+        with held(opcodes) as path:
+            answer = asks_program(path, opcodes.size, self.budget, self.options.lines, offset_of)
+            is_pickle = is_pickle or answer.is_sure or answer.end.is_stopped or answer.end.code in _FRAME_FAULTS
+            if answer.trouble is not None:
+                self.note(where, answer.trouble, missed=True)
+                is_pickle = is_pickle or not answer.is_empty
+            if not is_pickle and reach_of(blob, self.budget)[0] is None:
+                return None
+            if answer.end.item is not None:
+                offset = offset_of_item(path, answer.end.item, self.budget)
+                answer.end = replace(answer.end, offset=offset if offset is None or offset_of is None else offset_of(offset))
+        return answer.pickle(where, opcodes.size)
+
+    def _look_at_inner(self, blob: Blob, layout: Layout, where: Place) -> None:
+        """Looks at the pickles within joblib's arrays of objects. Each has a memo of its own, so they are read as pickles in a row."""
+        cut, at = [], 0
+        for inner in layout.inner:
+            cut.append((at, inner.offset))
+            at = inner.end
+        opcodes = JoinedBlob(blob, [*cut, (at, blob.size)])
+        pickle = self._asked(opcodes, opcodes, where + ('(arrays of objects)',), True)
+        assert pickle is not None
+        self.pickles.append(pickle)
 
     # --- Containers ---
 
-    def _open(self, kind: str, blob: Blob, where: Place, names: Tuple[str, ...], depth: int) -> bool:
-        """Looks into a container. False where the bytes only begin like one."""
-        if depth >= self.options.limits.depth:
+    def _open(self, kind: str, blob: Blob, where: Place, names: Tuple[str, ...], depth: int, spans: List[Tuple[int, int]]) -> bool:
+        """Looks into a container. False where the bytes only begin like one.
+
+        `spans` gets the ranges in which a member is stored that may be a zip archive.
+        """
+        if kind.startswith(UNREAD):
+            self.others += 1
+            self.note(where, f'{kind[len(UNREAD):]}: this kind of container is not opened', missed=True)
+        elif depth >= self.options.limits.depth:
             self.note(where, f'{kind}: containers are opened to a depth of {self.options.limits.depth}: this one is not', missed=True)
-            return True
-        if kind == 'zip':
+        elif kind == 'zip':
             self._open_zip(blob, where, names, depth)
         elif kind == 'tar':
-            self._open_tar(blob, where, depth)
+            self._open_tar(blob, where, depth, spans)
         elif kind == 'npy':
             self._open_array(blob, where, names, depth)
         else:
-            return self._open_packed(kind, blob, where, names, depth)
+            return self._open_packed(kind, blob, where, names, depth, spans)
         return True
 
-    def _open_packed(self, kind: str, blob: Blob, where: Place, names: Tuple[str, ...], depth: int) -> bool:
+    def _form(self, kind: str, verify: Callable[[Blob], Form], blob: Blob, where: Place) -> Optional[Form]:
+        """The strict form of a container, or None, which is told."""
+        try:
+            return verify(blob)
+        except NotCanonical as reason:
+            self._tell(where, kind, reason)
+            return None
+
+    def _open_packed(self, kind: str, blob: Blob, where: Place, names: Tuple[str, ...], depth: int, spans: List[Tuple[int, int]]) -> bool:
         """Looks into a compressed file, and at what comes after its end."""
-        offset = _ZFILE_HEADER + (blob.read(_ZFILE_HEADER, 1) == b' ') if kind == 'zfile' else 0
-        unpacking = Unpacking(blob, METHODS['zlib' if kind == 'zfile' else kind], offset, kind != 'lzma')
         inner = where + (f'({kind})',)
+        unpacking = Unpacking(blob, METHODS['zlib' if kind == 'zfile' else kind], streams.start_of(kind, blob), kind != 'lzma')
         before = self.budget.unpacked
-        self._look_at_unpacked(unpacking, inner, tuple(_PACKED_ENDING.sub('', name) for name in names), depth + 1)
-        if unpacking.trouble is not None:
-            if self.budget.unpacked == before and kind in ('zlib', 'lzma', 'zfile'):
-                self.others -= 1
-                return False  # two or three bytes that happen to be these
-            self.note(inner, unpacking.trouble, missed=True)
-        elif unpacking.end < blob.size:
+        holder = _Unpacked(closing=[strict_zips.directory_before(blob, at) for at in strict_zips.closing_records(blob)])
+        self._look_at_unpacked(unpacking, inner, tuple(map(without_ending, names)), depth + 1, holder)
+        if unpacking.trouble is not None and self.budget.unpacked == before and kind in _BY_TRIAL:
+            return False  # two or three bytes that happen to be these
+        try:
+            streams.verify_begin(kind, blob)
+            if not holder.is_cut:
+                streams.verify_end(kind, blob, unpacking, holder.size)
+        except NotCanonical as reason:
+            self._tell(where if unpacking.trouble is None else inner, kind, reason)
+        if unpacking.trouble is None and unpacking.end < blob.size and not holder.is_cut:
             self._look_at_gap(blob, unpacking.end, blob.size, where, (), depth + 1)
+        # What cannot be packed stands there as it is, perhaps with the end of an archive, which the unpacked bytes then have too.
+        if holder.has_closing:
+            spans.append((0, blob.size))
         return True
 
     def _open_array(self, blob: Blob, where: Place, names: Tuple[str, ...], depth: int) -> None:
         """Looks at what comes after the header of numpy's own layout: a pickle where the array holds objects, else raw numbers."""
-        start, has_objects = _array_header(blob)
+        form = self._form('npy', npy.verify, blob, where)
+        if form is not None:
+            member = form.members[0]
+            rest, inner = blob.part(member.offset, member.size), where + (member.name,)
+            if member.role == 'pickle':
+                self._is_read(rest, rest.read(0, HEAD), inner, ('objects.pkl',), alone)
+            else:
+                self._look_at_numbers(rest, inner, (), depth + 1)
+            return
+        start, has_objects = array_header(blob)
         rest = blob.part(start, blob.size - start)
         if has_objects:
             self._is_read(rest, rest.read(0, HEAD), where + ('(objects)',), ('objects.pkl',))
         else:
             self.look_at(rest, where + ('(numbers)',), (), depth + 1, is_gap=True)
 
-    def _open_tar(self, blob: Blob, where: Place, depth: int) -> None:
+    # --- Tar archives ---
+
+    def _open_tar(self, blob: Blob, where: Place, depth: int, spans: List[Tuple[int, int]]) -> None:
+        form = self._form('tar', strict_tars.verify, blob, where)
+        if form is None:
+            self._open_odd_tar(blob, where, depth)
+            return
+        is_torch = torch.TAR_MEMBERS <= {member.name for member in form.members}
+        for member in form.members:
+            self.budget.member()
+            if member.role != 'file':
+                continue
+            inner, held_bytes = where + (member.name,), blob.part(member.offset, member.size)
+            if is_torch and member.name in torch.TAR_MEMBERS:
+                name = member.name
+                self._is_read(held_bytes, held_bytes.read(0, HEAD), inner, (name,), lambda part, budget: of_torch_tar(name, part, budget), True)
+                continue
+            before = len(self.notes)
+            self.look_at(held_bytes, inner, (member.name,), depth + 1)
+            if not any(note.missed for note in self.notes[before:]) and kind_of(held_bytes.read(0, 4)) == 'zip':
+                spans.append((member.offset, member.offset + member.size))
+
+    def _open_odd_tar(self, blob: Blob, where: Place, depth: int) -> None:
         seen: Counter[str] = Counter()
         for member in tars.members(blob):
             self.budget.member()
@@ -178,19 +327,91 @@ class Looker:
         if name.startswith('/') or '..' in name.split('/'):
             self.note(where, 'this name leads out of the folder of whoever unpacks it')
 
-    def _open_zip_at_end(self, blob: Blob, head: bytes, where: Place, names: Tuple[str, ...], depth: int) -> None:
-        """A zip archive after something else. A loader that reads from the start sees that, and others see the archive."""
+    # --- Zip archives ---
+
+    def _look_for_zip_at_end(self, blob: Blob, head: bytes, where: Place, names: Tuple[str, ...], depth: int,
+                             spans: List[Tuple[int, int]]) -> bool:
+        """Looks for a zip archive after something else, which some readers see. False where there is none.
+
+        A closing record may be that of a member that was looked at.
+        """
+        records = [at for at in strict_zips.closing_records(blob) if not any(start <= at < end for start, end in spans)]
+        has_end = not spans and zips.end_of_directory(blob) is not None
+        if not records and not has_end:
+            return False
+        if records:
+            self.note(where, f'the closing record of a zip archive stands at {records[0]}: some readers take it for one', missed=True)
+        if not has_end:
+            return False
         if depth >= self.options.limits.depth:
-            self._open('zip', blob, where, names, depth)
-            return
+            self._open('zip', blob, where, names, depth, spans)
+            return True
         self.note(where, 'a zip archive stands at its end, after something else: both are looked at')
         found = len(self.pickles)
-        self._open_zip(blob, where, names, depth)
+        self._open_odd_zip(blob, where, names, depth)
         first = [pickle for pickle in self.pickles[found:] if pickle.where[:-1] == where and pickle.where[-1].startswith('(bytes 0 to ')]
         if may_be_pickle(head, blob.size) and not any(pickle.end.is_stopped for pickle in first):
             self._is_read(blob, head, where, names)
+        return True
 
     def _open_zip(self, blob: Blob, where: Place, names: Tuple[str, ...], depth: int) -> None:
+        form = self._form('zip', strict_zips.verify, blob, where)
+        if form is None:
+            self._open_odd_zip(blob, where, names, depth)
+            return
+        members, layout, pickle = form.members, None, ''
+        if form.kind == 'torch':
+            pickle = form.members[0].name.partition('/')[0] + '/data.pkl' if form.members else ''
+            members = self._with_numbers(blob, form, pickle, where)
+        for member in members:
+            self.budget.member()
+            if member.role == 'folder':
+                continue
+            inner = where + (member.name,)
+            if member.role == 'numbers':
+                self._look_at_numbers(blob.part(member.offset, member.size), inner, (member.name,), depth + 1)
+            else:
+                self._look_at_member(blob, member, inner, depth + 1, alone if member.name == pickle else layout)
+
+    def _with_numbers(self, blob: Blob, form: Form, pickle: str, where: Place) -> Tuple[Member, ...]:
+        """The members of torch's archive, with those that are the storages of its pickle."""
+        member = next((member for member in form.members if member.name == pickle), None)
+        if member is None or member.method != zips.STORED:
+            return form.members
+        try:
+            read = read_pickle(blob.part(member.offset, member.size), 0, None, self.budget)
+            return tuple(torch.with_numbers(read, form.members, pickle[:-len('data.pkl')] + 'data/'))
+        except NotCanonical as reason:
+            self._tell(where, 'torch', reason)
+            return form.members
+
+    def _look_at_member(self, blob: Blob, member: Member, where: Place, depth: int, reads: Optional[_Reads]) -> None:
+        """Looks at a member of an archive in its strict form. Its size and checksum must be those of the directory."""
+        self.at = where
+        start = zips.unpacker_of(blob, member.method, member.offset)
+        assert start is not None
+        packed = blob.part(member.offset, member.size)
+        unpacking = start(packed)
+        holder = _Unpacked()
+        if member.method == zips.STORED:
+            for piece in unpacking.pieces():
+                holder.take(piece)
+                self.budget.spend()
+            if reads is not None:
+                self._is_read(packed, packed.read(0, HEAD), where, (member.name,), reads)
+            else:
+                self.look_at(packed, where, (member.name,), depth)
+        else:
+            self.budget.look(packed.size)
+            self._look_at_unpacked(unpacking, where, (member.name,), depth, holder)
+        if holder.is_cut:
+            return
+        try:
+            _verify_content(unpacking, packed.size, holder, member)
+        except NotCanonical as reason:
+            self._tell(where, 'zip', reason)
+
+    def _open_odd_zip(self, blob: Blob, where: Place, names: Tuple[str, ...], depth: int) -> None:
         archive = zips.read_archive(blob, self.options.limits.members)
         for text in archive.odd:
             self.note(where, text)
@@ -214,14 +435,14 @@ class Looker:
         is_whole = start == 0 and end == blob.size
         self.look_at(blob.part(start, end - start), inner, names, depth, is_gap=is_whole)
 
-    # --- Members of zip archives ---
+    # --- Members of archives in another form ---
 
     def _look_at_entry(self, blob: Blob, entry: zips.Entry, where: Place, depth: int) -> None:
         for text in entry.odd:
             self.note(where, text, missed=entry.missing or 'cut short' in text)
         if entry.missing or (entry.name.endswith('/') and not entry.packed):
             return
-        start = _unpacker(blob, entry)
+        start = zips.unpacker_of(blob, entry.method, entry.data)
         if start is None:
             self.note(where, f'it is packed by method {entry.method}, which is not read', missed=True)
             self.others += 1
@@ -236,7 +457,7 @@ class Looker:
         else:
             self._look_at_packed(blob, entry, start, where, depth)
 
-    def _is_readable(self, blob: Blob, entry: zips.Entry, start: '_Start', where: Place) -> bool:
+    def _is_readable(self, blob: Blob, entry: zips.Entry, start: zips.Start, where: Place) -> bool:
         """Whether a member is plain although its flags say that it is encrypted."""
         packed = blob.part(entry.data, entry.packed)
         head = b''
@@ -272,37 +493,38 @@ class Looker:
         if entry.checksum is not None and sum_of != entry.checksum:
             self.note(where, 'its checksum is wrong: it is looked at all the same')
 
-    def _look_at_packed(self, blob: Blob, entry: zips.Entry, start: '_Start', where: Place, depth: int) -> None:
+    def _look_at_packed(self, blob: Blob, entry: zips.Entry, start: zips.Start, where: Place, depth: int) -> None:
         packed = blob.part(entry.data, entry.packed)
         self.budget.look(packed.size)
         unpacking = start(packed)
-        size, sum_of = self._look_at_unpacked(unpacking, where, (entry.name,), depth)
+        holder = _Unpacked()
+        self._look_at_unpacked(unpacking, where, (entry.name,), depth, holder)
         if unpacking.trouble is not None:
             self.note(where, unpacking.trouble, missed=True)
             return
-        self._check_sum(entry, sum_of, where)
-        if entry.unpacked is not None and size != entry.unpacked:
-            self.note(where, f'it has {size} bytes, and the directory tells {entry.unpacked}')
+        if holder.is_cut:
+            return
+        self._check_sum(entry, holder.checksum, where)
+        if entry.unpacked is not None and holder.size != entry.unpacked:
+            self.note(where, f'it has {holder.size} bytes, and the directory tells {entry.unpacked}')
 
     # --- Compressed bytes ---
 
-    def _counted(self, unpacking: Unpacking, told: List[int]) -> Iterator[bytes]:
-        """The unpacked bytes, counted on the budget, with their size and checksum."""
+    def _counted(self, unpacking: Unpacking, holder: '_Unpacked') -> Iterator[bytes]:
+        """The unpacked bytes, counted on the budget."""
         for piece in unpacking.pieces():
             self.budget.unpack(len(piece))
-            told[0] += len(piece)
-            told[1] = zlib.crc32(piece, told[1])
+            holder.take(piece)
             yield piece
 
-    def _look_at_unpacked(self, unpacking: Unpacking, where: Place, names: Tuple[str, ...], depth: int) -> Tuple[int, int]:
-        """Looks at what a stream unpacks to, and answers its size and checksum.
+    def _look_at_unpacked(self, unpacking: Unpacking, where: Place, names: Tuple[str, ...], depth: int, holder: '_Unpacked') -> None:
+        """Looks at what a stream unpacks to.
 
         All of it is unpacked, so that its end is seen too. It is kept (in memory) only where its beginning, its name or its end asks
         for a closer look.
         """
         self.at = where
-        told = [0, 0]
-        pieces = self._counted(unpacking, told)
+        pieces = self._counted(unpacking, holder)
         begin: List[bytes] = []
         while sum(map(len, begin)) < HEAD:
             piece = next(pieces, None)
@@ -310,20 +532,29 @@ class Looker:
                 break
             begin.append(piece)
         head = b''.join(begin)[:HEAD]
-        asks = kind_of(head) or unread_kind_of(head) or may_be_pickle(head, max(told[0], HEAD + 1) if told[0] >= HEAD else told[0])
-        if asks or any(is_pickle_name(name) for name in names):
-            self._look_at_held(_joined(begin, pieces), where, names, depth)
+        size = holder.size if holder.size < HEAD else _ENDLESS  # (of a stream that is not at its end the size is not known)
+        asks = kinds_of(BytesBlob(head), head) or may_be_pickle(head, size) or holder.closing
+        if asks or any(is_pickle_name(name) or asked_form(name) for name in names):
+            self._look_at_held(_joined(begin, pieces), where, names, depth, holder)
         elif self._ends_in_zip(begin, pieces):
             again = Unpacking(unpacking.packed, unpacking.start, unpacking.offset, unpacking.several)
-            self._look_at_held(self._counted(again, [0, 0]), where, names, depth)
+            self._look_at_held(self._counted(again, _Unpacked()), where, names, depth, holder)
         else:
             self.others += 1
-        return told[0], told[1]
 
-    def _look_at_held(self, pieces: Iterator[bytes], where: Place, names: Tuple[str, ...], depth: int) -> None:
-        copy = spooled(pieces)
-        with copy.file:
-            self.look_at(copy, where, names, depth)
+    def _look_at_held(self, pieces: Iterator[bytes], where: Place, names: Tuple[str, ...], depth: int, holder: '_Unpacked') -> None:
+        """Looks at unpacked bytes. Where they are more than may be held, the first of them."""
+        copy = spooled(holder.first(pieces, self.budget.most_held()))
+        self.budget.held += copy.size
+        try:
+            with copy.file:
+                if holder.is_cut:
+                    self.note(where, f'it unpacks to more than the {copy.size:,} bytes that may be held at once: the first of them are looked '
+                                     'at', missed=True)
+                holder.has_closing = any(copy.find(closing) >= 0 for closing in holder.closing)
+                self.look_at(copy, where, names, depth)
+        finally:
+            self.budget.held -= copy.size
 
     @staticmethod
     def _ends_in_zip(begin: List[bytes], pieces: Iterator[bytes]) -> bool:
@@ -334,71 +565,58 @@ class Looker:
         return b'PK\x05\x06' in tail[-zips.TAIL:]
 
 
+class _Unpacked:
+    """What is known of a stream when it was unpacked: how many bytes, their checksum, and whether only the first were held.
+
+    `closing` are records with their directories that close a zip archive for some readers of the packed bytes; `has_closing` is set where
+    the unpacked bytes have one too.
+    """
+
+    def __init__(self, closing: List[bytes] = []) -> None:
+        self.size = 0
+        self.checksum = 0
+        self.is_cut = False
+        self.closing = closing
+        self.has_closing = False
+
+    def take(self, piece: bytes) -> None:
+        """Counts unpacked bytes."""
+        self.size += len(piece)
+        self.checksum = zlib.crc32(piece, self.checksum)
+
+    def first(self, pieces: Iterator[bytes], most: int) -> Iterator[bytes]:
+        """The pieces, up to so many bytes."""
+        for piece in pieces:
+            if len(piece) > most:
+                self.is_cut = True
+                yield piece[:most]
+                return
+            most -= len(piece)
+            yield piece
+
+
+def _verify_content(unpacking: Unpacking, packed: int, holder: _Unpacked, member: Member) -> None:
+    """Raises NotCanonical where a member does not unpack to exactly what the directory tells."""
+    name = f'{member.name!a}'
+    if unpacking.trouble is not None:
+        raise NotCanonical(f'{name}: {unpacking.trouble}')
+    if unpacking.end != packed:
+        raise NotCanonical(f'bytes stand behind the end of {name}', member.offset + unpacking.end)
+    if holder.size != member.unpacked:
+        raise NotCanonical(f'{name} has {holder.size} bytes, and the directory tells {member.unpacked}')
+    if holder.checksum != member.checksum:
+        raise NotCanonical(f'the checksum of {name} is wrong')
+
+
 def _begins_as_pickle(head: bytes, names: Tuple[str, ...]) -> bool:
     """Whether bytes are reported as a pickle whatever the program finds in them: by a name, or since they begin with PROTO."""
     begins = head[:1] == b'\x80' and head[1:2] <= b'\x05' and not any(is_storage_name(name) for name in names)
     return begins or any(is_pickle_name(name) for name in names)
 
 
-_Start = Callable[[Blob], Unpacking]
-
-
 def _joined(begin: List[bytes], pieces: Iterator[bytes]) -> Iterator[bytes]:
     yield from begin
     yield from pieces
-
-
-class _Plain(Unpacking):
-    """A member that is stored as it is."""
-
-    def __init__(self, packed: Blob) -> None:
-        super().__init__(packed, raw_deflate)
-
-    def pieces(self) -> Iterator[bytes]:
-        return self.packed.chunks()
-
-
-def _unpacker(blob: Blob, entry: zips.Entry) -> Optional[_Start]:
-    """What unpacks a member, where its method is one that is read."""
-    if entry.method == zips.STORED:
-        return _Plain
-    starts: Dict[int, Callable[[], Decompressor]] = {zips.DEFLATED: raw_deflate, zips.BZIP2: METHODS['bz2']}
-    if entry.method in starts:
-        return lambda packed: Unpacking(packed, starts[entry.method])
-    if entry.method == zips.LZMA:
-        begin = blob.read(entry.data, 9)
-        if len(begin) == 9:
-            return lambda packed: Unpacking(packed, lambda: raw_lzma(begin[4:9]), 9)
-    return None
-
-
-# Items of arrays that are no objects, as numpy writes them. It takes many other spellings ('1O', 'i4,O', 'object'), so all else counts as
-# objects.
-_PLAIN_ITEM = re.compile(r'[<>=|]?([?]|[biufc][0-9]{1,2}|[SUVa][0-9]+|[mM]8(\[[0-9A-Za-z/]+\])?)')
-
-
-def _array_header(blob: Blob) -> Tuple[int, bool]:
-    """Where the header of numpy's own layout ends, and whether the array may hold objects."""
-    begin = blob.read(0, 12)
-    width = 2 if begin[6:7] == b'\x01' else 4
-    length = int.from_bytes(begin[8:8 + width], 'little')
-    text = blob.read(8 + width, min(length, HEAD)).decode('latin-1')
-    try:
-        return 8 + width + length, not _is_plain(ast.literal_eval(text.strip())['descr'])
-    except (ValueError, SyntaxError, KeyError, TypeError, MemoryError, RecursionError):
-        return 8 + width + length, True  # numpy may read it another way
-
-
-def _is_plain(description: Any) -> bool:
-    """Whether a description of an array's items is known to have no objects: a word, a list of fields, or a pair of items and a shape."""
-    if isinstance(description, str):
-        return _PLAIN_ITEM.fullmatch(description) is not None
-    if isinstance(description, list):
-        return all(isinstance(field, tuple) and len(field) in (2, 3) and _is_plain(field[1]) for field in description)
-    if not isinstance(description, tuple) or len(description) != 2:
-        return False
-    shape = description[1] if isinstance(description[1], tuple) else (description[1],)
-    return _is_plain(description[0]) and all(isinstance(count, int) for count in shape)
 
 
 # --- Files ---
@@ -451,8 +669,9 @@ def _gone_through(looker: Looker, blob: Blob, start: Result) -> Result:
     """The result of a file, also where a limit is met or reading fails on the way."""
     error = None
     looker.budget.size = blob.size
+    looker.name = start.path.rpartition('/')[2]
     try:
-        looker.look_at(blob, (), (start.path.rpartition('/')[2],), 0)
+        looker.look_at(blob, (), (looker.name,), 0)
     except LimitMet as limit:
         looker.note(looker.at, str(limit), missed=True)
     except OSError as failure:

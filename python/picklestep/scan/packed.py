@@ -71,8 +71,8 @@ METHODS: Dict[str, Callable[[], Decompressor]] = {
 class Unpacking:
     """Unpacks a stream, and others of its kind that follow at once (gzip and xz files may hold several).
 
-    When its pieces are gone over, `trouble` says why the stream ends before its end, if it does, and `end` is where in the packed bytes
-    the last whole stream ended.
+    When its pieces are gone over, `trouble` says why the stream ends before its end, if it does, `streams` counts whole ones, and
+    `first_end` and `end` are where in the packed bytes the first and the last of them ended.
     """
 
     def __init__(self, packed: Blob, start: Callable[[], Decompressor], offset: int = 0, several: bool = False) -> None:
@@ -81,6 +81,8 @@ class Unpacking:
         self.offset = offset
         self.several = several
         self.end = offset
+        self.first_end = offset
+        self.streams = 0
         self.trouble: Optional[str] = None
 
     def pieces(self) -> Iterator[bytes]:
@@ -103,6 +105,8 @@ class Unpacking:
                 yield from self._step(inner, piece)
                 if inner.eof:
                     self.end = taken - len(inner.unused_data)
+                    self.streams += 1
+                    self.first_end = self.end if self.streams == 1 else self.first_end
                     return
             self.trouble = 'the compressed data are cut short'
         except (zlib.error, lzma.LZMAError, OSError, ValueError, EOFError) as error:

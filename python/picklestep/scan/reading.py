@@ -3,9 +3,10 @@
 from __future__ import annotations
 
 import re
+import signal
 from contextlib import closing, contextmanager
 from dataclasses import dataclass, replace
-from typing import Dict, Iterator, List, Optional, Tuple
+from typing import Callable, Dict, Iterator, List, Optional, Tuple
 
 from ..answers import Calls
 from ..errors import OutOfMemory, PicklestepError, ProgramError, TimedOut
@@ -14,7 +15,7 @@ from ..records import End, Extension, Global, Name, Ref
 from ..session import Session
 from ..texts import QUOTED, reach_of
 from .begins import is_dotted
-from .blobs import Blob, FileBlob, Limits, spooled
+from .blobs import Blob, Budget, FileBlob, spooled
 from .results import Call, Import, Pickle, Place
 
 __all__ = ['Summary', 'asks_program', 'held', 'offset_of_item', 'shown_name', 'why_unread']
@@ -28,6 +29,10 @@ _WITH_NAME = ('import', 'inst', 'call', 'new')
 # A line of the program, and the name in it where its first part is in quotes.
 _LINE = re.compile(rf"(?m)^ *([0-9]+): ((\w+)(?: ({QUOTED} (?:{QUOTED}|#[0-9]+)))?.*)$")
 
+# These lines say that something is given a state or filled. What that is stands at their end, and so does what an import gives.
+_CHANGES = ('state', 'append', 'set', 'add')
+_NUMBER = re.compile(r' (?:as|to|in) #([0-9]+)$')
+
 # These lines alone show no pickle: many texts begin with the letters P and Q, and what a loader does with such an id is its own.
 _WEAK = ('persistent', 'buffer', 'readonly')
 
@@ -40,6 +45,9 @@ _NOT_KNOWN = End('unknown', text='not known')
 
 # A pickle cannot take more memory than this for each of its bytes, so a small one needs no limit (and starts faster).
 _MEMORY_OF_A_BYTE = 4096
+
+# The clock may run so many times as long as the processor, where other processes have it.
+_WAITING = 5
 
 _LEGACY_TORCH = b'\x80\x02\x8a\x0al\xfc\x9cF\xf9 j\xa8P\x19.'
 
@@ -55,13 +63,16 @@ class Summary:
     not.
     """
 
-    def __init__(self, limits: Limits, keep_lines: bool) -> None:
+    def __init__(self, budget: Budget, keep_lines: bool, offset_of: Optional[Callable[[int], int]] = None) -> None:
+        """`offset_of` says where an offset of the program is in the file, where the program got only some of the bytes."""
         self.is_sure = False
         self.end = _NOT_KNOWN
         self.trouble: Optional[str] = None
-        self._limits = limits
+        self._budget = budget
+        self._offset_of = offset_of
         self._found: Dict[Tuple[str, str], _Found] = {}
         self._names: Dict[str, Optional[Name]] = {}
+        self._imported: Dict[str, str] = {}
         self._lines: Optional[List[str]] = [] if keep_lines else None
         self._count = 0
         self._kept = 0
@@ -83,27 +94,40 @@ class Summary:
         if rest or not tail:
             raise ProgramError('the program gave no whole answer')
         self.end = Calls(tail).end
+        if self._offset_of is not None and self.end.offset is not None:
+            offset = self._offset_of(self.end.offset)
+            text = re.sub(rf'(?<= at ){self.end.offset}$', str(offset), self.end.text)
+            self.end = replace(self.end, offset=offset, text=text)
 
     def _line(self, match: 're.Match[str]') -> None:
         """Counts a line. A pickle may have a hundred thousand lines and few names, so a name is read once."""
         self._count += 1
-        if self._count > self._limits.lines:
-            raise _Enough(f'the answer about it has more than {self._limits.lines:,} lines')
+        self._budget.lines -= 1
+        if self._budget.lines < 0:
+            raise _Enough(f'the answers about the file have more than {self._budget.limits.lines:,} lines')
         offset, text, what, quoted = match.groups()
+        name = self._imported.get(_number_of(text), '') if what in _CHANGES else quoted or ''
         has_other_name = quoted is None and what in _WITH_NAME  # one that is no text: a number, or an object of the pickle
-        found = None if has_other_name else self._found.get((what, quoted or ''))
+        found = None if has_other_name else self._found.get((what, name))
         if found is None:
-            name = self._name(match[0], what, quoted)
-            key = (what, quoted or shown_name(name))
+            known = self._name(match[0], what, quoted)
+            shown = name if what in _CHANGES else shown_name(known)
+            key = (what, name or shown)
             if key not in self._found:
                 self._keep(text)
-                self._found[key] = _Found(what, shown_name(name), int(offset), text)
+                self._found[key] = _Found(what, shown, self._place(offset), text)
             found = self._found[key]
-            self.is_sure = self.is_sure or (_can_be_there(name) if what == 'import' else what not in _WEAK)
+            self.is_sure = self.is_sure or (_can_be_there(known) if what == 'import' else what not in _WEAK)
         found.count += 1
+        if what == 'import':
+            self._imported[_number_of(text)] = found.name
         if self._lines is not None:
-            self._keep(match[0])
-            self._lines.append(match[0])
+            line = match[0] if self._offset_of is None else f'{self._place(offset):>5}: {text}'
+            self._keep(line)
+            self._lines.append(line)
+
+    def _place(self, offset: str) -> int:
+        return int(offset) if self._offset_of is None else self._offset_of(int(offset))
 
     def _name(self, line: str, what: str, quoted: Optional[str]) -> Optional[Name]:
         """What a line imports or calls."""
@@ -145,6 +169,12 @@ class _Found:
     count: int = 0
 
 
+def _number_of(text: str) -> str:
+    """The number of the object in which a line ends, as text."""
+    found = _NUMBER.search(text)
+    return found[1] if found else ''
+
+
 def _can_be_there(name: Optional[Name]) -> bool:
     """Whether an import shows that the bytes are a pickle: its module can have this name, or the pickle works it out.
 
@@ -164,28 +194,34 @@ def held(blob: Blob) -> Iterator[str]:
         yield copy.path()
 
 
-def asks_program(path: str, size: int, limits: Limits, keep_lines: bool = False) -> Summary:
+def asks_program(path: str, size: int, budget: Budget, keep_lines: bool = False,
+                 offset_of: Optional[Callable[[int], int]] = None) -> Summary:
     """What the bytes import and call, as one pickle or several in a row. What was found before a limit or a failure is kept."""
-    summary = Summary(limits, keep_lines)
-    memory = limits.memory if size * _MEMORY_OF_A_BYTE > limits.memory else None
+    summary = Summary(budget, keep_lines, offset_of)
+    budget.spend()
+    may_take, seconds = budget.memory(), budget.limits.seconds
     try:
-        with closing(Process(['calls', path, '--many'], memory=memory).blocks(limits.seconds)) as pieces:
+        process = Process(['calls', path, '--many'], memory=may_take if size * _MEMORY_OF_A_BYTE > may_take else None)
+        process.limit_seconds(budget.seconds)
+        with closing(process.blocks(max(1, budget.seconds) * _WAITING)) as pieces:
             summary.take(pieces)
     except _Enough as limit:
         summary.trouble = f'{limit}: the rest of it is not looked at'
     except OutOfMemory:
-        summary.trouble = f'the program had no more memory (it may take {limits.memory:,} bytes): the rest of it is not looked at'
+        summary.trouble = f'the program had no more memory (it may take {may_take:,} bytes): the rest of it is not looked at'
     except TimedOut:
-        summary.trouble = f'the program took more than {limits.seconds:g} seconds: the rest of it is not looked at'
+        summary.trouble = f'the program took more than {seconds:g} seconds: the rest of it is not looked at'
     except ProgramError as error:
         summary.trouble = f'the program did not read all of it: {error.words}'
+        if error.signal in (signal.SIGXCPU, signal.SIGKILL) and budget.seconds <= 1:
+            summary.trouble = f'the program took more than {seconds:g} seconds: the rest of it is not looked at'
     return summary
 
 
-def offset_of_item(path: str, item: int, limits: Limits) -> Optional[int]:
+def offset_of_item(path: str, item: int, budget: Budget) -> Optional[int]:
     """Where an opcode begins. `item` counts the opcodes before it. None where a limit is met first."""
     try:
-        with Session(path, window=1, many=True, timeout=limits.seconds, memory=limits.memory) as session:
+        with Session(path, window=1, many=True, timeout=max(1, budget.seconds), memory=budget.memory()) as session:
             session.goto(item)
             return session.where().offset
     except PicklestepError:

@@ -1,0 +1,64 @@
+"""What a verifier answers."""
+
+from __future__ import annotations
+
+from dataclasses import dataclass
+from typing import Dict, NoReturn, Optional, Tuple
+
+__all__ = ['Form', 'Member', 'NotCanonical', 'WRITERS', 'require', 'wrong']
+
+# Who writes each form, as a line names it.
+WRITERS: Dict[str, str] = {
+    'zip': 'torch, zipfile, Info-ZIP and 7-Zip write', 'tar': 'tarfile, GNU tar and bsdtar write', 'npy': 'numpy.save writes',
+    'gzip': 'gzip and Python write', 'bz2': 'bzip2 and Python write', 'xz': 'xz and Python write', 'lzma': 'xz and Python write',
+    'zlib': 'zlib.compress writes', 'zfile': 'joblib before 0.10 writes', 'pickle': 'picklers write', 'torch': 'torch.save writes',
+    'torch-legacy': 'torch.save before 1.6 writes', 'torch-tar': 'torch.save before 0.1.12 writes',
+}
+
+
+class NotCanonical(Exception):
+    """The bytes are not in the form. The text says why, and where if that has one place."""
+
+    def __init__(self, reason: str, offset: int = -1) -> None:
+        super().__init__(reason)
+        self.reason = reason
+        self.offset = offset
+
+    def __str__(self) -> str:
+        return self.reason if self.offset < 0 else f'{self.reason}, at {self.offset}'
+
+
+def wrong(reason: str, offset: int = -1) -> NoReturn:
+    """Raises NotCanonical."""
+    raise NotCanonical(reason, offset)
+
+
+def require(holds: bool, reason: str, offset: int = -1) -> None:
+    """Raises NotCanonical unless something holds."""
+    if not holds:
+        raise NotCanonical(reason, offset)
+
+
+@dataclass(frozen=True)
+class Member:
+    """A member: where its bytes are as they are stored, and what they unpack to.
+
+    `role` is 'file', 'folder', 'link', 'pickle' or 'numbers' (raw ones, of the exact size). `unpacked` and `checksum` are those of the
+    content of a packed member.
+    """
+
+    name: str
+    offset: int
+    size: int
+    role: str = 'file'
+    method: int = 0
+    unpacked: int = 0
+    checksum: Optional[int] = None
+
+
+@dataclass(frozen=True)
+class Form:
+    """A container in its strict form: its members in order. All other bytes of it are accounted for."""
+
+    kind: str
+    members: Tuple[Member, ...]

@@ -1,0 +1,72 @@
+"""joblib's arrays: raw numbers between the opcodes, exactly where and as long as the state of a NumpyArrayWrapper says.
+
+Source: joblib/numpy_pickle.py (0.10 to 1.4). BUILD of the wrapper ends a frame. Then an array of objects is a pickle of its own, with a memo
+of its own. Any other is a byte that counts padding, as many bytes 0xff, and count * itemsize bytes. The padding makes the numbers begin at
+a multiple of 16; joblib before 1.2 has none.
+"""
+
+from __future__ import annotations
+
+from typing import Any, Dict
+
+from .forms import NotCanonical
+from .items import count_of_shape, item_of_pickled
+from .pickles import Global, Made, PDict, Reader, read_pickle
+
+__all__ = ['on_build']
+
+_WRAPPER = Global('joblib.numpy_pickle', 'NumpyArrayWrapper')
+_DTYPE = Global('numpy', 'dtype')
+_KEYS = {'subclass', 'shape', 'order', 'dtype', 'allow_mmap'}
+_ALIGNMENT = 'numpy_array_alignment_bytes'
+_SUBCLASSES = (Global('numpy', 'ndarray'), Global('numpy', 'matrix'), Global('numpy', 'memmap'), Global('numpy.matrixlib.defmatrix', 'matrix'),
+               Global('numpy.core.memmap', 'memmap'), Global('numpy._core.memmap', 'memmap'))
+
+
+def on_build(reader: Reader, target: Made) -> None:
+    """Goes over the array that follows the state of a wrapper."""
+    if target.function == _DTYPE:
+        return
+    if target.function != _WRAPPER:
+        reader.fail('joblib before 0.10, whose arrays are in other files')
+    told = _told(reader, target)
+    if reader.frame_end not in (None, reader.at):
+        reader.fail('an array within a frame')
+    try:
+        size, has_objects = item_of_pickled(told['dtype'])
+        count = count_of_shape(told['shape'])
+    except NotCanonical as reason:
+        reader.fail(reason.reason)
+    reader.frame_end = None
+    target.state = None
+    if has_objects:
+        inner = read_pickle(reader.blob, reader.at, None, reader.budget)
+        reader.pickle.inner.append(inner)
+        reader.skip(inner.end - reader.at)
+        return
+    alignment = told.get(_ALIGNMENT)
+    if alignment is not None:
+        _padding(reader, alignment)
+    reader.skip(size * count)
+
+
+def _told(reader: Reader, target: Made) -> Dict[str, Any]:
+    """The state of a wrapper: exactly joblib's keys, with values as joblib writes them."""
+    if not isinstance(target.state, PDict) or target.arguments != ():
+        reader.fail('an array whose state is no dictionary')
+    told = target.state.by_text()
+    is_whole = _KEYS <= set(told) <= _KEYS | {_ALIGNMENT} and target.state.count == len(told)
+    if not is_whole or told['order'] not in ('C', 'F') or type(told['allow_mmap']) is not bool or told['subclass'] not in _SUBCLASSES:
+        reader.fail('an array with another state than joblib gives it')
+    return told
+
+
+def _padding(reader: Reader, alignment: Any) -> None:
+    """Goes over the padding."""
+    if alignment != 16:
+        reader.fail('another alignment than 16')
+    start = reader.at
+    padding = 16 - (start + 1) % 16
+    if reader.take(1)[0] != padding or reader.take(padding).strip(b'\xff'):
+        reader.fail('padding that joblib does not write')
+    reader.pickle.raw.append((start, reader.at))

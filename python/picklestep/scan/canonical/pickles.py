@@ -1,0 +1,602 @@
+"""Pickles in the form that picklers write.
+
+Every loader that is known (C, Python, PyPy, joblib, torch) reads such a pickle in one way: no opcode that its protocol does not have,
+frames that end where an opcode ends and hold one another never, numbers, texts and memo keys as picklers spell them, nothing dropped or
+doubled, nothing done to what is imported but calls.
+
+This module stands for an answer that the program is to give, proved: nothing else of the package knows its rules.
+
+Sources: Lib/pickle.py and Modules/_pickle.c (3.6 to 3.13), Modules/cPickle.c (2.7), torch/csrc/jit/serialization/pickler.cpp,
+joblib/numpy_pickle.py, cloudpickle and dill.
+"""
+
+from __future__ import annotations
+
+import codecs
+import pickletools
+import re
+import struct
+from dataclasses import dataclass, field
+from typing import Any, Callable, Dict, List, NoReturn, Optional, Set, Tuple
+
+from ..blobs import CHUNK, Blob, Budget
+from .forms import NotCanonical, wrong
+
+__all__ = ['Global', 'Hook', 'Made', 'PDict', 'PList', 'Pickle', 'Reader', 'read_pickle', 'read_pickles']
+
+# Longer texts are no names, codes or keys: nothing needs to be known of them.
+_LONGEST_TEXT = 256
+# This many values in lists and dictionaries are kept, and this many in the memo: a hostile pickle can have millions.
+_MOST_VALUES = 1 << 19
+_MOST_IN_MEMO = 1 << 22
+# After so many opcodes the time is looked at.
+_STEPS = 1 << 12
+
+
+@dataclass(frozen=True)
+class Global:
+    """A value that is imported, by the names that find_class gets."""
+
+    module: str
+    name: str
+
+
+class Made:
+    """A value that a call made. The arguments and the state are kept where the form of what follows depends on them."""
+
+    __slots__ = ('function', 'arguments', 'state')
+
+    def __init__(self, function: Any, arguments: Any) -> None:
+        self.function = function
+        self.arguments = arguments
+        self.state: Any = None
+
+
+class PList:
+    """A list with its first items."""
+
+    __slots__ = ('items', 'count')
+
+    def __init__(self) -> None:
+        self.items: List[Any] = []
+        self.count = 0
+
+
+class PDict(PList):
+    """A dictionary: its first keys and values in turn."""
+
+    __slots__ = ()
+
+    def by_text(self) -> Dict[str, Any]:
+        """The values by their keys, where these are texts."""
+        found: Dict[str, Any] = {}
+        for key, value in zip(self.items[::2], self.items[1::2]):
+            key = key.decode('latin-1') if isinstance(key, bytes) else key
+            if isinstance(key, str):
+                if key in found:
+                    wrong(f'the key {key!a} comes twice')
+                found[key] = value
+        return found
+
+
+class _Opaque:
+    """A value of which nothing needs to be known. One that can be filled or given a state is `_FILLED`, any other `_DATA`."""
+
+
+_DATA, _FILLED, _MADE, _PERSISTENT = _Opaque(), _Opaque(), _Opaque(), _Opaque()
+
+# What these make decides how many bytes follow, so their arguments and states are kept.
+_KEPT = frozenset({Global('numpy', 'dtype'), *(Global(module, name) for module in ('joblib.numpy_pickle', 'joblib.numpy_pickle_compat')
+                                               for name in ('NumpyArrayWrapper', 'NDArrayWrapper', 'ZNDArrayWrapper'))})
+
+
+@dataclass
+class Pickle:
+    """A pickle, from its first byte to behind its STOP.
+
+    `raw` are the ranges within it that are no opcodes, as offset and end; of these `inner` are pickles with a memo of their own.
+    """
+
+    offset: int
+    end: int = 0
+    protocol: int = 0
+    imports: Set[Tuple[str, str]] = field(default_factory=set)
+    persistent: List[Any] = field(default_factory=list)
+    raw: List[Tuple[int, int]] = field(default_factory=list)
+    inner: List['Pickle'] = field(default_factory=list)
+    value: Any = None
+
+
+_KEY = re.compile(rb'0|[1-9][0-9]{0,9}')
+_INT = re.compile(rb'0|-?[1-9][0-9]*|00|01')
+_LONG = re.compile(rb'(0|-?[1-9][0-9]*)L?')
+_FLOAT = re.compile(rb'-?([0-9]+(\.[0-9]+)?(e[+-]?[0-9]+)?|inf|nan)')
+_ESCAPE = re.compile(rb'\\(u[0-9a-f]{4}|U[0-9a-f]{8})')
+_ESCAPED_THOUGH_LATIN = frozenset('\\\0\n\r\x1a')
+_MOST_DIGITS = 4000
+
+_REDUCE, _POP, _POP_MARK, _STOP, _PROTO = 0x52, 0x30, 0x31, 0x2E, 0x80
+_GETS = frozenset({0x67, 0x68, 0x6A})
+_MAY_FOLLOW_A_DROP = _GETS | {_POP, _POP_MARK}
+
+Hook = Callable[['Reader', Made], None]
+
+
+def _is_name(text: str) -> bool:
+    return all(part.isidentifier() or part in ('<locals>', '<lambda>') for part in text.split('.'))
+
+
+class Reader:
+    """Reads one pickle. `on_build` is asked at each BUILD of something that a call of `_KEPT` made: joblib's arrays begin there."""
+
+    def __init__(self, blob: Blob, at: int = 0, on_build: Optional[Hook] = None, budget: Optional[Budget] = None) -> None:
+        self.blob = blob
+        self.at = self.begin = at
+        self.on_build = on_build
+        self.budget = budget
+        self.pickle = Pickle(at)
+        self.frame_end: Optional[int] = None
+        self._memo: List[Any] = []
+        self._first_key = 0
+        self._puts = ''
+        self._top: List[Any] = []
+        self._under: List[List[Any]] = []
+        self._globals: Dict[Tuple[str, str], Global] = {}
+        self._left = _MOST_VALUES
+        self._base = 0
+        self._window = b''
+
+    # --- Bytes ---
+
+    def take(self, count: int) -> bytes:
+        """The next bytes."""
+        start = self.at - self._base
+        if start < 0 or start + count > len(self._window):
+            if self.at + count > self.blob.size:
+                self.fail('it is cut short')
+            self._base, self._window, start = self.at, self.blob.read(self.at, max(count, CHUNK)), 0
+        self.at += count
+        return self._window[start:start + count]
+
+    def over(self, count: int) -> None:
+        """Goes over bytes that are not looked at."""
+        if self.at + count > self.blob.size:
+            self.fail('it is cut short')
+        self.at += count
+
+    def line(self) -> bytes:
+        """The bytes up to a newline, which is gone over."""
+        start = self.at - self._base
+        found = self._window.find(b'\n', start) if 0 <= start else -1
+        if found < 0:
+            end = self.blob.find(b'\n', self.at)
+            if end < 0:
+                self.fail('it is cut short')
+            text = self.take(end - self.at)
+            self.at += 1
+            return text
+        self.at = self._base + found + 1
+        return self._window[start:found]
+
+    def fail(self, reason: str) -> NoReturn:
+        """Raises NotCanonical with the place of the opcode."""
+        raise NotCanonical(reason, self.begin)
+
+    # --- Reading ---
+
+    def read(self) -> Pickle:
+        """Reads to STOP."""
+        self._protocol()
+        most, before, drops, steps = self.pickle.protocol, 0, False, 0
+        while True:
+            self.begin = self.at
+            code = self.take(1)[0]
+            do = _DO[code]
+            if do is None:
+                self.fail(f'0x{code:02x} is no opcode')
+            if _PROTOCOLS[code] > most:
+                self.fail(f'{_NAMES[code]} in protocol {most}, which does not have it')
+            if drops and code not in _MAY_FOLLOW_A_DROP:
+                self.fail('something is dropped that no pickler drops')
+            if code == _STOP:
+                return self._stopped()
+            # (The result of a call may be dropped: that of a function that sets a state.)
+            drops = code in (_POP, _POP_MARK) and (drops or before != _REDUCE)
+            do(self)
+            if self.frame_end is not None and self.at >= self.frame_end:
+                if self.at > self.frame_end:
+                    self.fail('an opcode crosses the end of a frame')
+                self.frame_end = None
+            before = code
+            steps += 1
+            if not steps % _STEPS and self.budget is not None:
+                self.budget.spend()
+
+    def _protocol(self) -> None:
+        """PROTO stands first, or the opcodes are those of protocols 0 and 1."""
+        if self.take(1)[0] != _PROTO:
+            self.at -= 1
+            self.pickle.protocol = 1
+            return
+        self.pickle.protocol = self.take(1)[0]
+        if not 2 <= self.pickle.protocol <= 5:
+            self.fail(f'protocol {self.pickle.protocol}')
+
+    def _stopped(self) -> Pickle:
+        if len(self._top) != 1 or self._under:
+            self.fail('STOP where the stack has not one item')
+        if self.frame_end is not None and self.at != self.frame_end:
+            self.fail('STOP within a frame')
+        self.pickle.value = self._top[0]
+        self.pickle.end = self.at
+        return self.pickle
+
+    def skip(self, count: int) -> None:
+        """Goes over raw bytes between the opcodes."""
+        start = self.at
+        self.over(count)
+        if count:
+            self.pickle.raw.append((start, self.at))
+
+    # --- The stack ---
+
+    def push(self, value: Any) -> None:
+        self._top.append(value)
+
+    def pop(self) -> Any:
+        if not self._top:
+            self.fail('the stack is empty')
+        return self._top.pop()
+
+    def peek(self) -> Any:
+        if not self._top:
+            self.fail('the stack is empty')
+        return self._top[-1]
+
+    def marked(self) -> List[Any]:
+        if not self._under:
+            self.fail('no mark')
+        items, self._top = self._top, self._under.pop()
+        return items
+
+    def mark(self) -> None:
+        self._under.append(self._top)
+        self._top = []
+
+    def drop(self) -> None:
+        if self._top:
+            self._top.pop()
+        elif self._under and self.pickle.protocol <= 1:
+            self._top = self._under.pop()
+        else:
+            self.fail('the stack is empty')
+
+    def refuse(self) -> None:
+        """An opcode that no pickler writes in the middle."""
+        self.fail(f'{_NAMES[self._code()]}, which no pickler writes here')
+
+    def _code(self) -> int:
+        return self.blob.read(self.begin, 1)[0]
+
+    # --- The memo ---
+
+    def key(self) -> int:
+        text = self.line()
+        if not _KEY.fullmatch(text):
+            self.fail(f'the memo key {text[:20]!a}')
+        return int(text)
+
+    def get(self, key: int) -> None:
+        place = key - self._first_key
+        if not 0 <= place < len(self._memo):
+            self.fail(f'nothing is in the memo at {key} (it may be of an earlier pickle)')
+        self._top.append(self._memo[place])
+
+    def put(self, key: int, how: str = 'PUT') -> None:
+        """Keys come in order. Those of Python 2 in C begin with 1."""
+        if not self._puts:
+            self._puts, self._first_key = how, min(key, 1)
+        if self._puts != how:
+            self.fail('PUT and MEMOIZE in one pickle')
+        if key != self._first_key + len(self._memo):
+            self.fail(f'the memo key {key} where {self._first_key + len(self._memo)} comes')
+        if len(self._memo) >= _MOST_IN_MEMO:
+            self.fail(f'more than {_MOST_IN_MEMO:,} objects in its memo, which is more than is looked at here')
+        self._memo.append(self.peek())
+
+    def memoize(self) -> None:
+        self.put(len(self._memo), 'MEMOIZE')
+
+    # --- Imports and calls ---
+
+    def imported(self, module: str, name: str) -> Global:
+        found = self._globals.get((module, name))
+        if found is None:
+            if not (_is_name(module) and _is_name(name)):
+                self.fail(f'an import of {module!a} {name!a}, which are no plain names')
+            found = self._globals[module, name] = Global(module, name)
+            self.pickle.imports.add((module, name))
+        return found
+
+    def _name_of_line(self) -> str:
+        try:
+            return self.line().decode('utf-8')
+        except UnicodeDecodeError:
+            self.fail('a name that is not UTF-8')
+
+    def global_(self) -> None:
+        self.push(self.imported(self._name_of_line(), self._name_of_line()))
+
+    def stack_global(self) -> None:
+        name, module = self.pop(), self.pop()
+        if not isinstance(name, str) or not isinstance(module, str):
+            self.fail('the name of an import is no text')
+        self.push(self.imported(module, name))
+
+    def extension(self, width: int) -> None:
+        code = int.from_bytes(self.take(width), 'little')
+        if not 0 < code < 2 ** 31:
+            self.fail('an extension of no number')
+        self.push(_MADE)
+
+    def called(self, function: Any, arguments: Any) -> None:
+        if not isinstance(function, (Global, Made)) and function not in (_MADE, _PERSISTENT):
+            self.fail('a call of something that cannot be called')
+        self.push(Made(function, arguments) if function in _KEPT else _MADE)
+
+    def reduce(self) -> None:
+        arguments = self.pop()
+        if not isinstance(arguments, (tuple, Made)) and arguments is not _MADE:
+            self.fail('the arguments of a call are no tuple')
+        self.called(self.pop(), arguments)
+
+    def newobj_ex(self) -> None:
+        keywords, arguments = self.pop(), self.pop()
+        if not isinstance(arguments, tuple) or not isinstance(keywords, PDict):
+            self.fail('the arguments of a call are no tuple and dictionary')
+        self.called(self.pop(), (arguments, keywords))
+
+    def inst(self) -> None:
+        self._of_python_2()
+        function = self.imported(self._name_of_line(), self._name_of_line())
+        self.called(function, tuple(self.marked()))
+
+    def obj(self) -> None:
+        self._of_python_2()
+        items = self.marked()
+        if not items:
+            self.fail('OBJ of nothing')
+        self.called(items[0], tuple(items[1:]))
+
+    def _of_python_2(self) -> None:
+        if self.pickle.protocol > 2:
+            self.fail(f'{_NAMES[self._code()]} in protocol {self.pickle.protocol}, which Python 2 does not write')
+
+    def build(self) -> None:
+        state, target = self.pop(), self.peek()
+        if isinstance(target, Made):
+            target.state = state
+            if self.on_build is not None:
+                self.on_build(self, target)
+        elif target not in (_MADE, _PERSISTENT, _FILLED):
+            self.fail('a state that is given to something else than what a call made')
+
+    def persistent(self, key: Any) -> None:
+        self.pickle.persistent.append(key)
+        self.push(_PERSISTENT)
+
+    def persistent_line(self) -> None:
+        text = self.line()
+        if not text.isascii():
+            self.fail('a persistent id that is not ASCII')
+        self.persistent(text.decode('ascii'))
+
+    # --- Numbers and texts ---
+
+    def int_(self) -> None:
+        text = self.line()
+        if not _INT.fullmatch(text):
+            self.fail(f'the number {text[:20]!a}')
+        self.push(bool(int(text)) if text in (b'00', b'01') else int(text) if len(text) < _MOST_DIGITS else _DATA)
+
+    def long_(self) -> None:
+        text = self.line()
+        if not _LONG.fullmatch(text):
+            self.fail(f'the number {text[:20]!a}')
+        self.push(int(text.rstrip(b'L')) if len(text) < _MOST_DIGITS else _DATA)
+
+    def float_(self) -> None:
+        text = self.line()
+        if not _FLOAT.fullmatch(text):
+            self.fail(f'the number {text[:20]!a}')
+        self.push(_DATA)
+
+    def binfloat(self) -> None:
+        self.over(8)
+        self.push(_DATA)
+
+    def long_bytes(self, width: int) -> None:
+        length = int.from_bytes(self.take(width), 'little', signed=width == 4)
+        if length < 0:
+            self.fail('a length below zero')
+        if length > _LONGEST_TEXT:
+            self.over(length)
+            self.push(_DATA)
+        else:
+            self.push(int.from_bytes(self.take(length), 'little', signed=True))
+
+    def unicode_(self) -> None:
+        text = self.line()
+        if b'\\' in text:
+            for found in re.finditer(rb'\\.?', text, re.DOTALL):
+                escape = _ESCAPE.match(text, found.start())
+                code = int(escape[1][1:], 16) if escape else -1
+                if not 0 <= code <= 0x10FFFF or code < 256 and chr(code) not in _ESCAPED_THOUGH_LATIN:
+                    self.fail('an escape in a text that no pickler writes')
+        self.push(text.decode('raw-unicode-escape') if len(text) <= _LONGEST_TEXT else _DATA)
+
+    def string_(self) -> None:
+        self._of_python_2()
+        text = self.line()
+        try:
+            value = codecs.escape_decode(text[1:-1])[0] if len(text) > 1 else None
+        except ValueError:
+            value = None
+        if value is None or text != repr(value)[1:].encode('ascii'):
+            self.fail('a text in quotes that is not as Python 2 writes it')
+        self.push(value if len(value) <= _LONGEST_TEXT else _DATA)
+
+    def text(self, width: int) -> None:
+        content = self.take(int.from_bytes(self.take(width), 'little'))
+        try:
+            value = content.decode('utf-8', 'surrogatepass')
+        except UnicodeDecodeError:
+            self.fail('a text that is not UTF-8')
+        self.push(value if len(content) <= _LONGEST_TEXT else _DATA)
+
+    def old_text(self, width: int) -> None:
+        self._of_python_2()
+        length = int.from_bytes(self.take(width), 'little', signed=width == 4)
+        if length < 0:
+            self.fail('a length below zero')
+        self._bytes(length, _DATA)
+
+    def bytes_(self, width: int) -> None:
+        self._bytes(int.from_bytes(self.take(width), 'little'), _DATA)
+
+    def bytearray_(self) -> None:
+        self.over(int.from_bytes(self.take(8), 'little'))
+        self.push(_FILLED)
+
+    def _bytes(self, length: int, other: Any) -> None:
+        if length > _LONGEST_TEXT:
+            self.over(length)
+            self.push(other)
+        else:
+            self.push(self.take(length))
+
+    # --- Tuples, lists, dictionaries, sets ---
+
+    def tuple_(self, count: int) -> None:
+        if len(self._top) < count:
+            self.fail('the stack is empty')
+        items = tuple(self._top[len(self._top) - count:])
+        del self._top[len(self._top) - count:]
+        self.push(items)
+
+    def marked_tuple(self) -> None:
+        items = tuple(self.marked())
+        self.push(items)
+
+    def _fill(self, target: PList, items: List[Any]) -> None:
+        target.count += len(items)
+        if self._left > 0:
+            self._left -= len(items)
+            target.items += items
+
+    def append(self, items: List[Any]) -> None:
+        target = self.peek()
+        if type(target) is PList:
+            self._fill(target, items)
+        elif not isinstance(target, Made) and target not in (_MADE, _PERSISTENT, _FILLED):
+            self.fail('APPEND to something else than a list')
+
+    def append_one(self) -> None:
+        item = self.pop()
+        self.append([item])
+
+    def set_items(self, items: List[Any]) -> None:
+        target = self.peek()
+        if len(items) % 2:
+            self.fail('a key without a value')
+        if isinstance(target, PDict):
+            self._fill(target, items)
+        elif not isinstance(target, Made) and target not in (_MADE, _PERSISTENT):
+            self.fail('SETITEM in something else than a dictionary')
+
+    def set_one(self) -> None:
+        value, key = self.pop(), self.pop()
+        self.set_items([key, value])
+
+    def add_items(self, items: List[Any]) -> None:
+        if self.peek() not in (_FILLED, _MADE):
+            self.fail('ADDITEMS to something else than a set')
+
+    def list_(self) -> None:
+        items, made = self.marked(), PList()
+        self._fill(made, items)
+        self.push(made)
+
+    def dict_(self) -> None:
+        items = self.marked()
+        self.push(PDict())
+        self.set_items(items)
+
+    def frozen(self) -> None:
+        self.marked()
+        self.push(_FILLED)
+
+    def readonly(self) -> None:
+        self.pop()
+        self.push(_FILLED)
+
+    def frame(self) -> None:
+        size = int.from_bytes(self.take(8), 'little')
+        if self.frame_end is not None:
+            self.fail('a frame within a frame')
+        if size == 0 or self.at + size > self.blob.size:
+            self.fail('a frame that goes beyond the end')
+        self.frame_end = self.at + size
+
+
+def _int_of(width: int) -> Callable[[Reader], int]:
+    return lambda reader: int.from_bytes(reader.take(width), 'little')
+
+
+_BYTE, _LONG_KEY = _int_of(1), _int_of(4)
+
+_OPCODES: Dict[str, Callable[[Reader], Any]] = {
+    'MARK': Reader.mark, 'POP': Reader.drop, 'POP_MARK': Reader.marked, 'DUP': Reader.refuse, 'PROTO': Reader.refuse, 'STOP': Reader.peek,
+    'FRAME': Reader.frame,
+    'NONE': lambda r: r.push(None), 'NEWTRUE': lambda r: r.push(True), 'NEWFALSE': lambda r: r.push(False),
+    'INT': Reader.int_, 'LONG': Reader.long_, 'FLOAT': Reader.float_, 'BINFLOAT': Reader.binfloat,
+    'BININT': lambda r: r.push(struct.unpack('<i', r.take(4))[0]), 'BININT1': lambda r: r.push(_BYTE(r)),
+    'BININT2': lambda r: r.push(int.from_bytes(r.take(2), 'little')), 'LONG1': lambda r: r.long_bytes(1), 'LONG4': lambda r: r.long_bytes(4),
+    'STRING': Reader.string_, 'BINSTRING': lambda r: r.old_text(4), 'SHORT_BINSTRING': lambda r: r.old_text(1),
+    'UNICODE': Reader.unicode_, 'BINUNICODE': lambda r: r.text(4), 'SHORT_BINUNICODE': lambda r: r.text(1), 'BINUNICODE8': lambda r: r.text(8),
+    'BINBYTES': lambda r: r.bytes_(4), 'SHORT_BINBYTES': lambda r: r.bytes_(1), 'BINBYTES8': lambda r: r.bytes_(8),
+    'BYTEARRAY8': Reader.bytearray_, 'NEXT_BUFFER': lambda r: r.push(_FILLED), 'READONLY_BUFFER': Reader.readonly,
+    'EMPTY_LIST': lambda r: r.push(PList()), 'EMPTY_TUPLE': lambda r: r.push(()), 'EMPTY_DICT': lambda r: r.push(PDict()),
+    'EMPTY_SET': lambda r: r.push(_FILLED), 'APPEND': Reader.append_one, 'APPENDS': lambda r: r.append(r.marked()), 'LIST': Reader.list_,
+    'SETITEM': Reader.set_one, 'SETITEMS': lambda r: r.set_items(r.marked()), 'DICT': Reader.dict_,
+    'ADDITEMS': lambda r: r.add_items(r.marked()), 'FROZENSET': Reader.frozen,
+    'TUPLE': Reader.marked_tuple, 'TUPLE1': lambda r: r.tuple_(1), 'TUPLE2': lambda r: r.tuple_(2), 'TUPLE3': lambda r: r.tuple_(3),
+    'GET': lambda r: r.get(r.key()), 'BINGET': lambda r: r.get(_BYTE(r)), 'LONG_BINGET': lambda r: r.get(_LONG_KEY(r)),
+    'PUT': lambda r: r.put(r.key()), 'BINPUT': lambda r: r.put(_BYTE(r)), 'LONG_BINPUT': lambda r: r.put(_LONG_KEY(r)),
+    'MEMOIZE': Reader.memoize,
+    'GLOBAL': Reader.global_, 'STACK_GLOBAL': Reader.stack_global, 'INST': Reader.inst, 'OBJ': Reader.obj, 'BUILD': Reader.build,
+    'REDUCE': Reader.reduce, 'NEWOBJ': Reader.reduce, 'NEWOBJ_EX': Reader.newobj_ex,
+    'EXT1': lambda r: r.extension(1), 'EXT2': lambda r: r.extension(2), 'EXT4': lambda r: r.extension(4),
+    'PERSID': Reader.persistent_line, 'BINPERSID': lambda r: r.persistent(r.pop()),
+}
+
+_DO: List[Optional[Callable[[Reader], Any]]] = [None] * 256
+_PROTOCOLS: List[int] = [0] * 256
+_NAMES: List[str] = [''] * 256
+for _each in pickletools.opcodes:
+    _DO[ord(_each.code)], _PROTOCOLS[ord(_each.code)], _NAMES[ord(_each.code)] = _OPCODES[_each.name], _each.proto, _each.name
+
+
+def read_pickle(blob: Blob, at: int = 0, on_build: Optional[Hook] = None, budget: Optional[Budget] = None) -> Pickle:
+    """The pickle that begins here."""
+    return Reader(blob, at, on_build, budget).read()
+
+
+def read_pickles(blob: Blob, on_build: Optional[Hook] = None, budget: Optional[Budget] = None) -> List[Pickle]:
+    """One pickle after another, to the end of the bytes."""
+    found: List[Pickle] = []
+    at = 0
+    while at < blob.size or not found:
+        found.append(read_pickle(blob, at, on_build, budget))
+        at = found[-1].end
+    return found

@@ -1,0 +1,122 @@
+"""Compressed files in the form that their usual writers write: one stream that fills the file, with nothing before or behind it.
+
+Sources: RFC 1952 (gzip), RFC 1950 (zlib), xz-file-format.txt and lzma-file-format.txt of XZ Utils, joblib/numpy_pickle_compat.py (ZF), and
+what Python, gzip, pigz, bzip2 and xz write.
+"""
+
+from __future__ import annotations
+
+import lzma
+import re
+import zlib
+from typing import Callable, Dict, Iterator, Optional, Tuple
+
+from ..blobs import Blob
+from ..packed import LZMA_MEMORY, METHODS, Decompressor, Unpacking
+from .forms import require
+
+__all__ = ['also_unpacks', 'start_of', 'verify_begin', 'verify_end']
+
+_FNAME = 8
+_EMPTY = bytes(18)
+_MOST_ZEROS = 1 << 22
+# Names in a gzip header are Latin-1 without control characters.
+_NAME = re.compile(rb'[\x20-\x7e\xa0-\xff]{1,255}\0')
+_BZ2 = re.compile(rb'BZh[1-9](1AY&SY|\x17rE8P\x90)')
+_ZFILE = re.compile(rb'ZF(0x[0-9a-f]{1,16}L?) *')
+_ZFILE_HEADER = 21
+_NO_SIZE = 2 ** 64 - 1
+
+
+def start_of(kind: str, packed: Blob) -> int:
+    """Where the stream begins that is unpacked: behind the header that joblib before 0.10 puts before it, else at once."""
+    return _ZFILE_HEADER + (packed.read(_ZFILE_HEADER, 1) == b' ') if kind == 'zfile' else 0
+
+
+def verify_begin(kind: str, packed: Blob) -> None:
+    """Raises NotCanonical where the header is not as the writers of this kind fill it."""
+    _BEGINS[kind](packed)
+
+
+def verify_end(kind: str, packed: Blob, unpacking: Unpacking, size: int) -> None:
+    """Raises NotCanonical where a stream that was unpacked to so many bytes is not whole, or does not fill the file."""
+    require(unpacking.trouble is None, str(unpacking.trouble))
+    require(unpacking.streams == 1 and unpacking.end == packed.size, 'bytes stand behind the end of the stream', unpacking.first_end)
+    told = size
+    if kind == 'lzma':
+        told = int.from_bytes(packed.read(5, 8), 'little')
+    elif kind == 'zfile':
+        told = int(packed.read(2, _ZFILE_HEADER - 2).strip().rstrip(b'L'), 16)
+    require(told in (size, _NO_SIZE), 'its size is wrong', 2)
+
+
+def _gzip(packed: Blob) -> None:
+    head = packed.read(0, 10)
+    require(len(head) == 10 and head[:3] == b'\x1f\x8b\x08', 'no header of gzip')
+    require(head[3] in (0, _FNAME), f'flags {head[3]:#x}: an extra field, a comment or others that gzip does not set', 3)
+    require(head[8] in (0, 2, 4), f'extra flags {head[8]:#x}', 8)
+    require(head[9] <= 13 or head[9] == 255, f'system {head[9]}', 9)
+    require(not head[3] or _NAME.match(packed.read(10, 256)) is not None, 'the name in the header is no plain text', 10)
+
+
+def _bz2(packed: Blob) -> None:
+    require(_BZ2.match(packed.read(0, 10)) is not None, 'no header of bzip2')
+
+
+def _xz(packed: Blob) -> None:
+    head = packed.read(0, 8)
+    require(len(head) == 8 and head[:7] == b'\xfd7zXZ\0\0' and head[7] in (0, 1, 4, 10), 'no header of xz')
+    require(packed.size % 4 == 0 and packed.read(packed.size - 2, 2) == b'YZ', 'it does not end as xz')
+
+
+def _lzma(packed: Blob) -> None:
+    head = packed.read(0, 13)
+    size = int.from_bytes(head[5:13], 'little')
+    dictionary = int.from_bytes(head[1:5], 'little')
+    require(len(head) == 13 and head[0] == 0x5D, 'properties that xz and Python do not write', 0)
+    require(dictionary >= 4096 and bin(dictionary).rstrip('0') in ('0b1', '0b11'), f'a dictionary of {dictionary} bytes', 1)
+    require(size == _NO_SIZE or size < 2 ** 38, f'a size of {size} bytes', 5)
+
+
+def _zlib(packed: Blob) -> None:
+    require(packed.read(0, 2) in (b'\x78\x01', b'\x78\x5e', b'\x78\x9c', b'\x78\xda'), 'a header that zlib.compress does not write', 0)
+
+
+def _zfile(packed: Blob) -> None:
+    require(_ZFILE.fullmatch(packed.read(0, _ZFILE_HEADER)) is not None, 'no header of joblib before 0.10')
+
+
+_BEGINS: Dict[str, Callable[[Blob], None]] = {'gzip': _gzip, 'bz2': _bz2, 'xz': _xz, 'lzma': _lzma, 'zlib': _zlib, 'zfile': _zfile}
+
+
+# --- What other readers would take ---
+
+def _tries(head: bytes) -> Iterator[Tuple[str, Decompressor]]:
+    if len(head) >= 13 and head[0] < 225:
+        # LZMAFile takes whatever liblzma takes, and tarfile tries it on each file. 13 bytes are the header.
+        yield 'lzma', lzma.LZMADecompressor(lzma.FORMAT_ALONE if head[0] == 0x5D else lzma.FORMAT_AUTO, LZMA_MEMORY)
+    if len(head) > 2 and head[0] & 15 == 8 and (head[0] << 8 | head[1]) % 31 == 0:
+        yield 'zlib', METHODS['zlib']()
+
+
+def also_unpacks(blob: Blob, head: bytes) -> Optional[str]:
+    """The kind of stream that some reader takes these bytes for: the one whose magic they have, or (zlib and lzma, which have little of it)
+    in which a first part unpacks."""
+    if _BZ2.match(head):
+        return 'bz2'
+    if head[:3] == b'\x1f\x8b\x08':
+        return 'gzip'
+    if head[:6] == b'\xfd7zXZ\0':
+        return 'xz'
+    if head[:18] == _EMPTY:
+        # Zeros are empty streams of lzma, 18 bytes each, over which LZMAFile goes on.
+        zeros = blob.read(0, _MOST_ZEROS)
+        head = zeros[(len(zeros) - len(zeros.lstrip(b'\0'))) // 18 * 18:]
+    for kind, inner in _tries(head):
+        try:
+            made = inner.decompress(head, 1 << 12)
+        except (zlib.error, lzma.LZMAError, OSError, ValueError, EOFError, MemoryError):
+            continue
+        if made or inner.eof and (kind != 'lzma' or head[0] == 0x5D):
+            return kind
+    return None

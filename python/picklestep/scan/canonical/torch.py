@@ -1,0 +1,162 @@
+"""torch's layouts: zip archives (since 1.6), five pickles and numbers (0.1.12 to 1.5), and a tar archive (before).
+
+Sources: torch/serialization.py (_save, _legacy_save, _legacy_load), caffe2/serialize/inline_container.cc (PyTorchStreamWriter).
+"""
+
+from __future__ import annotations
+
+import re
+from dataclasses import replace
+from typing import Any, Dict, List, NamedTuple, Optional, Sequence, Tuple
+
+from ..blobs import Blob, Budget
+from .forms import Member, require, wrong
+from .pickles import Global, PDict, PList, Pickle, read_pickle
+
+__all__ = ['MAGIC', 'TAR_MEMBERS', 'Layout', 'is_small', 'legacy', 'tar_member', 'with_numbers']
+
+# The number at the beginning of the layout before 1.6, in protocols 2 and later: LONG1 and its bytes.
+MAGIC = b'\x8a\x0al\xfc\x9cF\xf9 j\xa8P\x19'
+_MAGIC, _VERSION = 0x1950A86A20F9469CFC6C, 1001
+_SYSTEM = {'protocol_version', 'little_endian', 'type_sizes'}
+TAR_MEMBERS = frozenset({'storages', 'tensors', 'pickle'})
+_MOST_STORAGES = 1 << 24
+
+_ITEMS = {
+    'FloatStorage': 4, 'DoubleStorage': 8, 'HalfStorage': 2, 'BFloat16Storage': 2, 'ByteStorage': 1, 'CharStorage': 1, 'ShortStorage': 2,
+    'IntStorage': 4, 'LongStorage': 8, 'BoolStorage': 1, 'ComplexFloatStorage': 8, 'ComplexDoubleStorage': 16, 'QInt8Storage': 1,
+    'QUInt8Storage': 1, 'QInt32Storage': 4, 'QUInt4x2Storage': 1, 'QUInt2x4Storage': 1, 'UntypedStorage': 1, '_UntypedStorage': 1,
+}
+_MODULES = re.compile(r'torch(\.cuda|\.storage)?')
+# Small members since 1.6: the layout's version, the order of bytes, and what identifies the file.
+_SMALL = {'version': re.compile(rb'[0-9]{1,4}\n'), 'byteorder': re.compile(rb'little|big'), '.format_version': re.compile(rb'[0-9]{1,4}\n?'),
+          '.storage_alignment': re.compile(rb'[0-9]{1,6}\n?'), '.data/serialization_id': re.compile(rb'[0-9]{1,64}')}
+LONGEST_SMALL = 64
+
+
+class Layout(NamedTuple):
+    """Pickles in a row, and the ranges between and behind them that are raw numbers, as offset and end."""
+
+    pickles: List[Pickle]
+    raw: List[Tuple[int, int]]
+
+
+def _text(value: Any) -> Any:
+    return value.decode('latin-1') if isinstance(value, bytes) else value
+
+
+def _item(kind: Any) -> int:
+    """Bytes of an item of a storage."""
+    if not isinstance(kind, Global) or not _MODULES.fullmatch(kind.module) or kind.name not in _ITEMS:
+        wrong('a storage of an unknown kind')
+    return _ITEMS[kind.name]
+
+
+def _storages(pickle: Pickle, parts: int) -> Dict[str, Tuple[int, int]]:
+    """The storages that a pickle names by persistent ids: how many bytes each has, and an item of it.
+
+    Other ids than torch's are refused. The layout before 1.6 has a sixth part (a view), and ids of modules with their source.
+    """
+    found: Dict[str, Tuple[int, int]] = {}
+    for key in pickle.persistent:
+        if not isinstance(key, tuple) or not key:
+            wrong('a persistent id that is no tuple')
+        if _text(key[0]) == 'module' and parts == 6:
+            is_source = len(key) == 4 and isinstance(key[1], Global) and isinstance(_text(key[2]), str)
+            require(is_source, 'a persistent id that torch does not write')
+            continue
+        require(_text(key[0]) == 'storage' and len(key) == parts, 'a persistent id that torch does not write')
+        name, numel = _text(key[2]), key[4]
+        is_storage = isinstance(name, str) and isinstance(_text(key[3]), str) and type(numel) is int and 0 <= numel < 2 ** 48
+        require(is_storage, 'a persistent id that torch does not write')
+        size = (numel * _item(key[1]), _item(key[1]))
+        require(found.setdefault(name, size) == size, f'two sizes for the storage {name!a}')
+    return found
+
+
+def with_numbers(pickle: Pickle, members: Sequence[Member], prefix: str) -> List[Member]:
+    """The members of a zip archive, with those that are raw numbers of the exact size told as such."""
+    sizes = _storages(pickle, 5)
+    told: List[Member] = []
+    for member in members:
+        size = sizes.pop(member.name[len(prefix):], None) if member.name.startswith(prefix) else None
+        if size is not None:
+            require(member.method == 0 and member.size == size[0], f'{member.name!a} has another size than its tensor')
+            member = replace(member, role='numbers')
+        told.append(member)
+    require(not sizes, f'the numbers of {len(sizes)} tensors are missing, such as {next(iter(sizes), "")!a}')
+    return told
+
+
+def is_small(name: str, content: bytes) -> Optional[bool]:
+    """Whether a small member is as torch writes it. None where it is none of those."""
+    form = _SMALL.get(name)
+    return None if form is None else form.fullmatch(content) is not None
+
+
+def _raw(blob: Blob, at: int, item: int) -> int:
+    """Where the numbers of a storage end: their count (8 bytes), and themselves."""
+    require(at + 8 <= blob.size, 'the numbers are cut short', at)
+    end = at + 8 + int.from_bytes(blob.read(at, 8), 'little') * item
+    require(end <= blob.size, 'the numbers are cut short', at)
+    return end
+
+
+def legacy(blob: Blob, budget: Optional[Budget] = None) -> Layout:
+    """Five pickles, then the numbers of each storage, to the end."""
+    pickles: List[Pickle] = []
+    at = 0
+    for _ in range(5):
+        pickles.append(read_pickle(blob, at, None, budget))
+        at = pickles[-1].end
+    magic, version, system, _, keys = (each.value for each in pickles)
+    require(magic == _MAGIC and version == _VERSION, "no magic number and version of torch's old layout")
+    require(isinstance(system, PDict) and set(system.by_text()) == _SYSTEM, 'the third pickle does not describe a system')
+    require(not any(pickles[index].imports for index in (0, 1, 2, 4)), 'an import in another pickle than the fourth')
+    sizes = _storages(pickles[3], 6)
+    if not isinstance(keys, PList) or len(keys.items) != keys.count:
+        wrong('the fifth pickle is no list')
+    names = [_text(name) for name in keys.items]
+    require(len(set(names)) == len(names) and set(names) == set(sizes), 'the fifth pickle does not name the storages')
+    raw: List[Tuple[int, int]] = []
+    for name in names:
+        size, item = sizes[name]
+        end = _raw(blob, at, item)
+        require(end - at - 8 == size, f'the storage {name!a} has another size than its tensor', at)
+        raw.append((at, end))
+        at = end
+    require(at == blob.size, f'{blob.size - at:,} bytes stand behind the last storage', at)
+    return Layout(pickles, raw)
+
+
+def tar_member(name: str, blob: Blob, budget: Optional[Budget] = None) -> Layout:
+    """`storages`, `tensors` or `pickle` of torch's tar layout."""
+    found = Layout([], [])
+
+    def pickle() -> Any:
+        before = max([each.end for each in found.pickles[-1:]] + [end for _, end in found.raw[-1:]], default=0)
+        found.pickles.append(read_pickle(blob, before, None, budget))
+        return found.pickles[-1].value
+
+    count = pickle()
+    if name != 'pickle':
+        require(type(count) is int and 0 <= count < _MOST_STORAGES, 'the first pickle is no number')
+        for _ in range(count):
+            told = pickle()
+            require(isinstance(told, tuple) and len(told) == 3, 'a storage or tensor that is not told as torch does')
+            at = found.pickles[-1].end
+            found.raw.append((at, _raw(blob, at, _item(told[2])) if name == 'storages' else _sizes_of_tensor(blob, at)))
+    if name == 'storages':
+        require(isinstance(pickle(), PList), 'the views are no list')
+    end = max([found.pickles[-1].end] + [end for _, end in found.raw[-1:]])
+    require(end == blob.size, f'{blob.size - end:,} bytes stand behind the last pickle', end)
+    return found
+
+
+def _sizes_of_tensor(blob: Blob, at: int) -> int:
+    """Where what describes a tensor ends: the count of its dimensions (4 bytes and 4 zeros), sizes, strides, and an offset, of 8 bytes
+    each."""
+    dimensions = int.from_bytes(blob.read(at, 4), 'little')
+    end = at + 16 + 16 * dimensions
+    require(end <= blob.size and not blob.read(at + 4, 4).strip(b'\0'), 'the sizes of a tensor are cut short', at)
+    return end

@@ -1,0 +1,456 @@
+"""Whether any known loader could get to an import or a call if it read these bytes as a pickle from the first one on.
+
+A machine that reads a superset of what all known unpicklers read: a frame is nothing, a line or an argument may be cut off by the end, PROTO
+may have any number. Its twin drops the rest of a frame where an argument crosses its end, as unpicklers do that read from a stream. It says
+yes too often and never no too often: values are only looked at where all unpicklers refuse them.
+
+Sources: Lib/pickle.py and Modules/_pickle.c (3.6 to 3.13), Lib/pickle.py of 2.7, PyPy's pickle.py, torch/csrc/jit/serialization/unpickler.cpp.
+"""
+
+from __future__ import annotations
+
+import pickletools
+import re
+from dataclasses import dataclass
+from typing import Any, Callable, Dict, List, Optional, Set, Tuple
+
+from ..blobs import CHUNK, Blob, Budget
+
+__all__ = ['Reach', 'imports_of', 'reach_of']
+
+# Opcodes that are gone over. Where there are more, something may be reached.
+_MOST = 2_000_000
+# A longer line is no name and no number.
+_LONGEST_LINE = 1 << 16
+_LONGEST_TEXT = 1024
+_STEPS = 1 << 12
+_ENDLESS = 2 ** 63
+
+
+@dataclass(frozen=True)
+class Reach:
+    """What is reached first, and where."""
+
+    what: str
+    offset: int
+
+
+class _End(Exception):
+    """No loader goes on here."""
+
+
+# What is known of a value. Texts carry their bytes, and opaque ones may be anything that comes from elsewhere.
+_PLAIN, _TEXT, _OPAQUE, _TUPLE, _LIST, _DICT, _SET, _BYTES, _OTHER = 'P', 'T', 'O', 't', 'l', 'd', 's', 'b', 'F'
+_Value = Tuple[str, Optional[bytes]]
+_ITERABLE = frozenset('TOtldsbF')
+_SPACE = b' \t\n\r\x0b\x0c'
+_KEY = re.compile(rb'[ \t\n\r\x0b\x0c]*[+-]?[0-9]+(_[0-9]+)*[ \t\n\r\x0b\x0c]*')
+_MOST_DIGITS = 4300
+# No module of Python or of a package has such a sign in its name; headers of tables and lines of code have them.
+_NOT_IN_MODULES = re.compile(r"""[,;:"'()\[\]{}<>|&?*/=]""")
+_NUMBER = re.compile(rb'[+-]?[0-9a-zA-Z_.+-]*')
+
+
+def _may_name(text: bytes, is_module: bool) -> bool:
+    """Whether something may be imported by this name: printable, no blanks, and in a module's none of the signs of text and code."""
+    try:
+        named = text.decode('raw-unicode-escape') if b'\\' in text else text.decode('utf-8')
+    except UnicodeDecodeError:
+        return False
+    if b'\\' not in text and is_module and _NOT_IN_MODULES.search(named):
+        return False
+    if not any(letter.isalnum() or letter == '_' for letter in named):
+        return False
+    return named.isprintable() and not any(letter.isspace() for letter in named)
+
+
+def _is_utf8(text: bytes) -> bool:
+    try:
+        text.decode('utf-8')
+    except UnicodeDecodeError:
+        return False
+    return True
+
+
+def _shown(text: bytes) -> str:
+    return text.decode('utf-8', 'backslashreplace')
+
+
+@dataclass(frozen=True)
+class _Way:
+    """How a loader reads: whether it drops the rest of a frame, reads bytes across the end of one, keeps the memo from pickle to pickle,
+    and knows numbers of copyreg."""
+
+    drops: bool = False
+    across: bool = True
+    keeps: bool = False
+    extends: bool = True
+
+
+class _Machine:
+    """Reads until something is reached. Where `imported` is a set, what is imported is collected there, and it goes on."""
+
+    def __init__(self, blob: Blob, way: _Way, budget: Optional[Budget], imported: Optional[Set[Tuple[str, str]]] = None) -> None:
+        self.blob = blob
+        self.way = way
+        self.budget = budget
+        self.imported = imported
+        self.stops = 0
+        self.framed = False
+        self.at = 0
+        self.begin = 0
+        self.found: Optional[Reach] = None
+        self._base = 0
+        self._window = b''
+        self._frame_end: Optional[int] = None
+        self._top: List[_Value] = []
+        self._under: List[List[_Value]] = []
+        self._memo: Dict[int, _Value] = {}
+
+    def run(self) -> Optional[Reach]:
+        """What is reached first."""
+        count = 0
+        try:
+            while self.found is None:
+                count += 1
+                if count > _MOST:
+                    return Reach('more opcodes than are gone over', self.at)
+                if self.budget is not None and not count % _STEPS:
+                    self.budget.spend()
+                self.begin = self.at
+                do = _DO[self.read(1)[0]]
+                if do is None:
+                    return None
+                do(self)
+        except _End:
+            return self.found
+        return self.found
+
+    # --- Bytes ---
+
+    def _jump(self, count: int) -> None:
+        """Where an argument crosses the end of a frame, a stream goes on behind the frame."""
+        if self._frame_end is not None and self.way.drops and self.at + count > self._frame_end:
+            self.at, self._frame_end = max(self.at, self._frame_end), None
+
+    def _bytes(self, count: int, may_be_cut: bool) -> bytes:
+        self._jump(count)
+        start = self.at - self._base
+        if start < 0 or start + min(count, CHUNK) > len(self._window):
+            self._base, self._window, start = self.at, self.blob.read(self.at, CHUNK), 0
+        here = self._window[start:start + count]
+        if len(here) < count and self.at + count > self.blob.size and not may_be_cut:
+            raise _End
+        if not here and count:
+            raise _End
+        self.at = min(self.at + count, self.blob.size)
+        return here
+
+    def read(self, count: int) -> bytes:
+        return self._bytes(count, False)
+
+    def line(self) -> bytes:
+        """A line, also where the end cuts it off: Python's unpickler then takes it without its last byte."""
+        start = self.at
+        end = self.blob.find(b'\n', start)
+        if self.way.drops and self._frame_end is not None and not 0 <= end < self._frame_end:
+            start, self._frame_end = max(self.at, self._frame_end), None
+            end = self.blob.find(b'\n', start)
+        if end < 0:
+            self.at = self.blob.size
+            return self.blob.read(start, min(_LONGEST_LINE, max(0, self.blob.size - start - 1)))
+        self.at = end + 1
+        return self.blob.read(start, min(_LONGEST_LINE, end - start))
+
+    # --- The stack ---
+
+    def need(self, count: int) -> None:
+        if len(self._top) < count:
+            raise _End
+
+    def pop(self) -> _Value:
+        self.need(1)
+        return self._top.pop()
+
+    def marked(self) -> List[_Value]:
+        if not self._under:
+            raise _End
+        items, self._top = self._top, self._under.pop()
+        return items
+
+    def push(self, kind: str, text: Optional[bytes] = None) -> None:
+        self._top.append((kind, text))
+
+    def plain(self, width: int) -> None:
+        self.read(width)
+        self.push(_PLAIN)
+
+    def double(self) -> None:
+        self.need(1)
+        self._top.append(self._top[-1])
+
+    def mark(self) -> None:
+        self._under.append(self._top)
+        self._top = []
+
+    def drop(self) -> None:
+        if self._top:
+            self._top.pop()
+        else:
+            self.marked()
+
+    def cut(self, kind: str) -> None:
+        self.marked()
+        self.push(kind)
+
+    def tuple_(self, count: int) -> None:
+        self.need(count)
+        del self._top[len(self._top) - count:]
+        self.push(_TUPLE)
+
+    def stop(self) -> None:
+        """Whoever loads again goes on here: with an unpickler of its own, or with the same one, which keeps its memo."""
+        self.need(1)
+        self.stops += 1
+        if self.at >= self.blob.size:
+            raise _End
+        if self.way.drops and self._frame_end is not None:
+            self.at, self._frame_end = self._frame_end, None
+        self._top, self._under = [], []
+        if not self.way.keeps:
+            self._memo = {}
+
+    def frame(self) -> None:
+        size = int.from_bytes(self.read(8), 'little')
+        if size >= _ENDLESS:
+            raise _End
+        self.framed = True
+        if self.way.drops:
+            self._jump(size)
+            if self.at + size > self.blob.size:
+                raise _End
+            self._frame_end = self.at + size
+
+    # --- The memo ---
+
+    def key(self) -> int:
+        text = self.line()
+        for one in (text, text.split(b'\0')[0]):
+            if _KEY.fullmatch(one) and len(one) < _MOST_DIGITS:
+                key = int(one)
+                if key < 0:
+                    raise _End
+                return key
+        raise _End
+
+    def get(self, key: int) -> None:
+        if key not in self._memo:
+            raise _End
+        self._top.append(self._memo[key])
+
+    def put(self, key: int) -> None:
+        self.need(1)
+        self._memo[key] = self._top[-1]
+
+    def memoize(self) -> None:
+        self.put(len(self._memo))
+
+    # --- Numbers and texts ---
+
+    def number(self) -> None:
+        text = self.line().split(b'\0')[0].strip(_SPACE)
+        if not _NUMBER.fullmatch(text) and text.isascii():
+            raise _End
+        self.push(_PLAIN)
+
+    def string(self) -> None:
+        text = self.line().strip(_SPACE)
+        if len(text) < 2 or text[:1] != text[-1:] or text[:1] not in (b"'", b'"'):
+            raise _End
+        self.push(_TEXT, text[1:-1])
+
+    def counted(self, width: int, kind: str, signed: bool = False) -> None:
+        length = int.from_bytes(self.read(width), 'little', signed=signed)
+        if not 0 <= length < _ENDLESS:
+            raise _End
+        start = self.at
+        if kind == _BYTES and self.way.across and self.at + length <= self.blob.size:
+            self.at += length
+            self.push(kind)
+            return
+        self._jump(length)
+        text = self._bytes(min(length, _LONGEST_TEXT), True) if length and self.at < self.blob.size else b''
+        self.at = min(max(start, self.at - len(text)) + length, self.blob.size)
+        self.push(kind, text if kind == _TEXT else None)
+
+    # --- Imports and calls ---
+
+    def reached(self, what: str) -> None:
+        if self.imported is None:
+            self.found = self.found or Reach(what, self.begin)
+        else:
+            self.push(_OPAQUE)
+
+    def _imports(self, module: bytes, name: bytes) -> None:
+        if _may_name(module, True) and _may_name(name, False):
+            if self.imported is not None:
+                self.imported.add((_shown(module), _shown(name)))
+            self.reached(f'an import of {module.decode("latin-1")!a} {name.decode("latin-1")!a}')
+        elif _is_utf8(module) and _is_utf8(name):
+            self.push(_OPAQUE)  # nothing has such a name, but a loader may put something of its own in its place
+        else:
+            raise _End
+
+    def global_(self) -> None:
+        self._imports(self.line(), self.line())
+
+    def stack_global(self) -> None:
+        name, module = self.pop(), self.pop()
+        if name[0] not in (_TEXT, _OPAQUE) or module[0] not in (_TEXT, _OPAQUE):
+            raise _End
+        if name[1] is None or module[1] is None:
+            self.reached('an import of a name that is worked out')
+        else:
+            self._imports(module[1], name[1])
+
+    def extension(self, width: int) -> None:
+        if int.from_bytes(self.read(width), 'little', signed=width == 4) <= 0 or not self.way.extends:
+            raise _End
+        self.push(_OPAQUE)
+
+    def _call(self, function: _Value, arguments: _Value) -> None:
+        if arguments[0] not in _ITERABLE:
+            raise _End
+        if function[0] == _OPAQUE:
+            self.reached('a call')
+        elif function[0] == _PLAIN:
+            self.push(_PLAIN)  # (PyPy makes a None)
+        else:
+            raise _End
+
+    def reduce(self) -> None:
+        arguments, function = self.pop(), self.pop()
+        if function[0] != _OPAQUE:
+            raise _End
+        self._call(function, arguments)
+
+    def newobj(self) -> None:
+        arguments = self.pop()
+        self._call(self.pop(), arguments)
+
+    def newobj_ex(self) -> None:
+        if self.pop()[0] not in (_DICT, _OPAQUE):
+            raise _End
+        self.newobj()
+
+    def obj(self) -> None:
+        items = self.marked()
+        if not items or items[0][0] != _OPAQUE:
+            raise _End
+        self.reached('a call')
+
+    def build(self) -> None:
+        self.pop()
+        self.need(1)
+        if self._top[-1][0] == _OPAQUE and self.imported is None:
+            self.reached('a state that is set')
+
+    def persistent_line(self) -> None:
+        if not self.line().isascii():
+            raise _End
+        self.push(_OPAQUE)
+
+    def persistent(self) -> None:
+        self.pop()
+        self.push(_OPAQUE)
+
+    def readonly(self) -> None:
+        self.need(1)
+        if self._top[-1][0] not in (_BYTES, _OPAQUE, _TEXT, _OTHER):
+            raise _End
+
+    # --- What is filled ---
+
+    def _fill(self, kinds: str, count: int) -> None:
+        self.need(1)
+        kind = self._top[-1][0]
+        if kind != _OPAQUE and kind not in kinds and count:
+            raise _End
+
+    def append(self) -> None:
+        self.pop()
+        self._fill('lbF', 1)
+
+    def set_item(self) -> None:
+        self.pop()
+        self.pop()
+        self._fill('dlbF', 1)
+
+    def fill_marked(self, kinds: str) -> None:
+        items = self.marked()
+        self._fill(kinds, len(items))
+
+
+def _plain(width: int) -> Callable[[_Machine], Any]:
+    return lambda m: m.plain(width)
+
+
+_OPCODES: Dict[str, Callable[[_Machine], Any]] = {
+    'MARK': _Machine.mark, 'STOP': _Machine.stop, 'POP': _Machine.drop, 'POP_MARK': _Machine.marked, 'DUP': _Machine.double,
+    'PROTO': lambda m: m.read(1), 'FRAME': _Machine.frame,
+    'NONE': _plain(0), 'NEWTRUE': _plain(0), 'NEWFALSE': _plain(0), 'BININT': _plain(4), 'BININT1': _plain(1), 'BININT2': _plain(2),
+    'BINFLOAT': _plain(8), 'INT': _Machine.number, 'LONG': _Machine.number, 'FLOAT': _Machine.number,
+    'LONG1': lambda m: m.counted(1, _PLAIN), 'LONG4': lambda m: m.counted(4, _PLAIN, True),
+    'STRING': _Machine.string, 'BINSTRING': lambda m: m.counted(4, _TEXT, True), 'SHORT_BINSTRING': lambda m: m.counted(1, _TEXT),
+    'UNICODE': lambda m: m.push(_TEXT, m.line()), 'BINUNICODE': lambda m: m.counted(4, _TEXT),
+    'SHORT_BINUNICODE': lambda m: m.counted(1, _TEXT), 'BINUNICODE8': lambda m: m.counted(8, _TEXT),
+    'BINBYTES': lambda m: m.counted(4, _BYTES), 'SHORT_BINBYTES': lambda m: m.counted(1, _BYTES), 'BINBYTES8': lambda m: m.counted(8, _BYTES),
+    'BYTEARRAY8': lambda m: m.counted(8, _BYTES), 'NEXT_BUFFER': lambda m: m.push(_OPAQUE), 'READONLY_BUFFER': _Machine.readonly,
+    'EMPTY_TUPLE': lambda m: m.push(_TUPLE), 'EMPTY_LIST': lambda m: m.push(_LIST), 'EMPTY_DICT': lambda m: m.push(_DICT),
+    'EMPTY_SET': lambda m: m.push(_SET), 'TUPLE': lambda m: m.cut(_TUPLE), 'LIST': lambda m: m.cut(_LIST), 'DICT': lambda m: m.cut(_DICT),
+    'FROZENSET': lambda m: m.cut(_OTHER), 'TUPLE1': lambda m: m.tuple_(1), 'TUPLE2': lambda m: m.tuple_(2), 'TUPLE3': lambda m: m.tuple_(3),
+    'APPEND': _Machine.append, 'APPENDS': lambda m: m.fill_marked('lbF'), 'SETITEM': _Machine.set_item,
+    'SETITEMS': lambda m: m.fill_marked('dlbF'), 'ADDITEMS': lambda m: m.fill_marked('sF'),
+    'GET': lambda m: m.get(m.key()), 'BINGET': lambda m: m.get(m.read(1)[0]), 'LONG_BINGET': lambda m: m.get(int.from_bytes(m.read(4), 'little')),
+    'PUT': lambda m: m.put(m.key()), 'BINPUT': lambda m: m.put(m.read(1)[0]), 'LONG_BINPUT': lambda m: m.put(int.from_bytes(m.read(4), 'little')),
+    'MEMOIZE': _Machine.memoize,
+    'GLOBAL': _Machine.global_, 'INST': _Machine.global_, 'STACK_GLOBAL': _Machine.stack_global, 'EXT1': lambda m: m.extension(1),
+    'EXT2': lambda m: m.extension(2), 'EXT4': lambda m: m.extension(4), 'PERSID': _Machine.persistent_line, 'BINPERSID': _Machine.persistent,
+    'REDUCE': _Machine.reduce, 'NEWOBJ': _Machine.newobj, 'NEWOBJ_EX': _Machine.newobj_ex, 'OBJ': _Machine.obj, 'BUILD': _Machine.build,
+}
+
+_DO: List[Optional[Callable[[_Machine], Any]]] = [None] * 256
+for _each in pickletools.opcodes:
+    _DO[ord(_each.code)] = _OPCODES[_each.name]
+
+_WAYS = (_Way(), _Way(keeps=True), _Way(drops=True), _Way(drops=True, keeps=True), _Way(drops=True, across=False),
+         _Way(drops=True, across=False, keeps=True))
+
+
+def reach_of(blob: Blob, budget: Optional[Budget] = None, extends: bool = True) -> Tuple[Optional[Reach], int]:
+    """What some loader reaches first, or None where none reaches an import or a call; and how many pickles end before that.
+
+    Without `extends` no loader knows a number of copyreg.
+    """
+    stops, framed = 0, True
+    for way in _WAYS:
+        # (Ways that differ in frames, or in the memo of a second pickle, read alike where there is none.)
+        if way.drops and not framed or way.keeps and not stops:
+            continue
+        machine = _Machine(blob, _Way(way.drops, way.across, way.keeps, extends), budget)
+        found = machine.run()
+        stops = max(stops, machine.stops)
+        if found is not None:
+            return found, stops
+        framed = machine.framed or way.drops
+    return None, stops
+
+
+def imports_of(blob: Blob, keeps: bool, budget: Optional[Budget] = None) -> Set[Tuple[str, str]]:
+    """All that a loader imports which goes on wherever one does: modules and names, as they stand in the bytes.
+
+    With `keeps` it keeps its memo from pickle to pickle.
+    """
+    imported: Set[Tuple[str, str]] = set()
+    _Machine(blob, _Way(keeps=keeps), budget, imported).run()
+    return imported
