@@ -24,7 +24,7 @@ from unittest import mock
 
 from picklestep.records import End
 from picklestep.scan import Options, look
-from picklestep.scan.blobs import Limits
+from picklestep.scan.blobs import Budget, Limits
 from picklestep.scan.reading import Summary
 from scan_support import (HARMLESS, HOSTILE, MODELS, Made, ScanCase, closing, entry, local, names_of, notes_of, places_of,
                           zip_of)
@@ -44,7 +44,7 @@ class HostileZip(ScanCase):
     def test_a_wrong_checksum(self) -> None:
         for method in (0, 8):
             with self.subTest(method):
-                self.found(zip_of([Made(b'data.pkl', HOSTILE, method, checksum=1)]), 'its checksum is wrong')
+                self.found(zip_of([Made(b'data.pkl', HOSTILE, method, checksum=1)]), "! data.pkl: not in the form that torch, zipfile, Info-ZIP and 7-Zip write: the checksum of 'data.pkl' is wrong")
 
     def test_python_refuses_these_and_the_call_is_found(self) -> None:
         for made in (Made(b'a', HOSTILE, 8, checksum=1), Made(b'a', HOSTILE, 8, local_name=b'b'), Made(b'a', HOSTILE, 8, flags=1),
@@ -76,7 +76,8 @@ class HostileZip(ScanCase):
     def test_two_members_of_one_name(self) -> None:
         result = self.look('a.zip', zip_of([Made(b'data.pkl', HARMLESS), Made(b'data.pkl', HOSTILE)]))
         self.assertEqual(names_of(result), ['collections.OrderedDict', 'posix.system'])
-        self.assertEqual(notes_of(result), '  data.pkl: several members have this name: each is looked at')
+        self.assertIn("two members are named 'data.pkl'", notes_of(result))
+        self.assertIn('  data.pkl: several members have this name: each is looked at', notes_of(result))
 
     def test_two_methods_for_one_member(self) -> None:
         self.found(zip_of([Made(b'a', HOSTILE, 0, local_method=8)]), 'both are looked at')
@@ -172,7 +173,9 @@ class HostileZip(ScanCase):
         sums = struct.pack('<III', zlib.crc32(b'text'), 4, 4)
         for record in (sums, b'PK\x07\x08' + sums, sums[:4] + struct.pack('<QQ', 4, 4), b'PK\x07\x08' + sums[:4] + struct.pack('<QQ', 4, 4)):
             data = zip_of([Made(b'a', b'text', flags=8, after=record), Made(b'b', b'text')])
-            self.assertEqual(notes_of(self.look('a.zip', data)), '')
+            # (No known writer leaves the signature out.)
+            self.assertEqual(notes_of(self.look('a.zip', data)).count('\n'), 0)
+            self.assertEqual(notes_of(self.look('a.zip', data)) == '', record.startswith(b'PK'))
 
     def test_an_ending_that_says_nothing(self) -> None:
         self.found(zip_of([Made(b'weights.bin', HOSTILE, 8)]))
@@ -196,7 +199,7 @@ class HostileZip(ScanCase):
         data = bytearray(zip_of([Made(b'a.pkl', HOSTILE + bytes(range(256)) * 9, 8), Made(b'b', HOSTILE)]))
         data[60:64] = b'\xff\xff\xff\xff'
         result = self.look('a.zip', bytes(data))
-        self.assertIn('! a.pkl: the compressed data', notes_of(result))
+        self.assertIn('the compressed data cannot be unpacked', notes_of(result))
         self.assertIn('b', places_of(result))
 
     def test_random_changes(self) -> None:
@@ -210,7 +213,7 @@ class HostileZip(ScanCase):
                 self.assertIsNone(self.look('a.zip', bytes(data)).error)
 
 
-NOTHING = Summary(Limits(), False)
+NOTHING = Summary(Budget(Limits()), False)
 NOTHING.end = End('stopped')
 
 
@@ -256,10 +259,10 @@ class Bombs(ScanCase):
 
     def test_an_xz_that_asks_for_much_memory(self) -> None:
         packed = lzma.compress(HOSTILE, lzma.FORMAT_XZ, filters=[{'id': lzma.FILTER_LZMA2, 'dict_size': 1 << 29}])
-        self.assertIn('! (xz): the compressed data cannot be unpacked', notes_of(self.look('a.xz', packed)))
+        self.assertIn('the compressed data cannot be unpacked', notes_of(self.look('a.xz', packed)))
 
     def test_a_real_limit_of_memory(self) -> None:
-        limits = Options(Limits(memory=32 << 20))
+        limits = Options(Limits(memory=128 << 20))
         result = self.look('a.pkl', b'(' + b'N' * 3_000_000 + b'l.', limits)
         self.assertIn('! : the program had no more memory (it may take 33,554,432 bytes)', notes_of(result))
         self.assertEqual(names_of(self.look('b.pkl', HOSTILE, limits)), ['posix.system'])
@@ -267,7 +270,7 @@ class Bombs(ScanCase):
     def test_an_answer_of_many_lines(self) -> None:
         many = b'cos\ngetcwd\nq\x000' + b'h\x00)R0' * 5000 + b'N.'
         result = self.look('a.pkl', many, Options(Limits(lines=1000)))
-        self.assertIn('! : the answer about it has more than 1,000 lines: the rest of it is not looked at', notes_of(result))
+        self.assertIn('! : the answers about the file have more than 1,000 lines: the rest of it is not looked at', notes_of(result))
         self.assertEqual((names_of(result), result.pickles[0].end.how), (['os.getcwd'], 'unknown'))
         self.assertLessEqual(result.pickles[0].calls[0].count, 1000)
         # What is kept of it is bounded too: lines that all differ, and all lines where these are asked for.
@@ -283,9 +286,9 @@ class Bombs(ScanCase):
         program.chmod(0o755)
         begin = time.monotonic()
         with mock.patch.dict(os.environ, PICKLESTEP_PROGRAM=str(program)):
-            result = self.look('a.pkl', b'N.', Options(Limits(seconds=1)))
+            result = self.look('a.pkl', b'N.', Options(Limits(seconds=0.5)))
         self.assertLess(time.monotonic() - begin, 10)
-        self.assertIn('! : the program took more than 1 seconds: the rest of it is not looked at', notes_of(result))
+        self.assertIn('! : the program took more than 0.5 seconds: the rest of it is not looked at', notes_of(result))
         self.assertEqual(names_of(result), ['os.x'])  # (what it said before is reported)
 
     def test_stored_members_that_share_their_bytes(self) -> None:
@@ -426,7 +429,7 @@ class HostileTar(ScanCase):
                 result = look(str(self.folder / 'a.tar'))
                 self.assertEqual((names_of(result), places_of(result)), (['posix.system'], ['model.bin > (expanded)']))
                 self.assertIn('it is sparse', notes_of(result))
-                self.assertFalse(any(note.missed for note in result.notes), notes_of(result))
+                self.assertIn('! : not in the form that tarfile, GNU tar and bsdtar write', notes_of(result))
                 small = look(str(self.folder / 'a.tar'), Options(Limits(unpacked=1 << 19)))
                 self.assertIn('! model.bin: more than 524,288 bytes are unpacked', notes_of(small))
 

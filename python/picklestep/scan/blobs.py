@@ -107,7 +107,7 @@ class Blob:
     size: int
 
     def read(self, offset: int, count: int) -> bytes:
-        """The bytes from an offset on: `count` of them, or fewer at the end."""
+        """The bytes from an offset on: `count` of them, or fewer at the end. There are none before the first."""
         raise NotImplementedError
 
     def part(self, offset: int, size: int) -> 'Blob':
@@ -152,7 +152,7 @@ class FileBlob(Blob):
 
     def read(self, offset: int, count: int) -> bytes:
         pieces = []
-        count = min(count, self.size - offset)
+        count = min(count, self.size - offset) if offset >= 0 else 0
         while count > 0:
             piece = os.pread(self.file.fileno(), count, offset)
             if not piece:
@@ -175,7 +175,7 @@ class BytesBlob(Blob):
         self.size = len(content)
 
     def read(self, offset: int, count: int) -> bytes:
-        return bytes(self.content[offset:offset + max(0, count)])
+        return bytes(self.content[offset:offset + max(0, count)]) if offset >= 0 else b''
 
 
 class OpenedBlob(Blob):
@@ -186,7 +186,7 @@ class OpenedBlob(Blob):
         self.size = file.seek(0, os.SEEK_END)
 
     def read(self, offset: int, count: int) -> bytes:
-        if count <= 0:
+        if count <= 0 or offset < 0:
             return b''
         self.file.seek(offset)
         return self.file.read(count)
@@ -225,7 +225,7 @@ class JoinedBlob(Blob):
 
     def read(self, offset: int, count: int) -> bytes:
         pieces: List[bytes] = []
-        count = min(count, self.size - offset)
+        count = min(count, self.size - offset) if offset >= 0 else 0
         while count > 0:
             index = bisect_right(self.starts, offset) - 1
             end = self.starts[index + 1] if index + 1 < len(self.starts) else self.size

@@ -9,6 +9,7 @@ from __future__ import annotations
 import os
 import re
 import stat
+import struct
 import zlib
 from collections import Counter
 from dataclasses import dataclass, replace
@@ -94,7 +95,7 @@ class Looker:
             opened = self._look_for_zip_at_end(blob, head, where, names, depth, spans) or opened
         if not opened:
             self._look_at_leaf(blob, head, where, names)
-        elif self._may_be_pickle_too(kinds, blob, head):
+        elif kinds and self._may_be_pickle_too(kinds, blob, head):
             self._is_read(blob, head, where, names)
 
     def _kinds(self, blob: Blob, head: bytes, where: Place, names: Tuple[str, ...]) -> List[str]:
@@ -231,7 +232,9 @@ class Looker:
             return verify(blob)
         except NotCanonical as reason:
             self._tell(where, kind, reason)
-            return None
+        except struct.error:
+            self._tell(where, kind, NotCanonical('the file became shorter'))
+        return None
 
     def _open_packed(self, kind: str, blob: Blob, where: Place, names: Tuple[str, ...], depth: int, spans: List[Tuple[int, int]]) -> bool:
         """Looks into a compressed file, and at what comes after its end."""

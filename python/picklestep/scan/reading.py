@@ -203,7 +203,7 @@ def asks_program(path: str, size: int, budget: Budget, keep_lines: bool = False,
     try:
         process = Process(['calls', path, '--many'], memory=may_take if size * _MEMORY_OF_A_BYTE > may_take else None)
         process.limit_seconds(budget.seconds)
-        with closing(process.blocks(max(1, budget.seconds) * _WAITING)) as pieces:
+        with closing(process.blocks(max(0.5, budget.seconds) * _WAITING)) as pieces:
             summary.take(pieces)
     except _Enough as limit:
         summary.trouble = f'{limit}: the rest of it is not looked at'

@@ -57,10 +57,9 @@ def of_torch_tar(name: str, blob: Blob, budget: Optional[Budget] = None) -> Layo
 
 def another_import(layout: Layout, blob: Blob, budget: Optional[Budget] = None) -> Optional[str]:
     """What another loader imports, which keeps the memo from pickle to pickle, or knows no raw arrays. None where that is the same."""
-    if len(layout.pickles) < 2 and not layout.raw:
-        return None
+    counts = any(pickle.counts for pickle in layout.pickles[1:] + layout.inner)
     known = layout.imports()
-    for keeps in (False, True):
+    for keeps in (False,) * bool(layout.raw) + (True,) * (counts or bool(layout.raw)):
         for module, name in sorted(imports_of(blob, keeps, budget) - known):
             return f'{module!a} {name!a}'
     return None

@@ -94,7 +94,8 @@ _KEPT = frozenset({Global('numpy', 'dtype'), *(Global(module, name) for module i
 class Pickle:
     """A pickle, from its first byte to behind its STOP.
 
-    `raw` are the ranges within it that are no opcodes, as offset and end; of these `inner` are pickles with a memo of their own.
+    `raw` are the ranges within it that are no opcodes, as offset and end; of these `inner` are pickles with a memo of their own. `counts`
+    is set where it takes things from the memo that stand there in the order in which they came: another memo gives it other things.
     """
 
     offset: int
@@ -104,6 +105,7 @@ class Pickle:
     persistent: List[Any] = field(default_factory=list)
     raw: List[Tuple[int, int]] = field(default_factory=list)
     inner: List['Pickle'] = field(default_factory=list)
+    counts: bool = False
     value: Any = None
 
 
@@ -291,6 +293,7 @@ class Reader:
         if not 0 <= place < len(self._memo):
             self.fail(f'nothing is in the memo at {key} (it may be of an earlier pickle)')
         self._top.append(self._memo[place])
+        self.pickle.counts = self._puts == 'MEMOIZE'
 
     def put(self, key: int, how: str = 'PUT') -> None:
         """Keys come in order. Those of Python 2 in C begin with 1."""

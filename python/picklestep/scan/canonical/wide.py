@@ -44,7 +44,7 @@ _PLAIN, _TEXT, _OPAQUE, _TUPLE, _LIST, _DICT, _SET, _BYTES, _OTHER = 'P', 'T', '
 _Value = Tuple[str, Optional[bytes]]
 _ITERABLE = frozenset('TOtldsbF')
 _SPACE = b' \t\n\r\x0b\x0c'
-_KEY = re.compile(rb'[ \t\n\r\x0b\x0c]*[+-]?[0-9]+(_[0-9]+)*[ \t\n\r\x0b\x0c]*')
+_KEY = re.compile(rb'[+-]?[0-9]+(_[0-9]+)*')
 _MOST_DIGITS = 4300
 # No module of Python or of a package has such a sign in its name; headers of tables and lines of code have them.
 _NOT_IN_MODULES = re.compile(r"""[,;:"'()\[\]{}<>|&?*/=]""")
@@ -235,8 +235,8 @@ class _Machine:
 
     def key(self) -> int:
         text = self.line()
-        for one in (text, text.split(b'\0')[0]):
-            if _KEY.fullmatch(one) and len(one) < _MOST_DIGITS:
+        for one in (text.strip(_SPACE), text.split(b'\0')[0].strip(_SPACE)):
+            if len(one) < _MOST_DIGITS and _KEY.fullmatch(one):
                 key = int(one)
                 if key < 0:
                     raise _End
