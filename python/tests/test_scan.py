@@ -28,7 +28,7 @@ from picklestep.scan.results import from_json, to_json
 from scan_support import HARMLESS, HOSTILE, MODELS, ScanCase, names_of, notes_of, places_of
 
 # An array of objects is a pickle between the opcodes. `pickletools` ends before it.
-WITHIN = {name: {'numpy.core.multiarray._reconstruct'} for name in ('joblib_arrays.joblib', 'joblib_arrays_zlib.joblib')}
+WITHIN = {name: {'collections.OrderedDict'} for name in ('joblib_arrays.joblib', 'joblib_arrays_zlib.joblib')}
 
 
 def written_by() -> Dict[str, Set[str]]:

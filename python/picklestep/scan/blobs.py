@@ -7,10 +7,12 @@ import resource
 import tempfile
 import time
 from bisect import bisect_right
+from contextlib import contextmanager
 from dataclasses import dataclass
 from typing import BinaryIO, Iterable, Iterator, List, Sequence, Tuple, cast
 
-__all__ = ['CHUNK', 'Blob', 'Budget', 'BytesBlob', 'FileBlob', 'JoinedBlob', 'LimitMet', 'Limits', 'OpenedBlob', 'Part', 'spooled']
+__all__ = ['CHUNK', 'Blob', 'Budget', 'BytesBlob', 'FileBlob', 'JoinedBlob', 'LimitMet', 'Limits', 'OpenedBlob', 'Part',
+           'PartMet', 'STEPS', 'spooled']
 
 CHUNK = 1 << 18
 
@@ -35,8 +37,16 @@ class LimitMet(Exception):
     """A limit is met; the text says which."""
 
 
+class PartMet(LimitMet):
+    """What may be taken of a limit for one part of the work is met."""
+
+
 # This much of the memory is left to the interpreter itself.
 _OWN_MEMORY = 96 << 20
+_PAGE = resource.getpagesize()
+
+# After so many opcodes the time is looked at.
+STEPS = 1 << 12
 
 
 class Budget:
@@ -54,6 +64,9 @@ class Budget:
         self.lines = limits.lines
         self.held = 0
         self._begin = _processor_time()
+        self._size = _own_size()
+        self._steps = 0
+        self._parts: List[float] = []
 
     @property
     def seconds(self) -> float:
@@ -61,9 +74,31 @@ class Budget:
         return self.limits.seconds - (_processor_time() - self._begin)
 
     def spend(self) -> None:
-        """Looks at the processor time."""
-        if self.seconds <= 0:
+        """Looks at the processor time, and at the memory of this process."""
+        seconds = self.seconds
+        if seconds <= 0:
             raise LimitMet(f'it took {self.limits.seconds:g} seconds of processor time: the rest of the file is not looked at')
+        grown = _own_size() - self._size
+        if self._parts and (seconds <= self._parts[-1] or grown > self.limits.memory // 4):
+            raise PartMet('reading it strictly would take more time or memory than there is')
+        if grown > self.limits.memory // 2:
+            raise LimitMet(f'it takes more than {self.limits.memory // 2:,} bytes of memory: the rest of the file is not looked at')
+
+    def count(self, steps: int) -> None:
+        """Counts opcodes, and now and then looks at the time and the memory."""
+        self._steps += steps
+        if self._steps >= STEPS:
+            self._steps = 0
+            self.spend()
+
+    @contextmanager
+    def half(self) -> Iterator[None]:
+        """Within it PartMet is raised where half of the time that is left is taken, or much memory."""
+        self._parts.append(self.seconds / 2)
+        try:
+            yield
+        finally:
+            self._parts.pop()
 
     def most_held(self) -> int:
         """How many unpacked bytes may be held at once: a quarter of the memory, since a pickle takes more than its bytes to be read."""
@@ -93,6 +128,15 @@ class Budget:
         self.members += 1
         if self.members > self.limits.members:
             raise LimitMet(f'it has more than {self.limits.members:,} members: the rest of the file is not looked at')
+
+
+def _own_size() -> int:
+    """Bytes of memory that this process has."""
+    try:
+        with open('/proc/self/statm', 'rb', buffering=0) as file:
+            return int(file.read(200).split()[1]) * _PAGE
+    except (OSError, ValueError, IndexError):
+        return 0
 
 
 def _processor_time() -> float:

@@ -20,7 +20,7 @@ from ..sources import LIMIT
 from . import tars, zips
 from .arrays import array_header
 from .begins import HEAD, is_pickle_name, is_storage_name, kind_of, may_be_pickle, unread_kind_of
-from .blobs import Blob, Budget, BytesBlob, FileBlob, JoinedBlob, LimitMet, Limits, OpenedBlob, spooled
+from .blobs import Blob, Budget, BytesBlob, FileBlob, JoinedBlob, LimitMet, Limits, OpenedBlob, PartMet, spooled
 from .canonical import Form, Member, NotCanonical, npy, streams, torch
 from .canonical import tars as strict_tars, zips as strict_zips
 from .canonical.forms import WRITERS
@@ -130,7 +130,7 @@ class Looker:
         """Raw numbers of the size that a pickle or a header tells. They are not read, but no loader may get anywhere from their beginning."""
         self.at = where
         head = blob.read(0, HEAD)
-        kinds = [kind for kind in kinds_of(blob, head) if kind not in _BY_TRIAL]
+        kinds = kinds_of(blob, head, tries=False)
         reach, _ = reach_of(blob, self.budget, extends=False)
         if not kinds and reach is None:
             self.others += 1
@@ -144,14 +144,14 @@ class Looker:
     def _is_read(self, blob: Blob, head: bytes, where: Place, names: Tuple[str, ...], reads: _Reads = layout_of,
                  is_sure: bool = False) -> bool:
         """Asks the program, and keeps its answer where the bytes are a pickle. False where they are none."""
-        if blob.size > LIMIT:
-            self.note(where, f'it has more than {LIMIT:,} bytes, which is too large for the program: the first {_FIRST_BYTES:,} are '
-                             'looked at', missed=True)
-            blob = blob.part(0, _FIRST_BYTES)
         self.at = where
-        self.budget.look(max(0, blob.size - _GLANCE))
         layout, told = self._layout(blob, reads)
         opcodes = JoinedBlob(blob, layout.raw) if layout is not None and layout.raw else blob
+        if opcodes.size > LIMIT:
+            self.note(where, f'it has more than {LIMIT:,} bytes, which is too large for the program: the first {_FIRST_BYTES:,} are '
+                             'looked at', missed=True)
+            opcodes = blob.part(0, _FIRST_BYTES)
+        self.budget.look(max(0, opcodes.size - _GLANCE))
         pickle = self._asked(opcodes, blob, where, is_sure or _begins_as_pickle(head, names))
         if pickle is None:
             return False
@@ -168,10 +168,13 @@ class Looker:
     def _layout(self, blob: Blob, reads: _Reads) -> Tuple[Optional[Layout], Optional[str]]:
         """Which bytes are opcodes, or why that is not known."""
         try:
-            layout = reads(blob, self.budget)
+            with self.budget.half():
+                layout = reads(blob, self.budget)
         except NotCanonical as reason:
             kind = 'torch-legacy' if torch.MAGIC in blob.read(0, 32) else 'pickle'
             return None, f'not in the form that {WRITERS[kind]}: {reason}'
+        except PartMet as limit:
+            return None, f'{limit}: its form is not known'
         other = another_import(layout, blob, self.budget)
         if other is None:
             return layout, None
@@ -196,9 +199,9 @@ class Looker:
     def _look_at_inner(self, blob: Blob, layout: Layout, where: Place) -> None:
         """Looks at the pickles within joblib's arrays of objects. Each has a memo of its own, so they are read as pickles in a row."""
         cut, at = [], 0
-        for inner in layout.inner:
-            cut.append((at, inner.offset))
-            at = inner.end
+        for start, end in layout.inner:
+            cut.append((at, start))
+            at = end
         opcodes = JoinedBlob(blob, [*cut, (at, blob.size)])
         pickle = self._asked(opcodes, opcodes, where + ('(arrays of objects)',), True)
         assert pickle is not None

@@ -24,18 +24,21 @@ _NOT_TAR = re.compile(r'.*\.(pth|pt|ckpt|bin)\.tar', re.IGNORECASE | re.DOTALL)
 _PACKED_ENDING = re.compile(r'\.(gz|gzip|bz2|xz|lzma|z|zlib|tgz|tbz2|txz)$', re.IGNORECASE)
 
 
-def kinds_of(blob: Blob, head: bytes) -> List[str]:
-    """All kinds of containers that some reader may take these bytes for. One that is not opened begins with `UNREAD`."""
+def kinds_of(blob: Blob, head: bytes, tries: bool = True) -> List[str]:
+    """All kinds of containers that some reader may take these bytes for. One that is not opened begins with `UNREAD`.
+
+    Without `tries` those are left out that only unpacking shows.
+    """
     kinds: List[str] = []
     known = kind_of(head)
-    if known in ('zip', 'npy', 'zfile'):
+    if known in ('zip', 'npy') or known == 'zfile' and tries:
         kinds.append(known)
     if head[257:262] == b'ustar' or looks_like_header(head[:BLOCK]):
         kinds.append('tar')
     unread = unread_kind_of(head)
     if unread is not None:
         kinds.append(UNREAD + unread)
-    stream = also_unpacks(blob, head[:HEAD])
+    stream = also_unpacks(blob, head[:HEAD], tries)
     if stream is not None:
         kinds.append(stream)
     return kinds

@@ -11,7 +11,7 @@ from typing import List, Optional, Set, Tuple
 from ..blobs import Blob, Budget
 from . import joblib, torch
 from .forms import require
-from .pickles import Pickle, read_pickle, read_pickles
+from .pickles import Pickle, read_pickle
 from .wide import imports_of
 
 __all__ = ['Layout', 'alone', 'another_import', 'layout_of', 'of_torch_tar']
@@ -22,44 +22,66 @@ _BEGIN = 32
 
 @dataclass
 class Layout:
-    """Pickles in a row, and the ranges that are no opcodes of them, as offset and end. `inner` are pickles within such ranges."""
+    """Pickles in a row.
 
-    pickles: List[Pickle]
+    `raw` are the ranges that are no opcodes of them, as offset and end, and `inner` those of these that are pickles with a memo of their own.
+    `counts` is set where a pickle after the first takes things from the memo by the order in which they came.
+    """
+
+    imports: Set[Tuple[str, str]] = field(default_factory=set)
     raw: List[Tuple[int, int]] = field(default_factory=list)
-    inner: List[Pickle] = field(default_factory=list)
+    inner: List[Tuple[int, int]] = field(default_factory=list)
+    counts: bool = False
+    pickles: int = 0
 
-    def imports(self) -> Set[Tuple[str, str]]:
-        """What all of them import."""
-        return set().union(*(pickle.imports for pickle in self.pickles + self.inner))
+    def add(self, pickle: Pickle) -> None:
+        """Adds the pickle that comes next."""
+        self.counts = self.counts or pickle.counts and self.pickles > 0 or any(inner.counts for inner in pickle.inner)
+        self.pickles += 1
+        self.raw += pickle.raw
+        self.inner += [(inner.offset, inner.end) for inner in pickle.inner]
+        self.imports.update(pickle.imports, *(inner.imports for inner in pickle.inner))
 
 
 def layout_of(blob: Blob, budget: Optional[Budget] = None) -> Layout:
     """The pickles of a file, to its end."""
     if torch.MAGIC in blob.read(0, _BEGIN):
-        found = torch.legacy(blob, budget)
-        return Layout(found.pickles, found.raw)
-    pickles = read_pickles(blob, joblib.on_build, budget)
-    return Layout(pickles, [each for pickle in pickles for each in pickle.raw], [each for pickle in pickles for each in pickle.inner])
+        return _of_torch(torch.legacy(blob, budget))
+    layout = Layout()
+    at = 0
+    while at < blob.size or not at:
+        pickle = read_pickle(blob, at, joblib.on_build, budget)
+        layout.add(pickle)
+        at = pickle.end
+    return layout
 
 
 def alone(blob: Blob, budget: Optional[Budget] = None) -> Layout:
     """The one pickle that all of these bytes are, for a loader that knows no raw arrays (numpy, torch)."""
     pickle = read_pickle(blob, 0, None, budget)
     require(pickle.end == blob.size, f'{blob.size - pickle.end:,} bytes stand behind the pickle', pickle.end)
-    return Layout([pickle])
+    layout = Layout()
+    layout.add(pickle)
+    return layout
 
 
 def of_torch_tar(name: str, blob: Blob, budget: Optional[Budget] = None) -> Layout:
     """The pickles of a member of torch's tar layout."""
-    found = torch.tar_member(name, blob, budget)
-    return Layout(found.pickles, found.raw)
+    return _of_torch(torch.tar_member(name, blob, budget))
+
+
+def _of_torch(found: torch.Rows) -> Layout:
+    layout = Layout()
+    for pickle in found.pickles:
+        layout.add(pickle)
+    layout.raw = found.raw
+    return layout
 
 
 def another_import(layout: Layout, blob: Blob, budget: Optional[Budget] = None) -> Optional[str]:
     """What another loader imports, which keeps the memo from pickle to pickle, or knows no raw arrays. None where that is the same."""
-    counts = any(pickle.counts for pickle in layout.pickles[1:] + layout.inner)
-    known = layout.imports()
-    for keeps in (False,) * bool(layout.raw) + (True,) * (counts or bool(layout.raw)):
-        for module, name in sorted(imports_of(blob, keeps, budget) - known):
+    has_raw = bool(layout.raw)
+    for keeps in (False,) * has_raw + (True,) * (has_raw or layout.counts):
+        for module, name in sorted(imports_of(blob, keeps, budget) - layout.imports):
             return f'{module!a} {name!a}'
     return None

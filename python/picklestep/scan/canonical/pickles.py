@@ -19,18 +19,16 @@ import struct
 from dataclasses import dataclass, field
 from typing import Any, Callable, Dict, List, NoReturn, Optional, Set, Tuple
 
-from ..blobs import CHUNK, Blob, Budget
+from ..blobs import CHUNK, STEPS, Blob, Budget
 from .forms import NotCanonical, wrong
 
-__all__ = ['Global', 'Hook', 'Made', 'PDict', 'PList', 'Pickle', 'Reader', 'read_pickle', 'read_pickles']
+__all__ = ['Global', 'Hook', 'Made', 'PDict', 'PList', 'Pickle', 'Reader', 'read_pickle']
 
 # Longer texts are no names, codes or keys: nothing needs to be known of them.
 _LONGEST_TEXT = 256
 # This many values in lists and dictionaries are kept, and this many in the memo: a hostile pickle can have millions.
 _MOST_VALUES = 1 << 19
 _MOST_IN_MEMO = 1 << 22
-# After so many opcodes the time is looked at.
-_STEPS = 1 << 12
 
 
 @dataclass(frozen=True)
@@ -201,7 +199,7 @@ class Reader:
             if drops and code not in _MAY_FOLLOW_A_DROP:
                 self.fail('something is dropped that no pickler drops')
             if code == _STOP:
-                return self._stopped()
+                return self._stopped(steps % STEPS)
             # (The result of a call may be dropped: that of a function that sets a state.)
             drops = code in (_POP, _POP_MARK) and (drops or before != _REDUCE)
             do(self)
@@ -211,8 +209,8 @@ class Reader:
                 self.frame_end = None
             before = code
             steps += 1
-            if not steps % _STEPS and self.budget is not None:
-                self.budget.spend()
+            if not steps % STEPS and self.budget is not None:
+                self.budget.count(STEPS)
 
     def _protocol(self) -> None:
         """PROTO stands first, or the opcodes are those of protocols 0 and 1."""
@@ -224,7 +222,9 @@ class Reader:
         if not 2 <= self.pickle.protocol <= 5:
             self.fail(f'protocol {self.pickle.protocol}')
 
-    def _stopped(self) -> Pickle:
+    def _stopped(self, steps: int) -> Pickle:
+        if self.budget is not None:
+            self.budget.count(steps + 16)  # (a pickle takes time by itself)
         if len(self._top) != 1 or self._under:
             self.fail('STOP where the stack has not one item')
         if self.frame_end is not None and self.at != self.frame_end:
@@ -593,13 +593,3 @@ for _each in pickletools.opcodes:
 def read_pickle(blob: Blob, at: int = 0, on_build: Optional[Hook] = None, budget: Optional[Budget] = None) -> Pickle:
     """The pickle that begins here."""
     return Reader(blob, at, on_build, budget).read()
-
-
-def read_pickles(blob: Blob, on_build: Optional[Hook] = None, budget: Optional[Budget] = None) -> List[Pickle]:
-    """One pickle after another, to the end of the bytes."""
-    found: List[Pickle] = []
-    at = 0
-    while at < blob.size or not found:
-        found.append(read_pickle(blob, at, on_build, budget))
-        at = found[-1].end
-    return found

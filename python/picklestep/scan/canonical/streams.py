@@ -99,15 +99,17 @@ def _tries(head: bytes) -> Iterator[Tuple[str, Decompressor]]:
         yield 'zlib', METHODS['zlib']()
 
 
-def also_unpacks(blob: Blob, head: bytes) -> Optional[str]:
+def also_unpacks(blob: Blob, head: bytes, tries: bool = True) -> Optional[str]:
     """The kind of stream that some reader takes these bytes for: the one whose magic they have, or (zlib and lzma, which have little of it)
-    in which a first part unpacks."""
+    in which a first part unpacks. Without `tries` by the magic alone."""
     if _BZ2.match(head):
         return 'bz2'
     if head[:3] == b'\x1f\x8b\x08':
         return 'gzip'
     if head[:6] == b'\xfd7zXZ\0':
         return 'xz'
+    if not tries:
+        return None
     if head[:18] == _EMPTY:
         # Zeros are empty streams of lzma, 18 bytes each, over which LZMAFile goes on.
         zeros = blob.read(0, _MOST_ZEROS)

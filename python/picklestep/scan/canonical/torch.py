@@ -13,7 +13,7 @@ from ..blobs import Blob, Budget
 from .forms import Member, require, wrong
 from .pickles import Global, PDict, PList, Pickle, read_pickle
 
-__all__ = ['MAGIC', 'TAR_MEMBERS', 'Layout', 'is_small', 'legacy', 'tar_member', 'with_numbers']
+__all__ = ['MAGIC', 'TAR_MEMBERS', 'Rows', 'is_small', 'legacy', 'tar_member', 'with_numbers']
 
 # The number at the beginning of the layout before 1.6, in protocols 2 and later: LONG1 and its bytes.
 MAGIC = b'\x8a\x0al\xfc\x9cF\xf9 j\xa8P\x19'
@@ -34,7 +34,7 @@ _SMALL = {'version': re.compile(rb'[0-9]{1,4}\n'), 'byteorder': re.compile(rb'li
 LONGEST_SMALL = 64
 
 
-class Layout(NamedTuple):
+class Rows(NamedTuple):
     """Pickles in a row, and the ranges between and behind them that are raw numbers, as offset and end."""
 
     pickles: List[Pickle]
@@ -102,7 +102,7 @@ def _raw(blob: Blob, at: int, item: int) -> int:
     return end
 
 
-def legacy(blob: Blob, budget: Optional[Budget] = None) -> Layout:
+def legacy(blob: Blob, budget: Optional[Budget] = None) -> Rows:
     """Five pickles, then the numbers of each storage, to the end."""
     pickles: List[Pickle] = []
     at = 0
@@ -126,12 +126,12 @@ def legacy(blob: Blob, budget: Optional[Budget] = None) -> Layout:
         raw.append((at, end))
         at = end
     require(at == blob.size, f'{blob.size - at:,} bytes stand behind the last storage', at)
-    return Layout(pickles, raw)
+    return Rows(pickles, raw)
 
 
-def tar_member(name: str, blob: Blob, budget: Optional[Budget] = None) -> Layout:
+def tar_member(name: str, blob: Blob, budget: Optional[Budget] = None) -> Rows:
     """`storages`, `tensors` or `pickle` of torch's tar layout."""
-    found = Layout([], [])
+    found = Rows([], [])
 
     def pickle() -> Any:
         before = max([each.end for each in found.pickles[-1:]] + [end for _, end in found.raw[-1:]], default=0)

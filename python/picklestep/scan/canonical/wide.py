@@ -14,7 +14,7 @@ import re
 from dataclasses import dataclass
 from typing import Any, Callable, Dict, List, Optional, Set, Tuple
 
-from ..blobs import CHUNK, Blob, Budget
+from ..blobs import CHUNK, STEPS, Blob, Budget
 
 __all__ = ['Reach', 'imports_of', 'reach_of']
 
@@ -23,7 +23,6 @@ _MOST = 2_000_000
 # A longer line is no name and no number.
 _LONGEST_LINE = 1 << 16
 _LONGEST_TEXT = 1024
-_STEPS = 1 << 12
 _ENDLESS = 2 ** 63
 
 
@@ -115,7 +114,7 @@ class _Machine:
                 count += 1
                 if count > _MOST:
                     return Reach('more opcodes than are gone over', self.at)
-                if self.budget is not None and not count % _STEPS:
+                if self.budget is not None and not count % STEPS:
                     self.budget.spend()
                 self.begin = self.at
                 do = _DO[self.read(1)[0]]
