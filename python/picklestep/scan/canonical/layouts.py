@@ -5,6 +5,7 @@ What is left when the raw numbers are cut out are pickles that the program reads
 
 from __future__ import annotations
 
+import sys
 from dataclasses import dataclass, field
 from typing import List, Optional, Set, Tuple
 
@@ -15,6 +16,10 @@ from .pickles import Pickle, read_pickle
 from .wide import imports_of
 
 __all__ = ['Layout', 'alone', 'another_import', 'layout_of', 'of_torch_tar']
+
+# Modules that run what they are given, of Python 2 and of libraries that load pickles.
+_OTHER_MODULES = {'__builtin__', 'commands', 'popen2', 'numpy', 'torch', 'pandas', 'joblib', 'dill', 'cloudpickle', 'scipy', 'sklearn',
+                  'setuptools', 'pip', 'pkg_resources'}
 
 # The magic number of torch's layout before 1.6 stands within so many bytes.
 _BEGIN = 32
@@ -79,9 +84,23 @@ def _of_torch(found: torch.Rows) -> Layout:
 
 
 def another_import(layout: Layout, blob: Blob, budget: Optional[Budget] = None) -> Optional[str]:
-    """What another loader imports, which keeps the memo from pickle to pickle, or knows no raw arrays. None where that is the same."""
+    """What another loader imports, which keeps the memo from pickle to pickle, or knows no raw arrays. None where that is the same.
+
+    In a row of honest pickles a memo that is kept gives texts of earlier ones for names, so a name counts where its module can be there.
+    """
     has_raw = bool(layout.raw)
+    known = {module.partition('.')[0] for module, _ in layout.imports}
     for keeps in (False,) * has_raw + (True,) * (has_raw or layout.counts):
         for module, name in sorted(imports_of(blob, keeps, budget) - layout.imports):
-            return f'{module!a} {name!a}'
+            if not keeps or _may_be_there(module, known):
+                return f'{module!a} {name!a}'
     return None
+
+
+def _may_be_there(module: str, known: Set[str]) -> bool:
+    """Whether a text that another pickle has is a module: of a package, of Python, or beside those that are imported.
+
+    Escaped letters may be any, and before Python 3.10 its modules are not known.
+    """
+    standard: Optional[Set[str]] = getattr(sys, 'stdlib_module_names', None)
+    return standard is None or '.' in module or '\\' in module or module in standard | known | _OTHER_MODULES

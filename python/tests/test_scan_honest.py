@@ -1,0 +1,250 @@
+"""Files that the usual writers wrote pass the gate, and a single change of one never hides what a real reader gets."""
+
+from __future__ import annotations
+
+import bz2
+import gzip
+import io
+import lzma
+import os
+import pickle
+import random
+import subprocess
+import tarfile
+import unittest
+import zipfile
+import zlib
+from pathlib import Path
+from typing import Any, Callable, Dict, List, Sequence, Tuple, Type
+
+from picklestep.scan import look
+from picklestep.scan.blobs import BytesBlob
+from picklestep.scan.canonical import NotCanonical, npy, streams, tars, zips
+from picklestep.scan.canonical.layouts import layout_of
+from picklestep.scan.packed import METHODS, Unpacking
+from picklestep.scan.zips import unpacker_of
+from scan_support import ScanCase, notes_of
+from test_scan_gate import DEBIAN, is_told
+
+MAKER = Path(__file__).resolve().parent / 'honest.py'
+# Changes in a run of the tests. The whole is 20,000: CHANGES=20000 python3 test_scan_honest.py
+CHANGES = int(os.environ.get('CHANGES', '3000'))
+
+
+def made(folder: Path) -> Tuple[List[Path], str]:
+    """Honest files, and which writers are not here."""
+    run = subprocess.run([DEBIAN, str(MAKER), str(folder)], capture_output=True, text=True, timeout=300, check=False)
+    return sorted(path for path in folder.rglob('*') if path.is_file() and not path.is_symlink()), run.stdout + run.stderr
+
+
+class Honest(ScanCase):
+    """Files by torch, numpy, joblib, scikit-learn, pandas, the standard library and command lines."""
+
+    def test_none_is_told(self) -> None:
+        files, missing = made(self.folder)
+        for path in files:
+            with self.subTest(path.relative_to(self.folder)):
+                result = look(str(path))
+                self.assertFalse(is_told(result), notes_of(result))
+        if missing:
+            self.skipTest(f'{len(files)} files, and some writers are not here: {missing.strip()}')
+        self.assertGreaterEqual(len(files), 300)
+
+
+class Anything:
+    """What an unpickler gets for each name: it takes whatever is done to it."""
+
+    def __new__(cls, *words: Any, **named: Any) -> 'Anything':
+        return object.__new__(cls)
+
+    def __setstate__(self, state: Any) -> None:
+        pass
+
+    def __setitem__(self, key: Any, value: Any) -> None:
+        pass
+
+    def __call__(self, *words: Any, **named: Any) -> 'Anything':
+        return Anything()
+
+    def __hash__(self) -> int:
+        return 1
+
+    def append(self, item: Any) -> None:
+        """Takes an item."""
+
+    def extend(self, items: Any) -> None:
+        """Takes items."""
+
+    def add(self, item: Any) -> None:
+        """Takes an item."""
+
+
+def imported(base: Type[Any], content: bytes) -> Tuple[List[Tuple[str, str]], bool]:
+    """What an unpickler of CPython imports, and whether it comes to a STOP."""
+    seen: List[Tuple[str, str]] = []
+
+    class Loader(base):  # type: ignore[misc]
+        def find_class(self, module: str, name: str) -> Any:
+            seen.append((module, name))
+            return type('Made', (Anything,), {})
+
+        def persistent_load(self, key: Any) -> Any:
+            return Anything()
+
+    try:
+        Loader(io.BytesIO(content)).load()
+    except Exception:
+        return seen, False
+    return seen, True
+
+
+def unpacked(kind: str, content: bytes) -> bytes:
+    """What a stream unpacks to strictly."""
+    blob = BytesBlob(content)
+    streams.verify_begin(kind, blob)
+    unpacking = Unpacking(blob, METHODS[kind], 0, kind != 'lzma')
+    held = b''.join(unpacking.pieces())
+    streams.verify_end(kind, blob, unpacking, len(held))
+    return held
+
+
+def members_of_zip(content: bytes) -> List[bytes]:
+    """The members of an archive, read strictly."""
+    blob, found = BytesBlob(content), []
+    for member in zips.verify(blob).members:
+        start = unpacker_of(blob, member.method, member.offset)
+        assert start is not None
+        unpacking = start(blob.part(member.offset, member.size))
+        held = b''.join(unpacking.pieces()) if member.role != 'folder' else b''
+        checksum = zlib.crc32(held)
+        if unpacking.trouble or member.role != 'folder' and (unpacking.end, len(held), checksum) != (member.size, member.unpacked, member.checksum):
+            raise NotCanonical('the content differs')
+        found.append(held)
+    return found
+
+
+def members_of_tar(content: bytes) -> List[bytes]:
+    """The members of an archive, read strictly."""
+    return [content[member.offset:member.offset + member.size] for member in tars.verify(BytesBlob(content)).members if member.role == 'file']
+
+
+def by_zipfile(content: bytes) -> List[bytes]:
+    """The members as zipfile gives them."""
+    archive = zipfile.ZipFile(io.BytesIO(content))
+    return [archive.read(told) for told in archive.infolist()]
+
+
+def by_tarfile(content: bytes) -> List[bytes]:
+    """The members as tarfile gives them."""
+    archive = tarfile.open(fileobj=io.BytesIO(content), mode='r:')
+    found = []
+    for told in archive:
+        held = archive.extractfile(told) if told.isreg() else None
+        if held is not None:
+            found.append(held.read())
+    return found
+
+
+READERS: Dict[str, Tuple[Callable[[bytes], Any], Callable[[bytes], Any]]] = {
+    'zip': (members_of_zip, by_zipfile), 'tar': (members_of_tar, by_tarfile),
+    'gzip': (lambda content: unpacked('gzip', content), gzip.decompress), 'bz2': (lambda content: unpacked('bz2', content), bz2.decompress),
+    'xz': (lambda content: unpacked('xz', content), lzma.decompress), 'lzma': (lambda content: unpacked('lzma', content), lzma.decompress),
+}
+
+
+def kind_of(content: bytes) -> str:
+    """The kind of a file."""
+    begins = (('zip', b'PK\3\4'), ('gzip', b'\x1f\x8b'), ('bz2', b'BZh'), ('xz', b'\xfd7zXZ'), ('lzma', b'\x5d\0\0'), ('npy', b'\x93NUMPY'))
+    if content[257:262] == b'ustar':
+        return 'tar'
+    return next((kind for kind, begin in begins if content.startswith(begin)), 'pickle')
+
+
+def changed(chance: random.Random, content: bytes, other: bytes) -> bytes:
+    """A change: a byte, a length, a piece that is put in, taken out, doubled or appended, an opcode for another. That of a tar's header
+    keeps its sum."""
+    data = bytearray(content)
+    at = chance.randrange(len(data))
+    if chance.random() < 0.3:
+        at = max(0, len(data) - 1 - chance.randrange(min(len(data), 300)))
+    how = chance.randrange(8)
+    if how < 3:
+        data[at] = chance.choice((chance.randrange(256), data[at] ^ 1 << chance.randrange(8), 0, 255, 46, 10))
+    elif how == 3:
+        data[at:at] = bytes([chance.choice((0, 255, 32, 46))]) * chance.choice((1, 2, 4, 512))
+    elif how == 4:
+        del data[at:at + chance.choice((1, 2, 4, 30, 512))]
+    elif how == 5:
+        place = chance.randrange(len(other))
+        data[at:at] = other[place:place + chance.choice((4, 16, 64, 512))]
+    elif how == 6:
+        data[at:at] = data[at:at + chance.choice((1, 4, 46, 512))]
+    else:
+        data += chance.choice((bytes(4), bytes(512), b'N.', other[:2000], bytes(data[:600])))
+    block = at // 512 * 512
+    if bytes(data[block + 257:block + 262]) == b'ustar' and len(data) >= block + 512 and not 148 <= at - block < 156:
+        data[block + 148:block + 156] = b' ' * 8
+        data[block + 148:block + 156] = b'%06o\0 ' % sum(data[block:block + 512])
+    return bytes(data)
+
+
+class Changes(ScanCase):
+    """Single changes of honest files against the readers of CPython."""
+
+    def test_real_readers_get_nothing_else(self) -> None:
+        files, _ = made(self.folder)
+        groups: Dict[str, List[bytes]] = {}
+        for path in files:
+            content = path.read_bytes()
+            if 0 < len(content) < 40_000 and 'texts' not in path.parts:
+                groups.setdefault(kind_of(content), []).append(content)
+        chance, taken = random.Random(48), 0
+        for _ in range(CHANGES):
+            kind = chance.choice(sorted(groups))
+            other = chance.choice(groups[chance.choice(sorted(groups))])
+            content = changed(chance, chance.choice(groups[kind]), other)
+            taken += self.is_taken(kind, content)
+        self.assertGreater(taken, CHANGES // 50)
+
+    def is_taken(self, kind: str, content: bytes) -> bool:
+        """Whether the strict reader takes a file. What a real reader gets of it is then the same."""
+        if kind == 'pickle':
+            return self.is_pickle(content)
+        if kind == 'npy':
+            return self.passes(lambda: npy.verify(BytesBlob(content)))
+        strict, real = READERS[kind]
+        try:
+            mine = strict(content)
+        except NotCanonical:
+            return False
+        try:
+            theirs = real(content)
+        except Exception:
+            return True  # (no reader gets anything)
+        self.assertEqual(mine, theirs, content)
+        return True
+
+    def passes(self, work: Callable[[], Any]) -> bool:
+        """Whether something is in its form."""
+        try:
+            work()
+        except NotCanonical:
+            return False
+        return True
+
+    def is_pickle(self, content: bytes) -> bool:
+        """Whether the strict reader takes pickles. CPython's unpicklers then import what it has; else what they import is told."""
+        bases: Sequence[Type[Any]] = (pickle.Unpickler, pickle._Unpickler)  # type: ignore[attr-defined]
+        try:
+            layout = layout_of(BytesBlob(content))
+        except NotCanonical:
+            return False
+        for base in bases:
+            seen, _ = imported(base, content)
+            # (joblib's arrays are raw numbers to an unpickler that does not know them, and that is told elsewhere.)
+            self.assertLessEqual(set(seen) if not layout.raw else set(), layout.imports, content)
+        return True
+
+
+if __name__ == '__main__':
+    unittest.main()
