@@ -4,7 +4,7 @@ from __future__ import annotations
 
 import re
 from pathlib import Path
-from typing import Iterable, List, Pattern, Set
+from typing import Dict, FrozenSet, Iterable, List, Pattern, Tuple
 
 __all__ = ['Allowed', 'SETS', 'read_allowed']
 
@@ -20,24 +20,50 @@ class Allowed:
     A `*` does not go over a dot, since a pickle can reach from a module into what that has imported: `torch._utils.*` allows
     `torch._utils._rebuild_tensor_v2` and not `torch._utils.sys.modules`.
 
-    >>> allowed = Allowed(['collections.OrderedDict', 'torch.*Storage  # raw numbers'])
+    Behind a name and a colon stand words for what may be done with what is imported: `call`, `state` (it is given a state) and `fill` (items
+    are put into it). Without a colon that may be anything, and with a colon alone nothing.
+
+    >>> allowed = Allowed(['collections.OrderedDict: call', 'torch.*Storage:  # raw numbers', 'os.path.join'])
     >>> [allowed.allows(name) for name in ('collections.OrderedDict', 'torch.FloatStorage', 'torch.os.Storage')]
     [True, True, False]
+    >>> [allowed.allows_done(*done) for done in (('call', 'torch.FloatStorage'), ('new', 'collections.OrderedDict'), ('call', 'os.path.join'))]
+    [False, True, True]
     """
 
     def __init__(self, lines: Iterable[str]) -> None:
-        self._names: Set[str] = set()
-        self._patterns: List[Pattern[str]] = []
+        self._names: Dict[str, FrozenSet[str]] = {}
+        self._patterns: List[Tuple[Pattern[str], FrozenSet[str]]] = []
         for line in lines:
-            name = line.partition('#')[0].strip() if not line.startswith("'") else line.strip()
+            name, words = _entry(line.partition('#')[0].strip() if not line.startswith("'") else line.strip())
             if '*' in name:
-                self._patterns.append(_pattern(name))
+                self._patterns.append((_pattern(name), words))
             elif name:
-                self._names.add(name)
+                self._names[name] = self._names.get(name, frozenset()) | words
 
     def allows(self, name: str) -> bool:
         """Whether an import of this name is allowed."""
-        return name in self._names or any(pattern.fullmatch(name) for pattern in self._patterns)
+        return name in self._names or any(pattern.fullmatch(name) for pattern, _ in self._patterns)
+
+    def allows_done(self, what: str, name: str) -> bool:
+        """Whether it is allowed to do this with what is imported by an allowed name. `what` is the first word of a line of the program.
+
+        What a pickle does with objects that it made has no name, and is allowed.
+        """
+        word = _WORDS.get(what)
+        if word is None or not self.allows(name):
+            return True
+        return word in self._names.get(name, ()) or any(word in words and pattern.fullmatch(name) for pattern, words in self._patterns)
+
+
+# What may be done with what is imported, by the first words of the program's lines.
+_WORDS = {'call': 'call', 'new': 'call', 'inst': 'call', 'state': 'state', 'append': 'fill', 'set': 'fill', 'add': 'fill'}
+_ENTRY = re.compile(r'([^:]+):((?: +(?:call|state|fill))*)')
+
+
+def _entry(line: str) -> Tuple[str, FrozenSet[str]]:
+    """A name, and what may be done with what is imported by it."""
+    found = _ENTRY.fullmatch(line)
+    return (line, frozenset(_WORDS.values())) if found is None else (found[1], frozenset(found[2].split()))
 
 
 def _pattern(text: str) -> Pattern[str]:

@@ -106,7 +106,7 @@ class Budget:
 
     def memory(self) -> int:
         """What is left of the memory for a program."""
-        return max(16 << 20, self.limits.memory - self.held - _OWN_MEMORY)
+        return max(16 << 20, self.limits.memory - self.held - max(_OWN_MEMORY, _own_size()))
 
     def unpack(self, count: int) -> None:
         """Counts unpacked bytes."""

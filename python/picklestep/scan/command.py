@@ -64,10 +64,10 @@ def _parser() -> argparse.ArgumentParser:
     parser.add_argument('--max-members', metavar='N', type=_positive, default=limits.members, help='members of a file (100000)')
     parser.add_argument('--max-depth', metavar='N', type=_positive, default=limits.depth, help='containers one in another (4)')
     parser.add_argument('--max-seconds', metavar='N', type=_positive, default=limits.seconds,
-                        help='seconds for the answer about one pickle (300)')
-    parser.add_argument('--max-memory', metavar='N', type=_bytes, default=limits.memory, help='memory of the program for one pickle (4G)')
+                        help='seconds of processor time for a file (60)')
+    parser.add_argument('--max-memory', metavar='N', type=_bytes, default=limits.memory, help='memory of all processes for a file (1G)')
     parser.add_argument('--max-lines', metavar='N', type=_positive, default=limits.lines,
-                        help='lines of the answer about one pickle (10000000)')
+                        help='lines of the answers about a file (10000000)')
     return parser
 
 
@@ -106,7 +106,7 @@ def _is_same(path: str, earlier: Result) -> bool:
         state = os.stat(path)
     except OSError:
         return True
-    return (state.st_size, state.st_mtime_ns) == (earlier.size, earlier.modified)
+    return (state.st_size, state.st_mtime_ns, state.st_ctime_ns) == (earlier.size, earlier.modified, earlier.changed)
 
 
 def _results(words: argparse.Namespace, paths: List[str]) -> Generator[Result, None, None]:

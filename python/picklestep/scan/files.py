@@ -9,7 +9,7 @@ from importlib import import_module
 from typing import BinaryIO, Iterable, Iterator, List
 
 from .looking import is_url, left_out
-from .results import Result
+from .results import Note, Result
 
 __all__ = ['Found', 'find_files', 'read_names']
 
@@ -49,11 +49,14 @@ class Found:
         def failed(error: OSError) -> None:
             self.results.append(Result(str(error.filename), error=error.strerror))
 
+        before = len(self.paths)
         for folder, folders, names in os.walk(top, onerror=failed):
             folders.sort()
             links = [name for name in folders if os.path.islink(os.path.join(folder, name))]
             for name in sorted(names) + links:
                 self._add_file(os.path.join(folder, name))
+        if len(self.paths) == before:
+            self.results.append(Result(top, left='a folder without files', notes=(Note((), 'no file in it is looked at', missed=True),)))
 
 
 def _urls(url: str) -> List[str]:

@@ -627,9 +627,9 @@ def _joined(begin: List[bytes], pieces: Iterator[bytes]) -> Iterator[bytes]:
 
 # --- Files ---
 
-def _state(file: BinaryIO) -> Tuple[int, int]:
+def _state(file: BinaryIO) -> Tuple[int, int, int]:
     state = os.fstat(file.fileno())
-    return state.st_size, state.st_mtime_ns
+    return state.st_size, state.st_mtime_ns, state.st_ctime_ns
 
 
 def _opened(path: str) -> BinaryIO:
@@ -643,9 +643,9 @@ def _look_at_file(looker: Looker, path: str) -> Result:
         mode = os.fstat(file.fileno()).st_mode
         if not stat.S_ISREG(mode):
             return Result(path, left=left_out(mode))
-        size, modified = _state(file)
-        result = _gone_through(looker, FileBlob(file, size), Result(path, size, modified))
-        if _state(file) == (size, modified):
+        size, modified, changed = _state(file)
+        result = _gone_through(looker, FileBlob(file, size), Result(path, size, modified, changed=changed))
+        if _state(file) == (size, modified, changed):
             return result
         return replace(result, notes=result.notes + (Note((), 'it changed while it was looked at', True),))
 

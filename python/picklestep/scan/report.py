@@ -8,7 +8,7 @@ from typing import Dict, Iterator, List, Optional, TextIO
 
 from ..records import End
 from .allow import Allowed
-from .results import Pickle, Place, Result, to_json
+from .results import Call, Pickle, Place, Result, to_json
 
 __all__ = ['Report', 'shown']
 
@@ -79,6 +79,9 @@ class Report:
     def _is_allowed(self, name: str) -> bool:
         return self.allowed is None or self.allowed.allows(name)
 
+    def _may_be_done(self, done: Call) -> bool:
+        return self.allowed is None or self.allowed.allows_done(done.what, done.name)
+
     def _count(self, result: Result) -> None:
         counts = self.counts
         counts['files'] += result.left is None
@@ -97,7 +100,8 @@ class Report:
                 place = _place(result.path, pickle.where)
                 self.first_with[found.name] = min(place, self.first_with.get(found.name, place))
                 counts['not allowed'] += not self._is_allowed(found.name)
-        self.asks = any(counts[key] for key in ('errors', 'missed', 'not stopped', 'not allowed'))
+            counts['done'] += sum(not self._may_be_done(done) for done in pickle.calls)
+        self.asks = any(counts[key] for key in ('errors', 'missed', 'not stopped', 'not allowed', 'done'))
 
     def _object(self, result: Result) -> Dict[str, object]:
         """The object of a line of JSON. With a list of allowed names each import says whether it is allowed."""
@@ -106,6 +110,8 @@ class Report:
             for pickle in made['pickles']:
                 for found in pickle['imports']:
                     found['allowed'] = self._is_allowed(found['name'])
+                for done in pickle['calls']:
+                    done['allowed'] = self.allowed.allows_done(done['what'], done['name'])
         return made
 
     def _lines(self, result: Result) -> Iterator[str]:
@@ -127,6 +133,9 @@ class Report:
             for found in pickle.imports:
                 if self.allowed is not None and not self._is_allowed(found.name):
                     yield f'! {place}: import {shown(found.name)} {_times(found.count)}, first at {found.offset}'
+            for done in pickle.calls:
+                if not self._may_be_done(done):
+                    yield f'! {place}: {done.what} {shown(done.name)} {_times(done.count)}, first at {done.offset}: {shown(done.text)}'
             if not pickle.end.is_stopped:
                 yield f'! {place}: {_end(pickle.end)}'
             return
@@ -135,7 +144,8 @@ class Report:
             mark = ' ' if self._is_allowed(found.name) else '!'
             yield f'{mark}     import {shown(found.name)} {_times(found.count)}, first at {found.offset}'
         for done in pickle.calls:
-            yield f'      {done.what} {shown(done.name) or "-"} {_times(done.count)}, first at {done.offset}: {shown(done.text)}'
+            mark = ' ' if self._may_be_done(done) else '!'
+            yield f'{mark}     {done.what} {shown(done.name) or "-"} {_times(done.count)}, first at {done.offset}: {shown(done.text)}'
         yield from (f'      {shown(line)}' for line in pickle.lines)
         yield f'{" " if pickle.end.is_stopped else "!"}     end: {_end(pickle.end)}'
 
@@ -149,7 +159,8 @@ class Report:
         for key, *words in (('not stopped', 'pickle not read to a STOP', 'pickles not read to a STOP'),
                             ('missed', 'file not looked at whole', 'files not looked at whole'),
                             ('errors', 'file that cannot be read', 'files that cannot be read'), ('left', 'left out', 'left out'),
-                            ('not allowed', 'import not allowed', 'imports not allowed')):
+                            ('not allowed', 'import not allowed', 'imports not allowed'),
+                            ('done', 'thing done that is not allowed', 'things done that are not allowed')):
             if counts[key]:
                 told.append(_number(counts[key], *words))
         lines = [', '.join(told)]

@@ -63,7 +63,8 @@ class Result:
     """All that was found in a file.
 
     `others` counts what is no pickle. `error` says why the file cannot be read, `left` why it was left out (a FIFO, a link to a folder).
-    `size` and `modified` (nanoseconds) show `--resume` whether the file is still the one that was looked at.
+    `size`, `modified` and `changed` (nanoseconds; the last change of the content, and of the inode, which nobody can choose) show `--resume`
+    whether the file is still the one that was looked at.
     """
 
     path: str
@@ -74,11 +75,12 @@ class Result:
     notes: Tuple[Note, ...] = ()
     error: Optional[str] = None
     left: Optional[str] = None
+    changed: int = 0
 
 
 def to_json(result: Result) -> Dict[str, Any]:
     """The object that stands for a result in a line of JSON."""
-    return {'path': result.path, 'size': result.size, 'modified': result.modified,
+    return {'path': result.path, 'size': result.size, 'modified': result.modified, 'changed': result.changed,
             'pickles': [_pickle_object(pickle) for pickle in result.pickles], 'others': result.others,
             'notes': [dict(vars(note)) for note in result.notes], 'error': result.error, 'left': result.left}
 
@@ -96,6 +98,7 @@ def from_json(made: Dict[str, Any]) -> Result:
     return Result(
         made['path'], made['size'], made['modified'], tuple(_pickle(pickle) for pickle in made['pickles']), made['others'],
         tuple(Note(tuple(note['where']), note['text'], note['missed']) for note in made['notes']), made['error'], made['left'],
+        made['changed'],
     )
 
 
