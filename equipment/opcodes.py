@@ -43,7 +43,9 @@ NAMED = {
     "equipment/fuzz.py": {"STEP", "F1", "F3", "F7"},
     "equipment/count_calls.py": set(),
     "equipment/real_pickles/answers.py": {"F2", "S3"},
-    "python/picklestep/scan/begins.py": {"HEAD", "ZF"},
+    "python/picklestep/scan/begins.py": {"ARROW1", "BLOSC", "HDF5", "HEAD", "LZIP", "PAR1", "ZF"},
+    "python/picklestep/scan/canonical/pickles.py": set(),
+    "python/picklestep/scan/canonical/wide.py": set(),
     "python/tests/test_answers.py": {"F1", "F2", "S2", "S3"},
 }
 

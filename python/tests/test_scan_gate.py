@@ -3,12 +3,9 @@
 from __future__ import annotations
 
 import subprocess
-import sys
 import unittest
-from pathlib import Path
-from typing import List, Tuple
 
-from evasions import LOADERS, Try, tries
+from evasions import LOADERS, tries
 from picklestep.scan import Result, look
 from picklestep.scan.allow import SETS, read_allowed
 from scan_support import ScanCase, names_of, notes_of

@@ -13,13 +13,14 @@ import struct
 import zlib
 from collections import Counter
 from dataclasses import dataclass, replace
+from functools import partial
 from importlib import import_module
-from typing import BinaryIO, Callable, Dict, Iterator, List, Optional, Set, Tuple
+from typing import BinaryIO, Callable, Iterator, List, Optional, Set, Tuple
 
 from ..sources import LIMIT
 from . import tars, zips
 from .arrays import array_header
-from .begins import HEAD, is_pickle_name, is_storage_name, kind_of, may_be_pickle, unread_kind_of
+from .begins import HEAD, is_pickle_name, is_storage_name, kind_of, may_be_pickle
 from .blobs import Blob, Budget, BytesBlob, FileBlob, JoinedBlob, LimitMet, Limits, OpenedBlob, PartMet, spooled
 from .canonical import Form, Member, NotCanonical, npy, streams, torch
 from .canonical import tars as strict_tars, zips as strict_zips
@@ -294,7 +295,7 @@ class Looker:
             inner, held_bytes = where + (member.name,), blob.part(member.offset, member.size)
             if is_torch and member.name in torch.TAR_MEMBERS:
                 name = member.name
-                self._is_read(held_bytes, held_bytes.read(0, HEAD), inner, (name,), lambda part, budget: of_torch_tar(name, part, budget), True)
+                self._is_read(held_bytes, held_bytes.read(0, HEAD), inner, (name,), partial(of_torch_tar, name), True)
                 continue
             before = len(self.notes)
             self.look_at(held_bytes, inner, (member.name,), depth + 1)
@@ -555,8 +556,8 @@ class Looker:
         try:
             with copy.file:
                 if holder.is_cut:
-                    self.note(where, f'it unpacks to more than the {copy.size:,} bytes that may be held at once: the first of them are looked '
-                                     'at', missed=True)
+                    self.note(where, f'it unpacks to more than the {copy.size:,} bytes that may be held at once: the first of them are '
+                                     'looked at', missed=True)
                 holder.has_closing = any(copy.find(closing) >= 0 for closing in holder.closing)
                 self.look_at(copy, where, names, depth)
         finally:
