@@ -2,13 +2,16 @@
 
 from __future__ import annotations
 
+import gzip
+import os
 import subprocess
+import time
 import unittest
 
-from evasions import LOADERS, tries
-from picklestep.scan import Result, look
+from evasions import LOADERS, short, tries, wrapper
+from picklestep.scan import Limits, Options, Result, look
 from picklestep.scan.allow import SETS, read_allowed
-from scan_support import ScanCase, names_of, notes_of
+from scan_support import HARMLESS, HOSTILE, ScanCase, names_of, notes_of
 
 # What loads a try: Debian's Python, which has the libraries of Debian.
 DEBIAN = '/usr/bin/python3'
@@ -66,6 +69,78 @@ class Evasions(ScanCase):
                 self.assertEqual(mark.stat().st_size, 0)
         if missing:
             self.skipTest(f'{DEBIAN} has no {", ".join(sorted({NEEDS[loader] for loader in missing}))}: their tries were not loaded')
+
+
+class Whole(ScanCase):
+    """Pickles with raw numbers between their opcodes."""
+
+    def content(self, arrays: int) -> bytes:
+        """joblib's arrays in a list, and a call behind them."""
+        raw = b''.join(wrapper(b'u1', 5)[2:] + b'.\x80\x04N.' for _ in range(arrays))
+        return b'\x80\x04(' + raw + short(b'posix') + short(b'system') + b'\x93' + short(b'id') + b'\x85Rt.'
+
+    def test_a_call_behind_an_array_is_shown_where_it_is(self) -> None:
+        content = self.content(3)
+        result = self.look('model.joblib', content)
+        self.assertFalse(is_told(result), notes_of(result))
+        found = [(each.name, each.offset) for each in result.pickles[0].imports if each.name.startswith('posix')]
+        self.assertEqual(found, [('posix.system', content.rindex(b'\x93'))])
+        result = self.look('model.joblib', content, Options(lines=True))
+        self.assertIn(f"{content.rindex(b'R'):>5}: call 'posix' 'system' ('id') as ", result.pickles[0].lines[-1])
+
+    def test_a_size_that_is_not_plain_is_told(self) -> None:
+        content = self.content(1)
+        for one, other in ((b'M\x05\0\x85', b'M\x05\0)'), (short(b'u1'), short(b'x1')), (short(b'C'), short(b'X')), (b'K\x03', b'K\x04K\x03')):
+            self.assertIn(one, content)
+            with self.subTest(other):
+                self.assertTrue(is_told(self.look('model.joblib', content.replace(one, other, 1))))
+
+    def test_a_thousand_arrays(self) -> None:
+        begin = time.process_time()
+        self.assertFalse(is_told(self.look('model.joblib', self.content(1000))))
+        self.assertLess(time.process_time() - begin, 3)
+
+
+class LimitsOfAFile(ScanCase):
+    """Processor time and memory of a file."""
+
+    def test_processor_time(self) -> None:
+        result = self.look('a.pkl.gz', gzip.compress(HOSTILE[:-1] + b'(' + b'N' * 3_000_000 + b'l.'), Options(Limits(seconds=0.2)))
+        self.assertRegex(notes_of(result), '! .*(0.2 seconds|time or memory)')
+
+    def test_what_unpacks_to_too_much(self) -> None:
+        data = gzip.compress(HOSTILE + bytes(6_000_000))
+        result = self.look('a.pkl.gz', data, Options(Limits(memory=8 << 20)))
+        self.assertIn('it unpacks to more than the 2,097,152 bytes that may be held at once', notes_of(result))
+        self.assertEqual(names_of(result), ['posix.system'])
+
+    def test_a_log_and_the_time_of_change_of_the_inode(self) -> None:
+        path = self.file('a.pkl', HARMLESS)
+        self.file('log', self.scan('a.pkl', '--json').stdout.encode())
+        self.assertEqual(self.scan('a.pkl', '--json', '--resume', 'log').stdout, '')
+        state = path.stat()
+        path.write_bytes(HARMLESS)
+        os.utime(path, ns=(state.st_atime_ns, state.st_mtime_ns))
+        self.assertIn('a.pkl', self.scan('a.pkl', '--json', '--resume', 'log').stdout)
+
+    def test_a_folder_without_files(self) -> None:
+        (self.folder / 'links').mkdir()
+        self.assertEqual(self.scan('links').returncode, 1)
+        os.symlink('/tmp', self.folder / 'links' / 'models')
+        run = self.scan('links')
+        self.assertEqual(run.returncode, 1)
+        self.assertIn('! links: no file in it is looked at', run.stdout)
+
+    def test_what_may_be_done_with_a_name(self) -> None:
+        self.file('allowed.txt', b'collections.OrderedDict:\n')
+        self.file('a.pkl', HARMLESS)
+        self.assertEqual(self.scan('--allow', 'allowed.txt', 'a.pkl').returncode, 0)
+        self.file('b.pkl', HARMLESS[:-1] + b')R.')
+        run = self.scan('--brief', '--allow', 'allowed.txt', 'b.pkl')
+        self.assertEqual(run.returncode, 1)
+        self.assertIn('! b.pkl: call collections.OrderedDict once', run.stdout)
+        self.file('allowed.txt', b'collections.OrderedDict: call\n')
+        self.assertEqual(self.scan('--allow', 'allowed.txt', 'b.pkl').returncode, 0)
 
 
 if __name__ == '__main__':

@@ -23,10 +23,10 @@ class Allowed:
     Behind a name and a colon stand words for what may be done with what is imported: `call`, `state` (it is given a state) and `fill` (items
     are put into it). Without a colon that may be anything, and with a colon alone nothing.
 
-    >>> allowed = Allowed(['collections.OrderedDict: call', 'torch.*Storage:  # raw numbers', 'os.path.join'])
+    >>> allowed = Allowed(['collections.OrderedDict: call', 'torch.*Storage:  # raw numbers', 'os.path'])
     >>> [allowed.allows(name) for name in ('collections.OrderedDict', 'torch.FloatStorage', 'torch.os.Storage')]
     [True, True, False]
-    >>> [allowed.allows_done(*done) for done in (('call', 'torch.FloatStorage'), ('new', 'collections.OrderedDict'), ('call', 'os.path.join'))]
+    >>> [allowed.allows_done(*done) for done in (('call', 'torch.FloatStorage'), ('new', 'collections.OrderedDict'), ('call', 'os.path'))]
     [False, True, True]
     """
 

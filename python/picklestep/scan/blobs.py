@@ -12,7 +12,7 @@ from dataclasses import dataclass
 from typing import BinaryIO, Iterable, Iterator, List, Sequence, Tuple, cast
 
 __all__ = ['CHUNK', 'Blob', 'Budget', 'BytesBlob', 'FileBlob', 'JoinedBlob', 'LimitMet', 'Limits', 'OpenedBlob', 'Part',
-           'PartMet', 'STEPS', 'spooled']
+           'PartMet', 'STEPS', 'STEPS_OF_A_MEMBER', 'spooled']
 
 CHUNK = 1 << 18
 
@@ -47,6 +47,8 @@ _PAGE = resource.getpagesize()
 
 # After so many opcodes the time is looked at.
 STEPS = 1 << 12
+# A header of a member takes as long as so many.
+STEPS_OF_A_MEMBER = 64
 
 
 class Budget:

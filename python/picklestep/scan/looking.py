@@ -148,11 +148,6 @@ class Looker:
         self.at = where
         layout, told = self._layout(blob, reads)
         opcodes = JoinedBlob(blob, layout.raw) if layout is not None and layout.raw else blob
-        if opcodes.size > LIMIT:
-            self.note(where, f'it has more than {LIMIT:,} bytes, which is too large for the program: the first {_FIRST_BYTES:,} are '
-                             'looked at', missed=True)
-            opcodes = blob.part(0, _FIRST_BYTES)
-        self.budget.look(max(0, opcodes.size - _GLANCE))
         pickle = self._asked(opcodes, blob, where, is_sure or _begins_as_pickle(head, names))
         if pickle is None:
             return False
@@ -184,6 +179,13 @@ class Looker:
     def _asked(self, opcodes: Blob, blob: Blob, where: Place, is_pickle: bool) -> Optional[Pickle]:
         """What the program says of opcodes, with offsets in `blob`. None where they are no pickle."""
         offset_of = opcodes.offset_of if isinstance(opcodes, JoinedBlob) else None
+        # (What is no file is copied into memory for the program.)
+        most = LIMIT if isinstance(opcodes, FileBlob) else min(LIMIT, self.budget.most_held())
+        if opcodes.size > most:
+            first = min(most, _FIRST_BYTES)
+            self.note(where, f'its opcodes have more than {most:,} bytes, which is too large: the first {first:,} are looked at', missed=True)
+            opcodes = opcodes.part(0, first)
+        self.budget.look(max(0, opcodes.size - _GLANCE))
         with held(opcodes) as path:
             answer = asks_program(path, opcodes.size, self.budget, self.options.lines, offset_of)
             is_pickle = is_pickle or answer.is_sure or answer.end.is_stopped or answer.end.code in _FRAME_FAULTS
@@ -230,10 +232,10 @@ class Looker:
             return self._open_packed(kind, blob, where, names, depth, spans)
         return True
 
-    def _form(self, kind: str, verify: Callable[[Blob], Form], blob: Blob, where: Place) -> Optional[Form]:
+    def _form(self, kind: str, verify: Callable[[Blob, Budget], Form], blob: Blob, where: Place) -> Optional[Form]:
         """The strict form of a container, or None, which is told."""
         try:
-            return verify(blob)
+            return verify(blob, self.budget)
         except NotCanonical as reason:
             self._tell(where, kind, reason)
         except struct.error:

@@ -19,8 +19,8 @@ _WRAPPER = Global('joblib.numpy_pickle', 'NumpyArrayWrapper')
 _DTYPE = Global('numpy', 'dtype')
 _KEYS = {'subclass', 'shape', 'order', 'dtype', 'allow_mmap'}
 _ALIGNMENT = 'numpy_array_alignment_bytes'
-_SUBCLASSES = (Global('numpy', 'ndarray'), Global('numpy', 'matrix'), Global('numpy', 'memmap'), Global('numpy.matrixlib.defmatrix', 'matrix'),
-               Global('numpy.core.memmap', 'memmap'), Global('numpy._core.memmap', 'memmap'))
+_SUBCLASSES = (Global('numpy', 'ndarray'), Global('numpy', 'matrix'), Global('numpy', 'memmap'),
+               Global('numpy.matrixlib.defmatrix', 'matrix'), Global('numpy.core.memmap', 'memmap'), Global('numpy._core.memmap', 'memmap'))
 
 
 def on_build(reader: Reader, target: Made) -> None:

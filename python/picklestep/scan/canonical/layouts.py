@@ -1,4 +1,4 @@
-"""Which of a file's bytes are opcodes: pickles in a row, joblib's with arrays between the opcodes, torch's before 1.6 with numbers behind them.
+"""Which of a file's bytes are opcodes: pickles in a row, joblib's with arrays between them, torch's before 1.6 with numbers behind them.
 
 What is left when the raw numbers are cut out are pickles that the program reads whole.
 """

@@ -8,9 +8,9 @@ from __future__ import annotations
 
 import ast
 import re
-from typing import Tuple
+from typing import Optional, Tuple
 
-from ..blobs import Blob
+from ..blobs import Blob, Budget
 from .forms import Form, Member, require, wrong
 from .items import Item, count_of_shape, item_of_description
 
@@ -21,8 +21,8 @@ _LONGEST = 1 << 20
 _ODD = 'the header is not as numpy.save writes it'
 
 
-def verify(blob: Blob) -> Form:
-    """The numbers of an array, or its pickle."""
+def verify(blob: Blob, budget: Optional[Budget] = None) -> Form:
+    """The numbers of an array, or its pickle. (It takes no time, so nothing is counted on a budget.)"""
     start, (size, has_objects), count = _header(blob)
     if has_objects:
         require(start < blob.size, 'the pickle of an array of objects is missing')

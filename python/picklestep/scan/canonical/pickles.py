@@ -26,6 +26,7 @@ __all__ = ['Global', 'Hook', 'Made', 'PDict', 'PList', 'Pickle', 'Reader', 'read
 
 # Longer texts are no names, codes or keys: nothing needs to be known of them.
 _LONGEST_TEXT = 256
+_LONGEST_LINE = 1 << 26
 # This many values in lists and dictionaries are kept, and this many in the memo: a hostile pickle can have millions.
 _MOST_VALUES = 1 << 19
 _MOST_IN_MEMO = 1 << 22
@@ -172,6 +173,8 @@ class Reader:
             end = self.blob.find(b'\n', self.at)
             if end < 0:
                 self.fail('it is cut short')
+            if end - self.at > _LONGEST_LINE:
+                self.fail(f'a line of more than {_LONGEST_LINE:,} bytes, which is more than is looked at here')
             text = self.take(end - self.at)
             self.at += 1
             return text
@@ -450,12 +453,24 @@ class Reader:
         self.push(value if len(value) <= _LONGEST_TEXT else _DATA)
 
     def text(self, width: int) -> None:
-        content = self.take(int.from_bytes(self.take(width), 'little'))
+        length = int.from_bytes(self.take(width), 'little')
+        end = self.at + length
+        value = self._letters(length)
+        while self.at < end:
+            self._letters(end - self.at)
+        self.push(value if length <= _LONGEST_TEXT else _DATA)
+
+    def _letters(self, length: int) -> str:
+        """The letters in so many bytes of a text, or in the first of them."""
+        start, content = self.at, self.take(min(length, CHUNK))
+        if len(content) < length:  # the last letter may go on
+            last = next((back for back in range(1, 5) if content[-back] & 0xC0 != 0x80), 1)
+            content = content[:-last]
+            self.at = start + len(content)
         try:
-            value = content.decode('utf-8', 'surrogatepass')
+            return content.decode('utf-8', 'surrogatepass')
         except UnicodeDecodeError:
             self.fail('a text that is not UTF-8')
-        self.push(value if len(content) <= _LONGEST_TEXT else _DATA)
 
     def old_text(self, width: int) -> None:
         self._of_python_2()
@@ -566,7 +581,8 @@ _OPCODES: Dict[str, Callable[[Reader], Any]] = {
     'BININT': lambda r: r.push(struct.unpack('<i', r.take(4))[0]), 'BININT1': lambda r: r.push(_BYTE(r)),
     'BININT2': lambda r: r.push(int.from_bytes(r.take(2), 'little')), 'LONG1': lambda r: r.long_bytes(1), 'LONG4': lambda r: r.long_bytes(4),
     'STRING': Reader.string_, 'BINSTRING': lambda r: r.old_text(4), 'SHORT_BINSTRING': lambda r: r.old_text(1),
-    'UNICODE': Reader.unicode_, 'BINUNICODE': lambda r: r.text(4), 'SHORT_BINUNICODE': lambda r: r.text(1), 'BINUNICODE8': lambda r: r.text(8),
+    'UNICODE': Reader.unicode_, 'BINUNICODE': lambda r: r.text(4), 'SHORT_BINUNICODE': lambda r: r.text(1),
+    'BINUNICODE8': lambda r: r.text(8),
     'BINBYTES': lambda r: r.bytes_(4), 'SHORT_BINBYTES': lambda r: r.bytes_(1), 'BINBYTES8': lambda r: r.bytes_(8),
     'BYTEARRAY8': Reader.bytearray_, 'NEXT_BUFFER': lambda r: r.push(_FILLED), 'READONLY_BUFFER': Reader.readonly,
     'EMPTY_LIST': lambda r: r.push(PList()), 'EMPTY_TUPLE': lambda r: r.push(()), 'EMPTY_DICT': lambda r: r.push(PDict()),

@@ -4,7 +4,8 @@ A machine that reads a superset of what all known unpicklers read: a frame is no
 may have any number. Its twin drops the rest of a frame where an argument crosses its end, as unpicklers do that read from a stream. It says
 yes too often and never no too often: values are only looked at where all unpicklers refuse them.
 
-Sources: Lib/pickle.py and Modules/_pickle.c (3.6 to 3.13), Lib/pickle.py of 2.7, PyPy's pickle.py, torch/csrc/jit/serialization/unpickler.cpp.
+Sources: Lib/pickle.py and Modules/_pickle.c (3.6 to 3.13), Lib/pickle.py of 2.7, PyPy's pickle.py,
+torch/csrc/jit/serialization/unpickler.cpp.
 """
 
 from __future__ import annotations
@@ -410,8 +411,9 @@ _OPCODES: Dict[str, Callable[[_Machine], Any]] = {
     'FROZENSET': lambda m: m.cut(_OTHER), 'TUPLE1': lambda m: m.tuple_(1), 'TUPLE2': lambda m: m.tuple_(2), 'TUPLE3': lambda m: m.tuple_(3),
     'APPEND': _Machine.append, 'APPENDS': lambda m: m.fill_marked('lbF'), 'SETITEM': _Machine.set_item,
     'SETITEMS': lambda m: m.fill_marked('dlbF'), 'ADDITEMS': lambda m: m.fill_marked('sF'),
-    'GET': lambda m: m.get(m.key()), 'BINGET': lambda m: m.get(m.read(1)[0]), 'LONG_BINGET': lambda m: m.get(int.from_bytes(m.read(4), 'little')),
-    'PUT': lambda m: m.put(m.key()), 'BINPUT': lambda m: m.put(m.read(1)[0]), 'LONG_BINPUT': lambda m: m.put(int.from_bytes(m.read(4), 'little')),
+    'GET': lambda m: m.get(m.key()), 'BINGET': lambda m: m.get(m.read(1)[0]),
+    'LONG_BINGET': lambda m: m.get(int.from_bytes(m.read(4), 'little')), 'PUT': lambda m: m.put(m.key()), 'BINPUT': lambda m: m.put(m.read(1)[0]),
+    'LONG_BINPUT': lambda m: m.put(int.from_bytes(m.read(4), 'little')),
     'MEMOIZE': _Machine.memoize,
     'GLOBAL': _Machine.global_, 'INST': _Machine.global_, 'STACK_GLOBAL': _Machine.stack_global, 'EXT1': lambda m: m.extension(1),
     'EXT2': lambda m: m.extension(2), 'EXT4': lambda m: m.extension(4), 'PERSID': _Machine.persistent_line, 'BINPERSID': _Machine.persistent,
