@@ -126,7 +126,7 @@ class Runs(RunCase):
                 self.assertEqual((run.returncode, errors), (130, ''))
                 self.assertRegex(first, r'^  files/\d+\.pkl: ')
                 self.assertRegex(rest, r'(?m)^interrupted: this is what was found in \d+ files$')
-                self.assertRegex(rest, r'(?m)^  (posix\.system|collections\.OrderedDict): ')
+                self.assertRegex(rest, r'(?m)^[! ] (posix\.system|collections\.OrderedDict): ')
                 self.wait_for(lambda: self.sleeping() == 0)
 
     def sleeping(self) -> int:
@@ -218,7 +218,7 @@ class Runs(RunCase):
                 break
             told += piece
         os.close(near)
-        self.assertEqual(run.wait(30), 0)
+        self.assertEqual(run.wait(30), 1)
         return told.decode()
 
 
@@ -252,7 +252,7 @@ class Cluster(RunCase):
         workers[0].kill()
         lines += run.stdout.readlines()
         errors = run.stderr.read()
-        self.assertEqual(run.wait(60), 0, errors)
+        self.assertEqual(run.wait(60), 1, errors)
         results = [json.loads(line) for line in lines]
         self.assertEqual(sorted(result['path'] for result in results), [f'files/{name}' for name in names])
         self.assertEqual([result['error'] for result in results], [None] * 60)
@@ -266,7 +266,7 @@ class Cluster(RunCase):
         self.fill(1)
         run = self.scan('files', '--cluster', 'tcp://127.0.0.1:1', python=self.python)
         self.assertEqual(run.returncode, 2)
-        self.assertRegex(run.stderr, '(?m)^picklestep-scan: no cluster answers at tcp://127.0.0.1:1')
+        self.assertRegex(run.stderr, '(?m)^picklestep: no cluster answers at tcp://127.0.0.1:1')
 
 
 class AFewWorkers(ScanCase):
