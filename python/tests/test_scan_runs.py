@@ -18,18 +18,10 @@ from typing import Callable, Dict, List, Optional
 
 from picklestep.program import find_program
 from picklestep.scan import Options, cluster, look, pool
-from scan_support import HARMLESS, HOSTILE, MODELS, ScanCase, environment, names_of
+from scan_support import HARMLESS, HOSTILE, MODELS, ScanCase, environment, names_of, python_with
 
 # A number of seconds by which a sleeping process is told from others.
 SLEEP = f'61.{os.getpid()}'
-
-
-def python_with(module: str) -> Optional[str]:
-    """A Python that has a module: the one that runs the tests, or the system's."""
-    for python in (sys.executable, '/usr/bin/python3'):
-        if os.path.exists(python) and subprocess.run([python, '-c', f'import {module}'], capture_output=True).returncode == 0:
-            return python
-    return None
 
 
 def _heed_ctrl_c() -> None:
