@@ -10,7 +10,7 @@ a module for `python -m picklestep` and for pip's `picklestep`, and a script (`p
 import os
 import sys
 
-__all__ = ['main', 'run']
+__all__ = ['main', 'run', 'run_scan']
 
 _HERE = os.path.dirname(os.path.realpath(__file__))
 # Each word of the program has a page here, by which it is known.
@@ -111,6 +111,11 @@ def _further_places() -> 'list[str]':
 def run() -> None:
     """The entry point of pip's `picklestep`."""
     sys.exit(main(sys.argv[1:]))
+
+
+def run_scan() -> None:
+    """The entry point of pip's `picklestep-scan`, the older name of `picklestep scan`."""
+    sys.exit(main(['scan', *sys.argv[1:]]))
 
 
 if __name__ == '__main__':

@@ -2,7 +2,7 @@
 
 from __future__ import annotations
 
-from typing import Optional, Sequence
+from typing import List, Optional, Sequence
 
 __all__ = ['NotAllowed', 'OutOfMemory', 'PicklestepError', 'ProgramError', 'Refused', 'TimedOut', 'TooLarge']
 
@@ -88,3 +88,7 @@ class NotAllowed(PicklestepError):
     def __init__(self, lines: Sequence[str]) -> None:
         super().__init__('\n'.join(lines))
         self.lines = tuple(lines)
+
+    def _render_traceback_(self) -> List[str]:
+        """The lines alone, for notebooks: where `check` was called from says nothing more."""
+        return ['NotAllowed:', *(f'! {line}' for line in self.lines)]

@@ -176,6 +176,14 @@ class Checked(ScanCase):
         state = MODELS / 'torch_state.pt'
         self.assertEqual(picklestep.check(state, allow=['torch']), state.read_bytes())
 
+    def test_notebooks(self) -> None:
+        view = look(str(self.file('<b>.pkl', HARMLESS + HOSTILE)))._repr_html_()
+        self.assertIn('&lt;b&gt;.pkl', view)
+        self.assertIn('<b>!     import posix.system once, first at 28: runs a shell command</b>', view)
+        with self.assertRaises(picklestep.NotAllowed) as caught:
+            picklestep.check(HOSTILE)
+        self.assertEqual(caught.exception._render_traceback_()[1], '! pickle: import posix.system once, first at 0: runs a shell command')
+
     def test_what_is_not_raises(self) -> None:
         for content in [*FILES.values(), b'text', b'', HARMLESS[:-1], b"(S'abc'\np0\ncos\nsystem\n" + text('id') + b'\x85Rtp1\n.']:
             with self.assertRaises(picklestep.NotAllowed) as caught:

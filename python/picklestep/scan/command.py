@@ -26,7 +26,7 @@ from .report import Report
 from .results import Result, from_json
 from .sarif import Sarif
 
-__all__ = ['main', 'run']
+__all__ = ['main']
 
 _UNITS = {'': 1, 'K': 1 << 10, 'M': 1 << 20, 'G': 1 << 30}
 
@@ -211,8 +211,3 @@ def main(words: Optional[List[str]] = None) -> int:
     except (ProgramError, NoCluster, UnicodeDecodeError) as error:
         print(f'picklestep: {error}', file=sys.stderr)
     return 2
-
-
-def run() -> None:
-    """The entry point of `picklestep-scan`."""
-    sys.exit(main())
