@@ -37,10 +37,15 @@ class Names:
         self.names: Dict[str, str] = {}
         self.patterns: List[Tuple[str, Pattern[str], str]] = []
         self._found: Dict[str, Optional[str]] = {}
+        # The patterns by their first part, since a hostile file may have a million names; those that begin with a star are under ''.
+        self._by_part: Dict[str, List[Tuple[Pattern[str], str]]] = {}
         for line in lines:
             name, note = _parts(line)
             if '*' in name:
-                self.patterns.append((name, _pattern(name), note))
+                pattern = _pattern(name)
+                self.patterns.append((name, pattern, note))
+                part = name.partition('.')[0]
+                self._by_part.setdefault('' if '*' in part else part, []).append((pattern, note))
             elif name:
                 self.names.setdefault(name, note)
 
@@ -53,7 +58,8 @@ class Names:
     def _look_up(self, name: str) -> Optional[str]:
         if name in self.names:
             return self.names[name]
-        return next((note for _, pattern, note in self.patterns if pattern.fullmatch(name)), None)
+        patterns = [*self._by_part.get(name.partition('.')[0], ()), *self._by_part.get('', ())]
+        return next((note for pattern, note in patterns if pattern.fullmatch(name)), None)
 
 
 def _parts(line: str) -> Tuple[str, str]:
