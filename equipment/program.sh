@@ -88,12 +88,16 @@ is_released() {
     fi
 }
 
-# Names the program to start, in `chosen`. Where none fits the sources it is built, and where that fails there is none.
+# Names the program to start, in `chosen`. Where none fits the sources it is built, and where that fails there is none. On another kind of
+# machine nothing is built unasked.
 choose_program() {
     if is_built; then
         chosen=$program
     elif is_released; then
         chosen=$released/picklestep
+    elif [ "$(uname -sm)" != 'Linux x86_64' ]; then
+        complain "there is no program for this machine ($(uname -sm)): ./build makes one where the toolchain is (CONTRIBUTING.md)"
+        return 1
     else
         "$root/build" --kept >/dev/null && chosen=$program
     fi

@@ -228,9 +228,10 @@ def other_machine(releases: Releases) -> str:
     uname.chmod(0o755)
     start = releases.run_stand_in("./picklestep", "list", "x", at=at)
     uname.unlink()
-    if start.status != 2 or "picklestep: building" not in start.errors or not releases.called.exists():
+    if start.status != 2 or start.output or releases.called.exists():
         return f"status {start.status}, errors {start.errors[:200]!r}"
-    return ""
+    said = start.errors.splitlines()
+    return "" if len(said) == 1 and "no program for this machine (Linux aarch64)" in said[0] else start.errors[:200]
 
 
 # --- The release ---
@@ -339,12 +340,18 @@ def runs_bare(releases: Releases) -> str:
 
 # --- Installed ---
 
-FILES = (
-    "bin/picklestep",
-    "share/man/man1/picklestep.1",
-    "share/bash-completion/completions/picklestep",
-    "share/zsh/site-functions/_picklestep",
-)
+PAGES = ("share/man/man1/picklestep.1", "share/man/man1/picklestep-scan.1", "share/man/man1/picklestep-view.1")
+BASH = "share/bash-completion/completions/picklestep"
+ZSH = "share/zsh/site-functions/_picklestep"
+PROGRAM = ("picklestep", "TOOLCHAIN")
+
+
+def installed_files(releases: Releases) -> list[str]:
+    """What an installation has: the entrance, the package with the program, the pages and completions."""
+    package = releases.clone / "python"
+    modules = [str(path.relative_to(package)) for path in (package / "picklestep").rglob("*") if path.is_file() and path.suffix != ".pyc"]
+    beside = [f"picklestep/bin/{name}" for name in PROGRAM]
+    return sorted(["bin/picklestep", *(f"lib/picklestep/{name}" for name in [*modules, *beside]), *PAGES, BASH, ZSH])
 
 
 def files_below(folder: pathlib.Path) -> list[str]:
@@ -359,11 +366,16 @@ def installs(releases: Releases) -> str:
         run = releases.run("./install", str(prefix))
         if run.status != 0 or run.errors:
             return f"status {run.status}, errors {run.errors[:200]!r}"
-    if files_below(prefix) != sorted([*FILES, "bin/other"]):
+    if files_below(prefix) != sorted([*installed_files(releases), "bin/other"]):
         return f"there is {files_below(prefix)}"
-    why = releases.lists(str(prefix / "bin" / "picklestep"))
+    entrance = str(prefix / "bin" / "picklestep")
+    why = releases.lists(entrance)
     if why:
         return why
+    for words in (["scan", "hostile.pickle"], ["hostile.pickle"]):
+        run = releases.run(entrance, *words, at=releases.folder, PYTHONDONTWRITEBYTECODE="1")
+        if run.status != 1 or "!     import posix.system once" not in run.output or run.errors:
+            return f"{words}: status {run.status}, output {run.output[:60]!r}, errors {run.errors[:200]!r}"
     run = releases.run("./install", "--remove", str(prefix))
     if run.status != 0 or sorted(os.listdir(prefix)) != ["bin"] or files_below(prefix) != ["bin/other"]:
         return f"taken away: status {run.status}, and there is {files_below(prefix)}"
@@ -374,7 +386,7 @@ def installs_at_home(releases: Releases) -> str:
     home = releases.folder / "home"
     home.mkdir()
     run = releases.run("./install", HOME=str(home))
-    if run.status != 0 or files_below(home / ".local") != sorted(FILES):
+    if run.status != 0 or files_below(home / ".local") != installed_files(releases):
         return f"status {run.status}, errors {run.errors[:200]!r}"
     run = releases.run("./install", "--remove", HOME=str(home))
     if run.status != 0 or files_below(home):
@@ -389,19 +401,34 @@ def installs_at_home(releases: Releases) -> str:
 
 
 def manual(releases: Releases) -> str:
-    page = str(releases.clone / FILES[1])
-    if shutil.which("mandoc"):
-        run = releases.run("mandoc", "-T", "lint", "-W", "warning", page)
-        if run.output or run.errors:
-            return (run.output + run.errors)[:300]
-    if shutil.which("man"):
-        run = releases.run("man", "--warnings", "-E", "UTF-8", "-Tutf8", "-Z", "-l", page)
-        if run.status != 0 or run.errors:
-            return run.errors[:300]
-    text = pathlib.Path(page).read_text()
-    for word in ("list", "objects", "calls", "debug", "Fl -many", "Fl -window", "Fl -save"):
-        if word not in text:
-            return f"it does not tell {word}"
+    for name in PAGES:
+        page = str(releases.clone / name)
+        if shutil.which("mandoc"):
+            run = releases.run("mandoc", "-T", "lint", "-W", "warning", page)
+            if run.output or run.errors:
+                return f"{name}: {(run.output + run.errors)[:300]}"
+        if shutil.which("man"):
+            run = releases.run("man", "--warnings", "-E", "UTF-8", "-Tutf8", "-Z", "-l", page)
+            if run.status != 0 or run.errors:
+                return f"{name}: {run.errors[:300]}"
+    return options_told(releases)
+
+
+def options_told(releases: Releases) -> str:
+    """Each word has its options in its manual page and in both completions."""
+    shells = {name: (releases.clone / name).read_text() for name in (BASH, ZSH)}
+    for word, name in (("scan", PAGES[1]), ("view", PAGES[2]), *((word, PAGES[0]) for word in ("list", "objects", "calls", "debug"))):
+        run = releases.run("./picklestep", word, "--help", PYTHONDONTWRITEBYTECODE="1")
+        options = set(re.findall(r"--([a-z][a-z-]*)", run.output)) - {"help"}
+        if run.status != 0 or run.errors or not options:
+            return f"{word} --help: status {run.status}, errors {run.errors[:200]!r}"
+        page = (releases.clone / name).read_text()
+        for option in sorted(options):
+            if f"Fl -{option}" not in page:
+                return f"{name} does not tell --{option} of {word}"
+            for shell, text in shells.items():
+                if f"--{option}" not in text or word not in text:
+                    return f"{shell} does not complete {word} --{option}"
     return ""
 
 
@@ -420,13 +447,17 @@ def completions(releases: Releases) -> str:
     at.mkdir()
     (at / "one.pickle").write_text("")
     (at / "two words").write_text("")
-    page = str(releases.clone / FILES[2])
+    page = str(releases.clone / BASH)
     for words, wanted in (
-        ([""], ["calls", "debug", "list", "objects"]),
+        ([""], ["--help", "--version", "calls", "debug", "list", "objects", "scan", "view"]),
         (["ob"], ["objects"]),
-        (["list", "--"], ["--many"]),
+        (["one"], ["one.pickle"]),
+        (["list", "--"], ["--help", "--many"]),
         (["calls", "--m"], ["--many"]),
-        (["debug", "--"], ["--many", "--save", "--window"]),
+        (["debug", "--"], ["--help", "--many", "--save", "--window"]),
+        (["scan", "--sa"], ["--sarif"]),
+        (["one.pickle", "--j"], ["--jobs", "--json"]),
+        (["scan", "--allow", "torch"], ["torch", "torch-modules"]),
         (["debug", "one.pickle", "--w"], ["--window"]),
         (["debug", "--window", ""], [""]),
         (["debug", "--save", ""], ["one.pickle", "two words"]),
@@ -437,7 +468,7 @@ def completions(releases: Releases) -> str:
         if run.status != 0 or run.errors or sorted(run.output.splitlines()) != wanted:
             return f"{words}: {run.output.split()}, errors {run.errors[:100]!r}"
     if shutil.which("zsh"):
-        run = releases.run("zsh", "-n", str(releases.clone / FILES[3]))
+        run = releases.run("zsh", "-n", str(releases.clone / ZSH))
         if run.status != 0:
             return f"zsh: {run.errors[:200]}"
     return ""
@@ -456,7 +487,7 @@ TRIED: list[tuple[str, Callable[[Releases], str]]] = [
     ("the released program with the C library alone", runs_bare),
     ("installed and taken away", installs),
     ("installed at home", installs_at_home),
-    ("the manual page", manual),
+    ("the manual pages", manual),
     ("the completions", completions),
 ]
 

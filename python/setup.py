@@ -41,6 +41,9 @@ class BuildWithProgram(build_py):
         folder.mkdir(parents=True, exist_ok=True)
         shutil.copy(program(), folder / 'picklestep')
         (folder / 'picklestep').chmod(0o755)
+        toolchain = program().with_name('TOOLCHAIN')
+        if toolchain.is_file():
+            shutil.copy(toolchain, folder)
 
 
 class DistributionWithProgram(Distribution):

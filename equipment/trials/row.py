@@ -27,7 +27,8 @@ class Row:
 
     `through` is a line of bash that starts it, where it is not started directly. `says` is how a line
     of the errors begins, where their whole text belongs to a library. `saved` is a file that has the
-    bytes of another one afterwards, and `unmade` a file that must not be there.
+    bytes of another one afterwards, and `unmade` a file that must not be there. With `is_bare` the
+    program is started without the entrance, which has words and a help of its own.
     """
 
     name: str
@@ -40,9 +41,10 @@ class Row:
     says: str = ""
     saved: Optional[tuple[str, str]] = None
     unmade: str = ""
+    is_bare: bool = False
 
     def run(self, room: Room) -> Run:
-        words: list[Word] = [room.start, *self.words]
+        words: list[Word] = [room.program if self.is_bare else room.start, *self.words]
         if self.through:
             words = ["bash", "-c", self.through, "bash", *words]
         return room.observe(*words, given=self.given.encode() if self.given else None)
@@ -90,4 +92,4 @@ def misused(name: str, *words: Word, says: str = "error: ") -> Row:
 
 def is_usage(name: str, *words: Word) -> Row:
     """The program says which words it takes."""
-    return misused(name, *words, says="Usage: picklestep")
+    return Row(name, words, status=2, says="Usage: picklestep", is_bare=True)

@@ -5,15 +5,40 @@ Every answer comes from the proved program, which runs as a process of its own.
     import picklestep
     for reach in picklestep.calls('model.pkl'):
         print(reach.offset, reach.text)
+
+What is public is imported when it is first used: the entrance starts faster, and it imports nothing before it knows from where.
 """
 
-from .answers import Answer, Calls, Heap, Items, Listing, Objects, ShownObjects
-from .errors import OutOfMemory, PicklestepError, ProgramError, Refused, TimedOut, TooLarge
-from .records import (Argument, Brief, Briefs, Change, End, Extension, Global, Item, Mark, Name, Object, Opcode, Ran, Reach, Ref, Shown,
-                      Value, Where)
-from .session import Session
-from .tasks import calls, listing, objects
+__version__ = '1.0.0'
 
 __all__ = ['Answer', 'Argument', 'Brief', 'Briefs', 'Calls', 'Change', 'End', 'Extension', 'Global', 'Heap', 'Item', 'Items', 'Listing', 'Mark',
-           'Name', 'Object', 'Objects', 'Opcode', 'OutOfMemory', 'PicklestepError', 'ProgramError', 'Ran', 'Reach', 'Ref', 'Refused',
-           'Session', 'Shown', 'ShownObjects', 'TimedOut', 'TooLarge', 'Value', 'Where', 'calls', 'listing', 'objects']
+           'Name', 'NotAllowed', 'Object', 'Objects', 'Opcode', 'OutOfMemory', 'PicklestepError', 'ProgramError', 'Ran', 'Reach', 'Ref',
+           'Refused', 'Session', 'Shown', 'ShownObjects', 'TimedOut', 'TooLarge', 'Value', 'Where', 'calls', 'check', 'listing', 'objects']
+
+TYPE_CHECKING = False  # (`typing` would be an import)
+if TYPE_CHECKING:
+    from .answers import Answer, Calls, Heap, Items, Listing, Objects, ShownObjects
+    from .errors import NotAllowed, OutOfMemory, PicklestepError, ProgramError, Refused, TimedOut, TooLarge
+    from .records import (Argument, Brief, Briefs, Change, End, Extension, Global, Item, Mark, Name, Object, Opcode, Ran, Reach, Ref, Shown,
+                          Value, Where)
+    from .scan.checking import check
+    from .session import Session
+    from .tasks import calls, listing, objects
+
+_MODULES = ('answers', 'errors', 'records', 'session', 'tasks', 'scan.checking')
+
+
+def __getattr__(name: str) -> object:
+    """What is public, from the module that has it."""
+    if name in __all__:
+        from importlib import import_module
+        for module in _MODULES:
+            found = vars(import_module(f'{__name__}.{module}'))
+            if name in found['__all__']:
+                globals()[name] = found[name]
+                return found[name]
+    raise AttributeError(f'module {__name__!r} has no attribute {name!r}')
+
+
+def __dir__() -> 'list[str]':
+    return sorted({*globals(), *__all__})

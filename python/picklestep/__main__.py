@@ -1,35 +1,10 @@
-"""`python -m picklestep`: `scan` and `view` of this package, and all words of the program itself.
+"""`python -m picklestep`: the entrance.
 
-    python -m picklestep scan PATH..
-    python -m picklestep view FILE
-    python -m picklestep calls FILE
+Python itself searches the current folder before this file is read: `python -P -m picklestep` (3.11) or `python -I -m picklestep` keeps it
+from that. (No `from __future__` here: it would import a file of that name.)
 """
 
-from __future__ import annotations
-
-import importlib
-import os
-import sys
-from typing import List
-
-from .errors import ProgramError
-from .program import find_program
-
-_OWN = ('scan', 'view')
-
-
-def main(words: List[str]) -> int:
-    """Does what the words say, and answers the status."""
-    if words[:1] and words[0] in _OWN:
-        status: int = importlib.import_module(f'picklestep.{words[0]}').main(words[1:])
-        return status
-    try:
-        program = find_program()
-        os.execv(program, [program, *words])
-    except (OSError, ProgramError) as error:
-        print(f'picklestep: {error}', file=sys.stderr)
-    return 2
-
+from .entrance import run
 
 if __name__ == '__main__':
-    sys.exit(main(sys.argv[1:]))
+    run()

@@ -2,9 +2,9 @@
 
 from __future__ import annotations
 
-from typing import Optional
+from typing import List, Optional, Sequence
 
-__all__ = ['OutOfMemory', 'PicklestepError', 'ProgramError', 'Refused', 'TimedOut', 'TooLarge']
+__all__ = ['NotAllowed', 'OutOfMemory', 'PicklestepError', 'ProgramError', 'Refused', 'TimedOut', 'TooLarge']
 
 
 class PicklestepError(Exception):
@@ -72,3 +72,23 @@ class TimedOut(ProgramError, TimeoutError):
     >>> issubclass(TimedOut, TimeoutError)
     True
     """
+
+
+class NotAllowed(PicklestepError):
+    """What `check` was given has something to look at first. `lines` says what, a line each, as `scan --brief` does.
+
+    >>> import picklestep
+    >>> try:
+    ...     picklestep.check(b'cposix\\nsystem\\n.')
+    ... except picklestep.NotAllowed as error:
+    ...     print(*error.lines)
+    pickle: import posix.system once, first at 0: runs a shell command
+    """
+
+    def __init__(self, lines: Sequence[str]) -> None:
+        super().__init__('\n'.join(lines))
+        self.lines = tuple(lines)
+
+    def _render_traceback_(self) -> List[str]:
+        """The lines alone, for notebooks: where `check` was called from says nothing more."""
+        return ['NotAllowed:', *(f'! {line}' for line in self.lines)]

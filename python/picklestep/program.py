@@ -1,4 +1,4 @@
-"""The program: where it is, and how it is started.
+"""The program: how it is started.
 
 A run has its memory limit before its first instruction, since a shell sets the limit on itself and then becomes the program. (A limit
 set on the running program would come late, and code that runs between fork and exec is not safe where there are threads.)
@@ -22,29 +22,12 @@ import time
 from typing import IO, Generator, Iterable, List, NoReturn, Optional, Sequence
 
 from .errors import OutOfMemory, ProgramError, TimedOut, TooLarge
+from .place import find_program
 
 __all__ = ['Process', 'find_program', 'run_program']
 
 _BLOCK = 1 << 18
-_HERE = os.path.dirname(os.path.realpath(__file__))
 _LIMITED = ['/bin/sh', '-c', 'ulimit -v "$1" && shift && exec "$@"', 'sh']
-
-
-def find_program() -> str:
-    """The path of the program: PICKLESTEP_PROGRAM, else the package's own copy, else that of the source tree.
-
-    There it is the newer one of the released program and the one that was built, else the script that builds it.
-    """
-    named = os.environ.get('PICKLESTEP_PROGRAM')
-    if named:
-        return named
-    root = os.path.dirname(os.path.dirname(_HERE))
-    in_tree = [os.path.join(root, *place, 'picklestep') for place in (('dist', 'linux-x86_64'), ('crates', 'picklestep', 'out'))]
-    newest = sorted(filter(os.path.isfile, in_tree), key=os.path.getmtime, reverse=True)
-    for path in (os.path.join(_HERE, 'bin', 'picklestep'), *newest, os.path.join(root, 'picklestep')):
-        if os.path.isfile(path):
-            return path
-    raise ProgramError('the program picklestep is not there: set PICKLESTEP_PROGRAM to its path')
 
 
 def _command(words: Sequence[str], memory: Optional[int]) -> List[str]:

@@ -3,10 +3,9 @@
 from __future__ import annotations
 
 import os
+import stat
 import tempfile
 from typing import Any, List, Protocol, Union
-
-from .errors import ProgramError
 
 __all__ = ['LIMIT', 'Input', 'Source', 'is_word', 'nameless_file']
 
@@ -32,7 +31,7 @@ class Input:
 
     Bytes and what a file object gives lie in memory (`memfd_create`), or where the system has no such files in a temporary file
     without a name; the program opens them as /dev/fd/N. Neither can be left behind. With `own`, a file is copied so too: then nobody
-    else can change it.
+    else can change it. Raises what `open` raises where a path cannot be opened.
     """
 
     def __init__(self, source: Source, own: bool = False) -> None:
@@ -46,6 +45,7 @@ class Input:
 
     def _open(self, source: Source, own: bool) -> None:
         if isinstance(source, (str, os.PathLike)):
+            _try(source)
             path = os.path.join(os.getcwd(), os.fsdecode(source))
             if own or not is_word(path):
                 self._keep_file(path)
@@ -59,11 +59,8 @@ class Input:
             _write_all(self._make(), memoryview(content))
 
     def _keep_file(self, path: str) -> None:
-        try:
-            with open(path, 'rb', buffering=0) as file:
-                _copy(file, self._make())
-        except OSError as error:
-            raise ProgramError(f'cannot read: {error}') from error
+        with open(path, 'rb', buffering=0) as file:
+            _copy(file, self._make())
 
     def _make(self) -> int:
         file = nameless_file()
@@ -81,6 +78,14 @@ class Input:
 
     def __exit__(self, *error: object) -> None:
         self.close()
+
+
+def _try(path: 'Union[str, os.PathLike[str]]') -> None:
+    """Raises what `open` raises where a path cannot be opened. A FIFO is not opened twice: its writer would see that as its end."""
+    mode = os.stat(path).st_mode
+    if stat.S_ISREG(mode) or stat.S_ISDIR(mode):
+        with open(path, 'rb'):
+            pass
 
 
 def is_word(path: str) -> bool:

@@ -53,7 +53,7 @@ class Examples(unittest.TestCase):
                 self.assertIn('>>>', found.__doc__ or '')
 
     def test_each_method_and_property_has_an_example(self) -> None:
-        kinds = [found for found in map(picklestep.__dict__.__getitem__, picklestep.__all__) if inspect.isclass(found)]
+        kinds = [found for found in (getattr(picklestep, name) for name in picklestep.__all__) if inspect.isclass(found)]
         asked = 0
         for kind in kinds:
             for name, member in vars(kind).items():

@@ -151,10 +151,10 @@ class Errors(LeavesNothing):
 
     def test_a_file_that_is_not_there(self) -> None:
         for ask in (picklestep.listing, picklestep.objects, picklestep.calls, Session):
-            with self.assertRaises(ProgramError) as caught:
+            with self.assertRaises(FileNotFoundError) as caught:
                 ask('/not/there')
-            self.assertIn('cannot read', caught.exception.words)
-        with self.assertRaises(ProgramError):
+            self.assertEqual((caught.exception.filename, caught.exception.strerror), ('/not/there', 'No such file or directory'))
+        with self.assertRaises(IsADirectoryError):
             picklestep.listing('/')
 
     def test_too_large(self) -> None:
@@ -191,7 +191,7 @@ class Errors(LeavesNothing):
                     ask(b'N.')
 
     def test_the_newer_program_of_a_source_tree(self) -> None:
-        with tempfile.TemporaryDirectory() as folder, mock.patch('picklestep.program._HERE', f'{folder}/python/picklestep'), \
+        with tempfile.TemporaryDirectory() as folder, mock.patch('picklestep.place._HERE', f'{folder}/python/picklestep'), \
                 mock.patch.dict(os.environ):
             os.environ.pop('PICKLESTEP_PROGRAM', None)
             released, built = (Path(folder) / place / 'picklestep' for place in ('dist/linux-x86_64', 'crates/picklestep/out'))

@@ -22,8 +22,7 @@ from typing import Dict, Set
 
 import picklestep.scan
 from picklestep.scan import Options, look
-from picklestep.scan.allow import Allowed, SETS, read_allowed
-
+from picklestep.scan.names import Names
 from picklestep.scan.results import from_json, to_json
 from scan_support import HARMLESS, HOSTILE, MODELS, ScanCase, names_of, notes_of, places_of
 
@@ -71,24 +70,6 @@ class RealFiles(ScanCase):
         result = look(str(MODELS / 'torch_checkpoint.pth'))
         self.assertEqual(places_of(result), ['archive/data.pkl'])
         self.assertEqual(result.others, len(others))
-
-    def test_sets_allow_what_their_libraries_wrote(self) -> None:
-        allowed = read_allowed(SETS)
-        for file, names in written_by().items():
-            if file.startswith(('torch_state', 'torch_tensors', 'torch_checkpoint', 'numpy_', 'sklearn_')) and not file.endswith('.joblib'):
-                with self.subTest(file):
-                    self.assertEqual([name for name in names if not allowed.allows(name)], [])
-
-    def test_sets_have_no_name_that_no_file_imports(self) -> None:
-        seen = set().union(*written_by().values())
-        folder = os.path.join(os.path.dirname(picklestep.scan.__file__), 'allow')
-        for file in os.listdir(folder):
-            with open(os.path.join(folder, file), encoding='utf-8') as lines:
-                for line in lines:
-                    name, _, why = line.partition('#')
-                    if name.strip():
-                        self.assertIn(name.strip(), seen)
-                        self.assertTrue(why.strip(), name)
 
 
 class Containers(ScanCase):
@@ -283,15 +264,15 @@ class Allowing(unittest.TestCase):
     """Names and patterns."""
 
     def test_a_star_stays_in_its_part(self) -> None:
-        allowed = Allowed(['torch._utils.*', 'a.**.z', '# note', '', 'os.path.join  # why'])
+        allowed = Names(['torch._utils.*', 'a.**.z', '# note', '', 'os.path.join  # why'])
         for name, answer in (('torch._utils._rebuild', True), ('torch._utils.sys.modules', False), ('torch._utils', False), ('a.b.c.z', True),
                              ('os.path.join', True), ('os.path', False), ('xtorch._utils.a', False), ('torch._utils.a\nb', True), ('', False),
                              ("'torch._utils.x ' 'y'", False)):
-            self.assertEqual(allowed.allows(name), answer, name)
+            self.assertEqual(allowed.note(name) is not None, answer, name)
 
     def test_nothing_but_everything_allows_a_name_that_is_worked_out(self) -> None:
-        self.assertFalse(Allowed(['os.*', '*']).allows("'os' #5.x"))
-        self.assertTrue(Allowed(['**']).allows("'os' #5"))
+        self.assertIsNone(Names(['os.*', '*']).note("'os' #5.x"))
+        self.assertIsNotNone(Names(['**']).note("'os' #5"))
 
 
 class TheCommand(ScanCase):
@@ -301,14 +282,14 @@ class TheCommand(ScanCase):
         self.file('models/a.pkl', HOSTILE)
         self.file('models/b.txt', b'text')
         run = self.scan('models')
-        self.assertEqual((run.returncode, run.stderr), (0, ''))
+        self.assertEqual((run.returncode, run.stderr), (1, ''))
         self.assertEqual(run.stdout, (
             '  models/a.pkl: 25 bytes\n'
-            '      import posix.system once, first at 0\n'
-            "      call posix.system once, first at 23: call 'posix' 'system' ('id') as #3\n"
+            '!     import posix.system once, first at 0: runs a shell command\n'
+            "!     call posix.system once, first at 23: call 'posix' 'system' ('id') as #3\n"
             '      end: stopped\n'
-            '2 files, 1 pickle in 1 of them, 1 other that is no pickle\n'
-            '  posix.system: once, in 1 pickle, first in models/a.pkl\n'))
+            '2 files, 1 pickle in 1 of them, 1 file or member is not a pickle, 1 import to look at\n'
+            '! posix.system: once, in 1 pickle, first in models/a.pkl\n'))
 
     def test_allowed_names(self) -> None:
         self.file('a.pkl', HARMLESS)
@@ -318,7 +299,9 @@ class TheCommand(ScanCase):
         run = self.scan('a.pkl', 'b.pkl', '--allow', 'torch', '--brief')
         self.assertEqual(run.returncode, 1)
         self.assertEqual([line for line in run.stdout.splitlines() if line.startswith('!')],
-                         ['! b.pkl: import posix.system once, first at 0', '! posix.system: once, in 1 pickle, first in b.pkl'])
+                         ['! b.pkl: import posix.system once, first at 0: not allowed: runs a shell command',
+                          "! b.pkl: call posix.system once, first at 23: call 'posix' 'system' ('id') as #3",
+                          '! posix.system: once, in 1 pickle, first in b.pkl'])
         self.assertEqual(self.scan('a.pkl', 'b.pkl', '--allow', 'torch', '--allow', 'mine').returncode, 0)
         self.assertEqual(self.scan('a.pkl', '--allow', 'no_such_file').returncode, 2)
 
@@ -371,7 +354,7 @@ class TheCommand(ScanCase):
             self.file(name, HOSTILE)
         self.assertTrue((self.folder / 's3:' / 'bucket' / 'model.pkl').exists())
         run = self.scan(*names, 's3://bucket/model.pkl', 's3://')
-        self.assertEqual(run.returncode, 0)
+        self.assertEqual(run.returncode, 1)
         self.assertIn('7 files, 7 pickles in 7 of them', run.stdout)
         self.assertRegex(self.scan('s3://bucket/none.pkl').stdout, '^! s3://bucket/none.pkl: cannot be read: ')
 

@@ -40,7 +40,7 @@ class Examples(ScanCase):
         self.file('models/a.pt', (MODELS / 'torch_state.pt').read_bytes())
         self.file('models/b.pkl', HARMLESS)
         self.file('models/c.pkl', HOSTILE)
-        command = self.file('bin/picklestep-scan', f'#!/bin/sh\nexec {sys.executable} -m picklestep scan "$@"\n'.encode())
+        command = self.file('bin/picklestep', f'#!/bin/sh\nexec {sys.executable} -m picklestep "$@"\n'.encode())
         command.chmod(0o755)
 
     def test_each_example(self) -> None:

@@ -10,7 +10,7 @@ import unittest
 
 from evasions import LOADERS, short, tries, wrapper
 from picklestep.scan import Limits, Options, Result, look
-from picklestep.scan.allow import SETS, read_allowed
+from picklestep.scan.allow import SETS, read_names
 from scan_support import HARMLESS, HOSTILE, ScanCase, names_of, notes_of
 
 # What loads a try: Debian's Python, which has the libraries of Debian.
@@ -48,12 +48,12 @@ class Evasions(ScanCase):
         self.tries = [(each, self.file(f'{index}/{each.file}', each.content)) for index, each in enumerate(tries('mark'))]
 
     def test_each_is_told(self) -> None:
-        allowed = read_allowed(SETS)
+        allowed = read_names(SETS)
         for each, path in self.tries:
             with self.subTest(each.name):
                 result = look(str(path))
                 if each.is_plain:
-                    self.assertTrue(any(not allowed.allows(name) for name in names_of(result)), notes_of(result))
+                    self.assertTrue(any(allowed.note(name) is None for name in names_of(result)), notes_of(result))
                 else:
                     self.assertTrue(is_told(result), (names_of(result), notes_of(result)))
 

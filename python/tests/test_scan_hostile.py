@@ -510,17 +510,17 @@ class HostileFolders(ScanCase):
             file.write(HARMLESS)
         run = self.scan('.')
         self.assertEqual(run.returncode, 1)
-        for line in ('  ./fifo.pkl: left out: a FIFO', '  ./socket: left out: a socket', '  ./parent: left out: a symbolic link to a folder',
+        for line in ('  ./fifo.pkl: skipped: a FIFO', '  ./socket: skipped: a socket', '  ./parent: skipped: a symbolic link to a folder',
                      '! ./broken: cannot be read: No such file or directory', '  ./linked.pkl: 25 bytes', '  ./a.pkl: 25 bytes',
                      '  ./n\\udcff.pkl: 28 bytes'):
             self.assertIn(line, run.stdout.splitlines())
         self.assertIn('4 files, 3 pickles in 3 of them', run.stdout)
-        self.assertIn('1 file that cannot be read, 3 left out', run.stdout)
+        self.assertIn('1 file that cannot be read, 3 skipped', run.stdout)
 
     def test_devices(self) -> None:
         run = self.scan('/dev/null', '/dev/zero')
         self.assertEqual(run.returncode, 0)
-        self.assertEqual(run.stdout.splitlines()[:2], ['  /dev/null: left out: a device', '  /dev/zero: left out: a device'])
+        self.assertEqual(run.stdout.splitlines()[:2], ['  /dev/null: skipped: a device', '  /dev/zero: skipped: a device'])
 
     def test_a_file_without_permission(self) -> None:
         path = self.file('secret.pkl', HOSTILE)

@@ -18,18 +18,10 @@ from typing import Callable, Dict, List, Optional
 
 from picklestep.program import find_program
 from picklestep.scan import Options, cluster, look, pool
-from scan_support import HARMLESS, HOSTILE, MODELS, ScanCase, environment, names_of
+from scan_support import HARMLESS, HOSTILE, MODELS, ScanCase, environment, names_of, python_with
 
 # A number of seconds by which a sleeping process is told from others.
 SLEEP = f'61.{os.getpid()}'
-
-
-def python_with(module: str) -> Optional[str]:
-    """A Python that has a module: the one that runs the tests, or the system's."""
-    for python in (sys.executable, '/usr/bin/python3'):
-        if os.path.exists(python) and subprocess.run([python, '-c', f'import {module}'], capture_output=True).returncode == 0:
-            return python
-    return None
 
 
 def _heed_ctrl_c() -> None:
@@ -126,7 +118,7 @@ class Runs(RunCase):
                 self.assertEqual((run.returncode, errors), (130, ''))
                 self.assertRegex(first, r'^  files/\d+\.pkl: ')
                 self.assertRegex(rest, r'(?m)^interrupted: this is what was found in \d+ files$')
-                self.assertRegex(rest, r'(?m)^  (posix\.system|collections\.OrderedDict): ')
+                self.assertRegex(rest, r'(?m)^[! ] (posix\.system|collections\.OrderedDict): ')
                 self.wait_for(lambda: self.sleeping() == 0)
 
     def sleeping(self) -> int:
@@ -218,7 +210,7 @@ class Runs(RunCase):
                 break
             told += piece
         os.close(near)
-        self.assertEqual(run.wait(30), 0)
+        self.assertEqual(run.wait(30), 1)
         return told.decode()
 
 
@@ -252,7 +244,7 @@ class Cluster(RunCase):
         workers[0].kill()
         lines += run.stdout.readlines()
         errors = run.stderr.read()
-        self.assertEqual(run.wait(60), 0, errors)
+        self.assertEqual(run.wait(60), 1, errors)
         results = [json.loads(line) for line in lines]
         self.assertEqual(sorted(result['path'] for result in results), [f'files/{name}' for name in names])
         self.assertEqual([result['error'] for result in results], [None] * 60)
@@ -266,7 +258,7 @@ class Cluster(RunCase):
         self.fill(1)
         run = self.scan('files', '--cluster', 'tcp://127.0.0.1:1', python=self.python)
         self.assertEqual(run.returncode, 2)
-        self.assertRegex(run.stderr, '(?m)^picklestep-scan: no cluster answers at tcp://127.0.0.1:1')
+        self.assertRegex(run.stderr, '(?m)^picklestep: no cluster answers at tcp://127.0.0.1:1')
 
 
 class AFewWorkers(ScanCase):

@@ -1,12 +1,13 @@
-"""Many files: what the pickles in them import and call. The command `picklestep-scan`.
+"""Many files: what the pickles in them import and call. The command `picklestep scan`.
 
-    picklestep-scan models/ --allow torch --jobs 4
-    python -m picklestep scan upload.pt
+    picklestep scan models/ --allow torch --jobs 4
 """
 
 from .blobs import Limits
-from .command import main, run
+from .command import main
 from .looking import Options, look, look_at_bytes
+from .looks import Judge, Look
 from .results import Call, Import, Note, Pickle, Result, from_json, to_json
 
-__all__ = ['Call', 'Import', 'Limits', 'Note', 'Options', 'Pickle', 'Result', 'from_json', 'look', 'look_at_bytes', 'main', 'run', 'to_json']
+__all__ = ['Call', 'Import', 'Judge', 'Limits', 'Look', 'Note', 'Options', 'Pickle', 'Result', 'from_json', 'look', 'look_at_bytes', 'main',
+           'to_json']

@@ -1,12 +1,17 @@
-"""Which imports a team allows: names and patterns, one a line."""
+"""Which imports a team allows: sets that come with the package, and files of its own."""
 
 from __future__ import annotations
 
-import re
+from dataclasses import dataclass
 from pathlib import Path
-from typing import Dict, FrozenSet, Iterable, List, Pattern, Tuple
+from typing import Dict, Iterable, Iterator, List
 
-__all__ = ['Allowed', 'SETS', 'read_allowed']
+from .known import known_names
+from .names import Names
+from .results import Result
+from .wording import count_of, place_of, shown, times
+
+__all__ = ['SETS', 'Used', 'read_lines', 'read_names']
 
 _FOLDER = Path(__file__).resolve().parent / 'allow'
 
@@ -14,68 +19,55 @@ _FOLDER = Path(__file__).resolve().parent / 'allow'
 SETS = tuple(sorted(path.stem for path in _FOLDER.glob('*.txt')))
 
 
-class Allowed:
-    """Names and patterns. In a pattern `*` stands for anything within one part of a name, and `**` for anything at all.
-
-    A `*` does not go over a dot, since a pickle can reach from a module into what that has imported: `torch._utils.*` allows
-    `torch._utils._rebuild_tensor_v2` and not `torch._utils.sys.modules`.
-
-    Behind a name and a colon stand words for what may be done with what is imported: `call`, `state` (it is given a state) and `fill` (items
-    are put into it). Without a colon that may be anything, and with a colon alone nothing.
-
-    >>> allowed = Allowed(['collections.OrderedDict: call', 'torch.*Storage:  # raw numbers', 'os.path'])
-    >>> [allowed.allows(name) for name in ('collections.OrderedDict', 'torch.FloatStorage', 'torch.os.Storage')]
-    [True, True, False]
-    >>> [allowed.allows_done(*done) for done in (('call', 'torch.FloatStorage'), ('new', 'collections.OrderedDict'), ('call', 'os.path'))]
-    [False, True, True]
-    """
-
-    def __init__(self, lines: Iterable[str]) -> None:
-        self._names: Dict[str, FrozenSet[str]] = {}
-        self._patterns: List[Tuple[Pattern[str], FrozenSet[str]]] = []
-        for line in lines:
-            name, words = _entry(line.partition('#')[0].strip() if not line.startswith("'") else line.strip())
-            if '*' in name:
-                self._patterns.append((_pattern(name), words))
-            elif name:
-                self._names[name] = self._names.get(name, frozenset()) | words
-
-    def allows(self, name: str) -> bool:
-        """Whether an import of this name is allowed."""
-        return name in self._names or any(pattern.fullmatch(name) for pattern, _ in self._patterns)
-
-    def allows_done(self, what: str, name: str) -> bool:
-        """Whether it is allowed to do this with what is imported by an allowed name. `what` is the first word of a line of the program.
-
-        What a pickle does with objects that it made has no name, and is allowed.
-        """
-        word = _WORDS.get(what)
-        if word is None or not self.allows(name):
-            return True
-        return word in self._names.get(name, ()) or any(word in words and pattern.fullmatch(name) for pattern, words in self._patterns)
-
-
-# What may be done with what is imported, by the first words of the program's lines.
-_WORDS = {'call': 'call', 'new': 'call', 'inst': 'call', 'state': 'state', 'append': 'fill', 'set': 'fill', 'add': 'fill'}
-_ENTRY = re.compile(r'([^:]+):((?: +(?:call|state|fill))*)')
-
-
-def _entry(line: str) -> Tuple[str, FrozenSet[str]]:
-    """A name, and what may be done with what is imported by it."""
-    found = _ENTRY.fullmatch(line)
-    return (line, frozenset(_WORDS.values())) if found is None else (found[1], frozenset(found[2].split()))
-
-
-def _pattern(text: str) -> Pattern[str]:
-    pieces = re.split(r'(\*+)', text)
-    made = (('[^.]*' if piece == '*' else '.*') if piece.startswith('*') else re.escape(piece) for piece in pieces)
-    return re.compile(''.join(made), re.DOTALL)
-
-
-def read_allowed(words: Iterable[str]) -> Allowed:
-    """What the given files and sets allow together. A word that names a set means the set; `./torch` means a file of that name."""
+def read_lines(words: Iterable[str]) -> List[str]:
+    """The lines of the given sets and files. A word that names a set means the set; `./torch` means a file of that name."""
     lines: List[str] = []
     for word in words:
         path = _FOLDER / f'{word}.txt' if word in SETS else Path(word)
         lines.extend(path.read_text(encoding='utf-8').splitlines())
-    return Allowed(lines)
+    return lines
+
+
+def read_names(words: Iterable[str]) -> Names:
+    """What the given sets and files have together. Raises OSError where a file cannot be read, and UnicodeDecodeError where it is no text."""
+    return Names(read_lines(words))
+
+
+@dataclass
+class _Use:
+    count: int = 0
+    pickles: int = 0
+    first: str = ''
+
+
+class Used:
+    """The names that files import, as the lines of a list: sorted, with a count and an example each.
+
+    A name that is known to run what it is given stands there as a comment, as does one that would be read as a pattern: who means it to be
+    allowed takes the `#` away.
+    """
+
+    def __init__(self) -> None:
+        self._uses: Dict[str, _Use] = {}
+
+    def add(self, result: Result) -> None:
+        """Counts what a file imports."""
+        for pickle in result.pickles:
+            place = place_of(result.path, pickle.where)
+            for found in pickle.imports:
+                use = self._uses.setdefault(found.name, _Use())
+                use.count += found.count
+                use.pickles += 1
+                use.first = min(use.first or place, place)
+
+    def lines(self) -> Iterator[str]:
+        """The lines of the list."""
+        for name, use in sorted(self._uses.items()):
+            note = f'{times(use.count)} in {count_of(use.pickles, "pickle")}, first in {use.first}'
+            why = known_names().note(name)
+            if why is not None or name.startswith('#') or '*' in name:
+                yield f'# {shown(name)}  # {why + "; " if why else ""}{note}'
+            elif name.startswith("'"):  # (behind such a name there can be no note)
+                yield from (f'# {note}', shown(name))
+            else:
+                yield f'{shown(name)}  # {note}'

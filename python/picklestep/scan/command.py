@@ -14,17 +14,19 @@ from typing import Dict, Generator, List, Optional, TextIO
 
 from ..errors import ProgramError
 from ..program import find_program
-from .allow import SETS, read_allowed
+from .allow import SETS, Used, read_names
 from .blobs import Limits
 from .cluster import NoCluster, look_on_cluster
 from .files import find_files
 from .looking import Options
+from .looks import Judge
 from .pool import look_at_all
 from .progress import with_progress
 from .report import Report
 from .results import Result, from_json
+from .sarif import Sarif
 
-__all__ = ['main', 'run']
+__all__ = ['main']
 
 _UNITS = {'': 1, 'K': 1 << 10, 'M': 1 << 20, 'G': 1 << 30}
 
@@ -46,14 +48,14 @@ def _positive(text: str) -> int:
 
 def _parser() -> argparse.ArgumentParser:
     parser = argparse.ArgumentParser(
-        prog='picklestep-scan', description='Tells what the pickles in files import and call. Nothing of them is run or loaded.',
-        epilog='Status: 0; 1 where something asks for a closer look (a line that begins with !); 2 where it could not begin; '
-               '130 after Ctrl-C.')
+        prog='picklestep scan', description='Shows what the pickles in files import and call. Nothing of them is run or loaded.',
+        epilog='Status: 0; 1 if there is a line to look at first (it begins with !); 2 if the command could not begin; 130 after Ctrl-C. '
+               'Neither ! nor its absence is a verdict.')
     parser.add_argument('paths', metavar='PATH', nargs='+', help='a file, a folder, a URL for fsspec, or - for names on standard input')
-    parser.add_argument('--allow', metavar='FILE', action='append', default=[],
-                        help=f'names that may be imported, one a line; or one of the sets {", ".join(SETS)}')
+    _add_lists(parser)
     parser.add_argument('--json', action='store_true', help='one object a line and file; the summary goes to standard error')
-    parser.add_argument('--brief', action='store_true', help='only lines that ask for a closer look, and the summary')
+    parser.add_argument('--sarif', metavar='FILE', help='write what to look at as SARIF 2.1.0 too')
+    parser.add_argument('--brief', action='store_true', help='only lines to look at, and the summary')
     parser.add_argument('--lines', action='store_true', help="each pickle with all of the program's lines")
     parser.add_argument('--jobs', metavar='N', type=_positive, default=1, help='files at once')
     parser.add_argument('--cluster', metavar='ADDRESS', help='hand the files to the Dask cluster at this address')
@@ -69,6 +71,14 @@ def _parser() -> argparse.ArgumentParser:
     parser.add_argument('--max-lines', metavar='N', type=_positive, default=limits.lines,
                         help='lines of the answers about a file (10000000)')
     return parser
+
+
+def _add_lists(parser: argparse.ArgumentParser) -> None:
+    parser.add_argument('--allow', metavar='FILE', action='append', default=[],
+                        help=f'only the names in FILE, one a line, may be imported; or one of the sets {", ".join(SETS)}')
+    parser.add_argument('--deny', metavar='FILE', action='append', default=[], help='mark the names in FILE, also where they are allowed')
+    parser.add_argument('--no-known', action='store_true', help='do not mark names that are known to run what they are given')
+    parser.add_argument('--write-allow', metavar='FILE', help='write the names that these files import, as a list for --allow')
 
 
 def _earlier(log: Optional[str]) -> Dict[str, Result]:
@@ -117,35 +127,69 @@ def _results(words: argparse.Namespace, paths: List[str]) -> Generator[Result, N
     return look_at_all(paths, options, words.jobs)
 
 
+def _judge(words: argparse.Namespace) -> Judge:
+    return Judge(read_names(words.allow) if words.allow else None, read_names(words.deny), not words.no_known)
+
+
+class _Output:
+    """All that a run writes: the report, and files of other forms that are written at its end."""
+
+    def __init__(self, words: argparse.Namespace) -> None:
+        self.report = Report(sys.stdout, _judge(words), words.json, words.brief)
+        self.summary = sys.stderr if words.json else sys.stdout
+        self._words = words
+        self._sarif = Sarif()
+        self._used = Used()
+
+    def add(self, result: Result, is_new: bool = True) -> None:
+        looks = self.report.add(result, is_new)
+        if self._words.sarif is not None:
+            self._sarif.add(result.path, looks)
+        if self._words.write_allow is not None:
+            self._used.add(result)
+
+    def end(self, is_whole: bool) -> None:
+        """Writes the summary, and the other files where the run came to its end."""
+        for line in self.report.summary():
+            print(line, file=self.summary)
+        self.summary.flush()
+        if is_whole and self._words.sarif is not None:
+            _write(self._words.sarif, json.dumps(self._sarif.object(), indent=1) + '\n')
+        if is_whole and self._words.write_allow is not None:
+            _write(self._words.write_allow, ''.join(f'{line}\n' for line in self._used.lines()))
+
+
+def _write(path: str, text: str) -> None:
+    with open(path, 'w', encoding='utf-8', errors='backslashreplace') as file:
+        file.write(text)
+
+
 def _scan(words: argparse.Namespace) -> int:
-    allowed = read_allowed(words.allow) if words.allow else None
+    output = _Output(words)
     earlier = _earlier(words.resume)
     if words.resume is not None and words.json:
         _end_cut_line(words.resume, sys.stdout)
-    report = Report(sys.stdout, allowed, words.json, words.brief)
     paths: List[str] = []
     interrupted = False
     try:
         found = find_files(words.paths, b'\0' if words.null else b'\n')
         for result in found.results:
-            report.add(result)
+            output.add(result)
         for path in found.paths:
             if path in earlier and _is_same(path, earlier[path]):
-                report.add(earlier[path], is_new=False)
+                output.add(earlier[path], is_new=False)
             else:
                 paths.append(path)
         results = _results(words, paths)
         with closing(with_progress(results, len(paths))) as shown, closing(results):
             for result in shown:
-                report.add(result)
+                output.add(result)
     except KeyboardInterrupt:
         interrupted = True
-    summary = sys.stderr if words.json else sys.stdout
     if interrupted:
-        print(f'interrupted: this is what was found in {report.counts["files"]} files', file=summary)
-    for line in report.summary():
-        print(line, file=summary)
-    return 130 if interrupted else int(report.asks)
+        print(f'interrupted: this is what was found in {output.report.counts["files"]} files', file=output.summary)
+    output.end(is_whole=not interrupted)
+    return 130 if interrupted else int(output.report.asks)
 
 
 def main(words: Optional[List[str]] = None) -> int:
@@ -161,11 +205,9 @@ def main(words: Optional[List[str]] = None) -> int:
         # The reader has left. What is still held cannot be written, at the end of Python neither.
         os.dup2(os.open(os.devnull, os.O_WRONLY), sys.stdout.fileno())
         return 128 + signal.SIGPIPE
-    except (OSError, ProgramError, NoCluster) as error:
-        print(f'picklestep-scan: {error}', file=sys.stderr)
-        return 2
-
-
-def run() -> None:
-    """The entry point of `picklestep-scan`."""
-    sys.exit(main())
+    except OSError as error:
+        words_of = f'cannot open {error.filename}: {error.strerror}' if error.filename is not None else str(error)
+        print(f'picklestep: {words_of}', file=sys.stderr)
+    except (ProgramError, NoCluster, UnicodeDecodeError) as error:
+        print(f'picklestep: {error}', file=sys.stderr)
+    return 2

@@ -4,56 +4,21 @@ from __future__ import annotations
 
 import json
 from collections import Counter
-from typing import Dict, Iterator, List, Optional, TextIO
+from typing import Dict, Iterator, List, TextIO
 
-from ..records import End
-from .allow import Allowed
-from .results import Call, Pickle, Place, Result, to_json
+from .looks import Judge, Look, call_text, end_text, import_text
+from .results import Pickle, Result, to_json
+from .wording import count_of, place_of, shown, times
 
-__all__ = ['Report', 'shown']
-
-
-def shown(text: str) -> str:
-    """A text from outside, on one line and without signs that a terminal obeys.
-
-    >>> shown('a\\nb\\x1b[2J')
-    'a\\\\nb\\\\x1b[2J'
-    """
-    return ''.join(sign if sign.isprintable() else ascii(sign)[1:-1] for sign in text)
-
-
-def _place(path: str, where: Place) -> str:
-    return ' > '.join(shown(name) for name in (path, *where))
-
-
-def _end(end: End) -> str:
-    """How reading ended. The words of a fault have its place; those of a refusal do not."""
-    return shown(end.text if end.how != 'refused' or end.offset is None else f'{end.text} at {end.offset}')
-
-
-def _number(count: int, one: str, more: str = '') -> str:
-    """A number of things. More than one of them have an `s` at the end unless it is said otherwise.
-
-    >>> _number(1, 'file'), _number(0, 'file')
-    ('1 file', '0 files')
-    """
-    return f'{count} {one if count == 1 else more or one + "s"}'
-
-
-def _times(count: int) -> str:
-    return 'once' if count == 1 else f'{count} times'
+__all__ = ['Report']
 
 
 class Report:
-    """Writes each result as it comes, and counts for the summary.
+    """Writes each result as it comes, and counts for the summary. `asks` is set where something asks for a closer look."""
 
-    `asks` is set where something asks for a closer look: a name that is not allowed, a pickle that was not read to a STOP, something
-    that was not looked at, a file that cannot be read.
-    """
-
-    def __init__(self, out: TextIO, allowed: Optional[Allowed], as_json: bool = False, brief: bool = False) -> None:
+    def __init__(self, out: TextIO, judge: Judge, as_json: bool = False, brief: bool = False) -> None:
         self.out = out
-        self.allowed = allowed
+        self.judge = judge
         self.as_json = as_json
         self.brief = brief
         self.asks = False
@@ -64,108 +29,102 @@ class Report:
 
     # --- Results ---
 
-    def add(self, result: Result, is_new: bool = True) -> None:
-        """Counts a result and writes it. One that an earlier run wrote already is counted alone."""
-        self._count(result)
+    def add(self, result: Result, is_new: bool = True) -> List[Look]:
+        """Counts a result and writes it, and answers what asks for a closer look in it. One that an earlier run wrote is counted alone."""
+        looks = list(self.judge.looks(result))
+        self._count(result, looks)
         if not is_new:
-            return
+            return looks
         if self.as_json:
-            self.out.write(json.dumps(self._object(result)) + '\n')
+            self.out.write(json.dumps(self._object(result, looks)) + '\n')
         else:
-            for line in self._lines(result):
+            for line in self._brief_lines(result, looks) if self.brief else self._lines(result):
                 self.out.write(line + '\n')
         self.out.flush()
+        return looks
 
-    def _is_allowed(self, name: str) -> bool:
-        return self.allowed is None or self.allowed.allows(name)
-
-    def _may_be_done(self, done: Call) -> bool:
-        return self.allowed is None or self.allowed.allows_done(done.what, done.name)
-
-    def _count(self, result: Result) -> None:
+    def _count(self, result: Result, looks: List[Look]) -> None:
         counts = self.counts
         counts['files'] += result.left is None
-        counts['left'] += result.left is not None
-        counts['errors'] += result.error is not None
+        counts['skipped'] += result.left is not None
         counts['others'] += result.others
         counts['pickles'] += len(result.pickles)
         counts['files with pickles'] += bool(result.pickles)
-        counts['missed'] += any(note.missed for note in result.notes)
+        rules = Counter(look.rule for look in looks)
+        counts['not-looked-at'] += rules.pop('not-looked-at', 0) > 0
+        counts.update(rules)
+        self.asks = self.asks or bool(looks)
         for pickle in result.pickles:
-            counts['not stopped'] += not pickle.end.is_stopped
+            place = place_of(result.path, pickle.where)
             for found in pickle.imports:
                 self.imports[found.name] += found.count
                 self.pickles_with[found.name] += 1
                 # The first by name: files come in any order.
-                place = _place(result.path, pickle.where)
                 self.first_with[found.name] = min(place, self.first_with.get(found.name, place))
-                counts['not allowed'] += not self._is_allowed(found.name)
-            counts['done'] += sum(not self._may_be_done(done) for done in pickle.calls)
-        self.asks = any(counts[key] for key in ('errors', 'missed', 'not stopped', 'not allowed', 'done'))
 
-    def _object(self, result: Result) -> Dict[str, object]:
+    def _object(self, result: Result, looks: List[Look]) -> Dict[str, object]:
         """The object of a line of JSON. With a list of allowed names each import says whether it is allowed."""
         made = to_json(result)
-        if self.allowed is not None:
+        if self.judge.allowed is not None:
             for pickle in made['pickles']:
                 for found in pickle['imports']:
-                    found['allowed'] = self._is_allowed(found['name'])
+                    found['allowed'] = self.judge.mark(found['name']) is None
                 for done in pickle['calls']:
-                    done['allowed'] = self.allowed.allows_done(done['what'], done['name'])
-        return made
+                    done['allowed'] = self.judge.allows_done(done['what'], done['name'])
+        return {**made, 'looks': [vars(look) for look in looks], 'status': int(bool(looks))}
+
+    def _brief_lines(self, result: Result, looks: List[Look]) -> Iterator[str]:
+        for look in looks:
+            yield from (f'! {place_of(result.path, look.where)}: {line}' for line in look.lines)
 
     def _lines(self, result: Result) -> Iterator[str]:
         """A line for each thing that was found; `!` is before those that ask for a closer look."""
-        path = _place(result.path, ())
+        path = place_of(result.path, ())
         if result.left is not None:
-            yield f'  {path}: left out: {result.left}'
+            yield f'  {path}: skipped: {result.left}'
         if result.error is not None:
             yield f'! {path}: cannot be read: {shown(result.error)}'
         for pickle in result.pickles:
             yield from self._pickle_lines(result, pickle)
         for note in result.notes:
-            if note.missed or not self.brief:
-                yield f'{"!" if note.missed else " "} {_place(result.path, note.where)}: {shown(note.text)}'
+            yield f'{"!" if note.missed else " "} {place_of(result.path, note.where)}: {shown(note.text)}'
 
     def _pickle_lines(self, result: Result, pickle: Pickle) -> Iterator[str]:
-        place = _place(result.path, pickle.where)
-        if self.brief:
-            for found in pickle.imports:
-                if self.allowed is not None and not self._is_allowed(found.name):
-                    yield f'! {place}: import {shown(found.name)} {_times(found.count)}, first at {found.offset}'
-            for done in pickle.calls:
-                if not self._may_be_done(done):
-                    yield f'! {place}: {done.what} {shown(done.name)} {_times(done.count)}, first at {done.offset}: {shown(done.text)}'
-            if not pickle.end.is_stopped:
-                yield f'! {place}: {_end(pickle.end)}'
-            return
-        yield f'  {place}: {pickle.size} bytes'
+        """The imports of a pickle, those that are marked with their calls next to them; then all other calls."""
+        yield f'  {place_of(result.path, pickle.where)}: {pickle.size} bytes'
+        all_looks = list(self.judge.looks_in(pickle))
+        looks = {look.name: look for look in all_looks if look.name and look.rule != 'not-allowed-done'}
+        told = {call for look in looks.values() for call in look.calls}
+        done = {look.text for look in all_looks if look.rule == 'not-allowed-done'}
         for found in pickle.imports:
-            mark = ' ' if self._is_allowed(found.name) else '!'
-            yield f'{mark}     import {shown(found.name)} {_times(found.count)}, first at {found.offset}'
-        for done in pickle.calls:
-            mark = ' ' if self._may_be_done(done) else '!'
-            yield f'{mark}     {done.what} {shown(done.name) or "-"} {_times(done.count)}, first at {done.offset}: {shown(done.text)}'
+            if found.name in looks:
+                yield from (f'!     {line}' for line in looks[found.name].lines)
+            else:
+                yield f'      {import_text(found, None)}'
+        yield from (f'{"!" if text in done else " "}     {text}' for text in map(call_text, pickle.calls) if text not in told)
         yield from (f'      {shown(line)}' for line in pickle.lines)
-        yield f'{" " if pickle.end.is_stopped else "!"}     end: {_end(pickle.end)}'
+        yield f'{" " if pickle.end.is_stopped else "!"}     end: {end_text(pickle.end)}'
 
     # --- The summary ---
 
     def summary(self) -> List[str]:
-        """The counts over all files, and the imports: those that are not allowed, then the rarest first."""
+        """The counts over all files, and the imports: those that are marked, then the rarest first."""
         counts = self.counts
-        told = [_number(counts['files'], 'file'), f'{_number(counts["pickles"], "pickle")} in {counts["files with pickles"]} of them',
-                _number(counts['others'], 'other that is no pickle', 'others that are no pickles')]
-        for key, *words in (('not stopped', 'pickle not read to a STOP', 'pickles not read to a STOP'),
-                            ('missed', 'file not looked at whole', 'files not looked at whole'),
-                            ('errors', 'file that cannot be read', 'files that cannot be read'), ('left', 'left out', 'left out'),
-                            ('not allowed', 'import not allowed', 'imports not allowed'),
-                            ('done', 'thing done that is not allowed', 'things done that are not allowed')):
+        told = [count_of(counts['files'], 'file'), f'{count_of(counts["pickles"], "pickle")} in {counts["files with pickles"]} of them']
+        for key, *words in (('others', 'file or member is not a pickle', 'files or members are not pickles'),
+                            ('not-read', 'pickle not read to a STOP', 'pickles not read to a STOP'),
+                            ('not-looked-at', 'file not looked at whole', 'files not looked at whole'),
+                            ('cannot-be-read', 'file that cannot be read', 'files that cannot be read'), ('skipped', 'skipped', 'skipped'),
+                            ('not-allowed', 'import not allowed', 'imports not allowed'), ('denied', 'import denied', 'imports denied'),
+                            ('known', 'import to look at', 'imports to look at'),
+                             ('not-allowed-done', 'thing done that is not allowed', 'things done that are not allowed'),
+                            ('worked-out', 'import worked out while loading', 'imports worked out while loading')):
             if counts[key]:
-                told.append(_number(counts[key], *words))
+                told.append(count_of(counts[key], *words))
+        marked = {name: self.judge.mark(name) is not None for name in self.imports}
         lines = [', '.join(told)]
-        for name in sorted(self.imports, key=lambda name: (self._is_allowed(name), self.pickles_with[name], name)):
-            mark = ' ' if self._is_allowed(name) else '!'
-            lines.append(f'{mark} {shown(name)}: {_times(self.imports[name])}, in {_number(self.pickles_with[name], "pickle")}, first in '
+        for name in sorted(self.imports, key=lambda name: (not marked[name], self.pickles_with[name], name)):
+            mark = '!' if marked[name] else ' '
+            lines.append(f'{mark} {shown(name)}: {times(self.imports[name])}, in {count_of(self.pickles_with[name], "pickle")}, first in '
                          f'{self.first_with[name]}')
         return lines

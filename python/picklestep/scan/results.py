@@ -77,6 +77,11 @@ class Result:
     left: Optional[str] = None
     changed: int = 0
 
+    def _repr_html_(self) -> str:
+        """The report about the file, for notebooks."""
+        from .notebook import html_of  # (which reads results)
+        return html_of(self)
+
 
 def to_json(result: Result) -> Dict[str, Any]:
     """The object that stands for a result in a line of JSON."""

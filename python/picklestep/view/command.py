@@ -116,5 +116,8 @@ def main(words: Optional[List[str]] = None) -> int:
     except KeyboardInterrupt:
         return 130
     except (OSError, PicklestepError) as error:
-        print(f'picklestep: {error}', file=sys.stderr)
+        why = str(error)
+        if isinstance(error, OSError) and error.filename == options.file:
+            why = f'cannot read {options.file}: {error.strerror}'
+        print(f'picklestep: {why}', file=sys.stderr)
         return 2

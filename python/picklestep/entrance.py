@@ -1,0 +1,127 @@
+"""The one entrance: `picklestep WORD ..`, in whatever way it is started.
+
+Words of the proved program are handed over to it in place. The others are of this package, and run in an interpreter that searches neither
+the current folder nor, before the standard library, any that the environment names: a folder from elsewhere may hold a `json.py`.
+
+So this file imports only what an interpreter has loaded when it starts (`from __future__` would import a file of that name, too). It is
+a module for `python -m picklestep` and for pip's `picklestep`, and a script (`python -I entrance.py`) for the rest.
+"""
+
+import os
+import sys
+
+__all__ = ['main', 'run', 'run_scan']
+
+_HERE = os.path.dirname(os.path.realpath(__file__))
+# Each word of the program has a page here, by which it is known.
+_PAGES = os.path.join(_HERE, 'help')
+_OWN = ('scan', 'view')
+_ASKS_HELP = ('--help', '-h')
+
+
+def main(words: 'list[str]') -> int:
+    """Does what the words say, and answers the status. A word of the program never comes back."""
+    if sys.version_info < (3, 9):
+        return _complain('python3 is older than 3.9: only list, objects, calls and debug work with it')
+    if not words or words[0] in _ASKS_HELP:
+        return _print_page('picklestep', to_output=bool(words))
+    first, rest = words[0], words[1:]
+    if first == '--version':
+        return _print_version()
+    if _is_of_program(first):
+        return _print_page(first) if _asks_help(rest) else _hand_over(words)
+    if first in _OWN:
+        return _do_apart(words)
+    if os.path.lexists(first):
+        return _do_apart(['scan', *words])
+    return _complain(f'{first!r} is neither a word of picklestep nor a file that is there: see picklestep --help')
+
+
+def _complain(text: str) -> int:
+    print(f'picklestep: {text}', file=sys.stderr)
+    return 2
+
+
+def _page(word: str) -> str:
+    return os.path.join(_PAGES, f'{word}.txt')
+
+
+def _is_of_program(word: str) -> bool:
+    return '/' not in word and word != 'picklestep' and os.path.isfile(_page(word))
+
+
+def _asks_help(rest: 'list[str]') -> bool:
+    options = rest[:rest.index('--')] if '--' in rest else rest
+    return any(word in _ASKS_HELP for word in options)
+
+
+def _print_page(word: str, to_output: bool = True) -> int:
+    with open(_page(word), encoding='utf-8') as page:
+        print(page.read(), end='', file=sys.stdout if to_output else sys.stderr)
+    return 0 if to_output else 2
+
+
+def _hand_over(words: 'list[str]') -> int:
+    from .place import find_program
+    try:
+        program = find_program()
+        os.execv(program, [program, *words])
+    except OSError as error:
+        return _complain(f'cannot start {program}: {error.strerror}')
+    except Exception as error:  # (to name ProgramError takes the time of its module)
+        return _complain(str(error))
+
+
+def _print_version() -> int:
+    import hashlib
+    from . import __version__
+    from .place import find_program, toolchain_of
+    try:
+        program = find_program()
+        with open(program, 'rb') as file:
+            sum_of = hashlib.sha256(file.read()).hexdigest()
+    except Exception as error:
+        return _complain(str(error))
+    print(f'picklestep {__version__}\ntoolchain {toolchain_of(program)}\nprogram sha256 {sum_of} {program}')
+    return 0
+
+
+# --- Apart from the current folder ---
+
+def _do_apart(words: 'list[str]') -> int:
+    """Does a word of this package. Where this interpreter may find modules in the current folder, another one takes its place."""
+    if not sys.flags.isolated and sys.executable:
+        options = ['-I', '-B'] if sys.dont_write_bytecode else ['-I']
+        os.execv(sys.executable, [sys.executable, *options, os.path.join(_HERE, 'entrance.py'), *words])
+    from importlib import import_module
+    status: int = import_module(f'picklestep.{words[0]}').main(words[1:])
+    return status
+
+
+def _further_places() -> 'list[str]':
+    """Where packages are that an isolated interpreter leaves out: those of PYTHONPATH and of the user. Optional ones may be there."""
+    import site
+    named = [path for path in os.environ.get('PYTHONPATH', '').split(os.pathsep) if os.path.isabs(path)]
+    if sys.prefix == sys.base_prefix:
+        named.append(site.getusersitepackages())
+    here = os.stat('.')
+    return [path for path in named if os.path.isdir(path) and not os.path.samestat(os.stat(path), here)]
+
+
+def run() -> None:
+    """The entry point of pip's `picklestep`."""
+    sys.exit(main(sys.argv[1:]))
+
+
+def run_scan() -> None:
+    """The entry point of pip's `picklestep-scan`, the older name of `picklestep scan`."""
+    sys.exit(main(['scan', *sys.argv[1:]]))
+
+
+if __name__ == '__main__':
+    # Another copy of the package may be among those of the interpreter: the one of this file comes first. What the environment names
+    # comes behind the standard library, so it hides nothing of it.
+    sys.path.insert(0, os.path.dirname(_HERE))
+    sys.path.extend(path for path in _further_places() if path not in sys.path)
+    from picklestep.entrance import run as run_in_package
+    run_in_package()

@@ -1,0 +1,26 @@
+# shellcheck shell=sh disable=SC2154
+# How ./picklestep and what ./install puts on the path begin. They set `package`, the folder of the Python package, and define
+# choose_program, which sets `chosen` or says why there is no program.
+
+# Whether the words are for the program itself: it has a page of help, and they do not ask for that.
+is_for_program() {
+    case $1 in
+    '' | */* | picklestep) return 1 ;;
+    esac
+    [ -e "$package/help/$1.txt" ] || return 1
+    case " $* " in
+    *' --help '* | *' -h '*) return 1 ;; # (or a file has such a name: then the Python side hands over)
+    esac
+}
+
+# Becomes the program for its words, and the Python package for all others.
+enter() {
+    if is_for_program "$@"; then
+        choose_program || exit 2
+        exec "$chosen" "$@"
+    elif command -v python3 >/dev/null; then
+        exec python3 -I ${PYTHONDONTWRITEBYTECODE:+-B} "$package/entrance.py" "$@"
+    fi
+    echo 'picklestep: python3 (3.9 or later) is not there: only list, objects, calls and debug work without it' >&2
+    exit 2
+}

@@ -1,0 +1,145 @@
+"""What asks for a closer look in a file, and why. The report, the lines of JSON, SARIF and `check` all ask here."""
+
+from __future__ import annotations
+
+import re
+from dataclasses import dataclass
+from typing import Dict, Iterator, List, Optional, Tuple
+
+from ..records import End
+from .known import known_names
+from .names import Names
+from .results import Call, Import, Pickle, Place, Result
+from .wording import shown, times
+
+__all__ = ['Judge', 'Look', 'RULES', 'call_text', 'calls_of', 'end_text', 'import_text']
+
+# Each rule, and what it says.
+RULES = {
+    'known': 'It imports a name that is known to run, load, write or connect what it is given.',
+    'worked-out': 'What it imports does not stand in the file: it is worked out while loading.',
+    'denied': 'It imports a name of the list of --deny.',
+    'not-allowed': 'It imports a name that no list of --allow has.',
+    'not-allowed-done': 'It does something with an allowed name that no list of --allow says may be done with it.',
+    'not-read': 'It was not read to its end (STOP), and a loader may go on.',
+    'not-looked-at': 'Something in it was not looked at.',
+    'cannot-be-read': 'The file cannot be read.',
+}
+
+# A name of which the pickle makes a part, and a number of copyreg's.
+_WORKED_OUT = re.compile(r'^#| #[0-9]+$|^ext ')
+
+# Calls that show what was done with an object that a marked import led to.
+_OF_OBJECTS = ('call', 'new', 'inst')
+_WITHOUT_NAME = {'persistent': 'persistent id', 'call': 'call of what the pickle made', 'new': 'new of what the pickle made',
+                 'inst': 'inst of what the pickle made'}
+
+
+@dataclass(frozen=True)
+class Look:
+    """Something that asks for a closer look.
+
+    `where` is the place in the file, `rule` one of RULES, `text` says what and why, `name` is what is imported (or ''), `offset` where in the
+    pickle, and `calls` are the first calls of what is imported, with their arguments.
+    """
+
+    where: Place
+    rule: str
+    text: str
+    name: str = ''
+    offset: Optional[int] = None
+    calls: Tuple[str, ...] = ()
+
+    @property
+    def lines(self) -> Tuple[str, ...]:
+        """The text and the calls, each on a line of its own."""
+        return (self.text, *self.calls)
+
+
+def end_text(end: End) -> str:
+    """How reading ended. The words of a fault have its place; those of a refusal do not."""
+    return shown(end.text if end.how != 'refused' or end.offset is None else f'{end.text} at {end.offset}')
+
+
+def import_text(found: Import, why: Optional[str]) -> str:
+    """An import, and why it is marked if it is."""
+    return f'import {shown(found.name)} {times(found.count)}, first at {found.offset}{": " + why if why else ""}'
+
+
+def call_text(done: Call) -> str:
+    """What a pickle does with one thing, with the program's line for the first time."""
+    what = f'{done.what} {shown(done.name)}' if done.name else _WITHOUT_NAME.get(done.what, done.what)
+    return f'{what} {times(done.count)}, first at {done.offset}: {shown(done.text)}'
+
+
+def calls_of(pickle: Pickle, name: str) -> List[Call]:
+    """The calls of what is imported under a name."""
+    return [done for done in pickle.calls if done.name == name]
+
+
+class Judge:
+    """Which names are marked, and why.
+
+    `denied` goes before `allowed`, and that before the names that are known: a team that allows `builtins.getattr` has looked at it. Where
+    there is a list of allowed names, all others are marked.
+    """
+
+    def __init__(self, allowed: Optional[Names] = None, denied: Optional[Names] = None, with_known: bool = True) -> None:
+        self.allowed = allowed
+        self._denied = denied or Names(())
+        self._known = known_names() if with_known else Names(())
+        self._with_known = with_known
+        self._marks: Dict[str, Optional[Tuple[str, str]]] = {}
+
+    def mark(self, name: str) -> Optional[Tuple[str, str]]:
+        """The rule by which a name is marked and why, or None.
+
+        >>> Judge().mark('posix.system'), Judge().mark('collections.OrderedDict')
+        (('known', 'runs a shell command'), None)
+        """
+        if name not in self._marks:
+            self._marks[name] = self._mark(name)
+        return self._marks[name]
+
+    def _mark(self, name: str) -> Optional[Tuple[str, str]]:
+        note = self._denied.note(name)
+        if note is not None:
+            return 'denied', f'denied{": " + note if note else ""}'
+        if self.allowed is not None and self.allowed.note(name) is not None:
+            return None
+        known = self._known.note(name)
+        if self.allowed is not None:
+            return 'not-allowed', f'not allowed{": " + known if known else ""}'
+        if known is not None:
+            return 'known', known
+        if self._with_known and _WORKED_OUT.search(name):
+            return 'worked-out', 'what it imports is worked out while loading'
+        return None
+
+    def allows_done(self, what: str, name: str) -> bool:
+        """Whether this may be done with what is imported by a name that is not marked."""
+        return self.allowed is None or self.mark(name) is not None or self.allowed.allows_done(what, name)
+
+    def looks(self, result: Result) -> Iterator[Look]:
+        """All that asks for a closer look in a file."""
+        if result.error is not None:
+            yield Look((), 'cannot-be-read', f'cannot be read: {shown(result.error)}')
+        for pickle in result.pickles:
+            yield from self.looks_in(pickle)
+        for note in result.notes:
+            if note.missed:
+                yield Look(note.where, 'not-looked-at', shown(note.text))
+
+    def looks_in(self, pickle: Pickle) -> Iterator[Look]:
+        """All that asks for a closer look in one pickle. A marked import brings its calls; the last one those of what has no name, too."""
+        marked = [(found, mark) for found in pickle.imports for mark in (self.mark(found.name),) if mark is not None]
+        for found, (rule, why) in marked:
+            calls = calls_of(pickle, found.name)
+            if found is marked[-1][0]:
+                calls += [done for done in pickle.calls if not done.name and done.what in _OF_OBJECTS]
+            yield Look(pickle.where, rule, import_text(found, why), found.name, found.offset, tuple(map(call_text, calls)))
+        for done in pickle.calls:
+            if not self.allows_done(done.what, done.name):
+                yield Look(pickle.where, 'not-allowed-done', call_text(done), done.name, done.offset)
+        if not pickle.end.is_stopped:
+            yield Look(pickle.where, 'not-read', f'end: {end_text(pickle.end)}', offset=pickle.end.offset)

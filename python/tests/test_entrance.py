@@ -1,0 +1,160 @@
+"""The one entrance, in each way in which it is started."""
+
+from __future__ import annotations
+
+import os
+import subprocess
+import sys
+import tempfile
+import unittest
+from pathlib import Path
+from typing import Dict, List, Set
+
+import picklestep
+from picklestep.place import find_program
+from pickles import ROOT
+from scan_support import HARMLESS, HOSTILE, PYTHON, ScanCase, environment
+
+PACKAGE = Path(picklestep.__file__).resolve().parent
+WORDS = ('list', 'objects', 'calls', 'debug', 'scan', 'view')
+# A file for each module of the standard library says in this file that it was imported.
+MARK = "open(__file__.rpartition('/')[0] + '/imported', 'a').write(__name__ + '\\n')\nraise ImportError('this folder is not searched')\n"
+
+
+def ways() -> Dict[str, List[str]]:
+    """How it is started: by `python -m`, as pip's command, and as in a clone."""
+    found = {'-m': [sys.executable, '-m', 'picklestep'], '-I -m': [sys.executable, '-I', str(PACKAGE / 'entrance.py')]}
+    of_pip = Path(sys.executable).with_name('picklestep')
+    if of_pip.is_file():
+        found['pip'] = [str(of_pip)]
+    if (ROOT / 'picklestep').is_file():
+        found['clone'] = [str(ROOT / 'picklestep')]
+    return found
+
+
+class EntranceCase(ScanCase):
+    """A test of the command line as a whole."""
+
+    def start(self, words: List[str]) -> 'subprocess.CompletedProcess[str]':
+        settings = {**environment(), 'PYTHONDONTWRITEBYTECODE': '1'}
+        return subprocess.run(words, cwd=self.folder, env=settings, stdin=subprocess.DEVNULL, capture_output=True, text=True, timeout=120)
+
+
+class Words(EntranceCase):
+    """Each word, in each way."""
+
+    def test_words_of_the_program(self) -> None:
+        self.file('a.pkl', HOSTILE)
+        for words in (['list', 'a.pkl'], ['objects', '--many', 'a.pkl'], ['calls', 'none.pkl'], ['debug', '--window', '0', 'a.pkl']):
+            alone = self.start([find_program(), *words])
+            for way, entrance in ways().items():
+                run = self.start([*entrance, *words])
+                self.assertEqual((run.returncode, run.stdout, run.stderr), (alone.returncode, alone.stdout, alone.stderr), (way, words))
+
+    def test_a_file_is_scanned(self) -> None:
+        self.file('a.pkl', HOSTILE)
+        self.file('list', HARMLESS)
+        for way, entrance in ways().items():
+            run, scan = self.start([*entrance, 'a.pkl', '--brief']), self.start([*entrance, 'scan', 'a.pkl', '--brief'])
+            self.assertEqual((run.returncode, run.stdout, run.stderr), (1, scan.stdout, ''), way)
+            self.assertIn("! a.pkl: call posix.system once, first at 23: call 'posix' 'system' ('id') as #3\n", run.stdout)
+            self.assertEqual(self.start([*entrance, './list']).returncode, 0)
+
+    def test_help(self) -> None:
+        for entrance in ways().values():
+            for words in (['--help'], ['-h'], ['calls', '-h'], *([word, '--help'] for word in WORDS)):
+                run = self.start([*entrance, *words])
+                self.assertEqual((run.returncode, run.stderr), (0, ''), words)
+                self.assertTrue(run.stdout.startswith('usage: picklestep'), run.stdout[:60])
+            whole = self.start([*entrance, '--help']).stdout
+            self.assertLessEqual(len(whole.splitlines()), 24)
+            for word in WORDS:
+                self.assertRegex(whole, rf'(?m)^  {word} ')
+            run = self.start(entrance)
+            self.assertEqual((run.returncode, run.stdout, run.stderr), (2, '', whole))
+
+    def test_version(self) -> None:
+        for entrance in ways().values():
+            run = self.start([*entrance, '--version'])
+            self.assertEqual((run.returncode, run.stderr), (0, ''))
+            self.assertRegex(run.stdout, rf'^picklestep {picklestep.__version__}\ntoolchain .+\nprogram sha256 [0-9a-f]{{64}} ')
+
+    def test_what_is_no_word(self) -> None:
+        for entrance in ways().values():
+            for word in ('frobnicate', 'none.pkl', '../help/list', ''):
+                run = self.start([*entrance, word])
+                self.assertEqual((run.returncode, run.stdout, len(run.stderr.splitlines())), (2, '', 1), word)
+                self.assertTrue(run.stderr.startswith('picklestep: '), run.stderr)
+
+    def test_what_cannot_be_read(self) -> None:
+        entrance = ways()['-m']
+        self.assertIn('! none.pkl: cannot be read: No such file or directory', self.start([*entrance, 'scan', 'none.pkl']).stdout)
+        self.assertEqual(self.start([*entrance, 'view', 'none.pkl']).stderr, 'picklestep: cannot read none.pkl: No such file or directory\n')
+        self.file('a.pkl', HARMLESS)
+        self.assertEqual(self.start([*entrance, 'a.pkl', '--allow', 'none']).stderr, 'picklestep: cannot open none: No such file or directory\n')
+
+    def test_no_program_for_this_machine(self) -> None:
+        with tempfile.TemporaryDirectory() as folder:
+            code = (f'import os; from picklestep import place, entrance; place._HERE = {folder!r}; os.environ.pop("PICKLESTEP_PROGRAM", 0); '
+                    'raise SystemExit(entrance.main(["list", "x"]))')
+            run = self.start([sys.executable, '-c', code])
+        self.assertEqual((run.returncode, run.stdout, len(run.stderr.splitlines())), (2, '', 1), run.stderr)
+        self.assertIn('there is no program for this machine', run.stderr)
+
+    def test_it_imports_nothing(self) -> None:
+        code = 'import sys; before = set(sys.modules); import picklestep.entrance, picklestep.place; print(*sorted(set(sys.modules) - before))'
+        run = self.start([sys.executable, '-c', code])
+        self.assertEqual(run.stdout.split(), ['picklestep', 'picklestep.entrance', 'picklestep.place'])
+
+
+class HostileFolders(EntranceCase):
+    """A folder from elsewhere, with a file for each module of the standard library."""
+
+    def setUp(self) -> None:
+        super().setUp()
+        if not hasattr(sys, 'stdlib_module_names'):
+            self.skipTest('this Python does not list the modules of its library')
+        self.file('model.pkl', HARMLESS)
+        self.file('other.pkl', HARMLESS)
+
+    def fill(self, left_out: Set[str]) -> None:
+        """A file for each module but these, and for what the package imports where it is there."""
+        for name in {*sys.stdlib_module_names, 'rich', 'fsspec', 'distributed', 'picklestep'} - left_out:
+            self.file(f'{name}.py', MARK.encode())
+
+    def seen(self) -> str:
+        path = self.folder / 'imported'
+        return path.read_text() if path.exists() else ''
+
+    def test_nothing_of_it_is_imported(self) -> None:
+        self.fill(set())
+        found = {way: words for way, words in ways().items() if way != '-m'}
+        found['-I -m'] = [sys.executable, '-I', '-m', 'picklestep'] if 'site-packages' in str(PYTHON) else found['-I -m']
+        for way, entrance in found.items():
+            for words in (['model.pkl'], ['scan', '--json', '--jobs', '2', 'model.pkl', 'other.pkl'], ['list', 'model.pkl'], ['--version'],
+                          ['view', '--export', 'out.html', '--force', 'model.pkl'], ['scan', '--sarif', 'out.sarif', '--help']):
+                run = self.start([*entrance, *words])
+                self.assertEqual((run.returncode, run.stderr if '--json' not in words else '', self.seen()), (0, '', ''), (way, words))
+
+    def test_minus_m_imports_only_what_python_does_before(self) -> None:
+        # Python itself looks for these in the current folder, before it reads a line of the package.
+        self.file('empty/__init__.py', b'')
+        self.file('empty/__main__.py', b'import sys\nprint(*sys.modules)\n')
+        before = set(self.start([sys.executable, '-m', 'empty']).stdout.split())
+        self.fill({*before, 'picklestep'})
+        for words in (['model.pkl'], ['scan', '--jobs', '2', 'model.pkl', 'other.pkl'], ['view', '--export', 'out.html', '--force', 'model.pkl']):
+            run = self.start([sys.executable, '-m', 'picklestep', *words])
+            self.assertEqual((run.returncode, run.stderr, self.seen()), (0, '', ''), words)
+
+    def test_a_path_of_modules_that_names_the_folder(self) -> None:
+        self.fill(set())
+        for path in (f':{PYTHON}', f'.:{PYTHON}', f'{self.folder}:{PYTHON}'):
+            settings = {**os.environ, 'PYTHONPATH': path, 'PYTHONDONTWRITEBYTECODE': '1'}
+            for way, entrance in ways().items():
+                if way in ('clone', '-I -m'):
+                    run = subprocess.run([*entrance, 'model.pkl'], cwd=self.folder, env=settings, capture_output=True, text=True, timeout=60)
+                    self.assertEqual((run.returncode, run.stderr, self.seen()), (0, '', ''), way)
+
+
+if __name__ == '__main__':
+    unittest.main()

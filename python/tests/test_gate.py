@@ -1,0 +1,129 @@
+"""What a team has in its CI: SARIF, lines of JSON, the pre-commit hook, the image, and the workflows of docs/SCAN.md."""
+
+from __future__ import annotations
+
+import json
+import os
+import re
+import shlex
+import shutil
+import subprocess
+import unittest
+from pathlib import Path
+from typing import Any, Dict, List
+
+from pickles import ROOT
+from scan_support import HARMLESS, HOSTILE, MODELS, ScanCase, python_with
+
+SCHEMA = Path(__file__).resolve().parent / 'data' / 'sarif-2.1.0-parts.json'
+PAGE = (ROOT / 'docs' / 'SCAN.md').read_text(encoding='utf-8')
+VALIDATE = 'import json, sys, jsonschema; jsonschema.Draft7Validator(json.load(open(sys.argv[1]))).validate(json.load(open(sys.argv[2])))'
+
+
+class Findings(ScanCase):
+    """What is marked, in the forms that other tools read."""
+
+    def setUp(self) -> None:
+        super().setUp()
+        self.file('a dir/b%.pkl', HOSTILE)
+        self.file('cut.pkl', HARMLESS[:-1])
+        self.file('good.pkl', HARMLESS)
+        shutil.copy(MODELS / 'torch_module.pt', self.folder)
+
+    def sarif(self, *words: str) -> Dict[str, Any]:
+        run = self.scan('.', 'none.pkl', '--sarif', 'out.sarif', *words)
+        self.assertEqual(run.returncode, 1)
+        made: Dict[str, Any] = json.loads((self.folder / 'out.sarif').read_text())
+        return made
+
+    def test_sarif(self) -> None:
+        results = self.sarif()['runs'][0]['results']
+        self.assertEqual(sorted((each['ruleId'], each['locations'][0]['physicalLocation']['artifactLocation']['uri']) for each in results),
+                         [('cannot-be-read', 'none.pkl'), ('known', './a%20dir/b%25.pkl'), ('not-looked-at', './cut.pkl'), ('not-read', './cut.pkl')])
+        known = next(each for each in results if each['ruleId'] == 'known')
+        self.assertEqual(known['locations'][0]['physicalLocation']['region'], {'startLine': 1, 'byteOffset': 0})
+        self.assertIn("call 'posix' 'system' ('id')", known['message']['text'])
+        inner = [each for each in self.sarif('--allow', 'torch')['runs'][0]['results'] if 'torch_module' in each['message']['text']]
+        self.assertTrue(inner)
+        self.assertEqual({each['ruleId'] for each in inner}, {'not-allowed'})
+
+    def test_sarif_fits_its_schema(self) -> None:
+        python = python_with('jsonschema')
+        if python is None:
+            self.skipTest('jsonschema is not installed')
+        for words in ((), ('--allow', 'torch')):
+            self.sarif(*words)
+            done = subprocess.run([python, '-c', VALIDATE, str(SCHEMA), 'out.sarif'], cwd=self.folder, capture_output=True, text=True)
+            self.assertEqual((done.returncode, done.stderr), (0, ''))
+        (self.folder / 'out.sarif').write_text('{"version": "2.1.0", "runs": [{"results": []}]}')
+        self.assertNotEqual(subprocess.run([python, '-c', VALIDATE, str(SCHEMA), 'out.sarif'], cwd=self.folder, capture_output=True).returncode, 0)
+
+    def test_lines_of_json(self) -> None:
+        lines = {each['path']: each for each in map(json.loads, self.scan('.', '--json').stdout.splitlines())}
+        self.assertEqual({path: each['status'] for path, each in lines.items()},
+                         {'./a dir/b%.pkl': 1, './cut.pkl': 1, './good.pkl': 0, './torch_module.pt': 0})
+        look, = lines['./a dir/b%.pkl']['looks']
+        self.assertEqual((look['rule'], look['name'], look['offset']), ('known', 'posix.system', 0))
+        self.assertEqual(look['calls'], ["call posix.system once, first at 23: call 'posix' 'system' ('id') as #3"])
+        self.assertEqual([each['rule'] for each in lines['./cut.pkl']['looks']], ['not-read', 'not-looked-at'])
+
+
+@unittest.skipUnless((ROOT / 'picklestep').is_file(), 'this is no clone')
+class Files(ScanCase):
+    """The files that other tools take from a clone, by their own lines."""
+
+    def run_lines(self, lines: List[str], **environment: str) -> 'subprocess.CompletedProcess[str]':
+        settings = {'HOME': str(self.folder), 'PICKLESTEP': str(ROOT), 'PYTHONDONTWRITEBYTECODE': '1', **environment}
+        # (the owner of the clone may be another than the one who runs the tests)
+        git = {'GIT_CONFIG_COUNT': '1', 'GIT_CONFIG_KEY_0': 'safe.directory', 'GIT_CONFIG_VALUE_0': '*'}
+        return subprocess.run(['bash', '-e', '-c', '\n'.join(lines)], cwd=self.folder, env={**os.environ, **git, **settings},
+                              capture_output=True, text=True, timeout=120)
+
+    def test_workflows(self) -> None:
+        section = PAGE.partition('## In CI')[2].partition('\n## ')[0]
+        github = re.findall(r'^ +- run: (.*)$', section, re.MULTILINE)
+        gitlab = re.findall(r'^ {8}- (.*)$', section.partition('GitLab')[2], re.MULTILINE)
+        for number, lines in enumerate((github, gitlab)):
+            with self.subTest(lines):
+                self.assertEqual(len(lines), 2)
+                shutil.rmtree(self.folder / 'picklestep', ignore_errors=True)
+                self.file('allowed.txt', b'collections.OrderedDict\n')
+                self.file('models/a.pkl', HARMLESS)
+                (self.folder / 'models' / 'b.pkl').unlink(missing_ok=True)
+                run = self.run_lines(lines)
+                self.assertEqual(run.returncode, 0, run.stderr)
+                self.file('models/b.pkl', HOSTILE)
+                run = self.run_lines(lines[1:])
+                self.assertEqual(run.returncode, 1)
+                self.assertTrue(run.stdout.startswith('! models/b.pkl: import posix.system'), run.stdout + run.stderr)
+                if number == 0:
+                    self.assertEqual(len(json.loads((self.folder / 'pickles.sarif').read_text())['runs'][0]['results']), 1)
+
+    def test_hook(self) -> None:
+        text = (ROOT / '.pre-commit-hooks.yaml').read_text()
+        fields = dict(re.findall(r'^[- ] (\w+): (.*)$', text, re.MULTILINE))
+        self.assertEqual((fields['id'], fields['language']), ('picklestep', 'script'))
+        entry, *words = shlex.split(fields['entry'])
+        pattern = re.compile(shlex.split(fields['files'])[0])
+        for name, fits in (('a.pkl', True), ('models/b.pt', True), ('c.joblib.gz', True), ('d.py', False), ('e.pkl.py', False)):
+            self.assertEqual(pattern.search(name) is not None, fits, name)
+        self.file('a.pkl', HARMLESS)
+        self.file('b.pkl', HOSTILE)
+        for name, status in (('a.pkl', 0), ('b.pkl', 1)):
+            run = subprocess.run([str(ROOT / entry), *words, name], cwd=self.folder, capture_output=True, text=True, timeout=60)
+            self.assertEqual(run.returncode, status, run.stderr)
+
+    def test_image(self) -> None:
+        # No base image can be had here: its own lines are run.
+        lines = re.findall(r'^RUN (.*)$', (ROOT / 'Dockerfile').read_text(), re.MULTILINE)
+        self.assertEqual(lines, ['/source/install /usr/local && rm -rf /source'])
+        prefix = self.folder / 'usr'
+        done = self.run_lines([lines[0].partition(' && ')[0].replace('/source', str(ROOT)).replace('/usr/local', str(prefix))])
+        self.assertEqual(done.returncode, 0, done.stderr)
+        self.file('b.pkl', HOSTILE)
+        run = self.run_lines([f'PATH={prefix}/bin:$PATH picklestep scan . --brief'])
+        self.assertIn('! ./b.pkl: import posix.system', run.stdout)
+
+
+if __name__ == '__main__':
+    unittest.main()

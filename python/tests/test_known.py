@@ -1,0 +1,204 @@
+"""What is marked without any list: 43 hostile files, each made here in a way of its own. Each only names what it would call; none is loaded."""
+
+from __future__ import annotations
+
+import bz2
+import gzip
+import io
+import tarfile
+import unittest
+import zipfile
+from typing import Dict, List
+
+import picklestep
+from picklestep.scan import Judge, look
+from picklestep.scan.known import known_names
+from picklestep.scan.names import Names
+from scan_support import HARMLESS, HOSTILE, MODELS, ScanCase
+
+
+def text(value: str) -> bytes:
+    """A text as an argument."""
+    data = value.encode()
+    return b'X' + len(data).to_bytes(4, 'little') + data
+
+
+def called(module: str, name: str, *arguments: str) -> bytes:
+    """A call by GLOBAL and REDUCE."""
+    return f'c{module}\n{name}\n('.encode() + b''.join(map(text, arguments)) + b'tR'
+
+
+def by_text(module: str, name: str, *arguments: str) -> bytes:
+    """A call of what two texts name, of protocol 4."""
+    return text(module) + text(name) + b'\x93(' + b''.join(map(text, arguments)) + b'tR'
+
+
+def zipped(**members: bytes) -> bytes:
+    held = io.BytesIO()
+    with zipfile.ZipFile(held, 'w', zipfile.ZIP_DEFLATED) as archive:
+        for name, data in members.items():
+            archive.writestr(name, data)
+    return held.getvalue()
+
+
+def tarred(data: bytes) -> bytes:
+    held = io.BytesIO()
+    with tarfile.open(fileobj=held, mode='w') as archive:
+        told = tarfile.TarInfo('model')
+        told.size = len(data)
+        archive.addfile(told, io.BytesIO(data))
+    return held.getvalue()
+
+
+def array(data: bytes) -> bytes:
+    header = b"{'descr': '|O', 'fortran_order': False, 'shape': (1,), }\n"
+    return b'\x93NUMPY\x01\x00' + len(header).to_bytes(2, 'little') + header + data
+
+
+SHELL = called('os', 'system', 'id') + b'.'
+FILES: Dict[str, bytes] = {
+    # by each opcode that calls
+    'reduce': SHELL, 'inst': b'(' + text('id') + b'ios\nsystem\n.', 'obj': b'(cos\nsystem\n' + text('id') + b'o.',
+    'newobj': b'\x80\x02csubprocess\nPopen\n' + text('id') + b'\x85\x81.', 'newobj_ex': b'\x80\x04csubprocess\nPopen\n' + text('id') + b'\x85}\x92.',
+    'build': b'\x80\x02cmodule\nKind\n)\x81}' + text('__setstate__') + b'cos\nsystem\nsb' + text('id') + b'b.',
+    'stack_global': b'\x80\x04' + by_text('os', 'system', 'id') + b'.',
+    'memo': b'\x80\x04' + text('posix') + b'\x94' + text('system') + b'\x940h\x00h\x01\x93' + text('id') + b'\x85R.',
+    'persistent': text('a') + b'0' + called('os', 'popen', 'id') + b'Q.', 'append': b']' + called('builtins', 'exec', 'pass') + b'a.',
+    # text that is run as Python
+    'exec': called('builtins', 'exec', 'pass') + b'.', 'eval': called('__builtin__', 'eval', '1') + b'.',
+    'compile': called('builtins', 'compile', '1', 'a', 'eval') + b'.', 'code': called('code', 'interact') + b'.',
+    'interpreter': b'\x80\x04' + by_text('code', 'InteractiveInterpreter.runsource', '1') + b'.', 'timeit': called('timeit', 'timeit', '1') + b'.',
+    'profile': called('cProfile', 'run', '1') + b'.', 'pdb': called('pdb', 'run', '1') + b'.', 'doctest': called('doctest', 'debug_script', '1') + b'.',
+    'runstring': called('numpy.testing._private.utils', 'runstring', '1', '') + b'.', 'pandas': called('pandas', 'eval', '1') + b'.',
+    'sympy': called('sympy', 'sympify', '1') + b'.', 'runpy': called('runpy', 'run_path', 'a.py') + b'.',
+    # what is had by name
+    'getattr': called('builtins', 'getattr', 'a', 'b') + b'.', 'methodcaller': called('operator', 'methodcaller', 'a') + b'.',
+    'attrgetter': called('_operator', 'attrgetter', 'a') + b'.', 'importlib': called('importlib', 'import_module', 'a') + b'.',
+    'ufunc': called('numpy.core', '_ufunc_reconstruct', 'os', 'system') + b'.', 'resolve': called('pkgutil', 'resolve_name', 'a') + b'.',
+    'through': b'\x80\x04' + by_text('logging', 'os.system', 'id') + b'.',
+    'inside': b'\x80\x04' + by_text('collections', 'OrderedDict.__class__.__subclasses__') + b'.',
+    'worked_out': b'\x80\x04' + text('os') + called('module', 'name') + b'\x93)R.', 'number': b'\x80\x02\x82\x07)R.',
+    # other pickles, files, connections
+    'loads': called('pickle', 'loads', 'N.') + b'.', 'torch': called('torch.storage', '_load_from_bytes', 'N.') + b'.',
+    'rmtree': called('shutil', 'rmtree', '/none') + b'.', 'open': called('io', 'open', '/none') + b'.',
+    'socket': called('socket', 'create_connection', 'a') + b'.', 'browser': called('webbrowser', 'open', 'http://a') + b'.',
+    # in other files, behind other bytes
+    'gzip': gzip.compress(SHELL), 'zip': zipped(**{'archive/data.pkl': SHELL}), 'tar': tarred(bz2.compress(SHELL)), 'npy': array(SHELL),
+}
+
+
+class Hostile(ScanCase):
+    """All of them, without any list."""
+
+    def test_each_is_marked(self) -> None:
+        self.assertEqual(len(FILES), 43)
+        for name, content in FILES.items():
+            with self.subTest(name):
+                looks = list(Judge().looks(self.look(f'{name}.bin', content)))
+                self.assertTrue([each for each in looks if each.rule in ('known', 'worked-out')], looks)
+
+    def test_padding_behind_a_pickle_hides_nothing(self) -> None:
+        for content in (HARMLESS + bytes(64) + SHELL, HARMLESS + SHELL, b'N.' * 64 + SHELL):
+            looks = list(Judge().looks(self.look('a.pkl', content)))
+            self.assertTrue(looks)
+
+    def test_status_and_lines(self) -> None:
+        self.file('a.pkl', HARMLESS)
+        self.file('b.pkl', by_text('operator', 'attrgetter', 'system') + b'cos\npath\n\x85R' + text('id') + b'\x85R.')
+        run = self.scan('a.pkl', 'b.pkl', '--brief')
+        self.assertEqual((run.returncode, run.stderr), (1, ''))
+        self.assertEqual(run.stdout.splitlines()[:3], [
+            '! b.pkl: import operator.attrgetter once, first at 28: gets any attribute by name',
+            "! b.pkl: call operator.attrgetter once, first at 42: call 'operator' 'attrgetter' ('system') as #5",
+            "! b.pkl: call of what the pickle made 2 times, first at 53: call #5 (global 'os' 'path') as #8"])
+        self.file('c.pkl', HOSTILE)
+        self.assertEqual(self.scan('a.pkl', 'c.pkl', '--no-known').returncode, 0)
+
+    def test_own_lists(self) -> None:
+        self.file('a.pkl', HARMLESS)
+        self.file('b.pkl', HOSTILE)
+        self.file('deny', b'collections.*  # not here\n')
+        self.file('allow', b'collections.*\nposix.system  # we looked\n')
+        run = self.scan('a.pkl', '--deny', 'deny', '--brief')
+        self.assertEqual((run.returncode, run.stdout.splitlines()[0]), (1, '! a.pkl: import collections.OrderedDict once, first at 2: denied: not here'))
+        self.assertEqual(self.scan('a.pkl', 'b.pkl', '--allow', 'allow').returncode, 0)
+        self.assertEqual(self.scan('a.pkl', '--allow', 'allow', '--deny', 'deny').returncode, 1)
+
+    def test_written_lists(self) -> None:
+        self.file('files/a.pkl', HARMLESS + HARMLESS)
+        self.file('files/b.pkl', HOSTILE + b'cos \nx*\n.' + b'cos \ny\n.' + HARMLESS)
+        self.scan('files', '--write-allow', 'list')
+        self.assertEqual((self.folder / 'list').read_text().splitlines(), [
+            "# 'os ' 'x*'  # once in 1 pickle, first in files/b.pkl", '# once in 1 pickle, first in files/b.pkl', "'os ' 'y'",
+            'collections.OrderedDict  # 3 times in 2 pickles, first in files/a.pkl',
+            '# posix.system  # runs a shell command; once in 1 pickle, first in files/b.pkl'])
+        self.assertEqual(self.scan('files/a.pkl', '--allow', 'list').returncode, 0)
+        run = self.scan('files/b.pkl', '--allow', 'list', '--brief')
+        self.assertEqual([line.split(',')[0] for line in run.stdout.splitlines() if line.startswith('! files/b.pkl: import')],
+                         ['! files/b.pkl: import posix.system once', "! files/b.pkl: import 'os ' 'x*' once"])
+
+    def test_good_files_have_no_mark(self) -> None:
+        for file in MODELS.iterdir():
+            if file.name != 'WRITTEN_BY.txt':
+                self.assertEqual([each.text for each in Judge().looks(look(str(file))) if each.name], [], file.name)
+
+
+class TheList(unittest.TestCase):
+    """The names themselves."""
+
+    def test_each_has_a_reason(self) -> None:
+        names = known_names()
+        notes = [*names.names.values(), *(note for _, _, note in names.patterns)]
+        self.assertGreaterEqual(len(notes), 150)
+        self.assertTrue(all(notes))
+
+    def test_names_of_protocol_2(self) -> None:
+        for name in ('__builtin__.eval', 'cPickle.loads', 'commands.getoutput', 'urllib2.urlopen', '__builtin__.reduce', 'itertools.imap'):
+            self.assertIsNotNone(known_names().note(name), name)
+
+    def test_a_long_name_takes_no_long_time(self) -> None:
+        self.assertIsNone(Names(known_names_lines()).note('a.' * 200_000 + 'b'))
+
+
+def known_names_lines() -> List[str]:
+    names = known_names()
+    return [*names.names, *(pattern for pattern, _, _ in names.patterns)]
+
+
+class Checked(ScanCase):
+    """`check`, from Python."""
+
+    def test_what_is_good_comes_back(self) -> None:
+        path = self.file('a.pkl', HARMLESS)
+        self.assertEqual(picklestep.check(io.BytesIO(HARMLESS)), HARMLESS)
+        for source in (HARMLESS, bytearray(HARMLESS), path, str(path)):
+            self.assertEqual(picklestep.check(source), HARMLESS)
+            self.assertEqual(picklestep.check(source, names=['collections.OrderedDict']), HARMLESS)
+        state = MODELS / 'torch_state.pt'
+        self.assertEqual(picklestep.check(state, allow=['torch']), state.read_bytes())
+
+    def test_notebooks(self) -> None:
+        view = look(str(self.file('<b>.pkl', HARMLESS + HOSTILE)))._repr_html_()
+        self.assertIn('&lt;b&gt;.pkl', view)
+        self.assertIn('<b>!     import posix.system once, first at 28: runs a shell command</b>', view)
+        with self.assertRaises(picklestep.NotAllowed) as caught:
+            picklestep.check(HOSTILE)
+        self.assertEqual(caught.exception._render_traceback_()[1], '! pickle: import posix.system once, first at 0: runs a shell command')
+
+    def test_what_is_not_raises(self) -> None:
+        for content in [*FILES.values(), b'text', b'', HARMLESS[:-1], b"(S'abc'\np0\ncos\nsystem\n" + text('id') + b'\x85Rtp1\n.']:
+            with self.assertRaises(picklestep.NotAllowed) as caught:
+                picklestep.check(content)
+            self.assertTrue(caught.exception.lines)
+        with self.assertRaises(picklestep.NotAllowed) as caught:
+            picklestep.check(self.file('a.pkl', HARMLESS), allow=['torch-modules'])
+        self.assertEqual(caught.exception.lines[0],
+                         f'{self.folder}/a.pkl: import collections.OrderedDict once, first at 2: not allowed')
+        with self.assertRaises(FileNotFoundError):
+            picklestep.check('/not/there')
+        with self.assertRaises(FileNotFoundError):
+            picklestep.check(HARMLESS, allow=['no_such_set'])
+
+
+if __name__ == '__main__':
+    unittest.main()

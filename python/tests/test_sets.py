@@ -1,0 +1,93 @@
+"""The sets of allowed names, on real files of their libraries and beside the list of known names."""
+
+from __future__ import annotations
+
+import subprocess
+import sys
+import tempfile
+import unittest
+from pathlib import Path
+from typing import Dict, Tuple
+
+from picklestep.scan import Judge, look
+from picklestep.scan.allow import SETS, read_names
+from picklestep.scan.known import known_names
+from scan_support import ScanCase, python_with
+
+WRITER = Path(__file__).resolve().parent / 'real_files.py'
+# The sets that the files of each library need.
+NEEDED: Dict[str, Tuple[str, ...]] = {
+    'plain': ('plain',), 'numpy': ('numpy', 'plain'), 'scipy': ('scipy', 'numpy', 'plain'), 'pandas': ('pandas', 'numpy', 'plain'),
+    'sklearn': ('sklearn', 'scipy', 'numpy', 'plain'), 'torch': ('torch', 'torch-modules'), 'joblib': ('joblib', 'sklearn', 'numpy', 'plain'),
+    'xgboost': ('xgboost', 'numpy', 'plain'), 'networkx': ('networkx', 'plain'), 'xarray': ('xarray', 'pandas', 'numpy', 'plain')}
+# No package of the machine has these: files with their documented names are made here.
+BY_NAMES = {'transformers': ('transformers', 'torch', 'plain'), 'lightning': ('lightning', 'torch', 'plain')}
+
+
+class Names(unittest.TestCase):
+    """Each name of each set."""
+
+    def test_no_name_is_known_to_run_what_it_is_given(self) -> None:
+        for word in SETS:
+            for name in read_names([word]).names:
+                self.assertIsNone(known_names().note(name), f'{word}: {name}')
+
+    def test_each_name_is_whole_and_has_a_reason(self) -> None:
+        for word in SETS:
+            names = read_names([word])
+            self.assertEqual(names.patterns, [], word)
+            self.assertTrue(names.names)
+            for name, note in names.names.items():
+                self.assertTrue(note, f'{word}: {name}')
+
+    def test_each_set_is_tried(self) -> None:
+        self.assertEqual({word for words in [*NEEDED.values(), *BY_NAMES.values()] for word in words}, set(SETS))
+
+
+class RealFiles(ScanCase):
+    """Files that the libraries of this machine write."""
+
+    def tried(self, library: str) -> int:
+        """Looks at what a library writes, and answers how many files that are."""
+        python = sys.executable if library == 'plain' else python_with(library)
+        if python is None:
+            self.skipTest(f'{library} is not installed')
+        subprocess.run([python, str(WRITER), str(self.folder), library], check=True, timeout=300, cwd=tempfile.gettempdir())
+        judge = Judge(read_names(NEEDED[library]))
+        files = sorted(self.folder.iterdir())
+        for file in files:
+            # (whether joblib's arrays are read is the matter of other tests)
+            looks = [each.lines for each in judge.looks(look(str(file))) if library != 'joblib' or each.name]
+            self.assertEqual(looks, [], f'{library}: {file.name}')
+        self.assertGreaterEqual(len(files), 10)
+        return len(files)
+
+
+def _add(library: str) -> None:
+    def test(self: RealFiles) -> None:
+        self.tried(library)
+    setattr(RealFiles, f'test_{library}', test)
+
+
+for _library in NEEDED:
+    _add(_library)
+
+
+class ByNames(ScanCase):
+    """Files that hold the documented names of libraries which no package has."""
+
+    def test_each_name(self) -> None:
+        for library, sets in BY_NAMES.items():
+            judge = Judge(read_names(sets))
+            names = read_names([library]).names
+            self.assertGreaterEqual(len(names), 10)
+            for number, name in enumerate(names):
+                module, _, attribute = name.rpartition('.')
+                content = b'\x80\x02}X\x01\0\0\0ac' + f'{module}\n{attribute}\n'.encode() + b')\x81}X\x01\0\0\0bK\x01sbs.'
+                result = self.look(f'{library}{number}.ckpt', content)
+                self.assertEqual([found.name for found in result.pickles[0].imports], [name])
+                self.assertEqual(list(judge.looks(result)), [], name)
+
+
+if __name__ == '__main__':
+    unittest.main()
