@@ -12,8 +12,9 @@ from .errors import OutOfMemory, PicklestepError, ProgramError, Refused, TimedOu
 from .records import (Argument, Brief, Briefs, Change, End, Extension, Global, Item, Mark, Name, Object, Opcode, Ran, Reach, Ref, Shown,
                       Value, Where)
 from .session import Session
+from .source import PythonSource, source
 from .tasks import calls, listing, objects
 
 __all__ = ['Answer', 'Argument', 'Brief', 'Briefs', 'Calls', 'Change', 'End', 'Extension', 'Global', 'Heap', 'Item', 'Items', 'Listing', 'Mark',
-           'Name', 'Object', 'Objects', 'Opcode', 'OutOfMemory', 'PicklestepError', 'ProgramError', 'Ran', 'Reach', 'Ref', 'Refused',
-           'Session', 'Shown', 'ShownObjects', 'TimedOut', 'TooLarge', 'Value', 'Where', 'calls', 'listing', 'objects']
+           'Name', 'Object', 'Objects', 'Opcode', 'OutOfMemory', 'PicklestepError', 'ProgramError', 'PythonSource', 'Ran', 'Reach', 'Ref', 'Refused',
+           'Session', 'Shown', 'ShownObjects', 'TimedOut', 'TooLarge', 'Value', 'Where', 'calls', 'listing', 'objects', 'source']
