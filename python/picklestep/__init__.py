@@ -8,13 +8,17 @@ Every answer comes from the proved program, which runs as a process of its own.
 """
 
 from .answers import Answer, Calls, Heap, Items, Listing, Objects, ShownObjects
-from .errors import OutOfMemory, PicklestepError, ProgramError, Refused, TimedOut, TooLarge
+from .compare import Difference, compare
+from .errors import NoResult, OutOfMemory, PicklestepError, ProgramError, Refused, TimedOut, TooLarge
 from .records import (Argument, Brief, Briefs, Change, End, Extension, Global, Item, Mark, Name, Object, Opcode, Ran, Reach, Ref, Shown,
                       Value, Where)
 from .session import Session
 from .source import PythonSource, source
 from .tasks import calls, listing, objects
+from .tree import Call, tree
+from .values import PlainValue
 
-__all__ = ['Answer', 'Argument', 'Brief', 'Briefs', 'Calls', 'Change', 'End', 'Extension', 'Global', 'Heap', 'Item', 'Items', 'Listing', 'Mark',
-           'Name', 'Object', 'Objects', 'Opcode', 'OutOfMemory', 'PicklestepError', 'ProgramError', 'PythonSource', 'Ran', 'Reach', 'Ref', 'Refused',
-           'Session', 'Shown', 'ShownObjects', 'TimedOut', 'TooLarge', 'Value', 'Where', 'calls', 'listing', 'objects', 'source']
+__all__ = ['Answer', 'Argument', 'Brief', 'Briefs', 'Call', 'Calls', 'Change', 'Difference', 'End', 'Extension', 'Global', 'Heap', 'Item',
+           'Items', 'Listing', 'Mark', 'Name', 'NoResult', 'Object', 'Objects', 'Opcode', 'OutOfMemory', 'PicklestepError', 'PlainValue',
+           'ProgramError', 'PythonSource', 'Ran', 'Reach', 'Ref', 'Refused', 'Session', 'Shown', 'ShownObjects', 'TimedOut', 'TooLarge',
+           'Value', 'Where', 'calls', 'compare', 'listing', 'objects', 'source', 'tree']

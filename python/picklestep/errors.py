@@ -4,7 +4,7 @@ from __future__ import annotations
 
 from typing import Optional
 
-__all__ = ['OutOfMemory', 'PicklestepError', 'ProgramError', 'Refused', 'TimedOut', 'TooLarge']
+__all__ = ['NoResult', 'OutOfMemory', 'PicklestepError', 'ProgramError', 'Refused', 'TimedOut', 'TooLarge']
 
 
 class PicklestepError(Exception):
@@ -27,6 +27,18 @@ class Refused(PicklestepError):
         super().__init__(text)
         self.text = text
         self.code = text.partition(' ')[0]
+
+
+class NoResult(PicklestepError):
+    """Reading ended before the pickle's STOP, so that there is no result.
+
+    >>> import picklestep
+    >>> try:
+    ...     picklestep.tree(b'N')
+    ... except picklestep.NoResult as error:
+    ...     print(error)
+    F1 ended at 1
+    """
 
 
 class ProgramError(PicklestepError):

@@ -10,9 +10,10 @@ import codecs
 import pickletools
 from typing import Any, Callable, Dict, Tuple, Union
 
-from .records import Argument
+__all__ = ['Argument', 'PLAIN_KINDS', 'PlainValue', 'Unreadable', 'argument_value', 'kind_value', 'read_form', 'unescaped']
 
-__all__ = ['PLAIN_KINDS', 'PlainValue', 'Unreadable', 'argument_value', 'kind_value', 'read_form', 'unescaped']
+# The argument of an opcode as it is shown: a number, a text as its bytes, the two lines of GLOBAL and INST, or none.
+Argument = Union[None, int, float, bytes, Tuple[bytes, bytes]]
 
 # What Python has as a plain value.
 PlainValue = Union[None, bool, int, float, str, bytes, bytearray, Tuple[Union[str, bytes], Union[str, bytes]]]
