@@ -15,7 +15,7 @@ from typing import List
 from .errors import ProgramError
 from .program import find_program
 
-_OWN = ('scan', 'view')
+_OWN = ('diff', 'scan', 'shell', 'source', 'view')
 
 
 def main(words: List[str]) -> int:
