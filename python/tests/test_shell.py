@@ -160,12 +160,11 @@ class Words(unittest.TestCase):
         for name, data in real_pickles().items():
             heap = picklestep.objects(data, many=True)
             with self.subTest(name), Shell(data, '', many=True) as shell:
-                history = shell.pickle.history()
-                self.assertEqual(len(history.makers), len(heap))
                 names = [opcode.name for opcode in picklestep.listing(data, many=True)]
+                self.assertIsNone(shell.pickle.maker(len(heap)))
                 for made in heap:
                     if made.changes and {change.how for change in made.changes} <= {'append', 'state'}:
-                        changers = [names[place] for place in history.changes[made.number]]
+                        changers = [names[place] for place in shell.pickle.changers(made.number)]
                         self.assertTrue(set(changers) <= {'APPEND', 'APPENDS', 'BUILD'}, changers)
                         self.assertEqual(changers.count('BUILD'), [change.how for change in made.changes].count('state'))
 
@@ -211,7 +210,7 @@ class Words(unittest.TestCase):
         self.assertIn('refused, S3 no memo entry 7', shell.obey('run'))
         self.assertEqual(self.place(shell), 2)
         self.assertIn('the end: F1', self.shell(b'(K\x01').obey('run'))
-        self.assertIn('the end: F1', self.shell(b'').obey('where'))
+        self.assertIn('the end: F1', self.shell(b'').obey('w'))
 
     def test_save(self) -> None:
         with tempfile.TemporaryDirectory() as folder:

@@ -87,9 +87,10 @@ def _protocol(pickle: Opened) -> int:
 
 def of_object(pickle: Opened, number: int, text: str) -> Edit:
     """The edit of the opcode that made an object."""
-    if not 0 <= number < len(pickle.history().makers):
+    maker = pickle.maker(number)
+    if maker is None:
         raise EditError(f'there is no object #{number}')
-    return of_words('replace', pickle.history().makers[number], text)
+    return of_words('replace', maker, text)
 
 
 def renaming(pickle: Opened, old: str, new: str) -> List[Edit]:
@@ -123,8 +124,10 @@ def _edits_of_import(pickle: Opened, offset: int, wanted: Tuple[str, str], names
     if opcode in ('GLOBAL', 'INST'):
         yield Edit('replace', place, opcode, wanted)
         return
-    made = pickle.final_object(place)
+    number = pickle.makes(place)
+    made = pickle.final_object(number) if number is not None else None
     for part, text, old in zip(made.parts if made is not None else (), wanted, names):
         if text != old:
-            maker = pickle.history().makers[part]
+            maker = pickle.maker(part)
+            assert maker is not None
             yield of_value(pickle, Edit('replace', maker, values=(text,)), pickle.lines.at(maker).name)

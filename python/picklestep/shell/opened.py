@@ -33,7 +33,7 @@ class Opened(Document):
     """A document whose objects can be described by their values, and that is edited at any place."""
 
     _bytes: Tuple[int, bytes] = (0, b'')
-    _history: Tuple[int, Optional[History]] = (0, None)
+    _history: Tuple[int, Dict[int, List[int]]] = (0, {})
 
     # --- The pickle ---
 
@@ -43,14 +43,20 @@ class Opened(Document):
             self._bytes = self.version, self.session.bytes()
         return self._bytes[1]
 
-    def history(self) -> History:
-        """Which opcode made and changed which object."""
-        if self._history[0] != self.version or self._history[1] is None:
+    def maker(self, number: int) -> Optional[int]:
+        """The place of the opcode that makes an object, if there is such an object."""
+        return self._makers[number] if 0 <= number < len(self._final) else None
+
+    def changers(self, number: int) -> List[int]:
+        """The places of the opcodes that change an object."""
+        made = self.final_object(number)
+        if made is not None and not made.changes:
+            return []
+        if self._history[0] != self.version:
             end = self.reaches.answer.end
             until = end.item if end.item is not None else len(self.lines)
-            self._history = self.version, History(self.lines, self._makers[:len(self._final)], until)
-        assert self._history[1] is not None
-        return self._history[1]
+            self._history = self.version, History(self.lines, self._makers[:len(self._final)], until).changes
+        return self._history[1].get(number, [])
 
     def reaches_at(self, offset: int) -> List[str]:
         """What `calls` says of the opcode at an offset."""
@@ -133,12 +139,15 @@ class Opened(Document):
         except (LinesError, ValueError):
             return None
 
-    def final_object(self, place: int) -> Optional[Object]:
-        """The object that the opcode at a place makes, as it is at the end."""
+    def makes(self, place: int) -> Optional[int]:
+        """The number of the object that the opcode at a place makes, if it makes one."""
         at = bisect_left(self._makers, place)
-        if at == len(self._makers) or self._makers[at] != place or at >= len(self._final):
-            return None
-        return object_of(self._final.raw(at))
+        return at if at < len(self._final) and self._makers[at] == place else None
+
+    def final_object(self, number: int) -> Optional[Object]:
+        """An object as it is at the end, unless its line is long."""
+        is_long = self._final.starts[number + 1] - self._final.starts[number] > _MOST_LINE
+        return None if is_long else object_of(self._final.raw(number))
 
     def described(self, number: int, depth: int = 1) -> str:
         """An object in a few words: its value, or what is called."""

@@ -36,7 +36,7 @@ class Shell:
     >>> with Shell(b'K\\x07.', '') as shell:
     ...     print(shell.obey('step'))
             0     0: BININT1 7
-      >     1     2: STOP
+    >       1     2: STOP
     stack: 7
     made:  #0 7
     """
@@ -206,10 +206,10 @@ class Shell:
 
     def _maker(self, text: str) -> int:
         number = self._count(text.lstrip('#'))
-        makers = self.pickle.history().makers
-        if not 0 <= number < len(makers):
+        maker = self.pickle.maker(number)
+        if maker is None:
             raise WordError(f'there is no object #{number}')
-        return makers[number]
+        return maker
 
     # --- Breaks ---
 
@@ -301,17 +301,20 @@ class Shell:
         rows = [f'{line.name}: {EXPLAINED[line.name]}', *(f'here: {reached}' for reached in self.pickle.reaches_at(line.offset))]
         if place == self._now()[0]:
             rows.append(f'the stack before it: {self._top()}')
-        made = self.pickle.final_object(place)
-        if made is not None:
-            takes = ', '.join(f'#{part} {self.pickle.described(part, 0)}' for part in made.parts[:4])
-            rows.append(f'it makes #{made.number}' + (f' of {takes}' if takes else '') + (f', .. {len(made.parts) - 4} more' if len(made.parts) > 4 else ''))
+        number = self.pickle.makes(place)
+        if number is not None:
+            made = self.pickle.final_object(number)
+            parts = made.parts if made is not None else ()
+            takes = ', '.join(f'#{part} {self.pickle.described(part, 0)}' for part in parts[:4])
+            more = f', .. {len(parts) - 4} more' if len(parts) > 4 else ''
+            rows.append(f'it makes #{number}' + (f' of {takes}{more}' if takes else ''))
         return '\n'.join(rows)
 
     def _do_who(self, text: str) -> str:
         maker = self._maker(text)
         number = self._count(text.lstrip('#'))
         here = self._now()[0]
-        changes = self.pickle.history().changes.get(number, [])
+        changes = self.pickle.changers(number)
         rows = ['made by', *self._rows(maker, maker + 1, here)]
         if changes:
             rows += ['changed by', *(self._row(place, here) for place in changes[:_MOST_LINES])]
@@ -337,15 +340,15 @@ class Shell:
 
     def _do_memo(self, text: str) -> str:
         self._here()
-        memo = self.pickle.session.memo()
+        answer = self.pickle.session.ask('memo').rstrip('\n')
         if text:
-            key = self._count(text)
-            if key not in memo:
-                raise WordError(f'nothing is stored under {key}')
-            return f'{key}: #{memo[key]} {self.pickle.described(memo[key])}'
-        shown = list(memo.items())[-_MOST_LINES:]
-        rows = [f'{key}: #{number} {self.pickle.described(number)}' for key, number in shown]
-        return '\n'.join(([f'.. {len(memo) - _MOST_LINES} before'] if len(memo) > _MOST_LINES else []) + rows) or 'empty'
+            found = re.search(f' {self._count(text)}=#([0-9]+)', answer)
+            if found is None:
+                raise WordError(f'nothing is stored under {text}')
+            return f'{text}: #{found[1]} {self.pickle.described(int(found[1]))}'
+        first, *shown = answer.rsplit(' ', _MOST_LINES) if answer.count(' ') > _MOST_LINES else ['', *answer.split(' ')[1:]]
+        rows = [f'{key}: #{number} {self.pickle.described(int(number))}' for key, _, number in (word.partition('=#') for word in shown)]
+        return '\n'.join(([f'.. {first.count(" ")} before'] if first else []) + rows) or 'empty'
 
     def _do_objects(self, text: str) -> str:
         self._here()
