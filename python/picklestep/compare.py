@@ -5,7 +5,7 @@ from __future__ import annotations
 import sys
 from dataclasses import dataclass
 from itertools import zip_longest
-from typing import Any, Dict, Iterator, List, Optional, Sequence, Set, Tuple
+from typing import Any, Dict, Iterator, List, Optional, Sequence, Set, Tuple, Union
 
 from .records import Extension, Global, Ref
 from .source.literals import literal
@@ -149,7 +149,7 @@ def shown_value(value: Any) -> str:
     ("'xxxxxxxxxxxxxxxxxxxxxxxxxxxxxxxxxxxxxxxxxxxxxxxxxxxxxxxxxxxxxxxx'+36", 'list of 2', '2.5')
     """
     if isinstance(value, Global):
-        return '.'.join(part.decode('utf-8', 'backslashreplace') if isinstance(part, bytes) else f'#{part.number}' for part in (value.module, value.name))
+        return f'{_shown_name(value.module)}.{_shown_name(value.name)}'
     if isinstance(value, Extension):
         return f'extension {value.code}'
     if isinstance(value, Ref):
@@ -162,6 +162,14 @@ def shown_value(value: Any) -> str:
     if isinstance(value, tuple) and _is_plain(value) and len(value) <= 4 and not any(isinstance(part, tuple) for part in value):
         return f"({', '.join(map(shown_value, value))}{',' if len(value) == 1 else ''})"
     return f'{type(value).__name__} of {len(value)}' if isinstance(value, (list, tuple, dict, set, frozenset)) else literal(value)
+
+
+def _shown_name(part: Union[bytes, Ref]) -> str:
+    """A part of a name. Letters that a terminal would obey are written with their escapes."""
+    if isinstance(part, Ref):
+        return f'#{part.number}'
+    text = part.decode('utf-8', 'backslashreplace')
+    return text if text.isprintable() else repr(text)[1:-1]
 
 
 def _shown_pair(one: Any, other: Any) -> Tuple[str, str]:

@@ -3,6 +3,7 @@
 from __future__ import annotations
 
 import collections
+import copyreg
 import datetime
 import decimal
 import enum
@@ -12,7 +13,7 @@ import pickle
 import random
 import uuid
 from dataclasses import dataclass, field
-from typing import Any, Callable, Dict, List, Optional
+from typing import Any, Callable, Dict, List, Optional, Tuple
 
 
 class Plain:
@@ -229,7 +230,9 @@ class _Canonical(pickle._Pickler):  # type: ignore[name-defined,misc]
     dispatch[set] = dispatch[frozenset] = save_members
 
     def reducer_override(self, obj: Any) -> Any:
-        """Sets have no order."""
+        """Sets have no order, and what was an argument of a call may hold what came of it."""
+        if isinstance(obj, Calls):
+            return copyreg.__newobj__, (Calls,), obj.__dict__  # type: ignore[attr-defined]
         return (type(obj), (sorted(obj, key=canonical),), obj.__dict__) if isinstance(obj, ManyMembers) else NotImplemented
 
 
@@ -251,3 +254,61 @@ def executed(text: str, persistent_load: Optional[Callable[[Any], Any]] = None, 
     names: Dict[str, Any] = {'persistent_load': persistent_load, 'buffers': iter(buffers)}
     exec(compile(text, 'the source', 'exec'), names)
     return names
+
+
+class Watcher:
+    """What it is made with, as that was when it was made: a call that comes too early or too late shows."""
+
+    def __init__(self, *values: Any) -> None:
+        self.seen = [repr_of(value) for value in values]
+        self.values = list(values)
+
+
+def repr_of(value: Any) -> str:
+    """A value as far as it goes without instances."""
+    if isinstance(value, (list, tuple, set, frozenset)):
+        return f'{type(value).__name__} of {len(value)}'
+    if isinstance(value, dict):
+        return f'dict of {list(value)!r:.200}' if all(isinstance(key, (int, str)) for key in value) else f'dict of {len(value)}'
+    return type(value).__name__
+
+
+def _possible(chosen: random.Random, stack: List[str], memo: Dict[int, str]) -> List[Tuple[int, str, bytes]]:
+    """What can come next: how many kinds it takes from the stack, which it puts on it (or none), and its bytes."""
+    top, below, under = (['', '', ''] + stack)[-1], (['', '', ''] + stack)[-2], (['', '', ''] + stack)[-3]
+    ways = [(0, 'atom', b'K' + bytes([chosen.randrange(9)])), (0, 'atom', b'\x8c\x01' + bytes([chosen.choice(b'abc')])),
+            (0, 'list', b']'), (0, 'dict', b'}'), (0, 'tuple', b')'), (0, 'set', b'\x8f')]
+    if stack:
+        ways += [(0, top, b'2'), (1, 'tuple', b'\x85'), (1, '', b'0')]
+        for kind in ('Watcher', 'Calls', 'ManyItems'):
+            wanted = kind != 'ManyItems' or top in ('list', 'tuple', 'set')
+            ways += [(1, kind, b'q\x090charmless\n%sh\x09\x85R' % f'{kind}\n'.encode())] * wanted
+        ways.append((0, 'Plain', b'charmless\nPlain\n)\x81'))
+    for key, kind in memo.items():
+        ways += [(0, kind, b'h' + bytes([key]))] * 2
+        if top in ('Plain', 'Watcher', 'ManyItems'):
+            ways += [(0, '', b'}\x8c\x01xh' + bytes([key]) + b'sb')] * 2
+    if len(stack) > 1:
+        ways += [(2, 'tuple', b'\x86')] + [(1, '', b'a')] * 4 * (below in ('list', 'Calls', 'ManyItems'))
+    ways += [(2, '', b's')] * 6 * (len(stack) > 2 and under in ('dict', 'Calls') and below == 'atom')
+    ways += [(0, '', b'(K\x01K' + bytes([chosen.randrange(9)]) + b'\x90')] * 3 * (top == 'set')
+    return ways
+
+
+def opcodes_at_random(seed: int) -> bytes:
+    """A pickle that no pickler writes: opcodes at random, each of which is possible where it comes."""
+    chosen = random.Random(seed)
+    stack: List[str] = []
+    memo: Dict[int, str] = {}
+    made: List[bytes] = [b'\x80\x04']
+    for _ in range(chosen.randrange(3, 80)):
+        if stack and chosen.random() < 0.25:
+            key = chosen.randrange(4)
+            memo[key] = stack[-1]
+            made.append(b'q' + bytes([key]))
+            continue
+        count, kind, code = chosen.choice(_possible(chosen, stack, memo))
+        del stack[len(stack) - count:]
+        stack += [kind] * bool(kind)
+        made.append(code)
+    return b''.join(made) + (b'.' if stack else b'N.')

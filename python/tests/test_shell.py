@@ -50,11 +50,17 @@ class AtATerminal(unittest.TestCase):
         self.addCleanup(folder.cleanup)
         self.folder = folder.name
 
-    def opened(self, data: bytes, name: str = 'a.pickle', **environment: str) -> Terminal:
+    def begun(self, data: bytes, name: str = 'a.pickle') -> Terminal:
+        """A shell that is being opened."""
         Path(self.folder, name).write_bytes(data)
-        terminal = Terminal([name], self.folder, **environment)
+        terminal = Terminal([name], self.folder)
         self.addCleanup(terminal.process.wait)
         self.addCleanup(terminal.process.kill)
+        return terminal
+
+    def opened(self, data: bytes, name: str = 'a.pickle') -> Terminal:
+        """A shell that waits for a line."""
+        terminal = self.begun(data, name)
         terminal.until('(pickle) ')
         return terminal
 
@@ -78,16 +84,18 @@ class AtATerminal(unittest.TestCase):
         self.assertEqual(Path(self.folder, 'new.pickle').read_bytes()[:2], b'\x80\x04')
 
     def test_help_and_the_example_of_each_word(self) -> None:
-        for name, word in WORDS.items():
-            with self.subTest(name):
-                with Shell(SAMPLE, '') as shell:
-                    wanted = [shell.obey(line) for line in word.example]
-                    self.assertIn(word.page, shell.obey(f'help {name}'))
-                terminal = self.opened(SAMPLE)
-                shown = [terminal.type(line) for line in word.example]
-                self.assertEqual(shown, wanted)
-                self.assertEqual([answer for answer in shown if answer.startswith(('refused', 'there is no'))], [])
-                self.assertEqual(terminal.close() if name == 'quit' else 0, 0)
+        names = list(WORDS)
+        for first in range(0, len(names), 6):  # (they open together, which takes less time than one after another)
+            terminals = [(name, self.begun(SAMPLE)) for name in names[first:first + 6]]
+            for name, terminal in terminals:
+                with self.subTest(name), Shell(SAMPLE, '') as shell:
+                    wanted = [shell.obey(line) for line in WORDS[name].example]
+                    self.assertIn(WORDS[name].page, shell.obey(f'help {name}'))
+                    terminal.until('(pickle) ')
+                    shown = [terminal.type(line) for line in WORDS[name].example]
+                    self.assertEqual(shown, wanted)
+                    self.assertEqual([answer for answer in shown if answer.startswith(('refused', 'there is no'))], [])
+                    self.assertEqual(terminal.close() if name == 'quit' else 0, 0)
 
     def test_enter_and_history(self) -> None:
         terminal = self.opened(SAMPLE)
@@ -204,6 +212,20 @@ class Words(unittest.TestCase):
                     shell.obey(line)
                 self.assertEqual(shell.pickle.content(), SAMPLE)
         self.assertEqual(self.place(shell), 0)
+
+    def test_the_cursor_stays_at_its_opcode(self) -> None:
+        shell = self.shell(SAMPLE)
+        for line, place in (('goto 8', 8), ('insert 3 POP', 9), ('delete 3', 8), ('insert 8 NONE', 8), ("set 1 to 'x'", 8)):
+            shell.obey(line)
+            self.assertEqual(self.place(shell), place)
+
+    def test_nothing_that_a_terminal_would_obey(self) -> None:
+        evil = '\x1b]0;x\x07\u202e\x9b'
+        data = f'c{evil}\n{evil}\n'.encode() + b'X' + len(evil.encode()).to_bytes(4, 'little') + evil.encode() + b'\x85R.'
+        shell = self.shell(data)
+        for line in ('run', 'calls', 'objects 0', 'show 0', 'show 3', 'list 0', 'goto 2', 'stack', 'explain', 'hex 0', 'source', 'who 1',
+                     'replace 1 1', 'diff', 'find x'):
+            self.assertTrue(all(row.isprintable() for row in shell.obey(line).split('\n')), line)
 
     def test_refused_opcodes_and_cut_files(self) -> None:
         shell = self.shell(b'K\x01q\x00h\x07.')

@@ -19,7 +19,7 @@ import unittest
 from typing import Any, List, Tuple
 
 import picklestep
-from harmless import Maker, canonical, executed
+from harmless import Maker, canonical, executed, opcodes_at_random
 from picklestep.source import main, source
 from pickles import HOSTILE, real_pickles
 
@@ -59,6 +59,13 @@ class Equality(unittest.TestCase):
                 self.assertEqual(canonical(made), canonical(pickle.loads(data)), f'seed {seed}')
                 tried += 1
         self.assertGreaterEqual(tried, 10_000)
+    def test_opcodes_at_random(self) -> None:
+        pickles = [opcodes_at_random(seed) for seed in range(3000)]
+        names = executed(source(b''.join(pickles), many=True).text)
+        for number, data in enumerate(pickles, 1):
+            made = names['result' if number == 1 else f'result_{number}']
+            self.assertEqual(canonical(made), canonical(pickle.loads(data)), f'seed {number - 1}')
+
 
 class Reaching(unittest.TestCase):
     """What reaches out has its offset, as `calls` has it, and its number."""

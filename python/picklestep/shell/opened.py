@@ -67,13 +67,15 @@ class Opened(Document):
         return found
 
     def edit_all(self, edits: Sequence[Edit]) -> List[int]:
-        """Makes edits, with the cursor before all of them, and goes back to where it was. Answers their places."""
+        """Makes edits, with the cursor before all of them, and goes back to the opcode where it was. Answers their places."""
         here = self.session.where().place
         done: List[int] = []
         try:
             if edits and min(edit.place for edit in edits) < here:
                 self.session.goto(0)
-            done += [self._edit_one(edit) for edit in edits]
+            for edit in edits:
+                done.append(self._edit_one(edit))
+                here += _SHIFTS.get(edit.word, 0) if edit.place < here else 0
         finally:
             if done:
                 self._undone.clear()
@@ -197,6 +199,7 @@ class Opened(Document):
 
 
 _MOST_LINE = 400
+_SHIFTS = {'insert': 1, 'frame': 1, 'delete': -1, 'unframe': -1}
 _BRACKETS: Dict[str, str] = {'list': '[]', 'tuple': '()', 'set': '{}', 'frozenset': '{}', 'dict': '{}'}
 
 
