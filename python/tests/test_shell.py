@@ -15,6 +15,7 @@ from pathlib import Path
 from typing import Iterator, List, Tuple
 
 import picklestep
+from picklestep.shell.complete import completions
 from picklestep.shell.explain import EXPLAINED
 from picklestep.shell.shell import Shell, WordError
 from picklestep.shell.words import SAMPLE, WORDS
@@ -212,6 +213,17 @@ class Words(unittest.TestCase):
                     shell.obey(line)
                 self.assertEqual(shell.pickle.content(), SAMPLE)
         self.assertEqual(self.place(shell), 0)
+
+    def test_what_a_step_changed(self) -> None:
+        shell = self.shell(b']q\x00K\x01a}K\x02Nsb.')
+        said = [shell.obey('step').split('\n')[-1] for _ in range(4)]
+        self.assertEqual(said, ['made:  #0 []', 'stored: #0 []', 'made:  #1 1', 'changed: #0 [1]'])
+
+    def test_completions(self) -> None:
+        shell = self.shell(SAMPLE)
+        for before, wanted in (('ru', ['run']), ('break o', ['opcode']), ('break opcode REDU', ['REDUCE']), ('goto @3', ['@31', '@33', '@35', '@36', '@38', '@39']),
+                               ('break call ', ['oldapp.tasks.send']), ('rename old', ['oldapp.tasks']), ('help who', ['who']), ('replace 3 BINF', ['BINFLOAT'])):
+            self.assertEqual(completions(shell.pickle, before), wanted, before)
 
     def test_the_cursor_stays_at_its_opcode(self) -> None:
         shell = self.shell(SAMPLE)

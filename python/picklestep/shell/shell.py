@@ -24,6 +24,8 @@ _AROUND = 3
 _MOST_LINES = 20
 _MOST_STACK = 3
 _MOST_BYTES = 256
+_FILLS = ('APPEND', 'APPENDS', 'SETITEM', 'SETITEMS', 'ADDITEMS', 'BUILD')
+_STORES = ('MEMOIZE', 'PUT', 'BINPUT', 'LONG_BINPUT')
 
 
 class WordError(ValueError):
@@ -141,9 +143,20 @@ class Shell:
         if before is not None and made > before[1]:
             shown = [f'#{number} {self.pickle.described(number)}' for number in range(max(before[1], made - 3), made)]
             rows.append('made:  ' + ', '.join(([f'{made - before[1] - 3} more'] if made - before[1] > 3 else []) + shown))
+        if before is not None and where.place > before[0]:
+            rows += self._changed(where.place - 1)
         if where.results:
             rows.append(f'result: {self.pickle.described(where.results[-1])}')
         return '\n'.join(([why] if why else []) + rows)
+
+    def _changed(self, place: int) -> List[str]:
+        """What the opcode that was just stepped over changed: an object, or the memo."""
+        name = self.pickle.lines.at(place).name
+        words = self.pickle.session.ask('stack').split()[1:] if name in _FILLS or name in _STORES else []
+        if not words:
+            return []
+        shown = f'{words[-1]} {self.pickle.described(int(words[-1][1:]))}'
+        return [f'changed: {shown}' if name in _FILLS else f'stored: {shown}']
 
     def _top(self) -> str:
         """The top of the stack, the highest first."""
