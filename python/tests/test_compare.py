@@ -57,14 +57,14 @@ class Tree(unittest.TestCase):
 
     def test_plain_data_is_what_loading_gives(self) -> None:
         tried = 0
-        for seed in range(4000):
+        for seed in range(1500):
             with contextlib.suppress(RecursionError):
                 data = pickle.dumps(Maker(seed).value(), seed % 6)
                 if any(opcode.name.endswith(('GLOBAL', 'INST')) for opcode, _, _ in pickletools.genops(data)):
                     continue
                 self.assertEqual(canonical(picklestep.tree(data)), canonical(pickle.loads(data)), seed)
                 tried += 1
-        self.assertGreater(tried, 400)
+        self.assertGreater(tried, 150)
 
     def test_calls(self) -> None:
         made = picklestep.tree(pickle.dumps(collections.OrderedDict(a=[1])))

@@ -43,7 +43,7 @@ class Builder:
         """A pickle begins."""
         self.stack.clear()
         self._marks: List[int] = []
-        self._memo: Dict[str, Entry] = {}
+        self._memo: Dict[int, Entry] = {}
         self._protocol = 0
 
     def read(self, column: int, lines: Iterable[str]) -> None:
@@ -146,13 +146,14 @@ class Builder:
         self.stack.append(self.stack[-1])
 
     def _on_put(self, line: str) -> None:
-        self._memo[line[line.rindex(' ') + 1:]] = self.stack[-1]
+        self._memo[int(line[line.rindex(' ') + 1:])] = self.stack[-1]
 
     def _on_memoize(self, line: str) -> None:
-        self._memo[str(len(self._memo))] = self.stack[-1]
+        memo = self._memo
+        memo[len(memo)] = self.stack[-1]
 
     def _on_get(self, line: str) -> None:
-        self.stack.append(self._memo[line[line.rindex(' ') + 1:]])
+        self.stack.append(self._memo[int(line[line.rindex(' ') + 1:])])
 
     def _on_stop(self, line: str) -> None:
         result = self._take(self.stack.pop())
