@@ -11,21 +11,27 @@ What is public is imported when it is first used: the entrance starts faster, an
 
 __version__ = '1.0.0'
 
-__all__ = ['Answer', 'Argument', 'Brief', 'Briefs', 'Calls', 'Change', 'End', 'Extension', 'Global', 'Heap', 'Item', 'Items', 'Listing', 'Mark',
-           'Name', 'NotAllowed', 'Object', 'Objects', 'Opcode', 'OutOfMemory', 'PicklestepError', 'ProgramError', 'Ran', 'Reach', 'Ref',
-           'Refused', 'Session', 'Shown', 'ShownObjects', 'TimedOut', 'TooLarge', 'Value', 'Where', 'calls', 'check', 'listing', 'objects']
+__all__ = ['Answer', 'Argument', 'Brief', 'Briefs', 'Call', 'Calls', 'Change', 'Difference', 'End', 'Extension', 'Global', 'Heap', 'Item',
+           'Items', 'Listing', 'Mark', 'Name', 'NoResult', 'NotAllowed', 'Object', 'Objects', 'Opcode', 'OutOfMemory', 'PicklestepError',
+           'PlainValue', 'ProgramError', 'PythonSource', 'Ran', 'Reach', 'Ref', 'Refused', 'Session', 'Shown', 'ShownObjects', 'TimedOut',
+           'TooLarge', 'Value', 'Where', 'calls', 'check', 'compare', 'listing', 'objects', 'source', 'tree']
 
 TYPE_CHECKING = False  # (`typing` would be an import)
 if TYPE_CHECKING:
     from .answers import Answer, Calls, Heap, Items, Listing, Objects, ShownObjects
-    from .errors import NotAllowed, OutOfMemory, PicklestepError, ProgramError, Refused, TimedOut, TooLarge
+    from .comparing import Difference, compare
+    from .errors import NoResult, NotAllowed, OutOfMemory, PicklestepError, ProgramError, Refused, TimedOut, TooLarge
+    from .python_source import PythonSource, source
     from .records import (Argument, Brief, Briefs, Change, End, Extension, Global, Item, Mark, Name, Object, Opcode, Ran, Reach, Ref, Shown,
                           Value, Where)
     from .scan.checking import check
     from .session import Session
     from .tasks import calls, listing, objects
+    from .trees import Call, tree
+    from .values import PlainValue
 
-_MODULES = ('answers', 'errors', 'records', 'session', 'tasks', 'scan.checking')
+# No public name is that of a module: who imports the module would get that in its place.
+_MODULES = ('answers', 'comparing', 'errors', 'python_source', 'records', 'scan.checking', 'session', 'tasks', 'trees', 'values')
 
 
 def __getattr__(name: str) -> object:

@@ -15,7 +15,8 @@ __all__ = ['main', 'run', 'run_scan']
 _HERE = os.path.dirname(os.path.realpath(__file__))
 # Each word of the program has a page here, by which it is known.
 _PAGES = os.path.join(_HERE, 'help')
-_OWN = ('scan', 'view')
+# The words of this package, and the modules that do them.
+_OWN = {'diff': 'diff', 'scan': 'scan', 'shell': 'shell', 'source': 'python_source', 'view': 'view'}
 _ASKS_HELP = ('--help', '-h')
 
 
@@ -94,7 +95,7 @@ def _do_apart(words: 'list[str]') -> int:
         options = ['-I', '-B'] if sys.dont_write_bytecode else ['-I']
         os.execv(sys.executable, [sys.executable, *options, os.path.join(_HERE, 'entrance.py'), *words])
     from importlib import import_module
-    status: int = import_module(f'picklestep.{words[0]}').main(words[1:])
+    status: int = import_module(f'picklestep.{_OWN[words[0]]}').main(words[1:])
     return status
 
 

@@ -4,7 +4,14 @@ from __future__ import annotations
 
 from typing import List, Optional, Sequence
 
-__all__ = ['NotAllowed', 'OutOfMemory', 'PicklestepError', 'ProgramError', 'Refused', 'TimedOut', 'TooLarge']
+__all__ = ['NoResult', 'NotAllowed', 'OutOfMemory', 'PicklestepError', 'ProgramError', 'Refused', 'TimedOut', 'TooLarge']
+
+
+def reason(error: Exception) -> str:
+    """What is wrong, in the words of the command line: of a file that cannot be read, which and why."""
+    if isinstance(error, OSError) and error.filename is not None:
+        return f'cannot read {error.filename}: {error.strerror}'
+    return str(error)
 
 
 class PicklestepError(Exception):
@@ -27,6 +34,18 @@ class Refused(PicklestepError):
         super().__init__(text)
         self.text = text
         self.code = text.partition(' ')[0]
+
+
+class NoResult(PicklestepError):
+    """Reading ended before the pickle's STOP, so that there is no result.
+
+    >>> import picklestep
+    >>> try:
+    ...     picklestep.tree(b'N')
+    ... except picklestep.NoResult as error:
+    ...     print(error)
+    F1 ended at 1
+    """
 
 
 class ProgramError(PicklestepError):

@@ -6,13 +6,12 @@ import sys
 from dataclasses import dataclass
 from typing import Any, Dict, Optional, Tuple, Union
 
+from .values import PLAIN_KINDS, Argument, PlainValue, argument_value, kind_value
+
 __all__ = ['Argument', 'Brief', 'Briefs', 'Change', 'End', 'Extension', 'Global', 'Item', 'Mark', 'Name', 'Object', 'Opcode', 'Ran',
            'Reach', 'Ref', 'Shown', 'Value', 'Where']
 
 _SLOTS: Dict[str, Any] = {'slots': True} if sys.version_info >= (3, 10) else {}
-
-# The value of an argument: a number, a text as its bytes, the two lines of GLOBAL and INST, or none.
-Argument = Union[None, int, float, bytes, Tuple[bytes, bytes]]
 
 
 @dataclass(frozen=True, **_SLOTS)
@@ -64,6 +63,17 @@ class Opcode:
     note: str
     marks: int
 
+    @property
+    def value(self) -> PlainValue:
+        r"""The argument as a value of Python: a text, a number, bytes, two texts of GLOBAL and INST; of NONE, NEWTRUE and NEWFALSE what
+        they make. What no loader could read stays bytes.
+
+        >>> import picklestep
+        >>> [opcode.value for opcode in picklestep.listing(b'\x8c\x03\xe2\x82\xacI42\n\x88t.')]
+        ['€', 42, True, None]
+        """
+        return argument_value(self.name, self.argument)
+
 
 @dataclass(frozen=True, **_SLOTS)
 class Change:
@@ -98,6 +108,16 @@ class Object:
     text: Argument
     parts: Tuple[int, ...]
     changes: Tuple[Change, ...]
+
+    @property
+    def value(self) -> Union[PlainValue, Ref]:
+        r"""What a plain object is in Python; of any other object a `Ref` to it (`picklestep.tree` has these).
+
+        >>> import picklestep
+        >>> [made.value for made in picklestep.objects(b'G@\x04\x00\x00\x00\x00\x00\x00L7L\n\x86.')]
+        [2.5, 7, Ref(number=2)]
+        """
+        return kind_value(self.kind, self.text) if self.kind in PLAIN_KINDS else Ref(self.number)
 
 
 @dataclass(frozen=True, **_SLOTS)

@@ -1,0 +1,108 @@
+"""The lines of a listing as the program writes them, for what reads each opcode of a large pickle once.
+
+A listing's lines have their columns from the left: the offset, a colon, the code, and the name behind four blanks for each open mark. All
+lines whose offsets have as many digits begin their codes in the same column, so a batch of lines has one column.
+"""
+
+from __future__ import annotations
+
+import re
+from typing import Dict, Iterator, List, Optional, Tuple
+
+from .errors import ProgramError
+from .program import Process
+from .records import End
+from .sources import Input
+from .texts import end_of
+
+__all__ = ['Listed', 'offset_of']
+
+_CLOSING = re.compile('\n[a-z]')  # (a line of an opcode begins with a blank or a digit)
+
+
+class Listed:
+    """The opcodes of an input, in batches of lines. `end` and `kept` are there after the last batch.
+
+    A refused opcode is in no batch, since it does nothing; `refused` is its line then.
+    """
+
+    def __init__(self, given: Input, many: bool = False, timeout: Optional[float] = None, memory: Optional[int] = None) -> None:
+        words = ['list', given.path, *(['--many'] if many else [])]
+        self._blocks = Process(words, given.files, memory).blocks(timeout)
+        self._closing: Dict[str, str] = {}
+        self._is_whole = False
+        self.refused = ''
+        self.places = 0
+
+    def batches(self) -> Iterator[Tuple[int, List[str]]]:
+        """Lines, and the column in which their codes begin. A line of what STOP left comes in no batch."""
+        parts: List[bytes] = []  # of the line that is not at its end
+        held = ''
+        for block in self._blocks:
+            whole, newline, rest = block.rpartition(b'\n')
+            if not newline:
+                parts.append(rest)
+                continue
+            text = b''.join([*parts, whole]).decode('ascii')
+            parts = [rest]
+            lines = [held, *text.split('\n')] if held else text.split('\n')
+            if text[0].isalpha() or _CLOSING.search(text):
+                lines = self._without_closing(lines)
+            held = lines.pop() if lines else ''  # (it may be refused, which only the next line says)
+            yield from self._in_columns(lines)
+        if any(parts) or not self._is_whole:
+            raise ProgramError('the program gave no whole answer')
+        if 'refused' in self._closing:
+            self.refused = held
+            self.places += 1
+        elif held:
+            yield from self._in_columns([held])
+
+    def _without_closing(self, lines: List[str]) -> List[str]:
+        """The lines of opcodes. What else there is, is kept by its words."""
+        found = []
+        for line in lines:
+            if line[:1].isalpha():
+                word, _, text = line.partition(' = ' if line.startswith('highest') else ': ')
+                self._closing[word] = text
+                self._is_whole = self._is_whole or word not in ('left', 'kept')
+            else:
+                found.append(line)
+        return found
+
+    def _in_columns(self, lines: List[str]) -> Iterator[Tuple[int, List[str]]]:
+        """Lines in batches of one column each. Columns only grow."""
+        self.places += len(lines)
+        while lines:
+            column = lines[0].index(':') + 2
+            if lines[-1].index(':') + 2 == column:
+                yield column, lines
+                return
+            low, high = 0, len(lines) - 1
+            while low < high:
+                middle = (low + high) // 2
+                low, high = (middle + 1, high) if lines[middle].index(':') + 2 == column else (low, middle)
+            yield column, lines[:low]
+            lines = lines[low:]
+
+    @property
+    def end(self) -> End:
+        """How reading ended."""
+        if 'refused' in self._closing:
+            text = self._closing['refused']
+            return End('refused', text.partition(' ')[0], text, offset_of(self.refused), self.places - 1)
+        return end_of(self._closing.get('fault', 'stopped'))
+
+    @property
+    def kept(self) -> int:
+        """How many bytes are after STOP."""
+        return int(self._closing.get('kept', '0').partition(' ')[0])
+
+
+def offset_of(line: str) -> int:
+    """The offset that a line begins with.
+
+    >>> offset_of('   11: N    NONE')
+    11
+    """
+    return int(line[:line.index(':')])

@@ -1,0 +1,98 @@
+"""A pickle as Python source."""
+
+from __future__ import annotations
+
+import contextlib
+import gc
+import re
+from typing import Iterator, List, Optional
+
+from ..answers import Answer
+from ..listed import Listed
+from ..records import End
+from ..sources import Input, Source
+from .builder import Builder
+from .helpers import HELPERS
+from .nodes import Event, Statement
+from .writer import Writer
+
+__all__ = ['PythonSource', 'source']
+
+_HEAD = '# What loading the pickle would do. Running this does the same.\n'
+
+
+class PythonSource(Answer[str]):
+    """A pickle as Python source: a sequence over the lines of `text`. `end` says how reading ended, `kept` how many bytes are after STOP.
+
+    >>> import picklestep
+    >>> picklestep.source(b'N.')[-1], picklestep.source(b'N').end.code
+    ('result = None', 'F1')
+    """
+
+    _line = re.compile(r'^.*\n', re.MULTILINE)
+
+    def __init__(self, text: str, end: End, kept: int) -> None:
+        super().__init__(text)
+        self.end = end
+        self.kept = kept
+
+    def _read(self, match: 're.Match[str]') -> str:
+        return match[0][:-1]
+
+    def __str__(self) -> str:
+        return self.text
+
+    def _summary(self) -> str:
+        return f'{len(self)} lines, {self.end.text}'
+
+
+def source(pickle: Source, *, full: bool = True, many: bool = False, timeout: Optional[float] = None,
+           memory: Optional[int] = None) -> PythonSource:
+    """A pickle as Python source: what loading it would import, call, build and change, one statement for each.
+
+    Plain values are written where they are used; what is used twice has a name with the number of the object. A statement that reaches out
+    of the pickle has the offset of its opcode behind it. Unless it is `full`, texts are cut after 64 letters and containers after 16 items;
+    `cut(N)` stands for N that are not shown. It is to be read: whoever runs it does what loading the pickle would do.
+
+    >>> print(source(b'cposix\\nsystem\\n(X\\x02\\x00\\x00\\x00idtR.'))
+    # What loading the pickle would do. Running this does the same.
+    from posix import system  # 0
+    _3 = system('id')  # 23
+    result = _3
+    <BLANKLINE>
+    """
+    builder = Builder()
+    with _without_collector(), Input(pickle) as given:
+        listed = Listed(given, many, timeout, memory)
+        for column, lines in listed.batches():
+            builder.read(column, lines)
+        return _written(builder, listed, full)
+
+
+def _written(builder: Builder, listed: Listed, full: bool) -> PythonSource:
+    """The source of what was built."""
+    left: List[Event] = []
+    if not listed.end.is_stopped:
+        left.append(Statement('stack = [' + ', '.join(['{}'] * len(builder.stack)) + ']', builder.leave()))
+    writer = Writer(full)
+    writer.write(builder.events)
+    if left:
+        place = f' at {listed.end.offset}' if listed.refused else ''
+        writer.lines.append(f'# {listed.end.text}{place}: reading ends here, and the stack is')
+        writer.write(left)
+    if listed.kept:
+        writer.lines.append(f'# {listed.kept} bytes after STOP are not read')
+    head = ''.join(text for need, text in HELPERS.items() if need in builder.needs)
+    return PythonSource(_HEAD + head + '\n'.join(writer.lines) + '\n', listed.end, listed.kept)
+
+
+@contextlib.contextmanager
+def _without_collector() -> Iterator[None]:
+    """Many objects are made and none is garbage: the collector would look at all of them again and again."""
+    was_on = gc.isenabled()
+    gc.disable()
+    try:
+        yield
+    finally:
+        if was_on:
+            gc.enable()

@@ -1,0 +1,39 @@
+"""The words of `picklestep source`."""
+
+from __future__ import annotations
+
+import argparse
+import sys
+from typing import List
+
+from ..errors import PicklestepError, reason
+from .code import source
+
+__all__ = ['main']
+
+
+def _parser() -> argparse.ArgumentParser:
+    parser = argparse.ArgumentParser(prog='picklestep source', description='Shows a pickle as Python source; nothing of it is run.')
+    parser.add_argument('file', metavar='FILE', help='the pickle')
+    parser.add_argument('--many', action='store_true', help='FILE holds several pickles one after another')
+    parser.add_argument('--full', action='store_true', help='show texts and containers whole')
+    return parser
+
+
+def print_text(text: str) -> None:
+    """Writes a text to standard output. Letters that this has not are written with their escapes, which are the same text in Python."""
+    encoding = sys.stdout.encoding or 'ascii'
+    sys.stdout.write(text.encode(encoding, 'backslashreplace').decode(encoding))
+    sys.stdout.flush()
+
+
+def main(arguments: List[str]) -> int:
+    """Writes the source of a pickle. The status is 1 where reading ended early, and 2 where there is no answer."""
+    options = _parser().parse_args(arguments)
+    try:
+        answer = source(options.file, full=options.full, many=options.many)
+        print_text(answer.text)
+    except (OSError, PicklestepError) as error:
+        print(f'picklestep: {reason(error)}', file=sys.stderr)
+        return 2
+    return 0 if answer.end.is_stopped else 1

@@ -1,0 +1,63 @@
+"""The functions that a source defines for what Python has no statement for."""
+
+from __future__ import annotations
+
+from typing import Dict
+
+__all__ = ['HELPERS']
+
+_IMPORT_MODULE = '''from importlib import import_module
+'''
+
+_EXTENSION = '''
+def extension(code):
+    """What EXT1, EXT2 and EXT4 stand for."""
+    module, name = import_module('copyreg')._inverted_registry[code]
+    return getattr(import_module(module), name)
+
+'''
+
+_INSTANTIATE = '''
+def instantiate(kind):
+    """What INST and OBJ make without arguments."""
+    if isinstance(kind, type) and not hasattr(kind, '__getinitargs__'):
+        return kind.__new__(kind)
+    return kind()
+
+'''
+
+_SET_STATE = '''
+def set_state(thing, state):
+    """What BUILD does."""
+    if getattr(thing, '__setstate__', None) is not None:
+        thing.__setstate__(state)
+        return
+    state, slots = state if isinstance(state, tuple) and len(state) == 2 else (state, None)
+    if state:
+        thing.__dict__.update(state)
+    for name, value in (slots or {}).items():
+        setattr(thing, name, value)
+
+'''
+
+_EXTEND = '''
+def extend(thing, items):
+    """What APPENDS does to an object that is no plain list."""
+    if hasattr(thing, 'extend'):
+        thing.extend(items)
+        return
+    for item in items:
+        thing.append(item)
+
+'''
+
+_PERSISTENT = '''# persistent_load(identity) is to be given: it answers the object of a persistent id.
+'''
+
+_BUFFERS = '''# buffers is to be given: an iterator over the buffers that are kept outside the pickle.
+'''
+
+# By what a source needs, in the order in which they are written.
+HELPERS: Dict[str, str] = {
+    'persistent_load': _PERSISTENT, 'buffers': _BUFFERS, 'import_module': _IMPORT_MODULE, 'extension': _EXTENSION, 'instantiate': _INSTANTIATE,
+    'set_state': _SET_STATE, 'extend': _EXTEND}

@@ -1,0 +1,138 @@
+"""Writes what happened as Python statements."""
+
+from __future__ import annotations
+
+from ast import literal_eval
+from typing import Callable, Dict, Iterable, List, Optional, Sequence, Tuple
+
+from .names import is_identifier
+from .nodes import Arguments, Called, Entry, Event, Filled, Node, Paired, Statement
+
+__all__ = ['Writer']
+
+_COLUMNS = 100
+_MOST_DEPTH = 6  # brackets in brackets; what has more gets a name of its own (Python reads no more than 200)
+_MOST_ITEMS = 16
+_MOST_LETTERS = 64
+
+_BRACKETS = {'list': ('[', ']'), 'tuple': ('(', ')'), 'set': ('{', '}'), 'dict': ('{', '}'), 'frozenset': ('frozenset({', '})')}
+_EMPTY = {'set': 'set()', 'frozenset': 'frozenset()'}
+
+
+class Writer:
+    """The statements of a source. Unless it is `full`, texts and containers are cut as in `calls`."""
+
+    def __init__(self, full: bool) -> None:
+        self.lines: List[str] = []
+        self._full = full
+        self._writers: Dict[type, Callable[..., None]] = {
+            Node: self._place, Statement: self._statement, Called: self._called, Filled: self._filled, Paired: self._paired}
+
+    def write(self, events: Iterable[Event]) -> None:
+        """Writes what happened, in its order."""
+        writers = self._writers
+        for event in events:
+            writers[type(event)](event)
+
+    def _end(self, statement: str, offset: Optional[int], note: str = '') -> None:
+        """A statement ends, with its opcode's offset where it reaches out of the pickle."""
+        self.lines.append(statement if offset is None else f'{statement}  # {offset}{note}')
+
+    # --- Objects ---
+
+    def _place(self, node: Node) -> None:
+        """A node comes to be. It gets a statement where it is used more than once, or is deep."""
+        if node.kind == 'atom':
+            text, depth = self._atom(node.text), 0
+        else:
+            text, depth = self._container(node)
+        if node.uses > 1 or depth > _MOST_DEPTH:
+            node.text, node.is_named = f'_{node.number}', True
+            self.lines.append(f'{node.text} = {text}')
+        else:
+            node.text, node.depth = text, depth
+
+    def _atom(self, text: str) -> str:
+        """A long plain value. What is cut off is counted in letters of its source, or in those of the text or the bytes that it is."""
+        if self._full or len(text) <= _MOST_LETTERS + 20:
+            return text
+        start = text[:2].lstrip('b')[:1]
+        if start not in ('"', "'") or not text.endswith(start):
+            return f'cut({text[:_MOST_LETTERS]!r}, {len(text) - _MOST_LETTERS})'
+        value = literal_eval(text)
+        more = len(value) - _MOST_LETTERS
+        return f'{value[:_MOST_LETTERS]!r} + cut({more})' if more > 0 else text
+
+    def _container(self, node: Node) -> Tuple[str, int]:
+        """The literal of a container, and how deep it is."""
+        items = node.items
+        if not items:
+            return _EMPTY.get(node.kind) or ''.join(_BRACKETS[node.kind]), 0
+        shown = items if self._full or len(items) <= _MOST_ITEMS else items[:_MOST_ITEMS * (2 if node.kind == 'dict' else 1)]
+        texts = list(map('%s: %s'.__mod__, zip(shown[::2], shown[1::2]))) if node.kind == 'dict' else list(map(str, shown))
+        if len(shown) < len(items):
+            texts.append(f'**cut({(len(items) - len(shown)) // 2})' if node.kind == 'dict' else f'*cut({len(items) - len(shown)})')
+        depth = max([inner.depth for inner in node.inner]) if node.inner else 0
+        return _bracketed(*_BRACKETS[node.kind], texts, node.kind == 'tuple'), depth + 1
+
+    # --- What happens ---
+
+    def _statement(self, statement: Statement) -> None:
+        self._end(statement.form.format(*map(str, statement.parts)), statement.offset, statement.note)
+
+    def _called(self, called: Called) -> None:
+        function = called.form.format(str(called.function))
+        arguments = _bracketed(function + '(', ')', self._arguments(called.arguments), False)
+        self._end(f'_{called.number} = {arguments}', called.offset)
+
+    def _arguments(self, arguments: Arguments) -> List[str]:
+        texts = self._shown(arguments.items, '*')
+        spread, keywords = arguments.spread, arguments.keywords
+        if isinstance(spread, Node) and spread.kind == 'tuple' and not spread.is_named:
+            texts += self._shown(spread.items, '*')
+        elif spread is not None and spread != '()':
+            texts.append('*' + str(spread))
+        if keywords is not None:
+            texts += self._keywords(keywords)
+        return texts
+
+    def _shown(self, entries: Sequence[Entry], star: str) -> List[str]:
+        """How entries appear, as many as are shown, and how many more there are."""
+        shown = entries if self._full else entries[:_MOST_ITEMS]
+        return [str(entry) for entry in shown] + ([f'{star}cut({len(entries) - len(shown)})'] if len(shown) < len(entries) else [])
+
+    def _keywords(self, keywords: Entry) -> List[str]:
+        if not isinstance(keywords, Node) or keywords.is_named or keywords.kind != 'dict':
+            return ['**' + str(keywords)]
+        names = [key[1:-1] if isinstance(key, str) and key[:1] == "'" else '' for key in keywords.items[::2]]
+        if len(set(names)) == len(names) <= _MOST_ITEMS and all(map(is_identifier, names)):
+            return [f'{name}={str(value)}' for name, value in zip(names, keywords.items[1::2])]
+        return ['**' + str(keywords)]
+
+    def _filled(self, filled: Filled) -> None:
+        texts = self._shown(filled.items, '*')
+        for text in texts if filled.is_each else [_bracketed('[', ']', texts, False)]:
+            self._end(filled.form.format(filled.target, text), filled.offset)
+
+    def _paired(self, paired: Paired) -> None:
+        target = str(paired.target)
+        count = len(paired.items) // 2
+        shown = count if self._full else min(count, _MOST_ITEMS)
+        for key, value in zip(paired.items[:2 * shown:2], paired.items[1::2]):
+            self._end(f'{target}[{str(key)}] = {str(value)}', paired.offset)
+        if shown < count:
+            self._end(f'{target}.update(cut({count - shown}))', paired.offset)
+
+
+def _bracketed(start: str, end: str, texts: List[str], is_tuple: bool) -> str:
+    """Texts in brackets: in one line where that is short."""
+    inner = ', '.join(texts)
+    if len(inner) + len(start) < _COLUMNS and '\n' not in inner:
+        return f'{start}{inner},{end}' if is_tuple and len(texts) == 1 else start + inner + end
+    longest = max(map(len, texts))
+    if longest < _COLUMNS // 4 and '\n' not in inner:
+        count = _COLUMNS // (longest + 2)
+        texts = [', '.join(texts[at:at + count]) for at in range(0, len(texts), count)]
+    elif '\n' in inner:
+        texts = [text.replace('\n', '\n    ') for text in texts]
+    return f'{start}\n    ' + ',\n    '.join(texts) + f',\n{end}'

@@ -1,0 +1,108 @@
+"""Breakpoints: on a place, an opcode, an import, a call, a text, a memo key, or a number of open marks."""
+
+from __future__ import annotations
+
+from bisect import bisect_left
+from dataclasses import dataclass
+from fnmatch import fnmatchcase
+from typing import Callable, Dict, Iterator, Optional
+
+from ..records import Global
+from ..view.lines import Line
+from .opened import Opened
+
+__all__ = ['Break', 'BREAKS', 'next_break']
+
+_IMPORTS = ('import', 'inst')
+_CALLS = ('inst', 'call', 'new')
+
+
+@dataclass
+class Break:
+    """A breakpoint. `what` is its kind, `text` what is looked for."""
+
+    number: int
+    what: str
+    text: str
+    is_on: bool = True
+
+    def __str__(self) -> str:
+        return f'{self.number}: {self.what} {self.text}{"" if self.is_on else " (off)"}'
+
+
+def _around(pickle: Opened, text: bytes, place: int, step: int) -> Iterator[int]:
+    """The places whose lines hold a text, from a place on, forwards or backwards."""
+    lines = pickle.lines
+    if step > 0:
+        at = lines.starts[min(place, len(lines))] - 1
+        while (at := lines.text.find(text, at + 1)) >= 0:
+            yield lines.number_at(at)
+    else:
+        at = lines.starts[max(0, place + 1)]
+        while (at := lines.text.rfind(text, 0, at)) >= 0:
+            yield lines.number_at(at)
+
+
+def _at_place(pickle: Opened, text: str, place: int, step: int) -> Iterator[int]:
+    if (int(text) - place) * step >= 0:
+        yield int(text)
+
+
+def _opcode(pickle: Opened, text: str, place: int, step: int) -> Iterator[int]:
+    found = _around(pickle, b' ' + text.encode('ascii', 'replace'), place, step)
+    return (at for at in found if pickle.lines.at(at).name == text)
+
+
+def _text(pickle: Opened, text: str, place: int, step: int) -> Iterator[int]:
+    wanted = text.encode('utf-8', 'surrogatepass')
+    shown = ''.join(f'\\x{byte:02x}' if not 32 <= byte < 127 else f'\\{byte:c}' if byte in b"\\'" else chr(byte) for byte in wanted)
+    return (at for at in _around(pickle, shown.encode('ascii'), place, step) if shown in pickle.lines.at(at).argument)
+
+
+def _memo(pickle: Opened, text: str, place: int, step: int) -> Iterator[int]:
+    def is_key(line: Line) -> bool:
+        return line.name == 'MEMOIZE' and line.argument == f'(as {text})' or line.name.endswith(('PUT', 'GET')) and line.argument == text
+
+    return (at for at in _around(pickle, text.encode('ascii', 'replace'), place, step) if is_key(pickle.lines.at(at)))
+
+
+def _depth(pickle: Opened, text: str, place: int, step: int) -> Iterator[int]:
+    found = _around(pickle, b' ' * (4 * int(text) + 1), place, step)
+    return (at for at in found if pickle.lines.at(at).marks >= int(text))
+
+
+def _reached(kinds: 'tuple[str, ...]') -> 'Callable[[Opened, str, int, int], Iterator[int]]':
+    """Lines of `calls` whose names a pattern matches."""
+
+    def found(pickle: Opened, text: str, place: int, step: int) -> Iterator[int]:
+        reaches, offset = pickle.reaches, pickle.lines.offset(min(place, len(pickle.lines) - 1)) if len(pickle.lines) else 0
+        at = bisect_left(reaches.offsets, offset)
+        numbers = range(at, len(reaches.offsets)) if step > 0 else range(min(at, len(reaches.offsets) - 1), -1, -1)
+        for number in numbers:
+            where = pickle.lines.place_of(reaches.offsets[number])
+            if reaches.kinds[number] in kinds and (where - place) * step >= 0:
+                name = reaches.answer[number].name
+                if isinstance(name, Global) and fnmatchcase(dotted(name), text):
+                    yield where
+
+    return found
+
+
+def dotted(name: Global) -> str:
+    """A name as `module.name`."""
+    parts = (part if isinstance(part, bytes) else b'?' for part in (name.module, name.name))
+    return b'.'.join(parts).decode('utf-8', 'replace')
+
+
+BREAKS: Dict[str, Callable[[Opened, str, int, int], Iterator[int]]] = {
+    'at': _at_place, 'opcode': _opcode, 'import': _reached(_IMPORTS), 'call': _reached(_CALLS), 'text': _text, 'memo': _memo, 'depth': _depth}
+
+
+def next_break(pickle: Opened, breaks: 'list[Break]', place: int, step: int) -> Optional[int]:
+    """The nearest place behind this one (before it, where `step` is below 0) at which a breakpoint is."""
+    nearest: Optional[int] = None
+    for point in breaks:
+        found = next(BREAKS[point.what](pickle, point.text, place + step, step), None) if point.is_on and place + step >= 0 else None
+        if found is not None and (nearest is None or (found - nearest) * step < 0):
+            nearest = found
+    return nearest

@@ -1,0 +1,82 @@
+"""The words of `picklestep shell`."""
+
+from __future__ import annotations
+
+import argparse
+import sys
+from typing import Iterable, List
+
+from ..errors import PicklestepError, reason
+from ..python_source.command import print_text
+from .complete import completions
+from .shell import Shell, WordError
+from .terminal import Terminal, is_terminal
+
+__all__ = ['main']
+
+
+def _parser() -> argparse.ArgumentParser:
+    parser = argparse.ArgumentParser(prog='picklestep shell', description='Steps through a pickle, looks at it and edits it; nothing of it is run.')
+    parser.add_argument('file', metavar='FILE', help='the pickle')
+    parser.add_argument('--many', action='store_true', help='FILE holds several pickles one after another')
+    parser.add_argument('--batch', metavar='SCRIPT', help='obey the lines of a file, up to the first that cannot be obeyed')
+    return parser
+
+
+def main(arguments: List[str]) -> int:
+    """Obeys lines. The status is 1 where a line of a script could not be obeyed, and 2 where the pickle could not be opened."""
+    options = _parser().parse_args(arguments)
+    try:
+        with Shell(options.file, options.file, options.many) as shell:
+            if options.batch is not None:
+                with open(options.batch, encoding='utf-8') as script:
+                    return _obey_all(shell, options.batch, script)
+            if not is_terminal():
+                return _obey_all(shell, 'standard input', sys.stdin)
+            return _converse(shell)
+    except (OSError, UnicodeDecodeError, PicklestepError) as error:
+        print(f'picklestep: {reason(error)}', file=sys.stderr)
+        return 2
+    except KeyboardInterrupt:
+        print('picklestep: interrupted', file=sys.stderr)
+        return 1
+
+
+def _obey_all(shell: Shell, name: str, lines: Iterable[str]) -> int:
+    """Obeys the lines of a script."""
+    for number, line in enumerate(lines, 1):
+        try:
+            answer = shell.obey(line) if line.strip() else ''
+        except WordError as error:
+            print(f'picklestep: {name}, line {number}: {error}', file=sys.stderr)
+            return 1
+        if answer:
+            print_text(answer + '\n')
+        if shell.is_over:
+            break
+    if shell.is_unsaved:
+        print('picklestep: the edits were not saved', file=sys.stderr)
+    return 0
+
+
+def _converse(shell: Shell) -> int:
+    """Obeys lines that are typed."""
+    terminal = Terminal(lambda before: completions(shell.pickle, before))
+    shell.ask = terminal.ask
+    terminal.show(shell.obey('where') + '\n`help` shows the words.')
+    try:
+        while not shell.is_over:
+            for line in terminal.lines():
+                try:
+                    answer = shell.obey(line)
+                except WordError as error:
+                    answer = str(error)
+                if answer:
+                    terminal.show(answer)
+                if shell.is_over:
+                    break
+            else:
+                shell.obey('quit')
+    finally:
+        terminal.close()
+    return 0

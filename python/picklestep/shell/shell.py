@@ -1,0 +1,495 @@
+"""The shell's words: each is obeyed by the proved program's session, and answered with values and names."""
+
+from __future__ import annotations
+
+import re
+import shlex
+from typing import Callable, Dict, List, Optional, Tuple
+
+from ..comparing import compare, shown_value
+from ..errors import NoResult, PicklestepError, Refused
+from ..records import Ref
+from ..python_source import source
+from ..sources import Source
+from ..texts import LinesError, opcode_of
+from .breaks import BREAKS, Break, next_break
+from .edits import OPCODES, EditError, of_object, of_value, of_words, renaming
+from .explain import EXPLAINED
+from .opened import Edit, Opened
+from .words import WORDS, help_page, help_pages, whole_word
+
+__all__ = ['Shell', 'WordError']
+
+_AROUND = 3
+_MOST_LINES = 20
+_MOST_STACK = 3
+_MOST_BYTES = 256
+_FILLS = ('APPEND', 'APPENDS', 'SETITEM', 'SETITEMS', 'ADDITEMS', 'BUILD')
+_STORES = ('MEMOIZE', 'PUT', 'BINPUT', 'LONG_BINPUT')
+
+
+class WordError(ValueError):
+    """A line that the shell cannot obey, and why."""
+
+
+class Shell:
+    """A pickle that is stepped, looked at and edited by lines of words. `is_over` says that there was a `quit`.
+
+    >>> with Shell(b'K\\x07.', '') as shell:
+    ...     print(shell.obey('step'))
+            0     0: BININT1 7
+    >       1     2: STOP
+    stack: 7
+    made:  #0 7
+    """
+
+    def __init__(self, pickle: Source, path: str, many: bool = False, ask: Optional[Callable[[str], bool]] = None) -> None:
+        self.pickle = Opened(pickle, path, many)
+        self._many = many
+        self._path = path
+        self.ask = ask
+        self._original = self.pickle.content()
+        self._saved: Tuple[Tuple[str, int], ...] = ()
+        self._saved_bytes = self._original
+        self._breaks: List[Break] = []
+        self._last = ''
+        self._words: Dict[str, Callable[[str], str]] = {name: getattr(self, f'_do_{name}') for name in WORDS}
+        self.is_over = False
+
+    def __enter__(self) -> Shell:
+        return self
+
+    def __exit__(self, *error: object) -> None:
+        self.pickle.close()
+
+    @property
+    def is_unsaved(self) -> bool:
+        """Whether there are edits that were not saved."""
+        return self.pickle.edits_made != self._saved and self.pickle.content() != self._saved_bytes
+
+    def obey(self, line: str) -> str:
+        """Does what a line says, and answers it. An empty line does the last one again. Raises WordError where it cannot."""
+        line = line.strip() or self._last
+        if not line or line.startswith('#'):
+            return ''
+        word, _, rest = line.partition(' ')
+        name, before = whole_word(word)
+        if name not in self._words:
+            raise WordError(f'there is no word {word[:40]!r}; `help` shows them')
+        self._last = line if WORDS[name].is_again else ''
+        try:
+            return self._words[name](f'{before} {rest}'.strip())
+        except Refused as error:
+            raise WordError(f'refused: {error.text}') from error
+        except (EditError, ValueError, TypeError, OverflowError, OSError, PicklestepError) as error:
+            raise WordError(str(error)) from error
+
+    # --- Places ---
+
+    def _place(self, text: str) -> int:
+        """A place as it is typed: a number, an offset after @, or nothing for the cursor."""
+        if not text:
+            return self.pickle.session.where().place
+        match = re.fullmatch(r'(@?)([0-9]+)', text)
+        if match is None:
+            raise WordError(f'{text[:40]!r} is no place: give a number, or an offset after @')
+        number = int(match[2])
+        if not match[1]:
+            return number
+        if number == len(self.pickle.content()):
+            return len(self.pickle.lines)
+        place = self.pickle.lines.place_of(number)
+        if not len(self.pickle.lines) or self.pickle.lines.offset(place) != number:
+            raise WordError(f'no opcode begins at offset {number}')
+        return place
+
+    @staticmethod
+    def _count(text: str) -> int:
+        if text and not text.isdecimal():
+            raise WordError(f'{text[:40]!r} is no number')
+        return int(text or 1)
+
+    # --- What is shown ---
+
+    def _row(self, place: int, here: int) -> str:
+        """An opcode in a line, with what it imports or calls."""
+        line = self.pickle.lines.at(place)
+        marks = '>' if place == here else ' ', '*' if any(point.is_on and point.what == 'at' and int(point.text) == place for point in self._breaks) else ' '
+        reached = ''.join(f'   <- {text}' for text in self.pickle.reaches_at(line.offset))
+        argument = f' {self._argument(place, line.argument)}' if line.argument else ''
+        return f'{"".join(marks)} {place:>6} {line.offset:>5}: {"  " * line.marks}{line.name}{argument}{reached}'
+
+    def _argument(self, place: int, shown: str) -> str:
+        """An opcode's argument as a value of Python, where it is one and was kept whole."""
+        try:
+            opcode = opcode_of(self.pickle.lines.raw(place))
+        except LinesError:
+            return shown
+        is_value = not opcode.note and opcode.argument is not None and not isinstance(opcode.argument, tuple) and ' bytes more' not in shown
+        return shown_value(opcode.value) if is_value else shown
+
+    def _rows(self, first: int, last: int, here: int) -> List[str]:
+        return [self._row(place, here) for place in range(max(0, first), min(len(self.pickle.lines), last))]
+
+    def _here(self, before: Optional[Tuple[int, int]] = None, why: str = '') -> str:
+        """The place with its neighbours, the top of the stack, and what was made since the command began."""
+        where = self.pickle.session.where()
+        self.pickle.place, self.pickle._heap = where.place, None
+        rows = self._rows(where.place - _AROUND, where.place + _AROUND, where.place)
+        if where.place == where.places:
+            rows.append(f'>  {where.place:>6} {where.offset:>5}: the end: {where.end.text}')
+        rows.append(f'stack: {self._top()}')
+        made = self.pickle.made_before(where.place)[0]
+        if before is not None and made > before[1]:
+            shown = [f'#{number} {self.pickle.described(number)}' for number in range(max(before[1], made - 3), made)]
+            rows.append('made:  ' + ', '.join(([f'{made - before[1] - 3} more'] if made - before[1] > 3 else []) + shown))
+        if before is not None and where.place > before[0]:
+            rows += self._changed(where.place - 1)
+        if where.results:
+            rows.append(f'result: {self.pickle.described(where.results[-1])}')
+        return '\n'.join(([why] if why else []) + rows)
+
+    def _changed(self, place: int) -> List[str]:
+        """What the opcode that was just stepped over changed: an object, or the memo."""
+        name = self.pickle.lines.at(place).name
+        words = self.pickle.session.ask('stack').split()[1:] if name in _FILLS or name in _STORES else []
+        if not words:
+            return []
+        shown = f'{words[-1]} {self.pickle.described(int(words[-1][1:]))}'
+        return [f'changed: {shown}' if name in _FILLS else f'stored: {shown}']
+
+    def _top(self) -> str:
+        """The top of the stack, the highest first."""
+        words = self.pickle.session.ask('stack').split()[1:]
+        shown = [f'mark of {word[1:]}' if word[0] == '(' else self.pickle.described(int(word[1:])) for word in reversed(words[-_MOST_STACK:])]
+        more = [f'.. {len(words) - _MOST_STACK} more'] if len(words) > _MOST_STACK else []
+        return ' | '.join(shown + more) or 'empty'
+
+    def _now(self) -> Tuple[int, int]:
+        """The place, and how many objects were made."""
+        place = self.pickle.session.where().place
+        return place, self.pickle.made_before(place)[0]
+
+    # --- Moving ---
+
+    def _to(self, place: int) -> str:
+        before = self._now()
+        if place <= before[0]:
+            self.pickle.session.goto(max(0, place))
+            return self._here(before)
+        stopped = self.pickle.run_to(place)
+        return self._here(before, stopped)
+
+    def _do_step(self, text: str) -> str:
+        place, count = self._now()[0], self._count(text)
+        if place == self.pickle.session.where().places:
+            self.pickle.session.step()
+        return self._to(min(place + count, self.pickle.session.where().places))
+
+    def _do_back(self, text: str) -> str:
+        place = self._now()[0]
+        if not place:
+            self.pickle.session.back()
+        return self._to(place - self._count(text))
+
+    def _do_goto(self, text: str) -> str:
+        before = self._now()
+        self.pickle.session.goto(self._place(text))
+        return self._here(before)
+
+    def _do_until(self, text: str) -> str:
+        place = self._place(text)
+        if place <= self._now()[0]:
+            raise WordError(f'{place} is not ahead; `goto` goes back')
+        return self._to(place)
+
+    def _do_run(self, text: str) -> str:
+        if text not in ('', 'back'):
+            raise WordError('run, or run back')
+        before = self._now()
+        found = next_break(self.pickle, self._breaks, before[0], -1 if text else 1)
+        if text:
+            self.pickle.session.goto(0 if found is None else found)
+            return self._here(before, '' if found is not None else 'no break before this: the start')
+        stopped = self.pickle.run_to(found if found is not None else self.pickle.session.where().places)
+        return self._here(before, stopped)
+
+    def _do_go(self, text: str) -> str:
+        return self._to(self._maker(text))
+
+    def _maker(self, text: str) -> int:
+        number = self._count(text.lstrip('#'))
+        maker = self.pickle.maker(number)
+        if maker is None:
+            raise WordError(f'there is no object #{number}')
+        return maker
+
+    # --- Breaks ---
+
+    def _do_break(self, text: str) -> str:
+        if not text:
+            return '\n'.join(map(str, self._breaks)) or 'no breaks'
+        what, _, rest = text.partition(' ')
+        if what not in BREAKS:
+            what, rest = 'at', str(self._place(text))
+        rest = rest.strip()
+        if what in ('depth', 'memo', 'at') and not rest.isdecimal():
+            raise WordError(f'break {what} takes a number')
+        if what == 'opcode' and rest not in OPCODES:
+            raise WordError(f'{rest[:40]!r} is no opcode')
+        if what == 'at' and int(rest) >= len(self.pickle.lines):
+            raise WordError(f'there is no opcode at {rest}')
+        if not rest:
+            raise WordError(f'break {what} takes a text')
+        self._breaks.append(Break(1 + max([point.number for point in self._breaks], default=0), what, rest))
+        return str(self._breaks[-1])
+
+    def _chosen(self, text: str) -> Break:
+        number = self._count(text)
+        for point in self._breaks:
+            if point.number == number:
+                return point
+        raise WordError(f'there is no break {number}')
+
+    def _do_clear(self, text: str) -> str:
+        point = self._chosen(text)
+        self._breaks.remove(point)
+        return f'cleared {point}'
+
+    def _do_off(self, text: str) -> str:
+        point = self._chosen(text)
+        point.is_on = False
+        return str(point)
+
+    def _do_on(self, text: str) -> str:
+        point = self._chosen(text)
+        point.is_on = True
+        return str(point)
+
+    # --- Looking ---
+
+    def _do_where(self, text: str) -> str:
+        return self._here()
+
+    def _do_list(self, text: str) -> str:
+        here = self._now()[0]
+        words = text.split()
+        first = self._place(words[0]) if words else max(0, here - _MOST_LINES // 2)
+        last = self._place(words[1]) + 1 if len(words) > 1 else first + _MOST_LINES
+        return '\n'.join(self._rows(first, last, here))
+
+    def _do_calls(self, text: str) -> str:
+        offsets, answer = self.pickle.reaches.offsets, self.pickle.reaches.answer
+        first = self._count(text) - 1
+        rows = [f'{offsets[at]:>7}: {answer[at].text}' for at in range(first, min(len(offsets), first + _MOST_LINES))]
+        if first + _MOST_LINES < len(offsets):
+            rows.append(f'.. {len(offsets) - first - _MOST_LINES} more: calls {first + _MOST_LINES + 1}')
+        return '\n'.join([*rows, f'{answer.imports} imports, {answer.calls} calls, {answer.end.text}'])
+
+    def _do_find(self, text: str) -> str:
+        here = self._now()[0]
+        found = self.pickle.find(text, here)
+        if found is None:
+            raise WordError(f'{text[:40]!r} is in no opcode')
+        return '\n'.join(self._rows(found - 1, found + 2, here)) + f'\nat {found}'
+
+    def _do_hex(self, text: str) -> str:
+        place = self._place(text)
+        if place >= len(self.pickle.lines):
+            raise WordError(f'there is no opcode at {place}')
+        start = self.pickle.lines.offset(place)
+        content = self.pickle.content()
+        end = self.pickle.lines.offset(place + 1) if place + 1 < len(self.pickle.lines) else min(len(content), start + _MOST_BYTES)
+        shown = content[start:min(end, start + _MOST_BYTES)]
+        rows = [f'{start + at:>7}: {shown[at:at + 16].hex(" "):47}  {_letters(shown[at:at + 16])}' for at in range(0, len(shown), 16)]
+        return '\n'.join(rows + ([f'.. {end - start - len(shown)} bytes more'] if end - start > len(shown) else []))
+
+    def _do_explain(self, text: str) -> str:
+        if text in EXPLAINED:
+            return f'{text}: {EXPLAINED[text]}'
+        place = self._place(text)
+        if place >= len(self.pickle.lines):
+            return f'the end: {self.pickle.session.where().end.text}'
+        line = self.pickle.lines.at(place)
+        rows = [f'{line.name}: {EXPLAINED[line.name]}', *(f'here: {reached}' for reached in self.pickle.reaches_at(line.offset))]
+        if place == self._now()[0]:
+            rows.append(f'the stack before it: {self._top()}')
+        number = self.pickle.makes(place)
+        if number is not None:
+            made = self.pickle.final_object(number)
+            parts = made.parts if made is not None else ()
+            takes = ', '.join(f'#{part} {self.pickle.described(part, 0)}' for part in parts[:4])
+            more = f', .. {len(parts) - 4} more' if len(parts) > 4 else ''
+            rows.append(f'it makes #{number}' + (f' of {takes}{more}' if takes else ''))
+        return '\n'.join(rows)
+
+    def _do_who(self, text: str) -> str:
+        maker = self._maker(text)
+        number = self._count(text.lstrip('#'))
+        here = self._now()[0]
+        changes = self.pickle.changers(number)
+        rows = ['made by', *self._rows(maker, maker + 1, here)]
+        if changes:
+            rows += ['changed by', *(self._row(place, here) for place in changes[:_MOST_LINES])]
+        return '\n'.join(rows + ([f'.. {len(changes) - _MOST_LINES} more'] if len(changes) > _MOST_LINES else []))
+
+    def _do_show(self, text: str) -> str:
+        number = self._count(text.lstrip('#'))
+        self._here()
+        if number >= self._now()[1]:
+            raise WordError(f'object #{number} is not made yet')
+        held = self.pickle.holds(number)
+        rows = [f'#{number} {self.pickle.described(number)}']
+        rows += [f'    {what or "of"} #{part} {self.pickle.described(part)}' for what, part, _ in held['parts'][:_MOST_LINES]]
+        more = held['more'] + max(0, len(held['parts']) - _MOST_LINES)
+        return '\n'.join(rows + ([f'    .. {more} more'] if more > 0 else []))
+
+    def _do_stack(self, text: str) -> str:
+        self._here()
+        entries = self.pickle.session.stack()
+        rows = [f'#{entry.number} {self.pickle.described(entry.number)}' if isinstance(entry, Ref) else f'mark of {entry.place}'
+                for entry in entries[-_MOST_LINES:]]
+        return '\n'.join(([f'.. {len(entries) - _MOST_LINES} below'] if len(entries) > _MOST_LINES else []) + rows) or 'empty'
+
+    def _do_memo(self, text: str) -> str:
+        self._here()
+        answer = self.pickle.session.ask('memo').rstrip('\n')
+        if text:
+            found = re.search(f' {self._count(text)}=#([0-9]+)', answer)
+            if found is None:
+                raise WordError(f'nothing is stored under {text}')
+            return f'{text}: #{found[1]} {self.pickle.described(int(found[1]))}'
+        first, *shown = answer.rsplit(' ', _MOST_LINES) if answer.count(' ') > _MOST_LINES else ['', *answer.split(' ')[1:]]
+        rows = [f'{key}: #{number} {self.pickle.described(int(number))}' for key, _, number in (word.partition('=#') for word in shown)]
+        return '\n'.join(([f'.. {first.count(" ")} before'] if first else []) + rows) or 'empty'
+
+    def _do_objects(self, text: str) -> str:
+        self._here()
+        made = self._now()[1]
+        first = self._count(text.lstrip('#')) if text else max(0, made - _MOST_LINES)
+        return '\n'.join(f'#{number} {self.pickle.described(number)}' for number in range(first, min(made, first + _MOST_LINES))) or 'none'
+
+    def _do_source(self, text: str) -> str:
+        return source(self.pickle.content(), full=text == 'full', many=self._many).text.rstrip('\n')
+
+    # --- Edits ---
+
+    def _was(self, place: int) -> str:
+        line = self.pickle.lines.at(place)
+        return f'{line.name} {self._argument(place, line.argument)}'.rstrip()
+
+    def _edited(self, edits: List[Edit]) -> str:
+        """Makes edits, and says what each replaced."""
+        known = []
+        for edit in edits:
+            if edit.place > len(self.pickle.lines) or (edit.word != 'insert' and edit.place == len(self.pickle.lines)):
+                raise WordError(f'there is no opcode at {edit.place}')
+            now = self.pickle.lines.at(edit.place).name if edit.place < len(self.pickle.lines) else ''
+            known.append(of_value(self.pickle, edit, now) if edit.word in ('replace', 'insert') else edit)
+        was = ['' if edit.word in ('insert', 'frame') else self._was(edit.place) for edit in known]
+        done = self.pickle.edit_all(known)
+        self._move_breaks(known)
+        return '\n'.join(self._echo(edit, place, old) for edit, place, old in zip(known, done, was))
+
+    def _echo(self, edit: Edit, place: int, old: str) -> str:
+        if edit.word in ('delete', 'unframe'):
+            return f'{place}: {old} is gone'
+        return f'{place}: {self._was(place)}' + (f' (was {old})' if old else ' is new')
+
+    def _move_breaks(self, edits: List[Edit]) -> None:
+        """Breaks on a place stay with their opcodes."""
+        for edit in edits:
+            for point in list(self._breaks):
+                if point.what == 'at' and edit.word in ('insert', 'frame', 'delete', 'unframe'):
+                    place = int(point.text)
+                    if edit.word in ('delete', 'unframe') and place == edit.place:
+                        self._breaks.remove(point)
+                    elif place >= edit.place:
+                        point.text = str(place + (1 if edit.word in ('insert', 'frame') else -1))
+
+    def _split(self, text: str) -> Tuple[int, str]:
+        """A place, and what comes after it. Without a place it is the cursor."""
+        word, _, rest = text.partition(' ')
+        return (self._place(word), rest.strip()) if re.fullmatch('@?[0-9]+', word) and rest else (self._place(''), text)
+
+    def _do_replace(self, text: str) -> str:
+        place, rest = self._split(text)
+        return self._edited([of_words('replace', place, rest)])
+
+    def _do_insert(self, text: str) -> str:
+        place, rest = self._split(text)
+        return self._edited([of_words('insert', place, rest)])
+
+    def _do_delete(self, text: str) -> str:
+        return self._edited([Edit('delete', self._place(text))])
+
+    def _do_frame(self, text: str) -> str:
+        words = text.split()
+        if len(words) != 2:
+            raise WordError('frame PLACE COUNT')
+        return self._edited([Edit('frame', self._place(words[0]), members=self._count(words[1]))])
+
+    def _do_unframe(self, text: str) -> str:
+        return self._edited([Edit('unframe', self._place(text))])
+
+    def _do_set(self, text: str) -> str:
+        match = re.fullmatch(r'#?([0-9]+) to (.+)', text)
+        if match is None:
+            raise WordError('set OBJECT to VALUE')
+        return self._edited([of_object(self.pickle, int(match[1]), match[2])])
+
+    def _do_rename(self, text: str) -> str:
+        words = text.split()
+        if len(words) != 2:
+            raise WordError('rename OLD NEW')
+        edits = renaming(self.pickle, *words)
+        if not edits:
+            raise WordError(f'nothing is imported from {words[0][:60]!r}')
+        said = self._edited(edits)
+        left = renaming(self.pickle, *words)
+        return said + (f'\n{len(left)} names could not be changed alone' if left and not words[1].startswith(words[0]) else '')
+
+    def _do_undo(self, text: str) -> str:
+        return self.pickle.undo_back(is_redo=False)
+
+    def _do_redo(self, text: str) -> str:
+        return self.pickle.undo_back(is_redo=True)
+
+    # --- Files ---
+
+    def _do_diff(self, text: str) -> str:
+        if self.pickle.content() == self._original:
+            return 'as the file'
+        rows = [f'{len(self._original)} bytes -> {len(self.pickle.content())} bytes']
+        rows += [self._row(place, -1) for place in sorted(self.pickle.edited)[:_MOST_LINES] if place < len(self.pickle.lines)]
+        try:
+            differences = compare(self._original, self.pickle.content(), many=self._many)
+        except NoResult as error:
+            return '\n'.join([*rows, f'the results cannot be compared: {error}'])
+        return '\n'.join([*rows, *map(str, differences[:_MOST_LINES])] + ([f'.. {len(differences) - _MOST_LINES} more'] * (len(differences) > _MOST_LINES)))
+
+    def _do_save(self, text: str) -> str:
+        path = shlex.split(text)[0] if text else self._path
+        if not path:
+            raise WordError('save FILE')
+        self.pickle.save(path, True)
+        self._saved, self._saved_bytes = self.pickle.edits_made, self.pickle.content()
+        return f'saved {path}'
+
+    def _do_quit(self, text: str) -> str:
+        if self.is_unsaved and self.ask is not None and not self.ask('There are unsaved edits. Quit without saving? (yes/no) '):
+            return 'not ended'
+        self.is_over = True
+        return ''
+
+    def _do_help(self, text: str) -> str:
+        if not text:
+            return help_pages()
+        name, _ = whole_word(text)
+        if name not in WORDS:
+            raise WordError(f'there is no word {text[:40]!r}; `help` shows them')
+        return help_page(name)
+
+
+def _letters(data: bytes) -> str:
+    return ''.join(chr(byte) if 32 <= byte < 127 else '.' for byte in data)

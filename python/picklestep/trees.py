@@ -1,0 +1,151 @@
+"""The result of a pickle as nested Python data, and what two of them differ in. Nothing of a pickle is imported or called."""
+
+from __future__ import annotations
+
+import sys
+from dataclasses import dataclass, field
+from typing import Any, Dict, List, Optional, Tuple, Union
+
+from .errors import NoResult
+from .records import Change, Extension, Global, Object, Ref
+from .sources import Source
+from .tasks import objects
+from .values import PLAIN_KINDS, kind_value
+
+__all__ = ['Call', 'tree']
+
+_SLOTS: Dict[str, Any] = {'slots': True} if sys.version_info >= (3, 10) else {}
+
+
+@dataclass(eq=False, **_SLOTS)
+class Call:
+    r"""An object that comes from a call, or from elsewhere.
+
+    `how` is the word of `objects`: 'call', 'new', 'new-ex', 'inst', 'obj', 'persistent', 'buffer' or 'readonly'; 'import' where what was
+    imported is changed. `name` is what is called,
+    `arguments` what it is given. `items` were appended or added, `pairs` set, and `states` given by BUILD, in their order.
+
+    >>> import picklestep
+    >>> made = picklestep.tree(b'ca\nb\n(K\x01tR}X\x01\x00\x00\x00xK\x02sb.')
+    >>> made.how, made.name, made.arguments, made.states
+    ('call', Global(module=b'a', name=b'b'), (1,), [{'x': 2}])
+    """
+
+    how: str
+    number: int
+    name: Any = None
+    arguments: Tuple[Any, ...] = ()
+    items: List[Any] = field(default_factory=list)
+    pairs: List[Tuple[Any, Any]] = field(default_factory=list)
+    states: List[Any] = field(default_factory=list)
+
+
+class _Maker:
+    """Makes the values of objects, the parts of each before the object."""
+
+    def __init__(self, heap: List[Object]) -> None:
+        self._values: List[Any] = []
+        self._depths: List[int] = []
+        for made in heap:
+            self._depths.append(1 + max([self._depths[part] for part in made.parts], default=0) if made.kind in ('tuple', 'frozenset') else 0)
+            self._values.append(self._made(made))
+        for made in heap:
+            self._change(self._values[made.number], made.changes)
+
+    def at(self, number: int) -> Any:
+        """The value of an object."""
+        return self._values[number]
+
+    def _made(self, made: Object) -> Any:
+        """An object as it was made. What was done to it comes later."""
+        if made.kind in PLAIN_KINDS:
+            return kind_value(made.kind, made.text)
+        parts = [self._values[part] for part in made.parts]
+        if made.kind in ('list', 'tuple'):
+            return parts if made.kind == 'list' else tuple(parts)
+        if made.kind in ('set', 'frozenset'):
+            return (set if made.kind == 'set' else frozenset)(map(self._key, made.parts))
+        if made.kind == 'dict':
+            return {self._key(key): self._values[value] for key, value in zip(made.parts[::2], made.parts[1::2])}
+        if made.kind in ('global', 'stack-global', 'ext'):
+            imported = self._imported(made)
+            return Call('import', made.number, imported) if made.changes else imported
+        return self._called(made, parts)
+
+    def _imported(self, made: Object) -> Union[Global, Extension]:
+        if isinstance(made.text, int):
+            return Extension(made.text)
+        if isinstance(made.text, tuple):
+            return Global(*made.text)
+        module, name = map(self._name, made.parts)
+        return Global(module, name)
+
+    def _name(self, number: int) -> Union[bytes, Ref]:
+        value = self._values[number]
+        return value.encode('utf-8', 'surrogatepass') if isinstance(value, str) else value if isinstance(value, bytes) else Ref(number)
+
+    def _called(self, made: Object, parts: List[Any]) -> Call:
+        if made.kind == 'inst':
+            assert isinstance(made.text, tuple)
+            return Call(made.kind, made.number, Global(*made.text), tuple(parts))
+        if made.kind in ('persistent', 'buffer', 'readonly'):
+            given = parts if made.text is None else [made.text]
+            return Call(made.kind, made.number, None, tuple(given))
+        name, *given = parts
+        if made.kind != 'obj' and isinstance(given[0], tuple):
+            given[:1] = given[0]
+        return Call(made.kind, made.number, name, tuple(given))
+
+    def _key(self, number: int) -> Any:
+        """An object as a key or a member. Where Python could not hash it, it is its number."""
+        value = self._values[number]
+        if self._depths[number] > _MOST_DEPTH:
+            return Ref(number)
+        try:
+            hash(value)
+        except TypeError:
+            return Ref(number)
+        return value
+
+    def _change(self, value: Any, changes: Tuple[Change, ...]) -> None:
+        """Does to a value what was done to its object."""
+        for change in changes:
+            other = self._values[change.value]
+            if change.how == 'state':
+                value.states.append(other)
+            elif change.how == 'set':
+                self._set(value, change, other)
+            elif isinstance(value, set):
+                value.add(self._key(change.value))
+            else:
+                (value if isinstance(value, list) else value.items).append(other)
+
+    def _set(self, value: Any, change: Change, other: Any) -> None:
+        assert change.key is not None
+        if isinstance(value, dict):
+            value[self._key(change.key)] = other
+        else:
+            value.pairs.append((self._values[change.key], other))
+
+
+# (Python's hash of a tuple asks its items, which ask theirs: too many of them would end the interpreter.)
+_MOST_DEPTH = 50
+
+
+def tree(pickle: Source, *, many: bool = False, timeout: Optional[float] = None, memory: Optional[int] = None) -> Any:
+    r"""The result of a pickle as nested Python data; with `many` the list of the results. Nothing is imported or called.
+
+    Lists, dictionaries, sets, tuples and plain values are themselves, and shared as in the pickle. What is imported is a `Global` or an
+    `Extension`, what comes from a call or from elsewhere a `Call`. A key or a member that has no hash is a `Ref` to its object.
+
+    Raises NoResult where reading ended before the pickle's STOP.
+
+    >>> tree(b'(X\x01\x00\x00\x00aG@\x04\x00\x00\x00\x00\x00\x00X\x01\x00\x00\x00bcos\ngetcwd\nd.')
+    {'a': 2.5, 'b': Global(module=b'os', name=b'getcwd')}
+    """
+    answer = objects(pickle, many=many, timeout=timeout, memory=memory)
+    if not answer.end.is_stopped or not answer.results:
+        raise NoResult(answer.end.text)
+    maker = _Maker(list(answer))
+    results = [maker.at(number) for number in answer.results]
+    return results if many else results[0]

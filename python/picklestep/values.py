@@ -1,0 +1,122 @@
+"""Plain values: what an opcode's argument, or an object that is made of it, is in Python.
+
+Which form an argument has is asked of the standard library (`pickletools`), as in `arguments`, whose inverse this is. A value that a loader
+would not take (a text that is no UTF-8, a line that is no number) stays as the bytes that it is.
+"""
+
+from __future__ import annotations
+
+import codecs
+import pickletools
+from typing import Any, Callable, Dict, Tuple, Union
+
+__all__ = ['Argument', 'PLAIN_KINDS', 'PlainValue', 'Unreadable', 'argument_value', 'kind_value', 'read_form', 'unescaped']
+
+# The argument of an opcode as it is shown: a number, a text as its bytes, the two lines of GLOBAL and INST, or none.
+Argument = Union[None, int, float, bytes, Tuple[bytes, bytes]]
+
+# What Python has as a plain value.
+PlainValue = Union[None, bool, int, float, str, bytes, bytearray, Tuple[Union[str, bytes], Union[str, bytes]]]
+
+
+class Unreadable(ValueError):
+    """An argument of which a loader makes no value."""
+
+
+def _text(data: bytes) -> str:
+    return data.decode('utf-8', 'surrogatepass')
+
+
+def _escaped(data: bytes) -> str:
+    return data.decode('raw-unicode-escape')
+
+
+def _legacy(data: bytes) -> str:
+    return data.decode('ascii')
+
+
+def unescaped(data: bytes) -> bytes:
+    """The bytes of a line of STRING. Raises ValueError where an escape is none."""
+    found: Any = codecs.escape_decode(data[1:-1])  # (it is what pickle itself calls, and has no documentation)
+    return bytes(found[0])
+
+
+def _quoted(data: bytes) -> str:
+    return unescaped(data).decode('ascii')
+
+
+def _decimal(data: bytes) -> Union[bool, int]:
+    """The line of INT, where 00 and 01 are the truth values."""
+    if data in (b'00', b'01'):
+        return data == b'01'
+    return int(data, 0)
+
+
+def _long(data: bytes) -> int:
+    return int(data[:-1] if data.endswith(b'L') else data, 0)
+
+
+_READERS: Dict[str, Callable[[bytes], Union[bool, int, float, str, bytes, bytearray]]] = {
+    'decimalnl_short': _decimal, 'decimalnl_long': _long, 'floatnl': float, 'stringnl': _quoted, 'stringnl_noescape': _legacy,
+    'unicodestringnl': _escaped, 'string1': _legacy, 'string4': _legacy, 'unicodestring1': _text,
+    'unicodestring4': _text, 'unicodestring8': _text, 'bytearray8': bytearray}
+
+_FORMS: Dict[str, str] = {opcode.name: opcode.arg.name if opcode.arg else '' for opcode in pickletools.opcodes}
+_CONSTANTS: Dict[str, PlainValue] = {'NONE': None, 'NEWTRUE': True, 'NEWFALSE': False}
+
+# The kinds of objects that are plain values, each with an opcode that makes it, or the value itself.
+_MADE_BY = {
+    'int': 'BININT', 'int-line': 'INT', 'long-line': 'LONG', 'float': 'BINFLOAT', 'float-line': 'FLOAT', 'string': 'BINSTRING',
+    'string-line': 'STRING', 'text': 'BINUNICODE', 'text-line': 'UNICODE', 'bytes': 'BINBYTES', 'bytearray': 'BYTEARRAY8',
+    'none': 'NONE', 'true': 'NEWTRUE', 'false': 'NEWFALSE'}
+PLAIN_KINDS = frozenset(_MADE_BY)
+
+
+def read_form(name: str, data: bytes) -> PlainValue:
+    """What a loader makes of the bytes that an opcode of this name holds. Raises Unreadable where it would fail.
+
+    >>> read_form('BINUNICODE', b'caf\\xc3\\xa9'), read_form('LONG', b'7L'), read_form('BINBYTES', b'x')
+    ('café', 7, b'x')
+    """
+    try:
+        reader = _READERS.get(_FORMS[name])
+        return data if reader is None else reader(data)
+    except ValueError as error:
+        raise Unreadable(str(error)) from error
+
+
+def argument_value(name: str, argument: Argument) -> PlainValue:
+    """The value of an opcode's argument; of NONE, NEWTRUE and NEWFALSE what they make.
+
+    >>> argument_value('UNICODE', b'\\\\u20ac'), argument_value('GLOBAL', (b'os', b'getcwd')), argument_value('BININT1', 3)
+    ('€', ('os', 'getcwd'), 3)
+    """
+    if isinstance(argument, tuple):
+        return _line_of_two(argument[0]), _line_of_two(argument[1])
+    if isinstance(argument, bytes):
+        return _as_bytes_if_unreadable(name, argument)
+    return _CONSTANTS.get(name) if argument is None else argument
+
+
+def _line_of_two(data: bytes) -> Union[str, bytes]:
+    """A line of GLOBAL or INST."""
+    try:
+        return _text(data)
+    except ValueError:
+        return data
+
+
+def _as_bytes_if_unreadable(name: str, data: bytes) -> PlainValue:
+    try:
+        return read_form(name, data)
+    except Unreadable:
+        return data
+
+
+def kind_value(kind: str, argument: Argument) -> PlainValue:
+    """The value of an object of a plain kind.
+
+    >>> kind_value('text', b'id'), kind_value('true', None)
+    ('id', True)
+    """
+    return argument_value(_MADE_BY[kind], argument)

@@ -1,0 +1,70 @@
+"""A program at a terminal: lines are typed, and what it shows up to its next prompt is read."""
+
+from __future__ import annotations
+
+import os
+import pty
+import re
+import select
+import subprocess
+import sys
+import termios
+import time
+from typing import Dict, List
+
+import picklestep
+
+_PACKAGE = os.path.dirname(os.path.dirname(os.path.abspath(picklestep.__file__)))
+_CONTROL = re.compile(r'\x1b\[[0-9;?]*[a-zA-Z]|\x1b[=>]|\r|\x07')
+
+
+class Terminal:
+    """The shell at a terminal of its own, with a home of its own for what was typed."""
+
+    def __init__(self, words: List[str], folder: str, **environment: str) -> None:
+        self.master, slave = pty.openpty()
+        settings = termios.tcgetattr(slave)
+        settings[3] &= ~termios.ECHO
+        termios.tcsetattr(slave, termios.TCSANOW, settings)
+        path = os.pathsep.join([_PACKAGE, os.environ.get('PYTHONPATH', '')])
+        known: Dict[str, str] = {**os.environ, 'PYTHONPATH': path, 'XDG_STATE_HOME': folder, 'TERM': 'dumb', 'COLUMNS': '200', **environment}
+        self.process = subprocess.Popen([sys.executable, '-m', 'picklestep', 'shell', *words], stdin=slave, stdout=slave, stderr=slave,
+                                        cwd=folder, env=known, start_new_session=True)
+        os.close(slave)
+        self.read = ''
+
+    def until(self, *endings: str, seconds: float = 30) -> str:
+        """What is shown up to one of these endings, or to the end of the program."""
+        deadline = time.monotonic() + seconds
+        while True:
+            shown = _CONTROL.sub('', self.read)
+            if shown.endswith(endings):
+                self.read = ''
+                return shown
+            if not select.select([self.master], [], [], max(0, deadline - time.monotonic()))[0]:
+                raise AssertionError(f'no prompt: {shown[-500:]!r}')
+            try:
+                block = os.read(self.master, 65536)
+            except OSError:
+                block = b''
+            if not block:
+                return shown
+            self.read += block.decode('utf-8', 'replace')
+
+    def type(self, line: str, *endings: str) -> str:
+        """What is shown after a line was typed, without the line itself and the prompt."""
+        os.write(self.master, line.encode() + b'\n')
+        shown = self.until(*(endings or ('(pickle) ',)))
+        for ending in endings or ('(pickle) ',):
+            shown = shown[:-len(ending)] if shown.endswith(ending) else shown
+        first, newline, rest = shown.partition('\n')
+        return (rest if first.endswith(line) else shown).rstrip('\n')
+
+    def close(self) -> int:
+        """Ends the program where it runs, and answers its status."""
+        os.close(self.master)
+        try:
+            return self.process.wait(10)
+        except subprocess.TimeoutExpired:
+            self.process.kill()
+            return self.process.wait()

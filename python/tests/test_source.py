@@ -1,0 +1,278 @@
+"""Pickles as Python source: running the source gives what loading the pickle gives. Only pickles that are made here are loaded."""
+
+from __future__ import annotations
+
+import ast
+import collections
+import contextlib
+import copyreg
+import io
+import os
+import pickle
+import pickletools
+import random
+import re
+import subprocess
+import tempfile
+import time
+import unittest
+from typing import Any, List, Tuple
+
+import picklestep
+from harmless import Maker, canonical, executed, opcodes_at_random
+from picklestep.python_source import main, source
+from pickles import HOSTILE, real_pickles
+
+_CASES = 10_500
+_TOGETHER = 500  # pickles in one input
+
+
+def _dumped(value: Any, seed: int) -> bytes:
+    """A pickle of a value, of one of the protocols, by one of the picklers."""
+    protocol = seed % 6
+    how = random.Random(seed).randrange(4)
+    if how == 0:
+        file = io.BytesIO()
+        pickle._Pickler(file, protocol).dump(value)  # type: ignore[attr-defined]
+        return file.getvalue()
+    data = pickle.dumps(value, protocol)
+    return pickletools.optimize(data) if how == 1 else data
+
+
+class Equality(unittest.TestCase):
+    """What the source makes is what the pickle makes."""
+
+    def test_generated_pickles(self) -> None:
+        tried = 0
+        for first in range(0, _CASES, _TOGETHER):
+            pickles: List[bytes] = []
+            seeds = []
+            for seed in range(first, first + _TOGETHER):
+                with contextlib.suppress(RecursionError):  # (no pickler can write an object that is an argument of its own call)
+                    pickles.append(_dumped(Maker(seed).value(), seed))
+                    seeds.append(seed)
+            answer = source(b''.join(pickles), many=True)
+            self.assertTrue(answer.end.is_stopped)
+            names = executed(answer.text)
+            for number, (seed, data) in enumerate(zip(seeds, pickles), 1):
+                made = names['result' if number == 1 else f'result_{number}']
+                self.assertEqual(canonical(made), canonical(pickle.loads(data)), f'seed {seed}')
+                tried += 1
+        self.assertGreaterEqual(tried, 10_000)
+    def test_opcodes_at_random(self) -> None:
+        pickles = [opcodes_at_random(seed) for seed in range(3000)]
+        names = executed(source(b''.join(pickles), many=True).text)
+        for number, data in enumerate(pickles, 1):
+            made = names['result' if number == 1 else f'result_{number}']
+            self.assertEqual(canonical(made), canonical(pickle.loads(data)), f'seed {number - 1}')
+
+
+class Reaching(unittest.TestCase):
+    """What reaches out has its offset, as `calls` has it, and its number."""
+
+    def test_offsets_are_those_of_calls(self) -> None:
+        for name, data in real_pickles().items():
+            with self.subTest(name):
+                calls, answer = picklestep.calls(data, many=True), source(data, many=True)
+                self.assertEqual(answer.end, calls.end)
+                self.assertEqual(_offsets(answer.text), sorted({reach.offset for reach in calls}))
+                self.assertEqual(_made(answer.text), sorted(reach.number for reach in calls if reach.number is not None and (
+                    reach.what not in ('import', 'readonly') or isinstance(reach.name, picklestep.Extension))))
+
+    def test_readonly(self) -> None:
+        self.assertIn('_1 = memoryview(bytearray(b\'a\')).toreadonly()\nresult = _1', source(b'\x96\x01\0\0\0\0\0\0\0a\x98.').text)
+        self.assertIn("result = b'a'", source(b'C\x01a\x98.').text)
+
+
+class Real(unittest.TestCase):
+    """Pickles of other libraries, which run where these are installed."""
+
+    def test_libraries(self) -> None:
+        python = '/usr/bin/python3'
+        environment = {**os.environ, 'PYTHONPATH': os.pathsep.join([os.path.dirname(os.path.dirname(picklestep.__file__)), _HERE]),
+                       'PYTHONWARNINGS': 'ignore'}
+        if not os.path.exists(python):
+            self.skipTest(f'there is no {python}')
+        done = subprocess.run([python, os.path.join(_HERE, 'library_pickles.py')], env=environment, capture_output=True, text=True, timeout=300)
+        self.assertEqual(done.returncode, 0, done.stdout + done.stderr[-500:])
+        counts = dict(line.split() for line in done.stdout.splitlines())
+        self.assertGreaterEqual(int(counts['standard']), 70)
+        if len(counts) < 10:
+            self.skipTest(f'of other libraries there are only {", ".join(counts)}')
+        self.assertGreaterEqual(sum(map(int, counts.values())), 300)
+
+    def test_own_pickles_of_the_standard_library(self) -> None:
+        tried = 0
+        for name, data in real_pickles().items():
+            calls = picklestep.calls(data)
+            names = {reach.name for reach in calls if reach.what in ('import', 'inst')}
+            if calls.end.is_stopped and names <= _KNOWN:
+                with self.subTest(name):
+                    try:
+                        wanted = canonical(pickle.loads(data))
+                    except Exception as error:
+                        with self.assertRaises(Exception, msg=str(error)):
+                            executed(source(data).text)
+                        continue
+                    self.assertEqual(canonical(executed(source(data).text)['result']), wanted)
+                    tried += 1
+        self.assertGreater(tried, 40)
+
+    def test_buffers_and_persistent_ids(self) -> None:
+        shared = [1]
+        buffers: List[Any] = []
+        data = pickle.dumps([pickle.PickleBuffer(b'abc'), pickle.PickleBuffer(bytearray(b'def')), shared, shared], 5,
+                            buffer_callback=buffers.append)
+        wanted = pickle.loads(data, buffers=buffers)
+        made = executed(source(data).text, buffers=buffers)['result']
+        self.assertEqual([bytes(made[0]), bytes(made[1]), made[2:]], [bytes(wanted[0]), bytes(wanted[1]), wanted[2:]])
+        self.assertIs(made[2], made[3])
+
+        class Pickler(pickle.Pickler):
+            def persistent_id(self, obj: Any) -> Any:
+                return ('kept', 'seven') if obj == 7 else None
+
+        class Unpickler(pickle.Unpickler):
+            def persistent_load(self, identity: Any) -> Any:
+                return [identity]
+
+        for protocol in range(1, 6):
+            file = io.BytesIO()
+            Pickler(file, protocol).dump([7, 8, 7])
+            wanted = Unpickler(io.BytesIO(file.getvalue())).load()
+            self.assertEqual(executed(source(file.getvalue()).text, lambda identity: [identity])['result'], wanted)
+
+    def test_extensions(self) -> None:
+        copyreg.add_extension('collections', 'OrderedDict', 77)
+        self.addCleanup(copyreg.remove_extension, 'collections', 'OrderedDict', 77)
+        data = pickle.dumps(collections.OrderedDict(a=1), 2)
+        self.assertIn(b'\x82M', data)
+        self.assertEqual(executed(source(data).text)['result'], collections.OrderedDict(a=1))
+
+
+class Shown(unittest.TestCase):
+    """How the source looks."""
+
+    def test_hostile(self) -> None:
+        self.assertEqual(list(source(HOSTILE))[1:], ['from posix import system  # 0', "_3 = system('id')  # 23", 'result = _3'])
+
+    def test_ends_early(self) -> None:
+        for data, ending in ((b'(lp0\nI1\na', '# F1 ended at 9: reading ends here, and the stack is\nstack = [[1]]\n'),
+                             (b'K\x050', '# F1 ended at 3: reading ends here, and the stack is\nstack = []\n'),
+                             (b'K\x01ea.', '# S1 no mark at 2: reading ends here, and the stack is\nstack = [1]\n'),
+                             (b'', '# F1 ended at 0: reading ends here, and the stack is\nstack = []\n'),
+                             (b'N.abc', 'result = None\n# 3 bytes after STOP are not read\n')):
+            with self.subTest(data):
+                self.assertTrue(source(data).text.endswith(ending), source(data).text)
+
+    def test_names_that_clash_or_are_no_names(self) -> None:
+        lines = list(source(b'(ca\nset\ncb\nset\ncb\nset\nca\n_3\nc\x01\nx y\nccl\nclass\nc__future__\ndivision\nt.'))
+        self.assertEqual([line.partition('  # ')[0] for line in lines[2:-1]], [
+            'from a import set as set_0', 'from b import set as set_1', 'from b import set as set_2', 'from a import _3 as _3_3',
+            "_4 = getattr(import_module('\\x01'), 'x y')", "_5 = getattr(import_module('cl'), 'class')",
+            "_6 = getattr(import_module('__future__'), 'division')"])
+
+    def test_cut(self) -> None:
+        data = pickle.dumps(['x' * 1000, list(range(100)), {n: n for n in range(20)}, b'y' * 70, 1 << 20000])
+        text = source(data, full=False).text
+        for shown in (f"'{'x' * 64}' + cut(936)", '15, *cut(84)', '15: 15, **cut(4)', f"b'{'y' * 70}'", "cut('0x1000"):
+            self.assertIn(shown, ' '.join(text.split()).replace(', ]', ']'))
+        with self.assertRaises(NameError):
+            executed(text)
+        many = source(pickle.dumps(collections.OrderedDict.fromkeys(range(100))), full=False).text
+        self.assertIn('.update(cut(84))  # ', many)
+
+    def test_names_are_never_cut(self) -> None:
+        name = 'n' * 500
+        data = b'\x80\x04' + b''.join(b'X' + len(part).to_bytes(4, 'little') + part for part in (b'os', name.encode())) + b'\x93.'
+        self.assertIn(f'from os import {name}  # ', source(data, full=False).text)
+
+    def test_texts_that_no_loader_takes(self) -> None:
+        for data in (b'X\x01\0\0\0\xff.', b'U\x01\xff.', b'I1x\n.', b'Fa\n.', b'Lx\n.', b'V\\u12\n.'):
+            with self.subTest(data):
+                with self.assertRaises(ValueError):
+                    pickle.loads(data)
+                with self.assertRaises(ValueError):
+                    executed(source(data).text)
+
+
+class Large(unittest.TestCase):
+    """The work grows with the pickle and not faster."""
+
+    def test_deep(self) -> None:
+        depth = 100_000
+        text = source(b']' * depth + b'a' * (depth - 1) + b'.').text
+        made = executed(text)['result']
+        for _ in range(depth - 1):
+            made, = made
+        self.assertEqual(made, [])
+
+    def test_long_text_that_is_used_often(self) -> None:
+        data = pickle.dumps(['x' * 100_000, ] * 1000)
+        text = source(data).text
+        self.assertLess(len(text), 120_000)
+        self.assertEqual(executed(text)['result'], ['x' * 100_000] * 1000)
+
+    def test_long_integers(self) -> None:
+        number = 1 << 4_000_000
+        self.assertEqual(executed(source(pickle.dumps(number)).text)['result'], number)
+
+    def test_a_million_objects(self) -> None:
+        values = [{'id': number, 'pair': (number, -0.5)} for number in range(200_000)]
+        begun = time.monotonic()
+        answer = source(pickle.dumps(values))
+        self.assertLess(time.monotonic() - begun, 20)
+        self.assertGreater(len(answer), 200_000)
+
+
+class Words(unittest.TestCase):
+    """`picklestep source`."""
+
+    def said(self, *words: str) -> Tuple[int, str]:
+        with contextlib.redirect_stdout(io.TextIOWrapper(io.BytesIO(), 'ascii')) as out, contextlib.redirect_stderr(io.StringIO()):
+            status = main(list(words))
+        out.seek(0)
+        return status, out.read()
+
+    def test_status(self) -> None:
+        with tempfile.TemporaryDirectory() as folder:
+            path = os.path.join(folder, 'a.pickle')
+            for data, status in ((b'X\x03\0\0\0\xe2\x82\xac.', 0), (b'N', 1), (b'N0.', 1), (b'N.N', 0)):
+                with open(path, 'wb') as file:
+                    file.write(data)
+                self.assertEqual(self.said(path)[0], status)
+            self.assertEqual(self.said('--many', path)[0], 1)
+            with open(path, 'wb') as file:
+                file.write(b'X\x03\0\0\0\xe2\x82\xac.')
+            self.assertIn("result = '\\u20ac'", self.said(path)[1])
+            self.assertEqual(self.said(os.path.join(folder, 'none'))[0], 2)
+
+
+_HERE = os.path.dirname(os.path.abspath(__file__))
+_COMMENT = re.compile(r'  # ([0-9]+)(?:, in the pickle .*)?$', re.MULTILINE)
+_KNOWN = {picklestep.Global(module.encode(), name.encode()) for module, names in {
+    'collections': 'OrderedDict deque Counter defaultdict', 'datetime': 'date datetime time timedelta timezone', 'decimal': 'Decimal',
+    '__builtin__': 'set frozenset complex bytearray range slice object list dict', 'builtins': 'set frozenset complex bytearray range list',
+    'copy_reg': '_reconstructor', 'copyreg': '_reconstructor', 'fractions': 'Fraction', 'uuid': 'UUID', 'logging': 'LogRecord',
+    '_codecs': 'encode', 'types': 'SimpleNamespace'}.items() for name in names.split()}
+
+
+def _offsets(text: str) -> List[int]:
+    """The offsets in the comments of a source."""
+    return sorted({int(match[1]) for match in _COMMENT.finditer(text)})
+
+
+def _made(text: str) -> List[int]:
+    """The numbers of the objects that come from calls, persistent ids and buffers."""
+    lines = text.splitlines()
+    found = []
+    for statement in ast.parse(text).body:
+        if isinstance(statement, ast.Assign) and isinstance(statement.targets[0], ast.Name) and _COMMENT.search(lines[(statement.end_lineno or 0) - 1]):
+            shown = ast.unparse(statement)
+            if 'getattr(import_module(' not in shown and not shown.endswith('.toreadonly()'):
+                found.append(int(shown.partition(' ')[0][1:]))
+    return sorted(found)
+
+
+if __name__ == '__main__':
+    unittest.main()
