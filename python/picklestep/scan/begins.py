@@ -21,7 +21,17 @@ _ZLIB_METHOD = 8
 # Containers that this package does not open. They are reported, since a loader may open them.
 _UNREAD = {
     b'\x28\xb5\x2f\xfd': 'zstd', b'\x04\x22\x4d\x18': 'lz4', b'7z\xbc\xaf\x27\x1c': '7z', b'Rar!\x1a\x07': 'rar',
+    b'PGDMP': 'pg_dump', b'TDB file\n': 'tdb', b'\x61\x15\x06\0': 'dbm of BSD', b'\0\x06\x15\x61': 'dbm of BSD',
+    b'\x37\x7f\x06\x82': 'write-ahead log of SQLite', b'\x37\x7f\x06\x83': 'write-ahead log of SQLite',
 }
+
+# The same for bytes that are not the first: where they are, and what they are.
+_UNREAD_AT = {
+    (16, b'\xde\xc0\xef\xbe'): 'LMDB', (12, b'\x62\x31\x05\0'): 'Berkeley DB of another kind',
+    (12, b'\0\x05\x31\x62'): 'Berkeley DB of another kind', (12, b'\x53\x22\x04\0'): 'Berkeley DB of another kind',
+    (12, b'\0\x04\x22\x53'): 'Berkeley DB of another kind',
+}
+_REDIS_DUMP = re.compile(rb'REDIS[0-9]{4}')
 
 _SHAPES: Dict[int, 'pickletools.OpcodeInfo'] = {ord(each.code): each for each in pickletools.opcodes}
 
@@ -110,7 +120,10 @@ def kind_of(head: bytes) -> Optional[str]:
 
 def unread_kind_of(head: bytes) -> Optional[str]:
     """A container that begins so and is not opened."""
-    return next((kind for begin, kind in _UNREAD.items() if head.startswith(begin)), None)
+    if _REDIS_DUMP.match(head):
+        return 'dump of Redis'
+    known = next((kind for (at, begin), kind in _UNREAD_AT.items() if head.startswith(begin, at)), None)
+    return known or next((kind for begin, kind in _UNREAD.items() if head.startswith(begin)), None)
 
 
 def may_be_pickle(head: bytes, size: int) -> bool:
