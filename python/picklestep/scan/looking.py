@@ -13,7 +13,7 @@ from importlib import import_module
 from typing import Any, BinaryIO, Callable, Dict, Iterator, List, Optional, Set, Tuple
 
 from ..sources import LIMIT
-from . import tars, zips
+from . import stores, tars, zips
 from .begins import HEAD, imports_something, is_pickle_name, is_storage_name, kind_of, may_be_pickle, unread_kind_of
 from .blobs import Blob, Budget, BytesBlob, FileBlob, LimitMet, Limits, OpenedBlob, spooled
 from .packed import METHODS, Decompressor, Unpacking, raw_deflate, raw_lzma
@@ -26,6 +26,8 @@ _URL = re.compile(r'[A-Za-z][A-Za-z0-9+.-]*(::|://)')
 _PACKED_ENDING = re.compile(r'\.(gz|gzip|bz2|xz|lzma|z|zlib)$', re.IGNORECASE)
 # The program ends at a frame in a frame, and at an opcode that crosses the end of one. Raw numbers do not get there, and CPython goes on.
 _FRAME_FAULTS = ('F6', 'F8')
+# These begin as a pickle does, or may, and are not read as one.
+_NO_PICKLE = ('npy', 'Django cache')
 # The bytes by which a member is known to be a container: its first ones, and where the record is that closes a zip archive.
 _GLANCE = HEAD + zips.TAIL
 # joblib before 0.10: the letters ZF, then the length as 19 characters, then a zlib stream, before which joblib skips a blank.
@@ -34,10 +36,12 @@ _ZFILE_HEADER = 21
 
 @dataclass(frozen=True)
 class Options:
-    """How files are looked at: the limits for each of them, and whether every line of the program is kept."""
+    """How files are looked at: the limits for each of them, whether every line of the program is kept, and whether each offset is tried
+    at which a pickle may begin."""
 
     limits: Limits = Limits()
     lines: bool = False
+    everywhere: bool = False
 
 
 class Looker:
@@ -62,10 +66,10 @@ class Looker:
         self.at = where
         self.budget.look(min(blob.size, _GLANCE))
         head = blob.read(0, HEAD)
-        kind = None if is_gap else kind_of(head)
+        kind = None if is_gap else kind_of(head) or stores.kind_of(head)
         if kind is not None and self._open(kind, blob, where, names, depth):
             # How a container begins can be opcodes. A zip archive begins with a persistent id, so it is not read whole without need.
-            if imports_something(blob, self.budget) if kind == 'zip' else kind != 'npy' and may_be_pickle(head, blob.size):
+            if imports_something(blob, self.budget) if kind == 'zip' else kind not in _NO_PICKLE and may_be_pickle(head, blob.size):
                 self._is_read(blob, head, where, names)
             return
         unread = unread_kind_of(head)
@@ -74,10 +78,14 @@ class Looker:
             self.note(where, f'{unread}: this kind of container is not opened', missed=True)
         elif not is_gap and zips.end_of_directory(blob) is not None:
             self._open_zip_at_end(blob, head, where, names, depth)
-        elif may_be_pickle(head, blob.size) or any(is_pickle_name(name) for name in names):
-            self.others += not self._is_read(blob, head, where, names)
-        else:
+        elif (may_be_pickle(head, blob.size) or any(is_pickle_name(name) for name in names)) and self._is_read(blob, head, where, names):
+            stores.look_behind(self, blob, where, depth)
+        elif not stores.look_further(self, blob, where, depth):
             self.others += 1
+
+    def is_read(self, blob: Blob, head: bytes, where: Place, names: Tuple[str, ...]) -> bool:
+        """Asks the program about a value of a store."""
+        return self._is_read(blob, head, where, names)
 
     def _is_read(self, blob: Blob, head: bytes, where: Place, names: Tuple[str, ...]) -> bool:
         """Asks the program, and keeps its answer where the bytes are a pickle. False where they are none."""
@@ -117,6 +125,8 @@ class Looker:
             self._open_tar(blob, where, depth)
         elif kind == 'npy':
             self._open_array(blob, where, names, depth)
+        elif kind in stores.KINDS:
+            stores.look_into(kind, self, blob, where, depth)
         else:
             return self._open_packed(kind, blob, where, names, depth)
         return True
@@ -310,7 +320,7 @@ class Looker:
                 break
             begin.append(piece)
         head = b''.join(begin)[:HEAD]
-        asks = kind_of(head) or unread_kind_of(head) or may_be_pickle(head, max(told[0], HEAD + 1) if told[0] >= HEAD else told[0])
+        asks = self.options.everywhere or kind_of(head) or stores.asks(head, told[0]) or unread_kind_of(head) or may_be_pickle(head, max(told[0], HEAD + 1) if told[0] >= HEAD else told[0])
         if asks or any(is_pickle_name(name) for name in names):
             self._look_at_held(_joined(begin, pieces), where, names, depth)
         elif self._ends_in_zip(begin, pieces):
@@ -452,7 +462,8 @@ def _gone_through(looker: Looker, blob: Blob, start: Result) -> Result:
     error = None
     looker.budget.size = blob.size
     try:
-        looker.look_at(blob, (), (start.path.rpartition('/')[2],), 0)
+        if not stores.look_beside(looker, blob, start.path):
+            looker.look_at(blob, (), (start.path.rpartition('/')[2],), 0)
     except LimitMet as limit:
         looker.note(looker.at, str(limit), missed=True)
     except OSError as failure:
