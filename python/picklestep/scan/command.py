@@ -55,6 +55,7 @@ def _parser() -> argparse.ArgumentParser:
     parser.add_argument('--json', action='store_true', help='one object a line and file; the summary goes to standard error')
     parser.add_argument('--brief', action='store_true', help='only lines that ask for a closer look, and the summary')
     parser.add_argument('--lines', action='store_true', help="each pickle with all of the program's lines")
+    parser.add_argument('--everywhere', action='store_true', help='try each offset at which a pickle may begin, and texts that stand for bytes')
     parser.add_argument('--jobs', metavar='N', type=_positive, default=1, help='files at once')
     parser.add_argument('--cluster', metavar='ADDRESS', help='hand the files to the Dask cluster at this address')
     parser.add_argument('--resume', metavar='LOG', help='leave out what an earlier --json run has in this file')
@@ -111,7 +112,7 @@ def _is_same(path: str, earlier: Result) -> bool:
 
 def _results(words: argparse.Namespace, paths: List[str]) -> Generator[Result, None, None]:
     limits = Limits(words.max_bytes, words.max_members, words.max_depth, words.max_seconds, words.max_memory, words.max_lines)
-    options = Options(limits, words.lines)
+    options = Options(limits, words.lines, words.everywhere)
     if words.cluster is not None:
         return look_on_cluster(paths, options, words.cluster)
     return look_at_all(paths, options, words.jobs)
