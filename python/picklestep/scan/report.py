@@ -61,6 +61,8 @@ class Report:
         self.imports: Counter[str] = Counter()
         self.pickles_with: Counter[str] = Counter()
         self.first_with: Dict[str, str] = {}
+        # The servers, and whether there was a pickle in one.
+        self.servers: Dict[str, bool] = {}
 
     # --- Results ---
 
@@ -81,12 +83,15 @@ class Report:
 
     def _count(self, result: Result) -> None:
         counts = self.counts
-        counts['files'] += result.left is None
+        counts['files'] += result.left is None and not result.keys
+        counts['keys'] += result.keys if result.error is None else 0
+        if result.keys:
+            self.servers[result.path] = self.servers.get(result.path, False) or bool(result.pickles)
         counts['left'] += result.left is not None
         counts['errors'] += result.error is not None
         counts['others'] += result.others
         counts['pickles'] += len(result.pickles)
-        counts['files with pickles'] += bool(result.pickles)
+        counts['files with pickles'] += bool(result.pickles) and not result.keys
         counts['missed'] += any(note.missed for note in result.notes)
         for pickle in result.pickles:
             counts['not stopped'] += not pickle.end.is_stopped
@@ -144,7 +149,10 @@ class Report:
     def summary(self) -> List[str]:
         """The counts over all files, and the imports: those that are not allowed, then the rarest first."""
         counts = self.counts
-        told = [_number(counts['files'], 'file'), f'{_number(counts["pickles"], "pickle")} in {counts["files with pickles"]} of them',
+        told = [_number(counts['files'], 'file')] if counts['files'] or not self.servers else []
+        if self.servers:
+            told.append(f'{_number(len(self.servers), "server")} with {_number(counts["keys"], "key")}')
+        told = [*told, f'{_number(counts["pickles"], "pickle")} in {counts["files with pickles"] + sum(self.servers.values())} of them',
                 _number(counts['others'], 'other that is no pickle', 'others that are no pickles')]
         for key, *words in (('not stopped', 'pickle not read to a STOP', 'pickles not read to a STOP'),
                             ('missed', 'file not looked at whole', 'files not looked at whole'),

@@ -63,7 +63,8 @@ class Result:
     """All that was found in a file.
 
     `others` counts what is no pickle. `error` says why the file cannot be read, `left` why it was left out (a FIFO, a link to a folder).
-    `size` and `modified` (nanoseconds) show `--resume` whether the file is still the one that was looked at.
+    `size` and `modified` (nanoseconds) show `--resume` whether the file is still the one that was looked at. `keys` is how many keys of a
+    server this is about (several results may be of one server), and 0 where it is about a file.
     """
 
     path: str
@@ -74,13 +75,15 @@ class Result:
     notes: Tuple[Note, ...] = ()
     error: Optional[str] = None
     left: Optional[str] = None
+    keys: int = 0
 
 
 def to_json(result: Result) -> Dict[str, Any]:
     """The object that stands for a result in a line of JSON."""
     return {'path': result.path, 'size': result.size, 'modified': result.modified,
             'pickles': [_pickle_object(pickle) for pickle in result.pickles], 'others': result.others,
-            'notes': [dict(vars(note)) for note in result.notes], 'error': result.error, 'left': result.left}
+            'notes': [dict(vars(note)) for note in result.notes], 'error': result.error, 'left': result.left,
+            **({'keys': result.keys} if result.keys else {})}
 
 
 def _pickle_object(pickle: Pickle) -> Dict[str, Any]:
@@ -96,6 +99,7 @@ def from_json(made: Dict[str, Any]) -> Result:
     return Result(
         made['path'], made['size'], made['modified'], tuple(_pickle(pickle) for pickle in made['pickles']), made['others'],
         tuple(Note(tuple(note['where']), note['text'], note['missed']) for note in made['notes']), made['error'], made['left'],
+        made.get('keys', 0),
     )
 
 
