@@ -10,7 +10,8 @@ import re
 import signal
 import sys
 from contextlib import closing
-from typing import Dict, Generator, List, Optional, TextIO
+from itertools import chain
+from typing import Dict, Generator, Iterable, List, Optional, TextIO, Union
 
 from ..errors import ProgramError
 from ..program import find_program
@@ -23,6 +24,8 @@ from .pool import look_at_all
 from .progress import with_progress
 from .report import Report
 from .results import Result, from_json
+from .stores.address import Address, is_server
+from .stores.server import NoServer, Task, Wanted, server_of, tasks
 
 __all__ = ['main', 'run']
 
@@ -49,7 +52,8 @@ def _parser() -> argparse.ArgumentParser:
         prog='picklestep-scan', description='Tells what the pickles in files import and call. Nothing of them is run or loaded.',
         epilog='Status: 0; 1 where something asks for a closer look (a line that begins with !); 2 where it could not begin; '
                '130 after Ctrl-C.')
-    parser.add_argument('paths', metavar='PATH', nargs='+', help='a file, a folder, a URL for fsspec, or - for names on standard input')
+    parser.add_argument('paths', metavar='PATH', nargs='+', help='a file, a folder, a server (redis://, memcached://, postgresql://, mysql://), a URL for fsspec, or - for names on standard '
+                             'input')
     parser.add_argument('--allow', metavar='FILE', action='append', default=[],
                         help=f'names that may be imported, one a line; or one of the sets {", ".join(SETS)}')
     parser.add_argument('--json', action='store_true', help='one object a line and file; the summary goes to standard error')
@@ -59,6 +63,8 @@ def _parser() -> argparse.ArgumentParser:
     parser.add_argument('--jobs', metavar='N', type=_positive, default=1, help='files at once')
     parser.add_argument('--cluster', metavar='ADDRESS', help='hand the files to the Dask cluster at this address')
     parser.add_argument('--resume', metavar='LOG', help='leave out what an earlier --json run has in this file')
+    parser.add_argument('--match', metavar='PATTERN', help='only keys of a server that match')
+    parser.add_argument('--sample', metavar='N', type=_positive, help='only so many keys of a server, in the order in which it lists them')
     parser.add_argument('--null', action='store_true', help='names on standard input end in a NUL byte')
     limits = Limits()
     parser.add_argument('--max-bytes', metavar='N', type=_bytes, default=limits.unpacked, help='unpacked bytes of a file (1G)')
@@ -110,12 +116,27 @@ def _is_same(path: str, earlier: Result) -> bool:
     return (state.st_size, state.st_mtime_ns) == (earlier.size, earlier.modified)
 
 
-def _results(words: argparse.Namespace, paths: List[str]) -> Generator[Result, None, None]:
+def _results(words: argparse.Namespace, paths: Iterable[Union[str, Task]]) -> Generator[Result, None, None]:
     limits = Limits(words.max_bytes, words.max_members, words.max_depth, words.max_seconds, words.max_memory, words.max_lines)
     options = Options(limits, words.lines, words.everywhere)
     if words.cluster is not None:
         return look_on_cluster(paths, options, words.cluster)
     return look_at_all(paths, options, words.jobs)
+
+
+def _keys_of(server: Address, wanted: Wanted) -> int:
+    """How many keys a server has, as far as it says so."""
+    try:
+        return server_of(server).total(wanted)
+    except NoServer:
+        return 0
+
+
+def _followed_by(results: Generator[Result, None, None], others: List[Result]) -> Generator[Result, None, None]:
+    """Results, and then those that were added to a list meanwhile."""
+    with closing(results):
+        yield from results
+    yield from others
 
 
 def _scan(words: argparse.Namespace) -> int:
@@ -127,7 +148,9 @@ def _scan(words: argparse.Namespace) -> int:
     paths: List[str] = []
     interrupted = False
     try:
-        found = find_files(words.paths, b'\0' if words.null else b'\n')
+        servers = [Address(word) for word in words.paths if is_server(word)]
+        wanted = Wanted(words.match, words.sample)
+        found = find_files((word for word in words.paths if not is_server(word)), b'\0' if words.null else b'\n')
         for result in found.results:
             report.add(result)
         for path in found.paths:
@@ -135,8 +158,11 @@ def _scan(words: argparse.Namespace) -> int:
                 report.add(earlier[path], is_new=False)
             else:
                 paths.append(path)
-        results = _results(words, paths)
-        with closing(with_progress(results, len(paths))) as shown, closing(results):
+        # (Where a server does not answer, the result that says so comes when the others have come.)
+        failed: List[Result] = []
+        keys = chain.from_iterable(tasks(server, wanted, failed.append) for server in servers)
+        results = _followed_by(_results(words, chain(paths, keys)), failed)
+        with closing(with_progress(results, len(paths) + sum(_keys_of(server, wanted) for server in servers))) as shown, closing(results):
             for result in shown:
                 report.add(result)
     except KeyboardInterrupt:
