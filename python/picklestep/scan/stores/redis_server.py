@@ -43,7 +43,7 @@ class RedisServer(Server):
         self.client.response_callbacks.pop('XREVRANGE', None)
 
     @contextmanager
-    def _named(self) -> Iterator[None]:
+    def named(self) -> Iterator[None]:
         """Errors of the library as NoServer."""
         try:
             yield
@@ -51,13 +51,13 @@ class RedisServer(Server):
             raise NoServer(f'{type(error).__name__}: {error}') from None
 
     def total(self, wanted: Wanted) -> int:
-        with self._named():
+        with self.named():
             return min(int(self.client.dbsize()), wanted.sample or (1 << 62))
 
     def parts(self, wanted: Wanted) -> Iterator[Tuple[Any, ...]]:
         cursor, left = 0, wanted.sample
         while True:
-            with self._named():
+            with self.named():
                 cursor, keys = self.client.scan(cursor, match=wanted.match, count=_SCANNED)
             if left is not None:
                 keys = keys[:left]
@@ -68,7 +68,7 @@ class RedisServer(Server):
                 return
 
     def look(self, values: Values, keys: Tuple[Any, ...]) -> int:
-        with self._named():
+        with self.named():
             others = []
             for key, answer in zip(keys, self._all(keys, lambda pipe, key: pipe.getrange(key, 0, _FIRST - 1))):
                 if isinstance(answer, bytes):

@@ -6,7 +6,7 @@ Most values are small and there are many, so those that read as pickles wait, an
 from __future__ import annotations
 
 from dataclasses import dataclass
-from typing import TYPE_CHECKING, List, Set
+from typing import TYPE_CHECKING, Callable, List, Optional, Set
 
 from ..begins import HEAD, kind_of, may_be_pickle, unread_kind_of
 from ..blobs import Blob, Budget, BytesBlob, LimitMet
@@ -63,6 +63,8 @@ class Values:
     def __init__(self, looker: 'Looker') -> None:
         self.looker = looker
         self.count = 0
+        # Set where values come again and again.
+        self.is_new: Optional[Callable[[bytes, Place], bool]] = None
         self._size = self._unpacked = 0
         self._outer = looker.budget
         self._found: Set[int] = set()
@@ -72,7 +74,9 @@ class Values:
     # --- Values ---
 
     def add(self, content: bytes, where: Place, depth: int = 0) -> None:
-        """Looks at a value in memory."""
+        """Looks at a value in memory, if it is new."""
+        if self.is_new is not None and not self.is_new(content, where):
+            return
         self.begin(where, len(content))
         try:
             self._look(content, where, depth, guessed=False)
