@@ -25,6 +25,7 @@ from .progress import with_progress
 from .report import Report
 from .results import Result, from_json
 from .stores.address import Address, is_server
+from .stores.follow import follow
 from .stores.server import NoServer, Task, Wanted, server_of, tasks
 
 __all__ = ['main', 'run']
@@ -65,6 +66,7 @@ def _parser() -> argparse.ArgumentParser:
     parser.add_argument('--resume', metavar='LOG', help='leave out what an earlier --json run has in this file')
     parser.add_argument('--match', metavar='PATTERN', help='only keys of a server that match')
     parser.add_argument('--sample', metavar='N', type=_positive, help='only so many keys of a server, in the order in which it lists them')
+    parser.add_argument('--follow', action='store_true', help='look at new values of a Redis server as they come, a line of JSON each')
     parser.add_argument('--null', action='store_true', help='names on standard input end in a NUL byte')
     limits = Limits()
     parser.add_argument('--max-bytes', metavar='N', type=_bytes, default=limits.unpacked, help='unpacked bytes of a file (1G)')
@@ -116,9 +118,13 @@ def _is_same(path: str, earlier: Result) -> bool:
     return (state.st_size, state.st_mtime_ns) == (earlier.size, earlier.modified)
 
 
-def _results(words: argparse.Namespace, paths: Iterable[Union[str, Task]]) -> Generator[Result, None, None]:
+def _options(words: argparse.Namespace) -> Options:
     limits = Limits(words.max_bytes, words.max_members, words.max_depth, words.max_seconds, words.max_memory, words.max_lines)
-    options = Options(limits, words.lines, words.everywhere)
+    return Options(limits, words.lines, words.everywhere)
+
+
+def _results(words: argparse.Namespace, paths: Iterable[Union[str, Task]]) -> Generator[Result, None, None]:
+    options = _options(words)
     if words.cluster is not None:
         return look_on_cluster(paths, options, words.cluster)
     return look_at_all(paths, options, words.jobs)
@@ -137,6 +143,20 @@ def _followed_by(results: Generator[Result, None, None], others: List[Result]) -
     with closing(results):
         yield from results
     yield from others
+
+
+def _follow(words: argparse.Namespace) -> int:
+    """Looks at new values until Ctrl-C."""
+    if len(words.paths) != 1 or not is_server(words.paths[0]):
+        raise NoServer('--follow wants one server')
+    report = Report(sys.stdout, read_allowed(words.allow) if words.allow else None, as_json=True)
+    try:
+        for result in follow(Address(words.paths[0]), _options(words), Wanted(words.match)):
+            report.add(result)
+    except KeyboardInterrupt:
+        for line in report.summary():
+            print(line, file=sys.stderr)
+    return 130
 
 
 def _scan(words: argparse.Namespace) -> int:
@@ -183,12 +203,12 @@ def main(words: Optional[List[str]] = None) -> int:
             stream.reconfigure(errors='backslashreplace')
     try:
         find_program()
-        return _scan(parsed)
+        return _follow(parsed) if parsed.follow else _scan(parsed)
     except BrokenPipeError:
         # The reader has left. What is still held cannot be written, at the end of Python neither.
         os.dup2(os.open(os.devnull, os.O_WRONLY), sys.stdout.fileno())
         return 128 + signal.SIGPIPE
-    except (OSError, ProgramError, NoCluster) as error:
+    except (OSError, ProgramError, NoCluster, NoServer) as error:
         print(f'picklestep-scan: {error}', file=sys.stderr)
         return 2
 
