@@ -44,9 +44,9 @@ _MOST_MARKS = 32
 # From a name on a call comes soon. From PROTO on it may come late.
 _MOST_FROM_NAME = 200
 
-# So many opcodes are gone over for each byte.
-_STEPS_OF_A_BYTE = 1
-_STEPS_AT_LEAST = 10_000_000
+# So many opcodes are gone over: for each byte, and at least.
+_STEPS_OF_A_BYTE = 0.25
+_STEPS_AT_LEAST = 2_000_000
 
 
 def candidates(blob: Blob) -> Iterator[Tuple[int, bytes]]:
@@ -65,29 +65,19 @@ def candidates(blob: Blob) -> Iterator[Tuple[int, bytes]]:
             found = search.begin(window, anchor, max(0, done - start))
             if found is not None:
                 at, way = found
-                inner = window[at:way.end] if way.stops else _more(blob, start + at)
-                done = start + at + max(len(inner), 1) if way.stops else start + way.end
+                inner = window[at:way.end] if way.stops else search.more(blob, start + at)
+                done = start + at + max(1, len(inner))
                 yield start + at, inner
         if is_last or not window:
             return
         start += _WINDOW
 
 
-def _more(blob: Blob, at: int) -> bytes:
-    """The bytes of a pickle that does not end within the window, or has no STOP."""
-    content = blob.read(at, _OVERLAP)
-    way = walk(content, 0)
-    if not way.stops and (way.goes_on or way.end >= len(content) - _MOST_OF_LINE):
-        content = blob.read(at, _MOST_BYTES)
-        way = walk(content, 0, most=len(content))
-    return content[:way.end if way.stops else way.end + _MOST_OF_LINE]
-
-
 class _Search:
     """Goes through windows, and counts the opcodes that it has gone over."""
 
     def __init__(self, blob: Blob) -> None:
-        self.left = max(_STEPS_AT_LEAST, blob.size * _STEPS_OF_A_BYTE)
+        self.left = max(_STEPS_AT_LEAST, int(blob.size * _STEPS_OF_A_BYTE))
         self.dead: Set[int] = set()
 
     def _walk(self, window: bytes, at: int, most: int, until: Optional[int] = None, dead: Optional[Set[int]] = None) -> Walk:
@@ -115,13 +105,22 @@ class _Search:
     def _texts_before(self, window: bytes, at: int) -> Iterator[int]:
         """Where the first of two texts begins that STACK_GLOBAL takes, as far as a walk leads from there to it."""
         places = [match.start() for match in _TEXTS.finditer(window, max(0, at - _BEFORE_STACK_GLOBAL), at)]
-        for place in reversed(places):
+        for place in reversed(places[-_MOST_MARKS:]):
             way = self._walk(window, place, _MOST_FROM_NAME, at + 1)
             if way.end == at + 1 and not way.lacks:
                 yield place
                 return
 
     # --- How it goes on from there ---
+
+    def more(self, blob: Blob, at: int) -> bytes:
+        """The bytes of a pickle that does not end within the window, or has no STOP."""
+        content = blob.read(at, _OVERLAP)
+        way = self._walk(content, 0, MOST)
+        if not way.stops and (way.goes_on or way.end >= len(content) - _MOST_OF_LINE):
+            content = blob.read(at, _MOST_BYTES)
+            way = self._walk(content, 0, self.left)
+        return content[:way.end if way.stops else way.end + _MOST_OF_LINE]
 
     def begin(self, window: bytes, anchor: int, least: int) -> Optional[Tuple[int, Walk]]:
         """Where the pickle begins that has this anchor, and how far it goes. None where there is no likely one."""
