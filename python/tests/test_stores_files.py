@@ -15,7 +15,7 @@ import zlib
 from pathlib import Path
 from typing import List
 
-from picklestep.scan import Options, Result
+from picklestep.scan import Options, Result, from_json
 from scan_support import HARMLESS, HOSTILE, MODELS, ScanCase, environment, names_of, notes_of, places_of
 from stores_support import StoreCase, python_with
 
@@ -124,8 +124,9 @@ class SqliteFiles(ScanCase):
         before = sorted(os.listdir(self.folder))
         run = self.scan('--json', 'copied')
         self.assertEqual(sorted(os.listdir(self.folder)), before)
-        found = [pickle['where'] for pickle in json.loads(run.stdout)['pickles'] if any(each['name'] == 'posix.system' for each in pickle['imports'])]
-        self.assertEqual(found, [['t.value row 51'], ['t.value row 401']])
+        result = from_json(json.loads(run.stdout))
+        found = [pickle.where for pickle in result.pickles if any(each.name == 'posix.system' for each in pickle.imports)]
+        self.assertEqual(found, [('t.value row 51',), ('t.value row 401',)])
 
     def test_in_an_archive_and_without_numbers_of_rows(self) -> None:
         path = str(self.folder / 'b.db')
