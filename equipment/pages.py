@@ -13,7 +13,7 @@ from pathlib import Path
 
 from trials.trial import Trial
 
-WORDS = 13000
+WORDS = 13700
 WORDS_OF_README = 900
 COLUMNS = 100
 
