@@ -27,7 +27,7 @@ _PACKED_ENDING = re.compile(r'\.(gz|gzip|bz2|xz|lzma|z|zlib)$', re.IGNORECASE)
 # The program ends at a frame in a frame, and at an opcode that crosses the end of one. Raw numbers do not get there, and CPython goes on.
 _FRAME_FAULTS = ('F6', 'F8')
 # These begin as a pickle does, or may, and are not read as one.
-_NO_PICKLE = ('npy', 'Django cache')
+_NO_PICKLE = ('npy', 'sqlite', 'Django cache')
 # The bytes by which a member is known to be a container: its first ones, and where the record is that closes a zip archive.
 _GLANCE = HEAD + zips.TAIL
 # joblib before 0.10: the letters ZF, then the length as 19 characters, then a zlib stream, before which joblib skips a blank.
@@ -53,6 +53,7 @@ class Looker:
         self.pickles: List[Pickle] = []
         self.notes: List[Note] = []
         self.others = 0
+        self.plain = 0
         self.at: Place = ()
 
     def note(self, where: Place, text: str, missed: bool = False) -> None:
@@ -468,7 +469,8 @@ def _gone_through(looker: Looker, blob: Blob, start: Result) -> Result:
         looker.note(looker.at, str(limit), missed=True)
     except OSError as failure:
         error = failure.strerror or str(failure)
-    return replace(start, pickles=tuple(looker.pickles), others=looker.others, notes=tuple(looker.notes), error=error)
+    return replace(start, pickles=tuple(looker.pickles), others=looker.others, notes=tuple(looker.notes), error=error,
+                   plain=looker.plain)
 
 
 def look(path: str, options: Options = Options()) -> Result:

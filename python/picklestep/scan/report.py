@@ -86,12 +86,12 @@ class Report:
         counts['files'] += result.left is None and not result.keys
         counts['keys'] += result.keys if result.error is None else 0
         if result.keys:
-            self.servers[result.path] = self.servers.get(result.path, False) or bool(result.pickles)
+            self.servers[result.path] = self.servers.get(result.path, False) or bool(result.pickles or result.plain)
         counts['left'] += result.left is not None
         counts['errors'] += result.error is not None
         counts['others'] += result.others
-        counts['pickles'] += len(result.pickles)
-        counts['files with pickles'] += bool(result.pickles) and not result.keys
+        counts['pickles'] += len(result.pickles) + result.plain
+        counts['files with pickles'] += bool(result.pickles or result.plain) and not result.keys
         counts['missed'] += any(note.missed for note in result.notes)
         for pickle in result.pickles:
             counts['not stopped'] += not pickle.end.is_stopped

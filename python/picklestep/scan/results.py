@@ -64,7 +64,8 @@ class Result:
 
     `others` counts what is no pickle. `error` says why the file cannot be read, `left` why it was left out (a FIFO, a link to a folder).
     `size` and `modified` (nanoseconds) show `--resume` whether the file is still the one that was looked at. `keys` is how many keys of a
-    server this is about (several results may be of one server), and 0 where it is about a file.
+    server this is about (several results may be of one server), and 0 where it is about a file. `plain` counts pickles that are values of
+    a store, import and call nothing, and end with STOP: there may be millions, so they are not in `pickles`.
     """
 
     path: str
@@ -76,6 +77,7 @@ class Result:
     error: Optional[str] = None
     left: Optional[str] = None
     keys: int = 0
+    plain: int = 0
 
 
 def to_json(result: Result) -> Dict[str, Any]:
@@ -83,7 +85,7 @@ def to_json(result: Result) -> Dict[str, Any]:
     return {'path': result.path, 'size': result.size, 'modified': result.modified,
             'pickles': [_pickle_object(pickle) for pickle in result.pickles], 'others': result.others,
             'notes': [dict(vars(note)) for note in result.notes], 'error': result.error, 'left': result.left,
-            **({'keys': result.keys} if result.keys else {})}
+            **{name: count for name, count in (('keys', result.keys), ('plain', result.plain)) if count}}
 
 
 def _pickle_object(pickle: Pickle) -> Dict[str, Any]:
@@ -99,7 +101,7 @@ def from_json(made: Dict[str, Any]) -> Result:
     return Result(
         made['path'], made['size'], made['modified'], tuple(_pickle(pickle) for pickle in made['pickles']), made['others'],
         tuple(Note(tuple(note['where']), note['text'], note['missed']) for note in made['notes']), made['error'], made['left'],
-        made.get('keys', 0),
+        made.get('keys', 0), made.get('plain', 0),
     )
 
 
