@@ -87,6 +87,25 @@ class RedisServers(StoreCase):
         found = self.told(f'redis://127.0.0.1:{free_port()}/0', python=python)
         self.assertIn('Connection refused', found[0])
 
+    def test_cluster(self) -> None:
+        """Keys are handed to the workers of a Dask cluster."""
+        python = python_with('redis', 'distributed')
+        port = self.redis()
+        self.fill(python, 'redis_server', str(port), SECRET, str(FEW))
+        file = self.folder / 'scheduler.json'
+        for words in (['dask_scheduler', '--host', '127.0.0.1', '--port', '0', '--no-dashboard', '--scheduler-file', str(file)],
+                      ['dask_worker', '--scheduler-file', str(file), '--no-nanny', '--no-dashboard', '--nthreads', '2']):
+            process = subprocess.Popen([python, '-m', f'distributed.cli.{words[0]}', *words[1:]], cwd=self.folder, env=environment(),
+                                       stdout=subprocess.DEVNULL, stderr=subprocess.DEVNULL)
+            self.addCleanup(process.wait)
+            self.addCleanup(process.kill)
+            end = time.monotonic() + 30
+            while not (file.exists() and file.stat().st_size):
+                self.assertLess(time.monotonic(), end)
+                time.sleep(0.1)
+        found = self.told('--cluster', json.loads(file.read_text())['address'], f'redis://:{SECRET}@127.0.0.1:{port}/0', python=python)
+        self.assertEqual(sum(EVIL in line for line in found), 8, found)
+
     def test_follow(self) -> None:
         python = python_with('redis')
         port = self.redis()

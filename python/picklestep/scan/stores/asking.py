@@ -102,12 +102,19 @@ def _taken_apart(told: str, sizes: Sequence[int], marker: str, width: int, limit
         start += size + width
 
 
+# The answer about each pickle that imports and calls nothing.
+_NOTHING = Summary(Limits(), False)
+_NOTHING.take(iter([b'0 imports, 0 calls\n']))
+
+
 def _lowered(text: str, objects: int) -> str:
     """A line with the numbers that its objects have where the pickle is alone."""
     return _NUMBER.sub(lambda match: match[0] if match[1] is None else f'#{int(match[1]) - objects}', text) if objects else text
 
 
 def _summary(lines: List[str], limits: Limits, keep_lines: bool) -> Summary:
+    if not lines:
+        return _NOTHING
     summary = Summary(limits, keep_lines)
     summary.take(iter([''.join([*lines, '0 imports, 0 calls\n']).encode()]))
     return summary

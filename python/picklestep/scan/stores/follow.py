@@ -88,7 +88,7 @@ def _looked(address: Address, options: 'Options', look: Look, seen: Seen) -> Ite
         return 1
 
     result = looked(address, options, work)
-    if result.pickles or result.notes or result.others or result.error is not None:
+    if result.pickles or result.plain or result.notes or result.others or result.error is not None:
         yield result
 
 

@@ -5,6 +5,7 @@ The keys are listed by one process and handed out in tasks, as files are. Each p
 
 from __future__ import annotations
 
+import threading
 from dataclasses import dataclass
 from importlib import import_module
 from typing import TYPE_CHECKING, Any, Callable, Dict, Iterator, Optional, Tuple, Type, Union
@@ -81,7 +82,7 @@ def looked(address: Address, options: 'Options', work: Callable[[Server, Values]
     try:
         keys = work(server_of(address), values)
     except NoServer as failure:
-        _servers.pop(address.url, None)
+        _servers().pop(address.url, None)
         error = address.cleaned(str(failure))
     except Exception as failure:  # a hostile value must not end the others
         looker.note(looker.at, address.cleaned(f'{type(failure).__name__}: {failure}'), missed=True)
@@ -90,23 +91,29 @@ def looked(address: Address, options: 'Options', work: Callable[[Server, Values]
     except Exception as failure:
         looker.note(looker.at, f'{type(failure).__name__}: {failure}', missed=True)
     return Result(str(address), pickles=tuple(looker.pickles), others=looker.others, notes=tuple(looker.notes), error=error,
-                  keys=max(keys, 1))
+                  keys=max(keys, 1), plain=looker.plain)
 
 
-# The connections of this process.
-_servers: Dict[str, Server] = {}
+# The connections of each thread of this process (a worker of a cluster has several).
+_held = threading.local()
+
+
+def _servers() -> Dict[str, Server]:
+    servers: Dict[str, Server] = _held.__dict__.setdefault('servers', {})
+    return servers
 
 
 def server_of(address: Address) -> Server:
     """The connection of this process to a server. Raises NoServer."""
-    if address.url not in _servers:
+    servers = _servers()
+    if address.url not in servers:
         module = import_module(f'{__package__}.{_MODULES[address.split.scheme.lower()]}')
         kind: Type[Server] = module.SERVER
         try:
-            _servers[address.url] = kind(address)
+            servers[address.url] = kind(address)
         except ValueError as error:
             raise NoServer(f'the address is not right: {error}') from None
-    return _servers[address.url]
+    return servers[address.url]
 
 
 def tasks(address: Address, wanted: Wanted, failed: Callable[[Result], None]) -> Iterator[Task]:
@@ -115,7 +122,7 @@ def tasks(address: Address, wanted: Wanted, failed: Callable[[Result], None]) ->
         for keys in server_of(address).parts(wanted):
             yield Task(address, keys)
     except NoServer as error:
-        _servers.pop(address.url, None)
+        _servers().pop(address.url, None)
         failed(Result(str(address), error=address.cleaned(str(error)), keys=1))
 
 

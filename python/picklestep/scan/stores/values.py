@@ -5,6 +5,8 @@ Most values are small and there are many, so those that read as pickles wait, an
 
 from __future__ import annotations
 
+import re
+from concurrent.futures import Future, ThreadPoolExecutor
 from dataclasses import dataclass
 from typing import TYPE_CHECKING, Callable, List, Optional, Set
 
@@ -33,6 +35,9 @@ _TOGETHER = 64 << 10
 # All values together may be unpacked to so many times their size.
 _MOST_TIMES = 100
 
+# No other container begins with this byte than a tar archive, whose sign is here.
+_PROTO, _TAR = 0x80, 257
+
 _PACKED = ('zlib', 'gzip', 'bz2', 'xz', 'lzma')
 _MOST_OF_KEY = 200
 
@@ -45,6 +50,16 @@ def key_name(key: bytes) -> str:
     """
     text = key[:4 * _MOST_OF_KEY].decode('utf-8', 'backslashreplace')
     return text if len(key) <= _MOST_OF_KEY else f'{text[:_MOST_OF_KEY]}.. ({len(key)} bytes)'
+
+
+# Names as the report shows them: plain ones, and those of which the pickle works out the second part.
+_PLAIN = re.compile(r"'?[^\W\d]\w*(\.[^\W\d]\w*)*('? #[0-9]+)?")
+
+
+def _names_something(answer: Summary) -> bool:
+    """Whether an answer imports something by a plain name, or says nothing. Raw numbers that are taken for a pickle do not."""
+    imports = answer.pickle((), 0).imports
+    return answer.is_empty or any(_PLAIN.fullmatch(found.name) for found in imports)
 
 
 @dataclass(frozen=True)
@@ -69,6 +84,10 @@ class Values:
         self._outer = looker.budget
         self._found: Set[int] = set()
         self._waiting: List[_Waiting] = []
+        # While the program reads, the next values are looked at.
+        self._background = ThreadPoolExecutor(1)
+        self._asked: List[_Waiting] = []
+        self._told: 'Optional[Future[List[Summary]]]' = None
         self._bytes = 0
 
     # --- Values ---
@@ -118,6 +137,8 @@ class Values:
     def flush(self) -> None:
         """Asks about what waits. It counts the values that are no pickles, too."""
         self._ask()
+        self._settle()
+        self._background.shutdown()
         self.looker.budget = self._outer
         self.looker.others += self.count - len(self._found)
         self.count, self._found = 0, set()
@@ -127,6 +148,8 @@ class Values:
         if len(content) < 2:
             return False
         self.looker.at = where
+        if content[0] == _PROTO and stops_at_end(content) and content[_TAR:_TAR + 5] != b'ustar':
+            return self._wait(content, where, guessed)
         head = content[:HEAD]
         found = self._look_into(head, content, where, depth)
         if stops_at_end(content):
@@ -153,6 +176,9 @@ class Values:
             return self._wait(content[:way.end], where, guessed)
         self.looker.is_read(BytesBlob(content), content[:HEAD], where, ())
         if len(self.looker.pickles) == before:
+            return False
+        if guessed and not any(_PLAIN.fullmatch(found.name) for found in self.looker.pickles[-1].imports):
+            self.looker.pickles.pop()
             return False
         self._found.add(self.count)
         return True
@@ -277,16 +303,30 @@ class Values:
         return True
 
     def _ask(self) -> None:
+        """Asks about what waits, in the background, when the answers to what was asked before are kept."""
         waiting, self._waiting, self._bytes = self._waiting, [], 0
+        self._settle()
         options = self.looker.options
-        told = answers([each.content for each in waiting], options.limits, options.lines)
-        for each, answer in zip(waiting, told):
+        if waiting:
+            contents = [each.content for each in waiting]
+            self._asked = waiting
+            self._told = self._background.submit(lambda: list(answers(contents, options.limits, options.lines)))
+
+    def _settle(self) -> None:
+        asked, told = self._asked, self._told
+        self._asked, self._told = [], None
+        for each, answer in zip(asked, told.result() if told is not None else ()):
             self._keep(each, answer)
 
     def _keep(self, each: _Waiting, answer: Summary) -> None:
         if answer.trouble is not None:
             self.looker.note(each.where, answer.trouble, missed=True)
-        if answer.is_sure or answer.end.is_stopped or answer.trouble is not None:
+        if answer.is_empty and answer.end.is_stopped:
+            self.looker.plain += 1
+            self._found.add(each.value)
+        elif each.guessed and not _names_something(answer):
+            return
+        elif answer.is_sure or answer.end.is_stopped or answer.trouble is not None:
             self.looker.pickles.append(answer.pickle(each.where, len(each.content)))
             self._found.add(each.value)
         elif not each.guessed or walk(each.content, 0).is_called:

@@ -7,6 +7,7 @@ It finds where pickles may begin and end, and decides nothing: what is in one, t
 from __future__ import annotations
 
 import pickletools
+import re
 from typing import List, Optional, Set, Tuple
 
 __all__ = ['MOST', 'Walk', 'stops_at_end', 'walk']
@@ -17,6 +18,9 @@ _PAIR, _LINE, _ONE, _FOUR, _EIGHT, _UNKNOWN = -1, -2, -3, -4, -5, -6
 _CALLS = frozenset({'REDUCE', 'NEWOBJ', 'NEWOBJ_EX', 'OBJ', 'INST', 'BUILD'})
 _IMPORTS = frozenset({'GLOBAL', 'INST', 'STACK_GLOBAL'})
 _STOP, _FRAME, _POP = ord('.'), 0x95, ord('0')
+
+# The module of GLOBAL and INST, where it can be one.
+_MODULE = re.compile(rb'[A-Za-z_\x80-\xff][A-Za-z0-9_.\x80-\xff]*\n')
 
 # So many opcodes are gone over at a place that was only guessed.
 MOST = 20_000
@@ -49,6 +53,7 @@ for _each in pickletools.opcodes:
     _NEEDS[ord(_each.code)] = _needs_of(_each)
     _WHAT[ord(_each.code)] = (_each.name in _IMPORTS) + 2 * (_each.name in _CALLS)
 _MARK = next(ord(each.code) for each in pickletools.opcodes if each.name == 'MARK')
+_STACK_GLOBAL = next(ord(each.code) for each in pickletools.opcodes if each.name == 'STACK_GLOBAL')
 
 
 def _variable(content: bytes, at: int, step: int) -> int:
@@ -77,7 +82,9 @@ def stops_at_end(content: bytes) -> bool:
     while at < size:
         code = content[at]
         step = _STEPS[code]
-        if step < 0:
+        if step == _ONE and at + 1 < size:
+            step = 2 + content[at + 1]
+        elif step < 0:
             step = _variable(content, at, step)
             if not step:
                 return False
@@ -146,7 +153,7 @@ def walk(content: bytes, at: int, until: Optional[int] = None, most: int = MOST,
                 found.lacks = True
                 break
             depth += leaves - needs
-        if _WHAT[code] & 1:
+        if _WHAT[code] & 1 and (code == _STACK_GLOBAL or _MODULE.match(content, at + 1)):
             found.imports = True
         if _WHAT[code] & 2:
             found.calls = True
