@@ -21,11 +21,18 @@ _ZLIB_METHOD = 8
 # Containers that this package does not open, by where they tell so. They are reported, since a loader may open them.
 _UNREAD = {
     b'\x28\xb5\x2f\xfd': 'zstd', b'\x04\x22\x4d\x18': 'lz4', b'\x02\x21\x4c\x18': 'lz4', b'7z\xbc\xaf\x27\x1c': '7z', b'Rar!\x1a\x07': 'rar',
-    b'LZIP': 'lzip', b'\x89HDF\r\n\x1a\n': 'HDF5', b'SQLite format 3\0': 'SQLite', b'\xce\x9a\x57\x13': 'gdbm', b'\xcd\x9a\x57\x13': 'gdbm',
-    b'\xcf\x9a\x57\x13': 'gdbm', b'BLOSC': 'blosc', b'ARROW1': 'Arrow', b'PAR1': 'Parquet',
+    b'LZIP': 'lzip', b'BLOSC': 'blosc', b'ARROW1': 'Arrow', b'PAR1': 'Parquet', b'PGDMP': 'pg_dump', b'TDB file\n': 'tdb',
+    b'\x61\x15\x06\0': 'dbm of BSD', b'\0\x06\x15\x61': 'dbm of BSD', b'\x37\x7f\x06\x82': 'write-ahead log of SQLite',
+    b'\x37\x7f\x06\x83': 'write-ahead log of SQLite',
 }
-_HDF5 = b'\x89HDF\r\n\x1a\n'
-_BERKELEY = frozenset({b'\x61\x15\x06\0', b'\x62\x31\x05\0', b'\0\x06\x15\x61', b'\0\x05\x31\x62', b'\x53\x22\x04\0'})
+
+# The same for bytes that are not the first: where they are, and what they are.
+_UNREAD_AT = {
+    (16, b'\xde\xc0\xef\xbe'): 'LMDB', (12, b'\x62\x31\x05\0'): 'Berkeley DB of another kind',
+    (12, b'\0\x05\x31\x62'): 'Berkeley DB of another kind', (12, b'\x53\x22\x04\0'): 'Berkeley DB of another kind',
+    (12, b'\0\x04\x22\x53'): 'Berkeley DB of another kind',
+}
+_REDIS_DUMP = re.compile(rb'REDIS[0-9]{4}')
 
 _SHAPES: Dict[int, 'pickletools.OpcodeInfo'] = {ord(each.code): each for each in pickletools.opcodes}
 
@@ -123,16 +130,15 @@ def kind_of(head: bytes) -> Optional[str]:
 def unread_kind_of(head: bytes) -> Optional[str]:
     """A container that begins so and is not opened.
 
-    >>> unread_kind_of(b'SQLite format 3' + bytes(9)), unread_kind_of(b'\x50\x2a\x4d\x18')
-    ('SQLite', 'zstd or lz4 (a frame that is skipped)')
+    >>> unread_kind_of(b'LZIP' + bytes(9)), unread_kind_of(b'\x50\x2a\x4d\x18')
+    ('lzip', 'zstd or lz4 (a frame that is skipped)')
     """
     if len(head) > 3 and 0x50 <= head[0] <= 0x5F and head[1:4] == b'\x2a\x4d\x18':
         return 'zstd or lz4 (a frame that is skipped)'
-    if head[12:16] in _BERKELEY:
-        return 'Berkeley DB'
-    if any(head.startswith(_HDF5, 512 << step) for step in range(5)):  # HDF5 may have a block of its user's before it
-        return 'HDF5'
-    return next((kind for begin, kind in _UNREAD.items() if head.startswith(begin)), None)
+    if _REDIS_DUMP.match(head):
+        return 'dump of Redis'
+    known = next((kind for (at, begin), kind in _UNREAD_AT.items() if head.startswith(begin, at)), None)
+    return known or next((kind for begin, kind in _UNREAD.items() if head.startswith(begin)), None)
 
 
 def may_be_pickle(head: bytes, size: int) -> bool:

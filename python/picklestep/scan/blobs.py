@@ -8,6 +8,7 @@ import tempfile
 import time
 from bisect import bisect_right
 from contextlib import contextmanager
+from copy import copy
 from dataclasses import dataclass
 from typing import BinaryIO, Iterable, Iterator, List, Sequence, Tuple, cast
 
@@ -69,6 +70,14 @@ class Budget:
         self._size = _own_size()
         self._steps = 0
         self._parts: List[float] = []
+
+    def of_value(self, size: int) -> 'Budget':
+        """The budget of one value of a store: bytes and members of its own, and what is left of time, memory and lines of the file."""
+        inner = copy(self)
+        inner.size = size
+        inner.unpacked = inner.read = inner.members = 0
+        inner._parts = []
+        return inner
 
     @property
     def seconds(self) -> float:

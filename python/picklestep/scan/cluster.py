@@ -6,10 +6,11 @@ package, the program, and the files under the same paths (a shared folder, or UR
 
 from __future__ import annotations
 
-from typing import Any, Generator, Iterable, Iterator, List
+from typing import Any, Generator, Iterable, Iterator, List, Union
 
-from .looking import Options, look
+from .looking import Options
 from .results import Result
+from .stores.server import Task, work_on
 
 __all__ = ['NoCluster', 'look_on_cluster']
 
@@ -21,7 +22,7 @@ class NoCluster(Exception):
     """Dask is not installed, or no cluster answers at the address."""
 
 
-def look_on_cluster(paths: Iterable[str], options: Options, address: str) -> Generator[Result, None, None]:
+def look_on_cluster(paths: Iterable[Union[str, Task]], options: Options, address: str) -> Generator[Result, None, None]:
     """The results of the files, as they are ready."""
     try:
         import distributed
@@ -32,10 +33,10 @@ def look_on_cluster(paths: Iterable[str], options: Options, address: str) -> Gen
     except (OSError, ValueError) as error:
         raise NoCluster(f'no cluster answers at {address}: {error}') from None
     with client:
-        yield from _results(distributed, client, list(paths), options)
+        yield from _results(distributed, client, paths, options)
 
 
-def _results(distributed: Any, client: Any, paths: List[str], options: Options) -> Iterator[Result]:
+def _results(distributed: Any, client: Any, paths: Iterable[Union[str, Task]], options: Options) -> Iterator[Result]:
     waiting = iter(paths)
     handed = {}
 
@@ -44,8 +45,8 @@ def _results(distributed: Any, client: Any, paths: List[str], options: Options) 
         if path is None:
             return []
         # Not pure: a path that comes again is looked at again, and results are not kept by name.
-        future = client.submit(look, path, options, pure=False)
-        handed[future.key] = path
+        future = client.submit(work_on, path, options, pure=False)
+        handed[future.key] = str(path)
         return [future]
 
     answers = distributed.as_completed([future for _ in range(AHEAD) for future in hand_out()], loop=client.loop)

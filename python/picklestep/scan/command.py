@@ -10,7 +10,8 @@ import re
 import signal
 import sys
 from contextlib import closing
-from typing import Dict, Generator, List, Optional, TextIO
+from itertools import chain
+from typing import Dict, Generator, Iterable, List, Optional, TextIO, Union
 
 from ..errors import ProgramError
 from ..program import find_program
@@ -25,6 +26,9 @@ from .progress import with_progress
 from .report import Report
 from .results import Result, from_json
 from .sarif import Sarif
+from .stores.address import Address, is_server
+from .stores.follow import follow
+from .stores.server import NoServer, Task, Wanted, server_of, tasks
 
 __all__ = ['main']
 
@@ -51,15 +55,21 @@ def _parser() -> argparse.ArgumentParser:
         prog='picklestep scan', description='Shows what the pickles in files import and call. Nothing of them is run or loaded.',
         epilog='Status: 0; 1 if there is a line to look at first (it begins with !); 2 if the command could not begin; 130 after Ctrl-C. '
                'Neither ! nor its absence is a verdict.')
-    parser.add_argument('paths', metavar='PATH', nargs='+', help='a file, a folder, a URL for fsspec, or - for names on standard input')
+    parser.add_argument('paths', metavar='PATH', nargs='+',
+                        help='a file, a folder, a server (redis://, memcached://, postgresql://, mysql://), a URL for fsspec, or - for names on '
+                             'standard input')
     _add_lists(parser)
     parser.add_argument('--json', action='store_true', help='one object a line and file; the summary goes to standard error')
     parser.add_argument('--sarif', metavar='FILE', help='write what to look at as SARIF 2.1.0 too')
     parser.add_argument('--brief', action='store_true', help='only lines to look at, and the summary')
     parser.add_argument('--lines', action='store_true', help="each pickle with all of the program's lines")
+    parser.add_argument('--everywhere', action='store_true', help='try each offset at which a pickle may begin, and texts that stand for bytes')
     parser.add_argument('--jobs', metavar='N', type=_positive, default=1, help='files at once')
     parser.add_argument('--cluster', metavar='ADDRESS', help='hand the files to the Dask cluster at this address')
     parser.add_argument('--resume', metavar='LOG', help='leave out what an earlier --json run has in this file')
+    parser.add_argument('--match', metavar='PATTERN', help='only keys of a server that match')
+    parser.add_argument('--sample', metavar='N', type=_positive, help='only so many keys of a server, in the order in which it lists them')
+    parser.add_argument('--follow', action='store_true', help='look at new values of a Redis server as they come, a line of JSON each')
     parser.add_argument('--null', action='store_true', help='names on standard input end in a NUL byte')
     limits = Limits()
     parser.add_argument('--max-bytes', metavar='N', type=_bytes, default=limits.unpacked, help='unpacked bytes of a file (1G)')
@@ -119,9 +129,13 @@ def _is_same(path: str, earlier: Result) -> bool:
     return (state.st_size, state.st_mtime_ns, state.st_ctime_ns) == (earlier.size, earlier.modified, earlier.changed)
 
 
-def _results(words: argparse.Namespace, paths: List[str]) -> Generator[Result, None, None]:
+def _options(words: argparse.Namespace) -> Options:
     limits = Limits(words.max_bytes, words.max_members, words.max_depth, words.max_seconds, words.max_memory, words.max_lines)
-    options = Options(limits, words.lines)
+    return Options(limits, words.lines, words.everywhere)
+
+
+def _results(words: argparse.Namespace, paths: Iterable[Union[str, Task]]) -> Generator[Result, None, None]:
+    options = _options(words)
     if words.cluster is not None:
         return look_on_cluster(paths, options, words.cluster)
     return look_at_all(paths, options, words.jobs)
@@ -164,6 +178,35 @@ def _write(path: str, text: str) -> None:
         file.write(text)
 
 
+def _keys_of(server: Address, wanted: Wanted) -> int:
+    """How many keys a server has, as far as it says so."""
+    try:
+        return server_of(server).total(wanted)
+    except NoServer:
+        return 0
+
+
+def _followed_by(results: Generator[Result, None, None], others: List[Result]) -> Generator[Result, None, None]:
+    """Results, and then those that were added to a list meanwhile."""
+    with closing(results):
+        yield from results
+    yield from others
+
+
+def _follow(words: argparse.Namespace) -> int:
+    """Looks at new values until Ctrl-C."""
+    if len(words.paths) != 1 or not is_server(words.paths[0]):
+        raise NoServer('--follow wants one server')
+    report = Report(sys.stdout, _judge(words), as_json=True)
+    try:
+        for result in follow(Address(words.paths[0]), _options(words), Wanted(words.match)):
+            report.add(result)
+    except KeyboardInterrupt:
+        for line in report.summary():
+            print(line, file=sys.stderr)
+    return 130
+
+
 def _scan(words: argparse.Namespace) -> int:
     output = _Output(words)
     earlier = _earlier(words.resume)
@@ -172,7 +215,9 @@ def _scan(words: argparse.Namespace) -> int:
     paths: List[str] = []
     interrupted = False
     try:
-        found = find_files(words.paths, b'\0' if words.null else b'\n')
+        servers = [Address(word) for word in words.paths if is_server(word)]
+        wanted = Wanted(words.match, words.sample)
+        found = find_files((word for word in words.paths if not is_server(word)), b'\0' if words.null else b'\n')
         for result in found.results:
             output.add(result)
         for path in found.paths:
@@ -180,8 +225,11 @@ def _scan(words: argparse.Namespace) -> int:
                 output.add(earlier[path], is_new=False)
             else:
                 paths.append(path)
-        results = _results(words, paths)
-        with closing(with_progress(results, len(paths))) as shown, closing(results):
+        # (Where a server does not answer, the result that says so comes when the others have come.)
+        failed: List[Result] = []
+        keys = chain.from_iterable(tasks(server, wanted, failed.append) for server in servers)
+        results = _followed_by(_results(words, chain(paths, keys)), failed)
+        with closing(with_progress(results, len(paths) + sum(_keys_of(server, wanted) for server in servers))) as shown, closing(results):
             for result in shown:
                 output.add(result)
     except KeyboardInterrupt:
@@ -200,7 +248,7 @@ def main(words: Optional[List[str]] = None) -> int:
             stream.reconfigure(errors='backslashreplace')
     try:
         find_program()
-        return _scan(parsed)
+        return _follow(parsed) if parsed.follow else _scan(parsed)
     except BrokenPipeError:
         # The reader has left. What is still held cannot be written, at the end of Python neither.
         os.dup2(os.open(os.devnull, os.O_WRONLY), sys.stdout.fileno())
@@ -208,6 +256,6 @@ def main(words: Optional[List[str]] = None) -> int:
     except OSError as error:
         words_of = f'cannot open {error.filename}: {error.strerror}' if error.filename is not None else str(error)
         print(f'picklestep: {words_of}', file=sys.stderr)
-    except (ProgramError, NoCluster, UnicodeDecodeError) as error:
+    except (ProgramError, NoCluster, NoServer, UnicodeDecodeError) as error:
         print(f'picklestep: {error}', file=sys.stderr)
     return 2

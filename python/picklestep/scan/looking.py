@@ -18,7 +18,7 @@ from importlib import import_module
 from typing import BinaryIO, Callable, Iterator, List, Optional, Set, Tuple
 
 from ..sources import LIMIT
-from . import tars, zips
+from . import stores, tars, zips
 from .arrays import array_header
 from .begins import HEAD, is_pickle_name, is_storage_name, kind_of, may_be_pickle
 from .blobs import Blob, Budget, BytesBlob, FileBlob, JoinedBlob, LimitMet, Limits, OpenedBlob, PartMet, spooled
@@ -38,6 +38,8 @@ __all__ = ['Options', 'look', 'look_at_bytes']
 _URL = re.compile(r'[A-Za-z][A-Za-z0-9+.-]*(::|://)')
 # The program ends at a frame in a frame, and at an opcode that crosses the end of one. Raw numbers do not get there, and CPython goes on.
 _FRAME_FAULTS = ('F6', 'F8')
+# These begin as a pickle does, or may, and are not read as one whose name does not say so.
+_NO_PICKLE = ('npy', 'sqlite', 'Django cache')
 # The bytes by which a member is known to be a container: its first ones, and where the record is that closes a zip archive.
 _GLANCE = HEAD + zips.TAIL
 # Of a pickle that is too large for the program, this much is looked at.
@@ -54,10 +56,12 @@ _Reads = Callable[[Blob, Budget], Layout]
 
 @dataclass(frozen=True)
 class Options:
-    """How files are looked at: the limits for each of them, and whether every line of the program is kept."""
+    """How files are looked at: the limits for each of them, whether every line of the program is kept, and whether each offset is tried
+    at which a pickle may begin."""
 
     limits: Limits = Limits()
     lines: bool = False
+    everywhere: bool = False
 
 
 class Looker:
@@ -69,6 +73,7 @@ class Looker:
         self.pickles: List[Pickle] = []
         self.notes: List[Note] = []
         self.others = 0
+        self.plain = 0
         self.at: Place = ()
         self.name = ''
 
@@ -95,13 +100,17 @@ class Looker:
         if not is_gap and 'zip' not in kinds:
             opened = self._look_for_zip_at_end(blob, head, where, names, depth, spans) or opened
         if not opened:
-            self._look_at_leaf(blob, head, where, names)
-        elif kinds and self._may_be_pickle_too(kinds, blob, head):
+            self._look_at_leaf(blob, head, where, names, depth)
+        elif kinds and self._may_be_pickle_too(kinds, blob, head, names):
             self._is_read(blob, head, where, names)
+
+    def is_read(self, blob: Blob, head: bytes, where: Place, names: Tuple[str, ...]) -> bool:
+        """Asks the program about a value of a store. False where it is no pickle."""
+        return self._is_read(blob, head, where, names)
 
     def _kinds(self, blob: Blob, head: bytes, where: Place, names: Tuple[str, ...]) -> List[str]:
         """The kinds of containers that some reader may take these bytes for. Several, or another one than the name asks for, are told."""
-        kinds = kinds_of(blob, head)
+        kinds = _all_kinds(blob, head)
         name = names[0] if names else ''
         asked = asked_form(name) if name != self.name or not where else None  # (pandas gives a member the name of its archive)
         if asked == 'tar' and not kinds and blob.size >= 2 * tars.BLOCK and blob.is_zeros(0, blob.size):
@@ -112,26 +121,32 @@ class Looker:
             self.note(where, f'not in one form: readers take it for {" or ".join(kinds)}: it is looked at as each of them', missed=True)
         return kinds
 
-    def _may_be_pickle_too(self, kinds: List[str], blob: Blob, head: bytes) -> bool:
+    def _may_be_pickle_too(self, kinds: List[str], blob: Blob, head: bytes, names: Tuple[str, ...]) -> bool:
         """Whether a container is opcodes, too. A zip archive begins with a persistent id, so it is not read whole without need."""
         if 'zip' in kinds:
             return reach_of(blob, self.budget)[0] is not None
+        if len(kinds) == 1 and kinds[0] in _NO_PICKLE and not any(is_pickle_name(name) for name in names):
+            return False
         return kinds != ['npy'] and may_be_pickle(head, blob.size)
 
-    def _look_at_leaf(self, blob: Blob, head: bytes, where: Place, names: Tuple[str, ...]) -> None:
-        """Looks at what is no container: a pickle by its name or its first bytes, or where a loader gets somewhere in it."""
-        if not _begins_as_pickle(head, names):
-            reach, stops = reach_of(blob, self.budget)
-            if reach is None and not stops:
-                self.others += 1
-                return
-        self.others += not self._is_read(blob, head, where, names)
+    def _look_at_leaf(self, blob: Blob, head: bytes, where: Place, names: Tuple[str, ...], depth: int) -> None:
+        """Looks at what is no container: a pickle by its name or its first bytes, or where a loader gets somewhere in it; or records."""
+        is_pickle = _begins_as_pickle(head, names) or self._leads_somewhere(blob)
+        if is_pickle and self._is_read(blob, head, where, names):
+            stores.look_behind(self, blob, where, depth)
+        elif not stores.look_further(self, blob, where, depth):
+            self.others += 1
+
+    def _leads_somewhere(self, blob: Blob) -> bool:
+        """Whether a loader of pickles comes to an import, to a call or to a STOP in these bytes."""
+        reach, stops = reach_of(blob, self.budget)
+        return reach is not None or stops > 0
 
     def _look_at_numbers(self, blob: Blob, where: Place, names: Tuple[str, ...], depth: int) -> None:
         """Raw numbers of the size that a pickle or a header tells. They are not read, but no loader may get anywhere from their beginning."""
         self.at = where
         head = blob.read(0, HEAD)
-        kinds = kinds_of(blob, head, tries=False)
+        kinds = _all_kinds(blob, head, tries=False)
         reach, _ = reach_of(blob, self.budget, extends=False)
         if not kinds and reach is None:
             self.others += 1
@@ -228,6 +243,8 @@ class Looker:
             self._open_tar(blob, where, depth, spans)
         elif kind == 'npy':
             self._open_array(blob, where, names, depth)
+        elif kind in stores.KINDS:
+            stores.look_into(kind, self, blob, where, depth)
         else:
             return self._open_packed(kind, blob, where, names, depth, spans)
         return True
@@ -542,7 +559,8 @@ class Looker:
             begin.append(piece)
         head = b''.join(begin)[:HEAD]
         size = holder.size if holder.size < HEAD else _ENDLESS  # (of a stream that is not at its end the size is not known)
-        asks = kinds_of(BytesBlob(head), head) or may_be_pickle(head, size) or holder.closing
+        asks = bool(_all_kinds(BytesBlob(head), head) or may_be_pickle(head, size) or holder.closing)
+        asks = asks or self.options.everywhere or stores.asks(head, holder.size)
         if asks or any(is_pickle_name(name) or asked_form(name) for name in names):
             self._look_at_held(_joined(begin, pieces), where, names, depth, holder)
         elif self._ends_in_zip(begin, pieces):
@@ -572,6 +590,12 @@ class Looker:
         for piece in pieces:
             tail = (tail + piece)[-zips.TAIL:]
         return b'PK\x05\x06' in tail[-zips.TAIL:]
+
+
+def _all_kinds(blob: Blob, head: bytes, tries: bool = True) -> List[str]:
+    """The kinds of containers, and of stores that are files, that some reader may take these bytes for."""
+    store = stores.kind_of(head)
+    return kinds_of(blob, head, tries) + ([store] if store is not None else [])
 
 
 class _Unpacked:
@@ -680,12 +704,14 @@ def _gone_through(looker: Looker, blob: Blob, start: Result) -> Result:
     looker.budget.size = blob.size
     looker.name = start.path.rpartition('/')[2]
     try:
-        looker.look_at(blob, (), (looker.name,), 0)
+        if not stores.look_beside(looker, blob, start.path):
+            looker.look_at(blob, (), (looker.name,), 0)
     except LimitMet as limit:
         looker.note(looker.at, str(limit), missed=True)
     except OSError as failure:
         error = failure.strerror or str(failure)
-    return replace(start, pickles=tuple(looker.pickles), others=looker.others, notes=tuple(looker.notes), error=error)
+    return replace(start, pickles=tuple(looker.pickles), others=looker.others, notes=tuple(looker.notes), error=error,
+                   plain=looker.plain)
 
 
 def look(path: str, options: Options = Options()) -> Result:

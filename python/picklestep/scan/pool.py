@@ -10,22 +10,26 @@ import multiprocessing
 import os
 import signal
 from collections import deque
+from itertools import islice
 from multiprocessing.connection import Connection, wait
-from typing import Deque, Dict, Generator, Iterable, Optional, Tuple
+from typing import Deque, Dict, Generator, Iterable, Optional, Tuple, Union
 
-from .looking import Options, look
+from .looking import Options
 from .results import Result
+from .stores.server import Task, work_on
 
 __all__ = ['look_at_all']
+
+_Task = Tuple[Union[str, Task], int]
 
 # A process that dies twice at one file is not started a third time for it.
 TRIES = 2
 
 
-def look_at_all(paths: Iterable[str], options: Options, jobs: int) -> Generator[Result, None, None]:
-    """The results of the files, as they are ready."""
+def look_at_all(paths: Iterable[Union[str, Task]], options: Options, jobs: int) -> Generator[Result, None, None]:
+    """The results of the files and of the keys of servers, as they are ready."""
     if jobs == 1:
-        return (look(path, options) for path in paths)
+        return (work_on(path, options) for path in paths)
     return _Pool(paths, options, jobs).results()
 
 
@@ -35,7 +39,7 @@ def _work(link: Connection, options: Options) -> None:
     os.setpgid(0, 0)
     try:
         while True:
-            link.send(look(link.recv(), options))
+            link.send(work_on(link.recv(), options))
     except (EOFError, OSError):
         pass  # the parent is gone or has no more
 
@@ -49,9 +53,9 @@ class _Worker:
         self.process = context.Process(target=_work, args=(far, options), daemon=True)
         self.process.start()
         far.close()
-        self.task: Optional[Tuple[str, int]] = None
+        self.task: Optional[_Task] = None
 
-    def give(self, task: Tuple[str, int]) -> None:
+    def give(self, task: _Task) -> None:
         """Hands over a path. A process that is dead already is noticed when its answer is read."""
         self.task = task
         try:
@@ -74,17 +78,21 @@ class _Worker:
 class _Pool:
     """The workers, and the files that are yet to be looked at."""
 
-    def __init__(self, paths: Iterable[str], options: Options, jobs: int) -> None:
-        self.waiting: Deque[Tuple[str, int]] = deque((path, 1) for path in paths)
+    def __init__(self, paths: Iterable[Union[str, Task]], options: Options, jobs: int) -> None:
+        # (A server lists its keys while others are looked at, so what is yet to come is not held.)
+        self.paths = iter(paths)
+        self.waiting: Deque[_Task] = deque()
         self.options = options
-        self.jobs = min(jobs, len(self.waiting))
+        self.jobs = jobs
         self.workers: Dict[Connection, _Worker] = {}
 
     def results(self) -> Generator[Result, None, None]:
         """Hands out the files and answers what comes back."""
         try:
-            while self.waiting or self.workers:
+            while True:
                 self._fill()
+                if not self.workers:
+                    return
                 ready = wait(list(self.workers))
                 for worker in [worker for link, worker in self.workers.items() if link in ready]:
                     result = self._answer_of(worker)
@@ -94,8 +102,14 @@ class _Pool:
             for worker in self.workers.values():
                 worker.end()
 
+    def _next(self) -> bool:
+        """Whether there is another task, which is the first of those that wait then."""
+        if not self.waiting:
+            self.waiting.extend((path, 1) for path in islice(self.paths, 1))
+        return bool(self.waiting)
+
     def _fill(self) -> None:
-        while self.waiting and len(self.workers) < self.jobs:
+        while len(self.workers) < self.jobs and self._next():
             worker = _Worker(self.options)
             self.workers[worker.link] = worker
             worker.give(self.waiting.popleft())
@@ -111,8 +125,8 @@ class _Pool:
             if tries < TRIES:
                 self.waiting.appendleft((path, tries + 1))
                 return None
-            return Result(path, error=f'the process that looked at it ended without an answer, {TRIES} times')
-        if self.waiting:
+            return Result(str(path), error=f'the process that looked at it ended without an answer, {TRIES} times')
+        if self._next():
             worker.give(self.waiting.popleft())
         else:
             self._end(worker)

@@ -31,7 +31,7 @@ def _counted(results: Iterable[Result], total: int) -> Generator[Result, None, N
     done = 0
     try:
         for result in results:
-            done += 1
+            done += max(1, result.keys)
             print('\r\x1b[K', end='', file=sys.stderr, flush=True)
             yield result
             sys.stdout.flush()
@@ -46,4 +46,4 @@ def _with_bar(results: Iterable[Result], total: int, progress: Any, console: Any
         task = bar.add_task('scan', total=total)
         for result in results:
             yield result
-            bar.advance(task)
+            bar.advance(task, max(1, result.keys))

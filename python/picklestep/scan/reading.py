@@ -18,7 +18,7 @@ from .begins import is_dotted
 from .blobs import Blob, Budget, FileBlob, spooled
 from .results import Call, Import, Pickle, Place
 
-__all__ = ['Summary', 'asks_program', 'held', 'offset_of_item', 'shown_name', 'why_unread']
+__all__ = ['Summary', 'WAITING', 'asks_program', 'held', 'offset_of_item', 'shown_name', 'why_unread']
 
 # These lines are about an import.
 _IMPORTS = ('import', 'inst')
@@ -47,7 +47,7 @@ _NOT_KNOWN = End('unknown', text='not known')
 _MEMORY_OF_A_BYTE = 4096
 
 # The clock may run so many times as long as the processor, where other processes have it.
-_WAITING = 5
+WAITING = 5
 
 _LEGACY_TORCH = b'\x80\x02\x8a\x0al\xfc\x9cF\xf9 j\xa8P\x19.'
 
@@ -203,7 +203,7 @@ def asks_program(path: str, size: int, budget: Budget, keep_lines: bool = False,
     try:
         process = Process(['calls', path, '--many'], memory=may_take if size * _MEMORY_OF_A_BYTE > may_take else None)
         process.limit_seconds(budget.seconds)
-        with closing(process.blocks(max(0.5, budget.seconds) * _WAITING)) as pieces:
+        with closing(process.blocks(max(0.5, budget.seconds) * WAITING)) as pieces:
             summary.take(pieces)
     except _Enough as limit:
         summary.trouble = f'{limit}: the rest of it is not looked at'

@@ -26,6 +26,8 @@ class Report:
         self.imports: Counter[str] = Counter()
         self.pickles_with: Counter[str] = Counter()
         self.first_with: Dict[str, str] = {}
+        # The servers, and whether there was a pickle in one.
+        self.servers: Dict[str, bool] = {}
 
     # --- Results ---
 
@@ -45,11 +47,14 @@ class Report:
 
     def _count(self, result: Result, looks: List[Look]) -> None:
         counts = self.counts
-        counts['files'] += result.left is None
+        counts['files'] += result.left is None and not result.keys
+        counts['keys'] += result.keys if result.error is None else 0
+        if result.keys:
+            self.servers[result.path] = self.servers.get(result.path, False) or bool(result.pickles or result.plain)
         counts['skipped'] += result.left is not None
         counts['others'] += result.others
-        counts['pickles'] += len(result.pickles)
-        counts['files with pickles'] += bool(result.pickles)
+        counts['pickles'] += len(result.pickles) + result.plain
+        counts['files with pickles'] += bool(result.pickles or result.plain) and not result.keys
         rules = Counter(look.rule for look in looks)
         counts['not-looked-at'] += rules.pop('not-looked-at', 0) > 0
         counts.update(rules)
@@ -110,14 +115,17 @@ class Report:
     def summary(self) -> List[str]:
         """The counts over all files, and the imports: those that are marked, then the rarest first."""
         counts = self.counts
-        told = [count_of(counts['files'], 'file'), f'{count_of(counts["pickles"], "pickle")} in {counts["files with pickles"]} of them']
+        told = [count_of(counts['files'], 'file')] if counts['files'] or not self.servers else []
+        if self.servers:
+            told.append(f'{count_of(len(self.servers), "server")} with {count_of(counts["keys"], "key")}')
+        told.append(f'{count_of(counts["pickles"], "pickle")} in {counts["files with pickles"] + sum(self.servers.values())} of them')
         for key, *words in (('others', 'file or member is not a pickle', 'files or members are not pickles'),
                             ('not-read', 'pickle not read to a STOP', 'pickles not read to a STOP'),
                             ('not-looked-at', 'file not looked at whole', 'files not looked at whole'),
                             ('cannot-be-read', 'file that cannot be read', 'files that cannot be read'), ('skipped', 'skipped', 'skipped'),
                             ('not-allowed', 'import not allowed', 'imports not allowed'), ('denied', 'import denied', 'imports denied'),
                             ('known', 'import to look at', 'imports to look at'),
-                             ('not-allowed-done', 'thing done that is not allowed', 'things done that are not allowed'),
+                            ('not-allowed-done', 'thing done that is not allowed', 'things done that are not allowed'),
                             ('worked-out', 'import worked out while loading', 'imports worked out while loading')):
             if counts[key]:
                 told.append(count_of(counts[key], *words))

@@ -64,7 +64,9 @@ class Result:
 
     `others` counts what is no pickle. `error` says why the file cannot be read, `left` why it was left out (a FIFO, a link to a folder).
     `size`, `modified` and `changed` (nanoseconds; the last change of the content, and of the inode, which nobody can choose) show `--resume`
-    whether the file is still the one that was looked at.
+    whether the file is still the one that was looked at. `keys` is how many keys of a server this is about (several results may be of one
+    server), and 0 where it is about a file. `plain` counts pickles that are values of a store, import and call nothing, and end with STOP:
+    there may be millions, so they are not in `pickles`.
     """
 
     path: str
@@ -76,6 +78,8 @@ class Result:
     error: Optional[str] = None
     left: Optional[str] = None
     changed: int = 0
+    keys: int = 0
+    plain: int = 0
 
     def _repr_html_(self) -> str:
         """The report about the file, for notebooks."""
@@ -87,7 +91,8 @@ def to_json(result: Result) -> Dict[str, Any]:
     """The object that stands for a result in a line of JSON."""
     return {'path': result.path, 'size': result.size, 'modified': result.modified, 'changed': result.changed,
             'pickles': [_pickle_object(pickle) for pickle in result.pickles], 'others': result.others,
-            'notes': [dict(vars(note)) for note in result.notes], 'error': result.error, 'left': result.left}
+            'notes': [dict(vars(note)) for note in result.notes], 'error': result.error, 'left': result.left,
+            **{name: count for name, count in (('keys', result.keys), ('plain', result.plain)) if count}}
 
 
 def _pickle_object(pickle: Pickle) -> Dict[str, Any]:
@@ -103,7 +108,7 @@ def from_json(made: Dict[str, Any]) -> Result:
     return Result(
         made['path'], made['size'], made['modified'], tuple(_pickle(pickle) for pickle in made['pickles']), made['others'],
         tuple(Note(tuple(note['where']), note['text'], note['missed']) for note in made['notes']), made['error'], made['left'],
-        made['changed'],
+        made['changed'], made.get('keys', 0), made.get('plain', 0),
     )
 
 

@@ -1,0 +1,72 @@
+"""The address of a server: a URL, which is shown without what is secret in it."""
+
+from __future__ import annotations
+
+import os
+import re
+from dataclasses import dataclass, field
+from typing import Dict
+from urllib.parse import SplitResult, parse_qsl, quote, unquote, urlencode, urlsplit
+
+__all__ = ['Address', 'SCHEMES', 'is_server']
+
+SCHEMES = ('redis', 'rediss', 'memcached', 'memcacheds', 'postgresql', 'postgres', 'mysql', 'mariadb')
+_URL = re.compile(rf'({"|".join(SCHEMES)})://', re.IGNORECASE)
+
+# What a URL asks for besides the server.
+_OWN = ('table', 'column', 'stream')
+
+
+def is_server(word: str) -> bool:
+    """Whether a word of the command line is the URL of a server, and no file has this name.
+
+    >>> is_server('redis://127.0.0.1:6379/0'), is_server('s3://bucket/models')
+    (True, False)
+    """
+    return _URL.match(word) is not None and not os.path.lexists(word)
+
+
+@dataclass(frozen=True)
+class Address:
+    """A URL. Neither its text nor its form for debugging has the password."""
+
+    url: str = field(repr=False)
+
+    def __str__(self) -> str:
+        """The URL without passwords, and with those parts of its query alone that name what is looked at.
+
+        >>> str(Address('redis://:secret@host:6379/0?ssl_keyfile=k'))
+        'redis://host:6379/0'
+        """
+        split = self.split
+        place = split.netloc.rpartition('@')[2]
+        user = split.username
+        asked = urlencode([(name, value) for name, value in parse_qsl(split.query) if name in _OWN], quote_via=quote)
+        return f'{split.scheme}://{f"{user}@" if user else ""}{place}{split.path}{f"?{asked}" if asked else ""}'
+
+    @property
+    def split(self) -> SplitResult:
+        """The parts of the URL."""
+        return urlsplit(self.url)
+
+    @property
+    def asked(self) -> Dict[str, str]:
+        """What the URL asks for: `table`, `column`, `stream`."""
+        return {name: value for name, value in parse_qsl(self.split.query) if name in _OWN}
+
+    @property
+    def plain(self) -> str:
+        """The URL for a client library: without what this package alone understands."""
+        split = self.split
+        return split._replace(query=urlencode([pair for pair in parse_qsl(split.query) if pair[0] not in _OWN])).geturl()
+
+    @property
+    def password(self) -> str:
+        """The password of the URL, or nothing."""
+        return unquote(self.split.password or '')
+
+    def cleaned(self, text: str) -> str:
+        """A text of a library without the password, should it be in it."""
+        for secret in {self.password, self.split.password or ''} - {''}:
+            text = text.replace(secret, '***')
+        return ' '.join(text.split())

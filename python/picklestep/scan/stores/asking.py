@@ -1,0 +1,123 @@
+"""Asks the program about many small pickles at once: a process for each would take longer than its answer.
+
+They are written one after another, and the program reads them as several pickles of one file. Between them are markers, which are pickles
+too: each imports a name that nobody can guess. A marker whose line is at its very place shows that the pickle before it ended where it was
+to end. Where that line is not there, the pickle is asked about alone, so none can hide another.
+"""
+
+from __future__ import annotations
+
+import re
+import secrets
+from contextlib import closing
+from dataclasses import replace
+from typing import Iterator, List, Sequence
+
+from ...errors import PicklestepError
+from ...program import Process
+from ...texts import QUOTED
+from ..blobs import Budget, Limits, spooled
+from ..reading import WAITING, Summary, asks_program, offset_of_item
+
+__all__ = ['MOST_BYTES', 'MOST_PICKLES', 'answers']
+
+# So many pickles, and bytes of them, are asked about at once.
+MOST_PICKLES = 512
+MOST_BYTES = 4 << 20
+
+# An answer about them that is longer is not read to its end: each is asked about alone.
+_MOST_ANSWER = 32 << 20
+
+# A process takes so much address space for each byte at most.
+_MEMORY_OF_A_BYTE = 4096
+
+_LINE = re.compile(r'(?m)^ *([0-9]+): (.*)$')
+_NUMBER = re.compile(rf'{QUOTED}|#([0-9]+)')
+# Lines with numbers that go on from pickle to pickle in another way than those of objects.
+_COUNTED = ('buffer', 'readonly')
+
+
+def answers(contents: Sequence[bytes], budget: Budget, keep_lines: bool = False) -> Iterator[Summary]:
+    """What each of these bytes imports and calls, in their order. Each is known to end with an opcode STOP."""
+    at, most = 0, MOST_PICKLES
+    while at < len(contents):
+        found = _together(contents[at:at + most], budget, keep_lines) if most > 1 else []
+        yield from found
+        whole = len(found) == len(contents[at:at + most])
+        at += len(found)
+        if not whole:
+            yield _alone(contents[at], budget, keep_lines)
+            at += 1
+        most = min(MOST_PICKLES, most * 4) if whole or most == 1 else max(1, most // 4)
+
+
+def _alone(content: bytes, budget: Budget, keep_lines: bool) -> Summary:
+    copy = spooled([content])
+    with copy.file:
+        answer = asks_program(copy.path(), copy.size, budget, keep_lines)
+        if answer.end.item is not None:
+            answer.end = replace(answer.end, offset=offset_of_item(copy.path(), answer.end.item, budget))
+        return answer
+
+
+def _together(contents: Sequence[bytes], budget: Budget, keep_lines: bool) -> List[Summary]:
+    """The answers about the first of them, up to one that has to be asked about alone."""
+    name = secrets.token_hex(8)
+    marker = b'cpicklestep\n%b\n.' % name.encode()
+    copy = spooled([b''.join(content + marker for content in contents)])
+    budget.spend()
+    may_take = budget.memory()
+    text = bytearray()
+    with copy.file:
+        try:
+            process = Process(['calls', copy.path(), '--many'], memory=may_take if copy.size * _MEMORY_OF_A_BYTE > may_take else None)
+            process.limit_seconds(budget.seconds)
+            with closing(process.blocks(max(0.5, budget.seconds) * WAITING)) as pieces:
+                for piece in pieces:
+                    text += piece
+                    if len(text) > _MOST_ANSWER:
+                        return []
+        except PicklestepError:
+            return []
+    told = text.decode('ascii', 'replace')
+    return list(_taken_apart(told, [len(content) for content in contents], f"import 'picklestep' '{name}' as #", len(marker), budget, keep_lines))
+
+
+def _taken_apart(told: str, sizes: Sequence[int], marker: str, width: int, budget: Budget, keep_lines: bool) -> Iterator[Summary]:
+    """The answer about each of several pickles, as far as each is followed by its marker."""
+    lines = _LINE.finditer(told)
+    start = objects = 0
+    for size in sizes:
+        own: List[str] = []
+        for line in lines:
+            offset, text = int(line[1]), line[2]
+            if offset >= start + size:
+                if offset != start + size or not text.startswith(marker):
+                    return
+                break
+            if text.startswith(_COUNTED):
+                return
+            own.append(f'{offset - start:5}: {_lowered(text, objects)}\n')
+        else:
+            return
+        yield _summary(own, budget, keep_lines)
+        objects = int(text[len(marker):]) + 1
+        start += size + width
+
+
+# The answer about each pickle that imports and calls nothing.
+_NOTHING = Summary(Budget(Limits()), False)
+_NOTHING.take(iter([b'0 imports, 0 calls\n']))
+
+
+def _lowered(text: str, objects: int) -> str:
+    """A line with the numbers that its objects have where the pickle is alone."""
+    return _NUMBER.sub(lambda match: match[0] if match[1] is None else f'#{int(match[1]) - objects}', text) if objects else text
+
+
+def _summary(lines: List[str], budget: Budget, keep_lines: bool) -> Summary:
+    if not lines:
+        return _NOTHING
+    summary = Summary(budget, keep_lines)
+    summary.take(iter([''.join([*lines, '0 imports, 0 calls\n']).encode()]))
+    return summary

@@ -1,0 +1,83 @@
+"""Bytes that are written as text (base64, hexadecimal, also as strings of JSON), and pickles behind a few other bytes."""
+
+from __future__ import annotations
+
+import binascii
+import re
+from typing import Iterator, Tuple
+
+__all__ = ['decoded', 'prefixes']
+
+# A run of signs that may be base64 (in either alphabet) or hexadecimal, also over several lines.
+_RUN = re.compile(rb'[A-Za-z0-9+/_-]{12,}(?:\r?\n[A-Za-z0-9+/_-]+)*')
+# Where base64 that begins inside a run gives PROTO, or the beginning of zlib and gzip.
+_INSIDE = re.compile(rb'gA[I-X]|eJ[wxyz0-3]|eNo|eN[p-r]|eA[EF]|H4sI')
+_HEXADECIMAL = re.compile(rb'[0-9a-fA-F]+')
+_ESCAPE = re.compile(rb'\\(?:u00([0-7][0-9a-fA-F])|([/"\\nrt]))')
+_ESCAPED = {b'n': b'\n', b'r': b'\r', b't': b'\t'}
+_STANDARD = bytes.maketrans(b'-_', b'+/')
+_MOST_INSIDE = 16
+
+# A text has such bytes alone among its first ones.
+_NO_TEXT = re.compile(rb'[^\t\n\r -~]')
+_LOOKED_AT = 512
+
+# So many bytes may be before a pickle: a sign of the library, a time, a checksum in hexadecimal with a colon.
+PREFIX = 80
+_PROTO = re.compile(rb'\x80[\x02-\x05]')
+
+
+def decoded(content: bytes) -> Iterator[Tuple[int, str, bytes]]:
+    """The bytes that runs of a text may stand for: where each begins, how it is written, and the bytes.
+
+    >>> list(decoded(b'{"body": "gASVAgAAAAAAAABOLg=="}'))
+    [(10, 'base64', b'\\x80\\x04\\x95\\x02\\x00\\x00\\x00\\x00\\x00\\x00\\x00N.')]
+    """
+    if _NO_TEXT.search(content, 0, _LOOKED_AT):
+        return
+    if b'\\' in content:
+        content = _ESCAPE.sub(_unescaped, content)
+    for run in _RUN.finditer(content):
+        text = run[0]
+        if _HEXADECIMAL.fullmatch(text):
+            yield run.start(), 'hexadecimal', binascii.unhexlify(text[:len(text) // 2 * 2])
+        yield from _base64(text, run.start())
+
+
+def _unescaped(match: 're.Match[bytes]') -> bytes:
+    if match[1] is not None:
+        return bytes.fromhex(match[1].decode('ascii'))
+    return _ESCAPED.get(match[2], match[2])
+
+
+def _base64(text: bytes, at: int) -> Iterator[Tuple[int, str, bytes]]:
+    """What a run is as base64, from its beginning and from places inside at which something known begins."""
+    plain = text.translate(_STANDARD, b'\r\n')
+    starts = [0]
+    if len(plain) == len(text):  # (elsewhere places would not be those of the run)
+        starts.extend(match.start() for _, match in zip(range(_MOST_INSIDE), _INSIDE.finditer(plain)) if match.start())
+    for start in starts:
+        part = plain[start:]
+        if len(part) % 4 == 1:
+            part = part[:-1]
+        try:
+            yield at + start, 'base64', binascii.a2b_base64(part + b'=' * (-len(part) % 4))
+        except binascii.Error:
+            continue
+
+
+def prefixes(content: bytes) -> Iterator[int]:
+    """Offsets behind a few bytes at which a pickle may begin: PROTO, or what is after a sign or a checksum of a library.
+
+    >>> list(prefixes(b'!N.')), list(prefixes(b'1234567\\x80\\x04N.'))
+    ([1], [7])
+    """
+    head = content[:PREFIX + 2]
+    if head[:1] == b'!':
+        yield 1  # cachelib
+    colon = head.find(b':')
+    if colon > 0:
+        yield colon + 1  # Django: the checksum of a session
+    for match in _PROTO.finditer(head, 1):
+        if match.start() != colon + 1 and (match.start(), head[:1]) != (1, b'!'):
+            yield match.start()

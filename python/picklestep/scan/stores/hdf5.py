@@ -1,0 +1,182 @@
+"""HDF5 files: attributes, and datasets of bytes, through h5py where it is installed.
+
+What a file names outside of itself (links to other files, data in other files, virtual datasets) is not opened.
+"""
+
+from __future__ import annotations
+
+import io
+from importlib import import_module
+from typing import TYPE_CHECKING, Any, Iterator, List, Set, Tuple
+
+from ..blobs import Blob
+from ..results import Place
+from .values import Values
+
+if TYPE_CHECKING:
+    from ..looking import Looker
+
+__all__ = ['is_hdf5', 'look_at_hdf5']
+
+_BEGIN = b'\x89HDF\r\n\x1a\n'
+
+# What the author put before the file may have such a size.
+_BEFORE = (0, 512, 1024, 2048, 4096, 8192)
+
+# Items of a dataset that are read at once.
+_ITEMS = 4_096
+
+
+def is_hdf5(head: bytes) -> bool:
+    """Whether bytes begin an HDF5 file, perhaps behind a block of its author."""
+    return any(head.startswith(_BEGIN, at) for at in _BEFORE)
+
+
+def look_at_hdf5(looker: 'Looker', blob: Blob, where: Place, depth: int) -> None:
+    """Looks at all attributes and all datasets of bytes."""
+    try:
+        h5py = import_module('h5py')
+    except ImportError:
+        looker.others += 1
+        looker.note(where, 'hdf5: not opened, since h5py is not installed', missed=True)
+        return
+    values = Values(looker)
+    trouble: List[str] = []
+    try:
+        with h5py.File(_Reader(blob), 'r') as file:
+            for name, item in _objects(h5py, file, values, where):
+                try:
+                    _look_at_object(h5py, values, item, where + (name,), depth)
+                except (OSError, RuntimeError, KeyError, ValueError, TypeError) as error:
+                    trouble.append(f'{name}: {error}')
+    except (OSError, RuntimeError, KeyError, ValueError, TypeError) as error:
+        trouble.append(str(error))
+    for text in trouble:
+        looker.note(where, f'hdf5: {text}: its bytes are searched', missed=True)
+    if trouble:
+        values.begin(where, blob.size)
+        values.look_everywhere(blob, where)
+    values.flush()
+
+
+class _Reader(io.RawIOBase):
+    """Bytes as a file object."""
+
+    def __init__(self, blob: Blob) -> None:
+        super().__init__()
+        self.blob = blob
+        self.at = 0
+
+    def readable(self) -> bool:
+        return True
+
+    def seekable(self) -> bool:
+        return True
+
+    def tell(self) -> int:
+        return self.at
+
+    def seek(self, offset: int, whence: int = io.SEEK_SET) -> int:
+        self.at = offset + (0 if whence == io.SEEK_SET else self.at if whence == io.SEEK_CUR else self.blob.size)
+        return self.at
+
+    def readinto(self, buffer: Any) -> int:
+        piece = self.blob.read(self.at, len(buffer))
+        buffer[:len(piece)] = piece
+        self.at += len(piece)
+        return len(piece)
+
+
+def _objects(h5py: Any, file: Any, values: Values, where: Place) -> Iterator[Tuple[str, Any]]:
+    """The groups and datasets of the file itself, each once."""
+    seen: Set[int] = set()
+    waiting: List[Tuple[str, Any]] = [('/', file)]
+    while waiting:
+        name, item = waiting.pop()
+        address = h5py.h5o.get_info(item.id).addr
+        if address in seen:
+            continue
+        seen.add(address)
+        yield name, item
+        for key in item if isinstance(item, h5py.Group) else ():
+            inner = f'{name.rstrip("/")}/{key}'
+            link = item.get(key, getlink=True)
+            if isinstance(link, h5py.HardLink):
+                waiting.append((inner, item[key]))
+            elif isinstance(link, h5py.ExternalLink):
+                values.looker.note(where + (inner,), 'a link to another file: it is not followed')
+
+
+def _look_at_object(h5py: Any, values: Values, item: Any, where: Place, depth: int) -> None:
+    for key in item.attrs:
+        place = where[:-1] + (f'{where[-1]} @{key}',)
+        for number, content in enumerate(_contents(h5py, item.attrs.get_id(key).dtype, item.attrs[key])):
+            values.add(content, place if not number else place + (f'[{number}]',), depth + 1)
+    if not isinstance(item, h5py.Dataset) or not _has_bytes(h5py, item.dtype):
+        return
+    if item.is_virtual or item.external:
+        values.looker.note(where, 'its data are in other files, which are not opened', missed=True)
+    elif item.dtype.kind in 'ui':
+        values.add_blob(_Bytes(item), where, depth + 1)
+    elif not item.shape:
+        for content in _contents(h5py, item.dtype, item[()]):
+            values.add(content, where, depth + 1)
+    else:
+        for start in range(0, item.shape[0], _ITEMS):
+            for number, content in enumerate(_contents(h5py, item.dtype, item[start:start + _ITEMS]), start):
+                values.add(content, where + (f'[{number}]',), depth + 1)
+
+
+def _has_bytes(h5py: Any, kind: Any) -> bool:
+    """Whether items of this type are bytes, text, or opaque, and not a truth value."""
+    if h5py.check_enum_dtype(kind) is not None:
+        return False
+    inner = h5py.check_vlen_dtype(kind)
+    if inner is not None and inner not in (bytes, str):
+        return getattr(inner, 'itemsize', 0) == 1
+    return kind.kind in 'SV' and kind.names is None or kind.kind == 'O' or kind.kind in 'ui' and kind.itemsize == 1
+
+
+def _contents(h5py: Any, kind: Any, value: Any) -> Iterator[bytes]:
+    """The bytes in what h5py read."""
+    if isinstance(value, h5py.Empty) or not _has_bytes(h5py, kind):
+        return
+    if isinstance(value, str):
+        yield value.encode('utf-8', 'surrogateescape')
+    elif isinstance(value, bytes):
+        yield value
+    elif getattr(value, 'dtype', None) is not None and value.dtype.kind == 'O':
+        for each in value.ravel():
+            yield _bytes_of(each)
+    elif getattr(value, 'dtype', None) is not None and value.dtype.kind == 'S' and value.shape:
+        yield from (bytes(each) for each in value.ravel())
+    elif getattr(value, 'dtype', None) is not None and value.dtype.kind == 'V' and value.shape:
+        yield from (each.tobytes() for each in value.ravel())
+    else:
+        yield _bytes_of(value)
+
+
+def _bytes_of(each: Any) -> bytes:
+    if isinstance(each, str):
+        return each.encode('utf-8', 'surrogateescape')
+    found: bytes = each if isinstance(each, bytes) else each.tobytes() if hasattr(each, 'tobytes') else b''
+    return found
+
+
+class _Bytes(Blob):
+    """A dataset whose items are single bytes. One of several dimensions is read in the order in which it is written."""
+
+    def __init__(self, item: Any) -> None:
+        self.item = item
+        self.size = int(item.size)
+        self.row = self.size // item.shape[0] if item.shape and item.shape[0] else 1
+
+    def read(self, offset: int, count: int) -> bytes:
+        if count <= 0 or not 0 <= offset < self.size:
+            return b''
+        if not self.item.shape:
+            return bytes(self.item[()].tobytes())
+        first = offset // self.row
+        last = -(-min(self.size, offset + count) // self.row)
+        found: bytes = self.item[first:last].tobytes()
+        return found[offset - first * self.row:offset - first * self.row + count]

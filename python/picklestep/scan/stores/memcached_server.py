@@ -1,0 +1,126 @@
+"""memcached: all items, through pymemcache. The keys come from the crawler (`lru_crawler metadump`), which stops nobody."""
+
+from __future__ import annotations
+
+import re
+import socket
+import ssl
+import time
+from contextlib import closing, contextmanager
+from typing import Any, Iterator, List, Optional, Tuple
+from urllib.parse import unquote_to_bytes
+
+from .address import Address
+from .server import NoServer, Server, Wanted, library
+from .values import Values, key_name
+
+__all__ = ['SERVER', 'MemcachedServer']
+
+_PORT = 11_211
+_TOGETHER = 100
+_CONNECT_SECONDS = 10
+_ANSWER_SECONDS = 60
+_BUSY_TRIES = 20
+_MOST_OF_LINE = 8_192
+
+_ITEM = re.compile(rb'key=(\S+) .*?\bsize=([0-9]+)')
+
+# The text protocol cannot ask for keys that have these, or are longer than this.
+_NOT_ASKED = re.compile(rb'[\0-\x20\x7f]')
+_MOST_OF_KEY = 250
+
+# So many bytes of values are asked for at once.
+_BYTES_TOGETHER = 16 << 20
+
+
+class MemcachedServer(Server):
+    """A memcached server."""
+
+    def __init__(self, address: Address) -> None:
+        super().__init__(address)
+        self.place = (address.split.hostname or '127.0.0.1', address.split.port or _PORT)
+        self.tls: Optional[ssl.SSLContext] = ssl.create_default_context() if address.split.scheme.lower() == 'memcacheds' else None
+        self.library = library('pymemcache.client.base')
+        self.client: Any = self.library.Client(self.place, connect_timeout=_CONNECT_SECONDS, timeout=_ANSWER_SECONDS, tls_context=self.tls)
+
+    @contextmanager
+    def _named(self) -> Iterator[None]:
+        """Errors of the library as NoServer."""
+        errors = library('pymemcache.exceptions')
+        try:
+            yield
+        except (errors.MemcacheError, OSError) as error:
+            self.client.close()
+            raise NoServer(f'{type(error).__name__}: {error}') from None
+
+    def total(self, wanted: Wanted) -> int:
+        with self._named():
+            return min(int(self.client.stats().get(b'curr_items', 0)), wanted.sample or (1 << 62))
+
+    def parts(self, wanted: Wanted) -> Iterator[Tuple[Any, ...]]:
+        keys: List[bytes] = []
+        size = 0
+        for count, (key, length) in enumerate(self._items(wanted.match)):
+            if count == wanted.sample:
+                break
+            if keys and (len(keys) == _TOGETHER or size + length > _BYTES_TOGETHER):
+                yield tuple(keys)
+                keys, size = [], 0
+            keys.append(key)
+            size += length
+        if keys:
+            yield tuple(keys)
+
+    def _items(self, match: Optional[str]) -> Iterator[Tuple[bytes, int]]:
+        """The keys, each with the size of its item."""
+        pattern = None if match is None else _pattern(match)
+        with self._named():
+            for line in self._dump():
+                found = _ITEM.match(line)
+                if found is not None:
+                    key = unquote_to_bytes(found[1])
+                    if pattern is None or pattern.fullmatch(key):
+                        yield key, int(found[2])
+
+    def _dump(self) -> Iterator[bytes]:
+        """The lines that the crawler writes. It serves one client at a time."""
+        for _ in range(_BUSY_TRIES):
+            with closing(socket.create_connection(self.place, _CONNECT_SECONDS)) as plain:
+                link = plain if self.tls is None else self.tls.wrap_socket(plain, server_hostname=self.place[0])
+                link.settimeout(_ANSWER_SECONDS)
+                link.sendall(b'lru_crawler metadump all\r\n')
+                with link.makefile('rb') as lines:
+                    first = lines.readline(_MOST_OF_LINE)
+                    if not first.startswith(b'BUSY'):
+                        yield from _lines(first, lines)
+                        return
+            time.sleep(0.5)
+        raise NoServer('its crawler is busy with somebody else')
+
+    def look(self, values: Values, keys: Tuple[Any, ...]) -> int:
+        asked = [key for key in keys if len(key) <= _MOST_OF_KEY and not _NOT_ASKED.search(key)]
+        for key in set(keys) - set(asked):
+            values.looker.note((key_name(key),), 'its key cannot be asked for in the text protocol', missed=True)
+        with self._named():
+            for key, value in self.client.get_many(asked).items():
+                values.add(value, (key_name(key),))
+        return len(keys)
+
+
+def _lines(first: bytes, lines: Any) -> Iterator[bytes]:
+    """The lines up to END. Raises NoServer where they end otherwise."""
+    line = first
+    while line.rstrip() != b'END':
+        if not line.endswith(b'\n') or line.startswith((b'ERROR', b'CLIENT_ERROR', b'SERVER_ERROR')):
+            raise NoServer(f'its crawler does not list the keys: {line.decode("latin-1").strip() or "it closed the connection"}')
+        yield line
+        line = lines.readline(_MOST_OF_LINE)
+
+
+def _pattern(match: str) -> 're.Pattern[bytes]':
+    """A pattern with `*` and `?`, as those of Redis."""
+    pieces = (b'.*' if sign == '*' else b'.' if sign == '?' else re.escape(sign.encode('utf-8', 'surrogateescape')) for sign in match)
+    return re.compile(b''.join(pieces), re.DOTALL)
+
+
+SERVER = MemcachedServer

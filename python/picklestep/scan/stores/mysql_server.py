@@ -1,0 +1,98 @@
+"""MySQL and MariaDB: all tables of a database, through PyMySQL. The password is that of the URL, or MYSQL_PWD; `?ssl=true` asks for TLS."""
+
+from __future__ import annotations
+
+import os
+import ssl
+from typing import Any, Dict, List, Tuple, Type
+from urllib.parse import parse_qsl, unquote
+
+from .server import library
+from .sql import ANSWER_SECONDS, CONNECT_SECONDS, FIRST, Column, Rows, SqlServer, Table
+
+__all__ = ['SERVER', 'MysqlServer']
+
+_BYTES = ('tinyblob', 'blob', 'mediumblob', 'longblob', 'binary', 'varbinary')
+_TEXTS = ('tinytext', 'text', 'mediumtext', 'longtext', 'char', 'varchar', 'json')
+
+_COLUMNS = """
+    SELECT c.table_schema, c.table_name, c.column_name, c.data_type, c.column_key
+    FROM information_schema.columns c JOIN information_schema.tables t ON t.table_schema = c.table_schema AND t.table_name = c.table_name
+    WHERE t.table_type = 'BASE TABLE' AND c.table_schema = COALESCE(DATABASE(), c.table_schema)
+      AND c.table_schema NOT IN ('mysql', 'information_schema', 'performance_schema', 'sys')
+    ORDER BY 1, 2, c.ordinal_position"""
+
+
+class MysqlServer(SqlServer):
+    """A database of MySQL, or all of its databases where the URL names none."""
+
+    def connect(self) -> Any:
+        self.library = library('pymysql')
+        split = self.address.split
+        query = dict(parse_qsl(split.query))
+        words: Dict[str, Any] = {'ssl': ssl.create_default_context()} if query.get('ssl') in ('true', '1') else {}
+        if 'unix_socket' in query:
+            words['unix_socket'] = query['unix_socket']
+        connection = self.library.connect(
+            host=split.hostname or '127.0.0.1', port=split.port or 3306, user=unquote(split.username or '') or None,
+            password=self.address.password or os.environ.get('MYSQL_PWD', ''), database=split.path.strip('/') or None, use_unicode=False,
+            charset='utf8mb4', connect_timeout=CONNECT_SECONDS, read_timeout=ANSWER_SECONDS, **words)
+        with connection.cursor() as cursor:
+            cursor.execute('SET SESSION TRANSACTION READ ONLY')
+        return connection
+
+    def errors(self) -> Tuple[Type[BaseException], ...]:
+        return (library('pymysql').MySQLError,)
+
+    def tables(self) -> List[Table]:
+        found: Dict[Tuple[str, str], Tuple[List[Column], List[str]]] = {}
+        for row in self.all_of(_COLUMNS):
+            schema, name, column, kind, key = (_text(each) for each in row)
+            columns, keys = found.setdefault((schema, name), ([], []))
+            if kind in _BYTES + _TEXTS:
+                columns.append(Column(column, kind in _TEXTS))
+            if key == 'PRI':
+                keys.append(column)
+        return [Table(*name, tuple(columns), tuple(keys), 0) for name, (columns, keys) in found.items() if columns]
+
+    def query(self, rows: Rows) -> Tuple[str, List[Any]]:
+        table = rows.table
+        name = f"CONCAT_WS(',', {', '.join(map(_quoted, table.keys))})" if table.keys else "'-'"
+        words = [_quoted(table.keys[0]) if len(table.keys) == 1 else 'NULL', name]
+        # (a row of a table without a key, or with one of several columns, cannot be asked for again)
+        most = FIRST if len(table.keys) == 1 else 1 << 62
+        for column in table.columns:
+            value = _quoted(column.name)
+            words += [f'CASE WHEN LENGTH({value}) <= {most} THEN {value} END', f'LENGTH({value})']
+        return f'SELECT {", ".join(words)} FROM {_place_of(table)}', []
+
+    def part_query(self, table: Table, column: Column) -> str:
+        return f'SELECT SUBSTRING(CAST({_quoted(column.name)} AS BINARY), %s, %s) FROM {_place_of(table)} WHERE {_quoted(table.keys[0])} = %s'
+
+    def cursor(self) -> Any:
+        return self.connection.cursor(library('pymysql.cursors').SSCursor)
+
+    def all_of(self, query: str, words: Any = ()) -> List[Tuple[Any, ...]]:
+        # (while rows come, their connection answers nothing else)
+        if words:
+            if not hasattr(self, 'second'):
+                self.second = self.connect()
+            with self.second.cursor() as cursor:
+                cursor.execute(query, words)
+                return list(cursor.fetchall())
+        return super().all_of(query, None)
+
+
+def _text(value: Any) -> str:
+    return value.decode('utf-8', 'replace') if isinstance(value, bytes) else str(value)
+
+
+def _quoted(name: str) -> str:
+    return '`' + name.replace('`', '``').replace('%', '%%') + '`'
+
+
+def _place_of(table: Table) -> str:
+    return f'{_quoted(table.schema)}.{_quoted(table.name)}'
+
+
+SERVER = MysqlServer

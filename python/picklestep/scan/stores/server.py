@@ -1,0 +1,143 @@
+"""Servers as sources of `scan`: which keys there are, and looking at some of them.
+
+The keys are listed by one process and handed out in tasks, as files are. Each process that works has its own connection.
+"""
+
+from __future__ import annotations
+
+import threading
+from dataclasses import dataclass
+from importlib import import_module
+from typing import TYPE_CHECKING, Any, Callable, Dict, Iterator, Optional, Tuple, Type, Union
+
+from ..results import Result
+from .address import Address
+from .values import Values
+
+if TYPE_CHECKING:
+    from ..looking import Options
+
+__all__ = ['NoServer', 'Server', 'Task', 'Wanted', 'server_of', 'work_on']
+
+_MODULES = {'redis': 'redis_server', 'rediss': 'redis_server', 'memcached': 'memcached_server', 'memcacheds': 'memcached_server',
+            'postgresql': 'postgresql_server', 'postgres': 'postgresql_server', 'mysql': 'mysql_server', 'mariadb': 'mysql_server'}
+
+
+class NoServer(Exception):
+    """A server does not answer, refuses, or went away; or its client library is not installed. The text says which."""
+
+
+@dataclass(frozen=True)
+class Wanted:
+    """Which keys are looked at: those that match a pattern of the server, and so many at most."""
+
+    match: Optional[str] = None
+    sample: Optional[int] = None
+
+
+class Server:
+    """A connection to a server.
+
+    `tasks` lists what there is, in parts. `look` looks at the keys of one part. Both raise NoServer. What was found by then is kept.
+    """
+
+    def __init__(self, address: Address) -> None:
+        self.address = address
+
+    def total(self, wanted: Wanted) -> int:
+        """About how many keys there are, for the progress; 0 where that is not known."""
+        return 0
+
+    def parts(self, wanted: Wanted) -> Iterator[Tuple[Any, ...]]:
+        """The keys, some at a time."""
+        raise NotImplementedError
+
+    def look(self, values: Values, keys: Tuple[Any, ...]) -> int:
+        """Looks at the values of some keys, and answers how many keys there were."""
+        raise NotImplementedError
+
+
+@dataclass(frozen=True)
+class Task:
+    """Some keys of a server, to be looked at in any process."""
+
+    address: Address
+    keys: Tuple[Any, ...]
+
+    def __str__(self) -> str:
+        return str(self.address)
+
+    def look(self, options: 'Options') -> Result:
+        """Looks at these keys. Whatever is wrong becomes part of the result."""
+        return looked(self.address, options, lambda server, values: server.look(values, self.keys))
+
+
+def looked(address: Address, options: 'Options', work: Callable[[Server, Values], int]) -> Result:
+    """The result of some work on a server."""
+    from ..looking import Looker  # (it uses this package)
+
+    looker = Looker(options)
+    values = Values(looker)
+    keys, error = 0, None
+    try:
+        keys = work(server_of(address), values)
+    except NoServer as failure:
+        _servers().pop(address.url, None)
+        error = address.cleaned(str(failure))
+    except Exception as failure:  # a hostile value must not end the others
+        looker.note(looker.at, address.cleaned(f'{type(failure).__name__}: {failure}'), missed=True)
+    try:
+        values.flush()
+    except Exception as failure:
+        looker.note(looker.at, f'{type(failure).__name__}: {failure}', missed=True)
+    return Result(str(address), pickles=tuple(looker.pickles), others=looker.others, notes=tuple(looker.notes), error=error,
+                  keys=max(keys, 1), plain=looker.plain)
+
+
+# The connections of each thread of this process (a worker of a cluster has several).
+_held = threading.local()
+
+
+def _servers() -> Dict[str, Server]:
+    servers: Dict[str, Server] = _held.__dict__.setdefault('servers', {})
+    return servers
+
+
+def server_of(address: Address) -> Server:
+    """The connection of this process to a server. Raises NoServer."""
+    servers = _servers()
+    if address.url not in servers:
+        module = import_module(f'{__package__}.{_MODULES[address.split.scheme.lower()]}')
+        kind: Type[Server] = module.SERVER
+        try:
+            servers[address.url] = kind(address)
+        except ValueError as error:
+            raise NoServer(f'the address is not right: {error}') from None
+    return servers[address.url]
+
+
+def tasks(address: Address, wanted: Wanted, failed: Callable[[Result], None]) -> Iterator[Task]:
+    """All tasks of a server. Where listing the keys fails, `failed` gets a result that says so."""
+    try:
+        for keys in server_of(address).parts(wanted):
+            yield Task(address, keys)
+    except NoServer as error:
+        _servers().pop(address.url, None)
+        failed(Result(str(address), error=address.cleaned(str(error)), keys=1))
+
+
+def work_on(task: Union[str, Task], options: 'Options') -> Result:
+    """What a task answers: the path of a file, or keys of a server."""
+    from ..looking import look
+
+    return look(task, options) if isinstance(task, str) else task.look(options)
+
+
+def library(*names: str) -> Any:
+    """A client library: the first of these that is installed. Raises NoServer."""
+    for name in names:
+        try:
+            return import_module(name)
+        except ImportError:
+            continue
+    raise NoServer(f'{names[0]} is not installed: pip install {names[0]}')

@@ -1,0 +1,178 @@
+"""What SQL servers have in common: tables, rows in tasks, and values that are read in parts where they are large.
+
+A kind of server says how it is asked. All is read in transactions that cannot write.
+"""
+
+from __future__ import annotations
+
+from contextlib import closing, contextmanager
+from dataclasses import dataclass
+from fnmatch import fnmatchcase
+from typing import Any, Iterator, List, Optional, Tuple, Type
+
+from ..blobs import Blob
+from .address import Address
+from .server import NoServer, Server, Wanted
+from .values import Values
+
+__all__ = ['Column', 'Rows', 'SqlServer', 'Table']
+
+# Values up to this size come with their rows, and so many rows come at once.
+FIRST = 64 << 10
+ROWS = 200
+
+CONNECT_SECONDS = 10
+ANSWER_SECONDS = 600
+
+
+@dataclass(frozen=True)
+class Column:
+    """A column of bytes or text."""
+
+    name: str
+    is_text: bool
+
+
+@dataclass(frozen=True)
+class Table:
+    """A table with its columns of bytes or text, and those by which a row is named. `size` is in the server's own measure."""
+
+    schema: str
+    name: str
+    columns: Tuple[Column, ...]
+    keys: Tuple[str, ...]
+    size: int
+
+
+@dataclass(frozen=True)
+class Rows:
+    """Some rows of a table: from one place to another, or all."""
+
+    table: Table
+    begin: int = 0
+    end: Optional[int] = None
+
+
+class SqlServer(Server):
+    """A database on a server. What is abstract here is how a kind of server is asked."""
+
+    def __init__(self, address: Address) -> None:
+        super().__init__(address)
+        with self.named():
+            self.connection: Any = self.connect()
+
+    # --- Of each kind ---
+
+    def connect(self) -> Any:
+        """A connection that reads only."""
+        raise NotImplementedError
+
+    def errors(self) -> Tuple[Type[BaseException], ...]:
+        """The exceptions of the library."""
+        raise NotImplementedError
+
+    def tables(self) -> List[Table]:
+        """All tables that have columns of bytes or text."""
+        raise NotImplementedError
+
+    def rows_of(self, table: Table) -> Iterator[Rows]:
+        """The rows of a table in parts."""
+        yield Rows(table)
+
+    def query(self, rows: Rows) -> Tuple[str, List[Any]]:
+        """What gives the rows: the place, its name, and for each column its value (where it is not large) and its length."""
+        raise NotImplementedError
+
+    def part_query(self, table: Table, column: Column) -> str:
+        """What gives a part of a value, by offset (from 1 on), count, and place."""
+        raise NotImplementedError
+
+    def cursor(self) -> Any:
+        """A cursor that does not fetch all rows at once."""
+        raise NotImplementedError
+
+    # --- Of all ---
+
+    @contextmanager
+    def named(self) -> Iterator[None]:
+        """Errors of the library as NoServer."""
+        kinds: Tuple[Type[BaseException], ...] = (*self.errors(), OSError)
+        try:
+            yield
+        except NoServer:
+            raise
+        except kinds as error:
+            raise NoServer(f'{type(error).__name__}: {error}') from None
+
+    def all_of(self, query: str, words: Any = ()) -> List[Tuple[Any, ...]]:
+        """All rows of a small answer."""
+        with closing(self.connection.cursor()) as cursor:
+            cursor.execute(query, words)
+            found: List[Tuple[Any, ...]] = list(cursor.fetchall())
+            return found
+
+    def parts(self, wanted: Wanted) -> Iterator[Tuple[Any, ...]]:
+        asked = self.address.asked
+        found = False
+        with self.named():
+            tables = self.tables()
+        for table in tables:
+            columns = tuple(column for column in table.columns if asked.get('column') in (None, column.name))
+            if asked.get('table') not in (None, table.name, f'{table.schema}.{table.name}') or not columns:
+                continue
+            found = True
+            if wanted.match is None or fnmatchcase(table.name, wanted.match):
+                for rows in self.rows_of(Table(table.schema, table.name, columns, table.keys, table.size)):
+                    yield (rows, wanted.sample)
+        if not found and asked:
+            raise NoServer('there is no such table with such a column of bytes or text')
+
+    def look(self, values: Values, keys: Tuple[Any, ...]) -> int:
+        rows, most = keys
+        count = 0
+        table: Table = rows.table
+        with self.named(), closing(self.cursor()) as cursor:
+            cursor.execute(*self.query(rows))
+            while most is None or count < most:
+                fetched = cursor.fetchmany(ROWS)
+                for row in fetched[:None if most is None else most - count]:
+                    count += 1
+                    self._look_at_row(values, table, row)
+                if not fetched:
+                    break
+        self._end()
+        return count
+
+    def _end(self) -> None:
+        """Ends the transaction, so that the server keeps nothing for it."""
+        with self.named():
+            self.connection.rollback()
+
+    def _look_at_row(self, values: Values, table: Table, row: Tuple[Any, ...]) -> None:
+        place, name = row[0], row[1]
+        for column, value, length in zip(table.columns, row[2::2], row[3::2]):
+            where = (f'{table.schema}.{table.name}.{column.name}', f'row {_bytes_of(name).decode("utf-8", "backslashreplace")[:200]}')
+            if value is not None:
+                values.add(_bytes_of(value), where)
+            elif length:
+                values.add_blob(_Value(self, self.part_query(table, column), place, int(length)), where)
+
+
+def _bytes_of(value: Any) -> bytes:
+    return value.encode('utf-8', 'surrogateescape') if isinstance(value, str) else bytes(value)
+
+
+class _Value(Blob):
+    """A large value, which the server hands out in parts."""
+
+    def __init__(self, server: SqlServer, query: str, place: Any, size: int) -> None:
+        self.server = server
+        self.query = query
+        self.place = place
+        self.size = size
+
+    def read(self, offset: int, count: int) -> bytes:
+        if count <= 0 or offset >= self.size:
+            return b''
+        found = self.server.all_of(self.query, (offset + 1, min(count, self.size - offset), self.place))
+        return _bytes_of(found[0][0]) if found and found[0][0] is not None else b''  # (the row may be gone)

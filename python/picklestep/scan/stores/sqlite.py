@@ -1,0 +1,173 @@
+"""SQLite files: each value of each table, read through the standard library.
+
+The file is opened read-only and as one that nobody changes, so nothing is written beside it and nothing waits. What its schema would run
+(views, triggers, computed columns, virtual tables) is not touched. Where a write-ahead log is beside it, both are copied into memory.
+"""
+
+from __future__ import annotations
+
+import os
+import shutil
+import sqlite3
+import tempfile
+import urllib.parse
+from contextlib import closing, contextmanager, suppress
+from typing import TYPE_CHECKING, Any, Iterator, List, Optional, Tuple
+
+from ..blobs import Blob, FileBlob
+from ..results import Place
+from .values import SMALL, Values
+
+if TYPE_CHECKING:
+    from ..looking import Looker
+
+__all__ = ['BEGIN', 'look_at_sqlite']
+
+BEGIN = b'SQLite format 3\0'
+
+# Stands for a value that is larger than SMALL.
+_LARGE = -1
+
+_BUSY_SECONDS = 1.0
+
+
+def look_at_sqlite(looker: 'Looker', blob: Blob, where: Place, depth: int) -> None:
+    """Looks at all values. Where the file is damaged, its bytes are searched too."""
+    values = Values(looker)
+    trouble: List[str] = []
+    try:
+        with _opened(blob, looker, where) as connection:
+            for table in _tables(connection):
+                try:
+                    _Table(connection, table, blob.size).look(values, where, depth)
+                except (sqlite3.Error, OverflowError, UnicodeError) as error:
+                    trouble.append(f'{table}: {error}')
+    except (sqlite3.Error, UnicodeError) as error:
+        trouble.append(str(error))
+    for text in trouble:
+        looker.note(where, f'sqlite: {text}: the rest of it is searched as bytes', missed=True)
+    if trouble:
+        values.look_everywhere(blob, where)
+    values.flush()
+
+
+@contextmanager
+def _opened(blob: Blob, looker: 'Looker', where: Place) -> Iterator[sqlite3.Connection]:
+    """A connection that reads the file."""
+    path = _path(blob)
+    log = None if path is None else f'{path}-wal'
+    if path is not None and not (log is not None and os.path.exists(log) and os.path.getsize(log)):
+        with closing(_connected(path, 'mode=ro&immutable=1')) as connection:
+            yield connection
+        return
+    memory = '/dev/shm' if os.path.isdir('/dev/shm') else None
+    with tempfile.TemporaryDirectory(prefix='picklestep-scan-', dir=memory) as folder:
+        copy = os.path.join(folder, 'copy')
+        looker.budget.unpack(blob.size)
+        with open(copy, 'wb') as out:
+            for piece in blob.chunks():
+                out.write(piece)
+        if log is not None and path is not None:
+            looker.budget.unpack(os.path.getsize(log))
+            shutil.copyfile(log, f'{copy}-wal')
+            looker.note(where, 'its write-ahead log is looked at with it')
+        with closing(_connected(copy, 'mode=rw')) as connection:
+            yield connection
+
+
+def _path(blob: Blob) -> Optional[str]:
+    """The path of a file that is still the one that is open, since SQLite opens files by their names."""
+    if not isinstance(blob, FileBlob):
+        return None
+    with suppress(OSError):
+        path = os.readlink(blob.path())
+        if os.path.samestat(os.stat(path), os.fstat(blob.file.fileno())):
+            return path
+    return None
+
+
+def _connected(path: str, how: str) -> sqlite3.Connection:
+    connection = sqlite3.connect(f'file:{urllib.parse.quote(os.fsencode(path))}?{how}', uri=True, timeout=_BUSY_SECONDS, isolation_level=None)
+    connection.text_factory = bytes
+    for pragma in ('trusted_schema=OFF', 'query_only=ON', 'cell_size_check=ON', 'mmap_size=0', 'cache_size=-8000'):
+        connection.execute(f'PRAGMA {pragma}')
+    return connection
+
+
+def _quoted(name: str) -> str:
+    return '"' + name.replace('"', '""') + '"'
+
+
+def _tables(connection: sqlite3.Connection) -> List[str]:
+    """The names of the tables that are in the file itself."""
+    rows = connection.execute("SELECT name FROM sqlite_master WHERE type = 'table' AND rootpage > 0").fetchall()
+    return [name.decode('utf-8') for (name,) in rows]
+
+
+class _Table:
+    """A table, and how much of its values has been read. A damaged file may show the same bytes as the values of endless rows."""
+
+    def __init__(self, connection: sqlite3.Connection, name: str, size: int) -> None:
+        self.connection = connection
+        self.name = name
+        self.size = size
+        columns = [(row[1].decode('utf-8'), row[6]) for row in connection.execute(f'PRAGMA table_xinfo({_quoted(name)})')]
+        self.columns = [column for column, hidden in columns if not hidden]
+        taken = {column.lower() for column, _ in columns}
+        self.number = next((word for word in ('rowid', '_rowid_', 'oid') if word not in taken and self._has(word)), None)
+
+    def _has(self, number: str) -> bool:
+        try:
+            self.connection.execute(f'SELECT {number} FROM {_quoted(self.name)} LIMIT 0')
+        except sqlite3.Error:
+            return False
+        return True
+
+    def look(self, values: Values, where: Place, depth: int) -> None:
+        """Looks at each value that is bytes or text."""
+        read = 0
+        for count, row in enumerate(self._rows(), 1):
+            number = count if self.number is None else row[0]
+            for column, value in zip(self.columns, row[1:]):
+                place = where + (f'{self.name}.{column} row {number}',)
+                if isinstance(value, bytes):
+                    read += len(value)
+                    values.add(value, place, depth + 1)
+                elif value == _LARGE:
+                    read += self._look_at_large(values, column, number, place, depth)
+            read += 1
+            if read > 2 * self.size + SMALL:
+                raise sqlite3.DatabaseError('its rows have more bytes than the file')
+
+    def _rows(self) -> Iterator[Tuple[Any, ...]]:
+        """The rows: their number, and the values that are bytes or text. `_LARGE` stands for one that is too large."""
+        def asked(column: str) -> str:
+            name = _quoted(column)
+            return (f"CASE typeof({name}) WHEN 'blob' THEN CASE WHEN length({name}) > {SMALL} THEN {_LARGE} ELSE {name} END "
+                    f"WHEN 'text' THEN CASE WHEN length({name}) > {SMALL} THEN {_LARGE} ELSE {name} END END")
+        words = ', '.join([self.number or 'NULL', *map(asked, self.columns)])
+        return iter(self.connection.execute(f'SELECT {words} FROM {_quoted(self.name)}'))
+
+    def _look_at_large(self, values: Values, column: str, number: int, place: Place, depth: int) -> int:
+        """Looks at a large value, piece by piece where Python can read one so (from 3.11 on)."""
+        if self.number is None or not hasattr(self.connection, 'blobopen'):
+            values.looker.note(place, 'it is too large to be read in this Python, or its table has no numbers of rows', missed=True)
+            return 0
+        with self.connection.blobopen(self.name, column, number, readonly=True) as opened:
+            blob = _Opened(opened)
+            values.add_blob(blob, place, depth + 1)
+            return blob.size
+
+
+class _Opened(Blob):
+    """A value that SQLite reads piece by piece."""
+
+    def __init__(self, opened: Any) -> None:
+        self.opened = opened
+        self.size = len(opened)
+
+    def read(self, offset: int, count: int) -> bytes:
+        if count <= 0 or offset >= self.size:
+            return b''
+        self.opened.seek(offset)
+        return bytes(self.opened.read(count))

@@ -1,0 +1,352 @@
+"""Looks at the values of a store: a pickle, packed or encoded, behind a length or a sign, one in another.
+
+Most values are small and there are many, so those that read as pickles wait, and the program is asked about all of them at once.
+"""
+
+from __future__ import annotations
+
+import re
+from concurrent.futures import Future, ThreadPoolExecutor
+from dataclasses import dataclass
+from typing import TYPE_CHECKING, Callable, List, Optional, Set
+
+from ..begins import HEAD, kind_of, may_be_pickle, unread_kind_of
+from ..blobs import Blob, BytesBlob, LimitMet
+from ..packed import METHODS, Unpacking
+from ..reading import Summary
+from ..results import Place
+from . import anywhere
+from .asking import MOST_BYTES, MOST_PICKLES, answers
+from .encodings import decoded, prefixes
+from .framed import framing_of
+from .walk import stops_at_end, walk
+
+if TYPE_CHECKING:
+    from ..looking import Looker
+
+__all__ = ['SMALL', 'Values', 'key_name']
+
+# Values up to this size, packed or not, are looked at in memory; larger ones as files are.
+SMALL = 8 << 20
+
+# Pickles up to this size are asked about together with others.
+_TOGETHER = 64 << 10
+
+# All values together may be unpacked to so many times their size.
+_MOST_TIMES = 100
+
+# A value takes as long as so many opcodes, after which the time is looked at.
+_STEPS_OF_A_VALUE = 64
+
+# No other container begins with this byte than a tar archive, whose sign is here.
+_PROTO, _TAR = 0x80, 257
+
+_PACKED = ('zlib', 'gzip', 'bz2', 'xz', 'lzma')
+_MOST_OF_KEY = 200
+
+
+def key_name(key: bytes) -> str:
+    """A key as a part of a place. Of a long one the first signs are shown, and its length.
+
+    >>> key_name(b'user:1'), key_name(b'\\xff'), key_name(b'k' * 1000)[-15:]
+    ('user:1', '\\\\xff', 'k.. (1000 bytes)'[-15:])
+    """
+    text = key[:4 * _MOST_OF_KEY].decode('utf-8', 'backslashreplace')
+    return text if len(key) <= _MOST_OF_KEY else f'{text[:_MOST_OF_KEY]}.. ({len(key)} bytes)'
+
+
+# Names as the report shows them: plain ones, and those of which the pickle works out the second part.
+_PLAIN = re.compile(r"'?[^\W\d]\w*(\.[^\W\d]\w*)*('? #[0-9]+)?")
+
+
+def _names_something(answer: Summary) -> bool:
+    """Whether an answer imports something by a plain name, or says nothing. Raw numbers that are taken for a pickle do not."""
+    imports = answer.pickle((), 0).imports
+    return answer.is_empty or any(_PLAIN.fullmatch(found.name) for found in imports)
+
+
+@dataclass(frozen=True)
+class _Waiting:
+    """Bytes that end with an opcode STOP, and of which value they are. `guessed`: nothing but these bytes says that they are a pickle."""
+
+    content: bytes
+    where: Place
+    value: int
+    guessed: bool
+
+
+class Values:
+    """Looks at values, each at its place, and hands what it finds to a looker. `flush` comes last."""
+
+    def __init__(self, looker: 'Looker') -> None:
+        self.looker = looker
+        self.count = 0
+        # Set where values come again and again.
+        self.is_new: Optional[Callable[[bytes, Place], bool]] = None
+        self._size = self._unpacked = 0
+        self._outer = looker.budget
+        self._found: Set[int] = set()
+        self._waiting: List[_Waiting] = []
+        # While the program reads, the next values are looked at.
+        self._background = ThreadPoolExecutor(1)
+        self._asked: List[_Waiting] = []
+        self._told: 'Optional[Future[List[Summary]]]' = None
+        self._bytes = 0
+
+    # --- Values ---
+
+    def add(self, content: bytes, where: Place, depth: int = 0) -> None:
+        """Looks at a value in memory, if it is new."""
+        if self.is_new is not None and not self.is_new(content, where):
+            return
+        self.begin(where, len(content))
+        try:
+            self._look(content, where, depth, guessed=False)
+        except LimitMet as limit:
+            self.looker.note(self.looker.at, str(limit), missed=True)
+
+    def add_blob(self, blob: Blob, where: Place, depth: int = 0) -> None:
+        """Looks at a value that may be large."""
+        if blob.size <= SMALL:
+            self.add(blob.read(0, blob.size), where, depth)
+            return
+        self.begin(where, blob.size)
+        found, others = len(self.looker.pickles), self.looker.others
+        try:
+            self.looker.look_at(blob, where, (), depth)
+        except LimitMet as limit:
+            self.looker.note(self.looker.at, str(limit), missed=True)
+        if len(self.looker.pickles) > found:
+            self._found.add(self.count)
+        self.looker.others = others
+
+    def begin(self, where: Place, size: int) -> None:
+        """Begins a value. Its bytes and members are counted as those of a file; time, memory and lines are those of the whole.
+
+        Raises LimitMet where there is no more of these, or the values before it were unpacked to very much more than they have. What was
+        found by then is kept.
+        """
+        self._size += size
+        if self.looker.budget is not self._outer:
+            self._unpacked += self.looker.budget.unpacked
+            self._outer.lines = min(self._outer.lines, self.looker.budget.lines)
+        self.looker.budget = self._outer
+        self.looker.at = where
+        try:
+            if self._unpacked > _MOST_TIMES * self._size + self._outer.limits.unpacked:
+                raise LimitMet(f'more than {_MOST_TIMES} times the bytes of all values are unpacked: the rest of them is not looked at')
+            self._outer.count(_STEPS_OF_A_VALUE)
+        except LimitMet:
+            self.flush()
+            raise
+        self.count += 1
+        self.looker.budget = self._outer.of_value(size)
+
+    def flush(self) -> None:
+        """Asks about what waits. It counts the values that are no pickles, too."""
+        self._ask()
+        self._settle()
+        self._background.shutdown()
+        self.looker.budget = self._outer
+        self.looker.others += self.count - len(self._found)
+        self.count, self._found = 0, set()
+
+    def _look(self, content: bytes, where: Place, depth: int, guessed: bool) -> bool:
+        """Looks at bytes: a container, a pickle, or what holds one. Answers whether there is one."""
+        if len(content) < 2:
+            return False
+        self.looker.at = where
+        if content[0] == _PROTO and stops_at_end(content) and content[_TAR:_TAR + 5] != b'ustar':
+            return self._wait(content, where, guessed)
+        head = content[:HEAD]
+        found = self._look_into(head, content, where, depth)
+        if stops_at_end(content):
+            return self._wait(content, where, guessed) or found
+        if found:
+            return True
+        if self._may_begin(head, content, guessed):
+            found = self._is_read(content, where, guessed)
+        return found or self._look_further(content, where, depth)
+
+    @staticmethod
+    def _may_begin(head: bytes, content: bytes, guessed: bool) -> bool:
+        """Whether a pickle may begin here that does not end where the bytes do."""
+        if not may_be_pickle(head, len(content)):
+            return False
+        way = walk(content, 0)
+        return way.is_likely if guessed else way.imports or not way.lacks
+
+    def _is_read(self, content: bytes, where: Place, guessed: bool) -> bool:
+        """Asks about bytes that are not a pickle and nothing else."""
+        before, notes = len(self.looker.pickles), len(self.looker.notes)
+        way = walk(content, 0)
+        if guessed and way.stops:
+            return self._wait(content[:way.end], where, guessed)
+        self.looker.is_read(BytesBlob(content), content[:HEAD], where, ())
+        if len(self.looker.pickles) == before:
+            return False
+        if guessed and not any(_PLAIN.fullmatch(found.name) for found in self.looker.pickles[-1].imports):
+            self.looker.pickles.pop()
+            del self.looker.notes[notes:]
+            return False
+        self._found.add(self.count)
+        return True
+
+    # --- Containers ---
+
+    def _look_into(self, head: bytes, content: bytes, where: Place, depth: int) -> bool:
+        """Looks into a container. False where it is none, or nothing is in it."""
+        kind = kind_of(head)
+        if kind in _PACKED:
+            return self._unpack(kind, content, where, depth)
+        unread = unread_kind_of(head)
+        if kind is None and unread is None:
+            return False
+        found, others = len(self.looker.pickles), self.looker.others
+        self.looker.look_at(BytesBlob(content), where, (), depth)
+        self.looker.others = others
+        if len(self.looker.pickles) > found:
+            self._found.add(self.count)
+        return True
+
+    def _unpack(self, kind: str, content: bytes, where: Place, depth: int) -> bool:
+        limits = self.looker.options.limits
+        if depth >= limits.depth:
+            self.looker.note(where, f'{kind}: containers are opened to a depth of {limits.depth}: this one is not', missed=True)
+            return True
+        unpacking = Unpacking(BytesBlob(content), METHODS[kind], 0, kind != 'lzma')
+        inner, size = [], 0
+        for piece in unpacking.pieces():
+            self.looker.budget.unpack(len(piece))
+            inner.append(piece)
+            size += len(piece)
+            if size > SMALL:
+                return self._look_large(content, where, depth)
+        if unpacking.trouble is not None:
+            if kind in ('zlib', 'lzma') and not size:
+                return False  # two bytes that happen to be these
+            self.looker.note(where + (f'({kind})',), unpacking.trouble, missed=True)
+        found = self._look(b''.join(inner), where + (f'({kind})',), depth + 1, guessed=False)
+        if unpacking.trouble is None and unpacking.end < len(content):
+            place = f'(bytes {unpacking.end} to {len(content)})'
+            found = self._look(content[unpacking.end:], where + (place,), depth + 1, guessed=True) or found
+        return found
+
+    def _look_large(self, content: bytes, where: Place, depth: int) -> bool:
+        found = len(self.looker.pickles)
+        self.looker.look_at(BytesBlob(content), where, (), depth)
+        if len(self.looker.pickles) > found:
+            self._found.add(self.count)
+        return True
+
+    # --- What holds a pickle without saying so ---
+
+    def _look_further(self, content: bytes, where: Place, depth: int) -> bool:
+        """Looks behind lengths and signs, and at what texts stand for. These are guesses: what is none of them leaves no note."""
+        if depth >= self.looker.options.limits.depth:
+            return False
+        blob = BytesBlob(content)
+        framing = framing_of(blob)
+        if framing is not None:
+            return self.records(blob, where, depth)
+        for offset in prefixes(content):
+            if self._look_at_guess(content, offset, where):
+                return True
+        found = False
+        for offset, name, inner in decoded(content):
+            found = self._look(inner, where + (f'({name} at {offset})',), depth + 1, guessed=True) or found
+        if self.looker.options.everywhere and not found:
+            return self.look_everywhere(blob, where)
+        return found
+
+    def records(self, blob: Blob, where: Place, depth: int) -> bool:
+        """Looks at records with a length before each, and at what is behind the last of them."""
+        framing = framing_of(blob)
+        if framing is None:
+            return False
+        end = 0
+        for number, (start, length) in enumerate(framing.records(blob), 1):
+            self._look(blob.read(start, min(length, SMALL)), where + (f'(record {number} at {start})',), depth + 1, guessed=False)
+            if length > SMALL:
+                self.looker.look_at(blob.part(start, length), where + (f'(record {number} at {start})',), (), depth + 1)
+            end = start + length
+        if end < blob.size:
+            self.looker.note(where, f'records with a length: that at {end} is cut short', missed=True)
+            self.look_everywhere(blob.part(end, blob.size - end), where, end)
+        return True
+
+    def _look_at_guess(self, content: bytes, offset: int, where: Place) -> bool:
+        """Looks at a place where a pickle may begin."""
+        way = walk(content, offset)
+        if not way.is_likely:
+            return False
+        inner = content[offset:way.end if way.stops else None]
+        place = where + (f'(at {offset})',)
+        return self._wait(inner, place, True) if stops_at_end(inner) else self._is_read(inner, place, True)
+
+    def look_at_texts(self, blob: Blob, where: Place, depth: int) -> None:
+        """Looks at what texts in these bytes stand for."""
+        for start in range(0, blob.size, SMALL):
+            for offset, name, inner in decoded(blob.read(start, SMALL + (SMALL >> 3))):
+                if offset < SMALL:
+                    self._look(inner, where + (f'({name} at {start + offset})',), depth + 1, guessed=True)
+
+    def look_everywhere(self, blob: Blob, where: Place, shift: int = 0) -> bool:
+        """Looks at each offset at which a pickle may begin."""
+        found = False
+        try:
+            for offset, inner in anywhere.candidates(blob):
+                place = where + (f'(at {offset + shift})',)
+                found = (self._wait(inner, place, True) if stops_at_end(inner) else self._is_read(inner, place, True)) or found
+        except LimitMet as limit:
+            self.looker.note(where, str(limit), missed=True)
+        return found
+
+    # --- Questions ---
+
+    def _wait(self, content: bytes, where: Place, guessed: bool) -> bool:
+        self._waiting.append(_Waiting(content, where, self.count, guessed))
+        self._bytes += len(content)
+        if len(self._waiting) >= MOST_PICKLES or self._bytes >= MOST_BYTES:
+            self._ask()
+        return True
+
+    def _ask(self) -> None:
+        """Asks about what waits, in the background, when the answers to what was asked before are kept."""
+        waiting, self._waiting, self._bytes = self._waiting, [], 0
+        self._settle()
+        options = self.looker.options
+        if waiting:
+            contents = [each.content for each in waiting]
+            self._asked = waiting
+            budget = self._outer
+            self._told = self._background.submit(lambda: list(answers(contents, budget, options.lines)))
+
+    def _settle(self) -> None:
+        asked, told = self._asked, self._told
+        self._asked, self._told = [], None
+        try:
+            found = told.result() if told is not None else []
+        except LimitMet as limit:
+            self.looker.note(asked[0].where, f'{limit} (also {len(asked)} values from this one on)', missed=True)
+            return
+        for each, answer in zip(asked, found):
+            self._keep(each, answer)
+
+    def _keep(self, each: _Waiting, answer: Summary) -> None:
+        if answer.trouble is not None:
+            self.looker.note(each.where, answer.trouble, missed=True)
+        if answer.is_empty and answer.end.is_stopped:
+            self.looker.plain += 1
+            self._found.add(each.value)
+        elif each.guessed and not _names_something(answer):
+            return
+        elif answer.is_sure or answer.end.is_stopped or answer.trouble is not None:
+            self.looker.pickles.append(answer.pickle(each.where, len(each.content)))
+            self._found.add(each.value)
+        elif not each.guessed or walk(each.content, 0).is_called:
+            # The program refused it before an import. What a loader makes of it is asked as it is for a file.
+            before = len(self.looker.pickles)
+            self.looker.is_read(BytesBlob(each.content), each.content[:HEAD], each.where, ())
+            if len(self.looker.pickles) > before:
+                self._found.add(each.value)

@@ -1,0 +1,169 @@
+"""Goes from opcode to opcode over bytes in memory: quick enough to be tried at many places.
+
+It finds where pickles may begin and end, and decides nothing: what is in one, the program says. All it knows of the opcodes is what
+`pickletools` has.
+"""
+
+from __future__ import annotations
+
+import pickletools
+import re
+from typing import List, Optional, Set, Tuple
+
+__all__ = ['MOST', 'Walk', 'stops_at_end', 'walk']
+
+_PAIR, _LINE, _ONE, _FOUR, _EIGHT, _UNKNOWN = -1, -2, -3, -4, -5, -6
+
+# Opcodes that call something, and those that end a walk.
+_CALLS = frozenset({'REDUCE', 'NEWOBJ', 'NEWOBJ_EX', 'OBJ', 'INST', 'BUILD'})
+_IMPORTS = frozenset({'GLOBAL', 'INST', 'STACK_GLOBAL'})
+_STOP, _FRAME, _POP = ord('.'), 0x95, ord('0')
+
+# The module of GLOBAL and INST, where it can be one.
+_MODULE = re.compile(rb'[A-Za-z_\x80-\xff][A-Za-z0-9_.\x80-\xff]*\n')
+
+# So many opcodes are gone over at a place that was only guessed.
+MOST = 20_000
+
+
+def _step_of(shape: 'pickletools.OpcodeInfo') -> int:
+    """The length of an opcode with its argument where that is always the same, else how the argument's end is found."""
+    if shape.arg is None:
+        return 1
+    if shape.arg.n >= 0:
+        return 1 + shape.arg.n
+    if shape.arg.n == pickletools.UP_TO_NEWLINE:
+        return _PAIR if shape.arg.name == 'stringnl_noescape_pair' else _LINE
+    return {pickletools.TAKEN_FROM_ARGUMENT1: _ONE, pickletools.TAKEN_FROM_ARGUMENT8U: _EIGHT}.get(shape.arg.n, _FOUR)
+
+
+def _needs_of(shape: 'pickletools.OpcodeInfo') -> Tuple[int, bool, int]:
+    """What an opcode takes from the stack (above a mark or not), whether it takes a mark, and what it leaves."""
+    names = [each.name for each in shape.stack_before]
+    if 'mark' not in names:
+        return len(names), False, len(shape.stack_after)
+    return names.index('mark'), True, len(shape.stack_after)
+
+
+_STEPS: List[int] = [_UNKNOWN] * 256
+_NEEDS: List[Tuple[int, bool, int]] = [(0, False, 0)] * 256
+_WHAT: List[int] = [0] * 256  # 1: imports, 2: calls, 3: both
+for _each in pickletools.opcodes:
+    _STEPS[ord(_each.code)] = _step_of(_each)
+    _NEEDS[ord(_each.code)] = _needs_of(_each)
+    _WHAT[ord(_each.code)] = (_each.name in _IMPORTS) + 2 * (_each.name in _CALLS)
+_MARK = next(ord(each.code) for each in pickletools.opcodes if each.name == 'MARK')
+_STACK_GLOBAL = next(ord(each.code) for each in pickletools.opcodes if each.name == 'STACK_GLOBAL')
+
+
+def _variable(content: bytes, at: int, step: int) -> int:
+    """The length of an opcode whose argument has none of its own; 0 where it has no end."""
+    if step in (_PAIR, _LINE):
+        end = content.find(b'\n', at + 1)
+        if step == _PAIR and end >= 0:
+            end = content.find(b'\n', end + 1)
+        return end + 1 - at if end >= 0 else 0
+    if step == _UNKNOWN:
+        return 0
+    width = 1 if step == _ONE else 4 if step == _FOUR else 8
+    return 1 + width + int.from_bytes(content[at + 1:at + 1 + width], 'little')
+
+
+def stops_at_end(content: bytes) -> bool:
+    """Whether opcodes follow one another up to the last byte, and that is a STOP: one pickle or several, and nothing else.
+
+    >>> stops_at_end(b'K.N.'), stops_at_end(b'NK.'), stops_at_end(b'text.')
+    (True, False, False)
+    """
+    size = len(content)
+    if not size or content[-1] != _STOP:
+        return False
+    at, code = 0, -1
+    while at < size:
+        code = content[at]
+        step = _STEPS[code]
+        if step == _ONE and at + 1 < size:
+            step = 2 + content[at + 1]
+        elif step < 0:
+            step = _variable(content, at, step)
+            if not step:
+                return False
+        elif code == _FRAME and at + 9 + int.from_bytes(content[at + 1:at + 9], 'little') > size:
+            return False  # (a frame that reaches out of these bytes would take in what comes after them)
+        at += step
+    return at == size and code == _STOP
+
+
+class Walk:
+    """How far a loader may go from a place on.
+
+    `end` is where it ends: behind a STOP if `stops`. `imports` and `calls` say what it comes to. `lacks` says that an opcode takes more
+    from the stack than the walk has put there, so that the pickle, if it is one, begins before; `goes_on`, that it met its limit.
+    """
+
+    def __init__(self) -> None:
+        self.end = 0
+        self.stops = False
+        self.imports = False
+        self.calls = False
+        self.is_called = False
+        self.lacks = False
+        self.goes_on = False
+        self.opcodes = 0
+
+    @property
+    def is_likely(self) -> bool:
+        """Whether it is worth a question: it imports and then calls, or it is whole and more than a constant."""
+        return not self.lacks and (self.is_called or self.goes_on or self.stops and self.opcodes > 3)
+
+
+def walk(content: bytes, at: int, until: Optional[int] = None, most: int = MOST, dead: Optional[Set[int]] = None) -> Walk:
+    """Goes over opcodes from a place on, and counts what they put on the stack, as far as some loader could go on (or up to `until`, or
+    `most` opcodes). From the offsets in `dead` no way leads to a call or a STOP, with what an earlier walk had on the stack; those of
+    this walk are added if it is such a one.
+    """
+    found = Walk()
+    size = len(content)
+    depth = 0
+    marks: List[int] = []
+    passed: List[int] = []
+    while at < size and at != until and not (dead and at in dead):
+        if found.opcodes >= most:
+            found.goes_on = True
+            break
+        passed.append(at)
+        code = content[at]
+        step = _STEPS[code]
+        if step < 0:
+            step = _variable(content, at, step)
+        if step <= 0 or at + step > size:
+            break
+        needs, takes_mark, leaves = _NEEDS[code]
+        if code == _MARK:
+            marks.append(depth)
+        elif code == _POP and marks and marks[-1] == depth:
+            marks.pop()
+        else:
+            if takes_mark:
+                if not marks:
+                    found.lacks = True
+                    break
+                depth = marks.pop()
+            if depth - needs < (marks[-1] if marks else 0):
+                found.lacks = True
+                break
+            depth += leaves - needs
+        if _WHAT[code] & 1 and (code == _STACK_GLOBAL or _MODULE.match(content, at + 1)):
+            found.imports = True
+        if _WHAT[code] & 2:
+            found.calls = True
+            found.is_called = found.imports
+        found.opcodes += 1
+        at += step
+        if code == _STOP:
+            found.stops = True
+            break
+    found.end = at
+    if dead is not None and not (found.stops or found.calls or found.goes_on):
+        dead.update(passed)
+    return found

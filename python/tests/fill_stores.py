@@ -1,0 +1,229 @@
+"""Fills stores by the libraries that people use, in an interpreter that has them: `fill_stores.py NAME WORD..`.
+
+Each store gets harmless values, and one hostile one in the midst of them. Nothing here is ever loaded.
+"""
+
+from __future__ import annotations
+
+import base64
+import json
+import logging.handlers
+import multiprocessing.connection
+import os
+import pickle
+import shelve
+import socket
+import sqlite3
+import sys
+from pathlib import Path
+from typing import Any, Iterator, List, Tuple
+
+
+class Hostile:
+    """Would run a command where it is loaded."""
+
+    def __reduce__(self) -> Any:
+        return os.system, ('id',)
+
+
+def harmless(number: int) -> bytes:
+    """A value of about a kilobyte."""
+    return pickle.dumps({'number': number, 'text': 'x' * 900, 'tags': ['a', 'b', number]}, 4)
+
+
+def values(count: int) -> Iterator[Tuple[int, bytes]]:
+    """So many harmless values, with a hostile one after two thirds of them."""
+    for number in range(count):
+        yield number, harmless(number)
+        if number == count * 2 // 3:
+            yield count, pickle.dumps(Hostile())
+
+
+# --- Files ---
+
+def diskcache(folder: str) -> None:
+    import diskcache
+    with diskcache.Cache(folder) as cache:
+        for number in range(300):
+            cache[f'key {number}'] = {'number': number}
+        cache['evil'] = [Hostile()]
+
+
+def apscheduler(path: str) -> None:
+    from apscheduler.schedulers.background import BackgroundScheduler
+    scheduler = BackgroundScheduler()
+    scheduler.add_jobstore('sqlalchemy', url=f'sqlite:///{path}')
+    scheduler.start(paused=True)
+    for number in range(20):
+        scheduler.add_job(os.getcwd, 'interval', hours=1, id=f'job {number}')
+    scheduler.add_job(print, 'interval', hours=1, id='evil', args=[Hostile()])
+    scheduler.shutdown()
+
+
+def django(folder: str) -> None:
+    import django
+    from django.conf import settings
+    caches = {'default': {'BACKEND': 'django.core.cache.backends.filebased.FileBasedCache', 'LOCATION': f'{folder}/files'},
+              'table': {'BACKEND': 'django.core.cache.backends.db.DatabaseCache', 'LOCATION': 'cache_table'}}
+    settings.configure(CACHES=caches, DATABASES={'default': {'ENGINE': 'django.db.backends.sqlite3', 'NAME': f'{folder}/django.db'}},
+                       INSTALLED_APPS=['django.contrib.sessions'], SECRET_KEY='key of a test', USE_TZ=True,
+                       SESSION_SERIALIZER='django.contrib.sessions.serializers.PickleSerializer', DEFAULT_AUTO_FIELD='django.db.models.AutoField')
+    django.setup()
+    from django.contrib.sessions.backends.db import SessionStore
+    from django.core.cache import caches as made
+    from django.core.management import call_command
+    call_command('createcachetable', verbosity=0)
+    call_command('migrate', verbosity=0)
+    for name in ('default', 'table'):
+        for number in range(30):
+            made[name].set(f'key {number}', {'number': number})
+        made[name].set('evil', Hostile())
+    session = SessionStore()
+    session['evil'] = Hostile()
+    session.save()
+
+
+def requests_cache(path: str) -> None:
+    from requests_cache.backends.sqlite import SQLitePickleDict
+    cache = SQLitePickleDict(path, 'responses')
+    for number in range(30):
+        cache[f'key {number}'] = {'number': number}
+    cache['evil'] = Hostile()
+
+
+def shelves(folder: str) -> None:
+    from importlib import import_module
+    for kind in ('gnu', 'ndbm', 'dumb'):
+        with shelve.Shelf(import_module(f'dbm.{kind}').open(f'{folder}/{kind}', 'n')) as shelf:
+            for number in range(1000):
+                shelf[f'key {number}'] = {'number': number, 'text': 'x' * number}
+            shelf['evil'] = Hostile()
+            shelf['large evil'] = ['x' * 100_000, Hostile()]
+
+
+def streams(folder: str) -> None:
+    handler = logging.handlers.SocketHandler('127.0.0.1', 1)
+    lines = [handler.makePickle(logging.makeLogRecord({'msg': f'line {number}'})) for number in range(100)]
+    # (a hostile sender writes what it likes behind the length)
+    evil = pickle.dumps(Hostile(), 1)
+    Path(folder, 'socket_handler').write_bytes(b''.join([*lines, len(evil).to_bytes(4, 'big'), evil, *lines]))
+    near, far = socket.socketpair()
+    sender = multiprocessing.connection.Connection(near.detach())
+    for item in ({'a': 1}, Hostile(), [1, 2]):
+        sender.send(item)
+    sender.close()
+    with far, far.makefile('rb') as received:
+        Path(folder, 'connection').write_bytes(received.read())
+
+
+def hdf5(path: str) -> None:
+    import h5py
+    import numpy
+    evil = pickle.dumps(Hostile())
+    with h5py.File(path, 'w') as file:
+        group = file.create_group('group')
+        group.attrs['evil'] = numpy.void(evil)
+        group.attrs['title'] = 'harmless'
+        file['numbers'] = numpy.arange(10_000.0)
+        file['image'] = numpy.zeros((50, 50), 'u1')
+        file['bytes'] = numpy.frombuffer(pickle.dumps(['x' * 5000, Hostile()]), 'u1')
+        file['opaque'] = numpy.void(evil)
+        rows = file.create_dataset('rows', (20,), dtype=h5py.vlen_dtype(numpy.dtype('u1')))
+        rows[7] = numpy.frombuffer(evil, 'u1')
+        file['texts'] = numpy.array([b'harmless', base64.b64encode(evil)])
+
+
+def sqlite_rows(path: str, count: str) -> None:
+    """Harmless rows, and a hostile one: as Huey has its queue."""
+    connection = sqlite3.connect(path)
+    connection.execute('CREATE TABLE task (id INTEGER NOT NULL PRIMARY KEY, queue TEXT NOT NULL, data BLOB NOT NULL, priority REAL)')
+    connection.executemany('INSERT INTO task (queue, data) VALUES (?, ?)', (('huey', value) for _, value in values(int(count))))
+    connection.commit()
+    connection.close()
+
+
+# --- Servers ---
+
+def redis_server(port: str, password: str, count: str) -> None:
+    """Harmless strings, and hostile values in each type, as libraries write them."""
+    import redis
+    client = redis.Redis(port=int(port), password=password)
+    pipe = client.pipeline(transaction=False)
+    for number, value in values(int(count)):
+        pipe.set(f'key {number}', value)
+        if number % 1000 == 999:
+            pipe.execute()
+    pipe.execute()
+    evil = pickle.dumps(Hostile())
+    client.rpush('list', b'harmless', evil)
+    client.sadd('set', b'harmless', evil)
+    client.zadd('sorted set', {evil: 1.5})
+    client.xadd('stream', {'harmless': 'x', 'field': evil})
+    client.hset('dramatiq:default.msgs', 'message', pickle.dumps({'queue_name': 'default', 'args': (Hostile(),)}))
+    client.set('flask_cache', b'!' + evil)
+    client.set(b'long \x1b[2J' + b'k' * 1_000_000, evil)
+    # (512 MB that are no pickle)
+    client.setrange('large', (512 << 20) - 1, b'x')
+
+
+def redis_queues(port: str, password: str) -> None:
+    """Jobs of RQ and Celery."""
+    import celery
+    import redis
+    import rq
+    client = redis.Redis(port=int(port), password=password)
+    rq.Queue('work', connection=client).enqueue_call('module.function', args=(1,), job_id='harmless')
+    rq.Queue('work', connection=client).enqueue_call('module.function', args=(Hostile(),), job_id='evil')
+    app = celery.Celery(broker=f'redis://:{password}@127.0.0.1:{port}/0')
+    app.conf.update(task_serializer='pickle', accept_content=['pickle'])
+    app.send_task('module.task', args=(1,))
+    app.send_task('module.task', args=(Hostile(),))
+
+
+def memcached_server(port: str, count: str) -> None:
+    from pymemcache.client.base import Client
+    client = Client(('127.0.0.1', int(port)))
+    waiting = {}
+    for number, value in values(int(count)):
+        waiting[f'key{number}'] = value
+        if len(waiting) == 1000:
+            client.set_many(waiting)
+            waiting = {}
+    client.set_many(waiting)
+    client.set('large', pickle.dumps(['x' * 3_000_000, Hostile()]))
+
+
+def sql(cursor: Any, many: Any, count: str, bytes_type: str) -> None:
+    cursor.execute(f'CREATE TABLE jobs (id INTEGER PRIMARY KEY, state {bytes_type}, note TEXT)')
+    rows: List[Tuple[Any, ...]] = [(number, value, 'harmless') for number, value in values(int(count))]
+    many(cursor, 'INSERT INTO jobs (id, state, note) VALUES', rows)
+    cursor.execute('INSERT INTO jobs (id, state, note) VALUES (%s, %s, %s)', (-1, None, json.dumps(
+        {'body': base64.b64encode(pickle.dumps(Hostile())).decode(), 'content-type': 'application/x-python-serialize'})))
+    cursor.execute(f'CREATE TABLE large (name VARCHAR(20) PRIMARY KEY, content {bytes_type})')
+    cursor.execute('INSERT INTO large VALUES (%s, %s)', ('evil', pickle.dumps(['x' * (20 << 20), Hostile()])))
+
+
+def postgresql_server(url: str, count: str) -> None:
+    import psycopg2
+    import psycopg2.extras
+    with psycopg2.connect(url) as connection:
+        sql(connection.cursor(), lambda cursor, words, rows: psycopg2.extras.execute_values(cursor, f'{words} %s', rows, page_size=1000), count,
+            'bytea')
+    connection.close()
+
+
+def mysql_server(path: str, count: str) -> None:
+    """Also makes a user who may read alone."""
+    import pymysql
+    connection = pymysql.connect(unix_socket=path, user='root')
+    cursor = connection.cursor()
+    for words in ('CREATE DATABASE stores', "CREATE USER tester@'%%' IDENTIFIED BY 'a-secret'", "GRANT SELECT ON stores.* TO tester@'%%'",
+                  'USE stores'):
+        cursor.execute(words, ())
+    sql(cursor, lambda cursor, words, rows: cursor.executemany(f'{words} (%s, %s, %s)', rows), count, 'LONGBLOB')
+    connection.commit()
+    connection.close()
+
+
+if __name__ == '__main__':
+    globals()[sys.argv[1]](*sys.argv[2:])

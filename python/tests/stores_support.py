@@ -1,0 +1,162 @@
+"""What the tests of stores share: an interpreter that has the libraries, and servers that run for one test on the loopback alone."""
+
+from __future__ import annotations
+
+import os
+import pwd
+import re
+import shutil
+import socket
+import subprocess
+import sys
+import tempfile
+import time
+import unittest
+from pathlib import Path
+from typing import Any, Dict, List, Optional
+
+from scan_support import ScanCase, environment
+
+FILL = Path(__file__).resolve().parent / 'fill_stores.py'
+# What is done with a marked import has a line of its own.
+_DONE = re.compile(r': (call|new|inst|state|append|set|add|persistent id) ')
+# A password that must be in no output.
+SECRET = 'a-secret'
+
+
+def python_with(*modules: str) -> str:
+    """An interpreter that has all these modules: the one that runs the tests, or the system's. Skips the test where there is none."""
+    for python in (sys.executable, '/usr/bin/python3'):
+        if os.path.exists(python) and subprocess.run([python, '-c', f'import {", ".join(modules)}'], capture_output=True).returncode == 0:
+            return python
+    raise unittest.SkipTest(f'there is no {" or no ".join(modules)} for Python')
+
+
+def program(*names: str) -> str:
+    """The path of a server's program. Skips the test where it is not installed."""
+    places = os.pathsep.join([os.environ['PATH'], '/usr/sbin', *map(str, Path('/usr/lib/postgresql').glob('*/bin'))])
+    for name in names:
+        found = shutil.which(name, path=places)
+        if found is not None:
+            return found
+    raise unittest.SkipTest(f'{names[0]} is not installed')
+
+
+def free_port() -> int:
+    """A port of the loopback that nobody has."""
+    with socket.socket() as probe:
+        probe.bind(('127.0.0.1', 0))
+        port: int = probe.getsockname()[1]
+        return port
+
+
+class StoreCase(ScanCase):
+    """A test with a folder of its own, servers of its own, and libraries that fill stores."""
+
+    def fill(self, python: str, name: str, *words: str) -> None:
+        """Fills a store by a library."""
+        done = subprocess.run([python, str(FILL), name, *words], cwd=self.folder, capture_output=True, text=True, timeout=120)
+        self.assertEqual((done.returncode, done.stderr[-2000:] if done.returncode else ''), (0, ''))
+
+    def told(self, *words: str, python: str = sys.executable, **variables: str) -> List[str]:
+        """The lines of `scan --brief` that ask for a closer look. No traceback, and no password, is in what it writes."""
+        run = subprocess.run([python, '-m', 'picklestep', 'scan', '--brief', '--allow', 'numpy', *words], cwd=self.folder, capture_output=True,
+                             text=True, errors='surrogateescape', timeout=150, env={**environment(), **variables})
+        self.assertNotIn('Traceback', run.stderr)
+        self.assertNotIn(SECRET, run.stdout + run.stderr)
+        lines = run.stdout.splitlines()
+        found = [line for line in lines if line.startswith('! ') and ': import ' in line or ': cannot be read' in line or self.is_note(line)]
+        self.assertEqual(run.returncode, 1 if found else 0, run.stdout[-2000:] + run.stderr[-2000:])
+        return found
+
+    @staticmethod
+    def is_note(line: str) -> bool:
+        """Whether a line with a place says that something was not looked at."""
+        return line.startswith('! ') and ': ' in line and ', in ' not in line and _DONE.search(line) is None
+
+    # --- Servers ---
+
+    def start(self, words: List[str], user: Optional[str] = None) -> 'subprocess.Popen[bytes]':
+        """Starts a server, which is stopped after the test. As root it runs as another user, since some refuse to be root."""
+        more: Dict[str, Any] = {'user': user, 'group': pwd.getpwnam(user).pw_gid} if user is not None else {}
+        log = open(self.folder / 'server.log', 'ab')
+        self.addCleanup(log.close)
+        process = subprocess.Popen(words, cwd=self.home, stdin=subprocess.DEVNULL, stdout=log, stderr=log, **more)
+
+        def stop() -> None:
+            process.terminate()
+            try:
+                process.wait(20)
+            except subprocess.TimeoutExpired:
+                process.kill()
+                process.wait()
+        self.addCleanup(stop)
+        return process
+
+    def setUp(self) -> None:
+        super().setUp()
+        held = tempfile.TemporaryDirectory()
+        self.addCleanup(held.cleanup)
+        self.home = Path(held.name)
+
+    def user_for(self, name: str) -> Optional[str]:
+        """The user that a server runs as, who owns the server's folder: another one where the tests run as root."""
+        if os.getuid():
+            return None
+        try:
+            user = pwd.getpwnam(name)
+        except KeyError:
+            raise unittest.SkipTest(f'there is no user {name}') from None
+        os.chown(self.home, user.pw_uid, user.pw_gid)
+        return name
+
+    def wait_for_port(self, port: int) -> None:
+        """Waits until a server answers, twenty seconds at most."""
+        end = time.monotonic() + 20
+        while True:
+            try:
+                socket.create_connection(('127.0.0.1', port), 1).close()
+                return
+            except OSError:
+                self.assertLess(time.monotonic(), end, (self.folder / 'server.log').read_text(errors='replace')[-1000:])
+                time.sleep(0.05)
+
+    def redis(self) -> int:
+        """The port of a Redis server, whose password is SECRET."""
+        port = free_port()
+        self.start([program('redis-server'), '--port', str(port), '--bind', '127.0.0.1', '--dir', str(self.home), '--save', '',
+                    '--requirepass', SECRET])
+        self.wait_for_port(port)
+        return port
+
+    def memcached(self) -> int:
+        """The port of a memcached server."""
+        port = free_port()
+        words = [program('memcached'), '-p', str(port), '-l', '127.0.0.1', '-U', '0', '-m', '400', '-I', '8m']
+        self.start([*words, *([] if os.getuid() else ['-u', 'nobody'])])
+        self.wait_for_port(port)
+        return port
+
+    def postgresql(self) -> int:
+        """The port of a PostgreSQL server with a user `tester`, whose password is SECRET."""
+        port, user = free_port(), self.user_for('postgres')
+        given = self.home / 'given'
+        given.write_text(SECRET)
+        given.chmod(0o644)
+        more: Dict[str, Any] = {'user': user, 'group': pwd.getpwnam(user).pw_gid} if user is not None else {}
+        subprocess.run([program('initdb'), '-D', str(self.home / 'data'), '-U', 'tester', '--auth=scram-sha-256', f'--pwfile={given}', '--no-sync'],
+                       cwd=self.home, check=True, capture_output=True, **more)
+        self.start([program('postgres'), '-D', str(self.home / 'data'), '-p', str(port), '-h', '127.0.0.1', '-k', str(self.home), '-F'], user)
+        self.wait_for_port(port)
+        return port
+
+    def mysql(self) -> int:
+        """The port of a MariaDB server, whose root comes by the socket `s` without a password."""
+        port, user = free_port(), self.user_for('mysql')
+        more: Dict[str, Any] = {'user': user, 'group': pwd.getpwnam(user).pw_gid} if user is not None else {}
+        subprocess.run([program('mariadb-install-db'), '--no-defaults', f'--datadir={self.home}/data', '--auth-root-authentication-method=normal',
+                        '--skip-test-db'], cwd=self.home, check=True, capture_output=True, **more)
+        self.start([program('mariadbd'), '--no-defaults', f'--datadir={self.home}/data', f'--port={port}', '--bind-address=127.0.0.1',
+                    f'--socket={self.home}/s', '--max-allowed-packet=64M'], user)
+        self.wait_for_port(port)
+        return port

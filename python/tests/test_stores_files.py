@@ -1,0 +1,279 @@
+"""Stores that are files, written by the libraries that people use: each hostile value is found, with its place."""
+
+from __future__ import annotations
+
+import base64
+import json
+import os
+import pickle
+import shutil
+import sqlite3
+import struct
+import subprocess
+import unittest
+import zlib
+from pathlib import Path
+from typing import List
+
+from picklestep.scan import Options, Result, from_json
+from scan_support import HARMLESS, HOSTILE, MODELS, ScanCase, environment, names_of, notes_of, places_of
+from stores_support import StoreCase, python_with
+
+EVERYWHERE = Options(everywhere=True)
+
+
+def places(lines: List[str]) -> List[str]:
+    """Where hostile imports were found, without the name of the file."""
+    return sorted(line.partition(': import posix.system once')[0].partition(' > ')[2] for line in lines if ': import posix.system once' in line)
+
+
+class Libraries(StoreCase):
+    """Filled by real libraries."""
+
+    def test_diskcache(self) -> None:
+        self.fill(python_with('diskcache'), 'diskcache', 'cache')
+        self.assertEqual(places(self.told('cache')), ['Cache.value row 301'])
+
+    def test_apscheduler(self) -> None:
+        self.fill(python_with('apscheduler', 'sqlalchemy'), 'apscheduler', str(self.folder / 'jobs.db'))
+        self.assertIn('apscheduler_jobs.job_state row 21', places(self.told('jobs.db')))
+
+    def test_django(self) -> None:
+        python = python_with('django')
+        self.fill(python, 'django', str(self.folder))
+        self.assertEqual(places(self.told('files')), ['(value) > (zlib)'])
+        found = places(self.told('django.db'))
+        self.assertEqual([place.split(' row ')[0] for place in found], ['cache_table.value', 'django_session.session_data'])
+        self.assertTrue(all(' > (base64 at ' in place for place in found), found)
+
+    def test_requests_cache(self) -> None:
+        self.fill(python_with('requests_cache'), 'requests_cache', str(self.folder / 'responses.sqlite'))
+        self.assertEqual(places(self.told('responses.sqlite')), ['responses.value row 31'])
+
+    def test_shelves(self) -> None:
+        self.fill(python_with('dbm.gnu', 'dbm.ndbm'), 'shelves', str(self.folder))
+        for name in ('gnu', 'ndbm.db', 'dumb.dat'):
+            with self.subTest(name):
+                self.assertEqual(places(self.told(name)), ['evil', 'large evil'])
+
+    def test_streams(self) -> None:
+        self.fill(python_with('logging'), 'streams', str(self.folder))
+        self.assertTrue(places(self.told('socket_handler'))[0].startswith('(record 101 at '))
+        self.assertTrue(places(self.told('connection'))[0].startswith('(record 2 at '))
+
+    def test_hdf5(self) -> None:
+        python = python_with('h5py')
+        self.fill(python, 'hdf5', str(self.folder / 'a.h5'))
+        self.assertEqual(places(self.told('a.h5', python=python)), ['/bytes', '/group @evil', '/opaque', '/rows > [7]', '/texts > [1] > (base64 at 0)'])
+        code = "import sys; sys.modules['h5py'] = None; from picklestep.scan import look; print(look('a.h5').notes)"
+        run = subprocess.run([python, '-c', code], cwd=self.folder, env=environment(), capture_output=True, text=True, timeout=60)
+        self.assertEqual(run.stdout, "(Note(where=(), text='hdf5: not opened, since h5py is not installed', missed=True),)\n", run.stderr)
+
+    def test_joblib_memory(self) -> None:
+        python = python_with('joblib')
+        code = "import joblib\nimport fill_stores\n@joblib.Memory('memory', verbose=0).cache\ndef f(x): return [fill_stores.Hostile()]\nf(1)"
+        self.file('made.py', code.encode())
+        subprocess.run([python, 'made.py'], cwd=self.folder, check=True, capture_output=True,
+                       env={**environment(), 'PYTHONPATH': os.path.dirname(__file__)})
+        found = [line for line in self.told('memory') if 'import posix.system once' in line]
+        self.assertEqual(len(found), 1)
+        self.assertIn('output.pkl', found[0])
+
+    def test_many_rows(self) -> None:
+        """As Huey has its queue."""
+        python = python_with('sqlite3')
+        self.fill(python, 'sqlite_rows', 'queue.db', '100000')
+        self.assertEqual(places(self.told('queue.db')), ['task.data row 66668'])
+
+
+class SqliteFiles(ScanCase):
+    """SQLite files that are not as a library leaves them."""
+
+    def made(self, name: str = 'a.db', rows: int = 400) -> str:
+        path = str(self.folder / name)
+        connection = sqlite3.connect(path)
+        connection.execute('CREATE TABLE t (id INTEGER PRIMARY KEY, value BLOB)')
+        connection.executemany('INSERT INTO t (value) VALUES (?)', ((HOSTILE if number == 50 else HARMLESS * 20,) for number in range(rows)))
+        connection.commit()
+        connection.close()
+        return path
+
+    def test_damaged(self) -> None:
+        path = self.made()
+        with open(path, 'r+b') as file:
+            file.seek(os.path.getsize(path) * 3 // 4)
+            file.write(b'\xff' * 9000)
+        content = Path(path).read_bytes()
+        result = self.look('b.db', content)
+        self.assertIn('posix.system', names_of(result))
+        self.assertIn('! : sqlite: ', notes_of(result))
+        for cut in (100, 5000, len(content) // 2):
+            result = self.look('c.db', content[:cut])
+            self.assertIsNone(result.error)
+            self.assertIn('! : sqlite: ', notes_of(result))
+
+    def test_write_ahead_log(self) -> None:
+        path = self.made()
+        connection = sqlite3.connect(path)
+        connection.execute('PRAGMA journal_mode=WAL')
+        connection.execute('INSERT INTO t (value) VALUES (?)', (HOSTILE,))
+        connection.commit()
+        for name in ('a.db', 'a.db-wal'):
+            shutil.copy(self.folder / name, self.folder / f'copied{name[4:]}' if name != 'a.db' else self.folder / 'copied')
+        connection.close()
+        before = sorted(os.listdir(self.folder))
+        run = self.scan('--json', 'copied')
+        self.assertEqual(sorted(os.listdir(self.folder)), before)
+        result = from_json(json.loads(run.stdout))
+        found = [pickle.where for pickle in result.pickles if any(each.name == 'posix.system' for each in pickle.imports)]
+        self.assertEqual(found, [('t.value row 51',), ('t.value row 401',)])
+
+    def test_in_an_archive_and_without_numbers_of_rows(self) -> None:
+        path = str(self.folder / 'b.db')
+        connection = sqlite3.connect(path)
+        connection.execute('CREATE TABLE "a ""t" (key TEXT PRIMARY KEY, value BLOB) WITHOUT ROWID')
+        connection.execute('INSERT INTO "a ""t" VALUES (?, ?)', ('k', HOSTILE))
+        connection.execute('CREATE TABLE c (rowid TEXT, v TEXT, w AS (length(v)))')
+        connection.execute('INSERT INTO c (rowid, v) VALUES (?, ?)', ('x', base64.b64encode(HOSTILE).decode()))
+        connection.execute('CREATE VIEW v AS SELECT v FROM c')
+        connection.commit()
+        connection.close()
+        shutil.make_archive(str(self.folder / 'packed'), 'zip', self.folder, 'b.db')
+        for name, first in (('b.db', ''), ('packed.zip', 'b.db > ')):
+            result = self.look(name, (self.folder / name).read_bytes())
+            self.assertEqual(places_of(result), [f'{first}a "t.value row 1', f'{first}c.v row 1 > (base64 at 0)'])
+            self.assertFalse(any(note.missed for note in result.notes), notes_of(result))
+
+    def test_large_values(self) -> None:
+        path = str(self.folder / 'a.db')
+        connection = sqlite3.connect(path)
+        connection.execute('CREATE TABLE t (value BLOB)')
+        connection.execute('INSERT INTO t VALUES (zeroblob(100000000))')
+        connection.execute('INSERT INTO t VALUES (?)', (b'\x80\x04B' + struct.pack('<I', 20 << 20) + b'x' * (20 << 20) + HOSTILE,))
+        connection.commit()
+        connection.close()
+        found = self.scan('--brief', '--allow', 'numpy', 'a.db').stdout
+        self.assertIn('t.value row 2', found)
+
+
+class Bytes(ScanCase):
+    """Bytes made one by one: encodings, lengths, and files that lie."""
+
+    def look_in_value(self, value: bytes, options: Options = Options()) -> Result:
+        """What is found in a value of a table."""
+        path = self.folder / 'value.db'
+        path.unlink(missing_ok=True)
+        connection = sqlite3.connect(path)
+        connection.execute('CREATE TABLE t (v BLOB)')
+        connection.execute('INSERT INTO t VALUES (?)', (value,))
+        connection.commit()
+        connection.close()
+        return self.look('copy.db', path.read_bytes(), options)
+
+    def test_encodings(self) -> None:
+        encoded = base64.b64encode(HOSTILE)
+        gz = subprocess.run(['gzip', '-nc'], input=HOSTILE, capture_output=True, check=True).stdout
+        cases = {
+            'plain': HOSTILE, 'zlib': zlib.compress(HOSTILE), 'gzip': gz, 'base64': encoded, 'urlsafe': base64.urlsafe_b64encode(HOSTILE).rstrip(b'='),
+            'lines': base64.encodebytes(HOSTILE * 3), 'hexadecimal': HOSTILE.hex().encode(), 'packed in text': base64.b64encode(zlib.compress(HOSTILE)),
+            'JSON': json.dumps({'n': 1, 'body': encoded.decode()}).encode(), 'JSON with escapes': b'{"b": "%b"}' % encoded.replace(b'/', b'\\/'),
+            'twice': base64.b64encode(encoded), 'checksum': base64.b64encode(b'0' * 40 + b':' + HOSTILE), 'sign': b'!' + HOSTILE,
+            'signed': base64.urlsafe_b64encode(HOSTILE).rstrip(b'=') + b':1sIgNa:TuRe_of_it', 'packed and signed': b'.' + base64.urlsafe_b64encode(
+                zlib.compress(HOSTILE)).rstrip(b'=') + b':1sIgNa:TuRe_of_it',
+        }
+        for width, order in ((4, 'big'), (4, 'little'), (8, 'big'), (8, 'little')):
+            one = len(HOSTILE).to_bytes(width, order) + HOSTILE  # type: ignore[arg-type]
+            other = len(HARMLESS).to_bytes(width, order) + HARMLESS  # type: ignore[arg-type]
+            cases[f'length of {width} {order}'] = one
+            cases[f'lengths of {width} {order}'] = other * 20 + one + other
+        for name, value in cases.items():
+            with self.subTest(name):
+                self.assertIn('posix.system', names_of(self.look_in_value(value)))
+
+    def test_depth_is_limited(self) -> None:
+        value = HOSTILE
+        for _ in range(6):
+            value = zlib.compress(value)
+        result = self.look_in_value(value)
+        self.assertEqual(names_of(result), [])
+        self.assertIn('containers are opened to a depth of 4', notes_of(result))
+
+    def test_everywhere(self) -> None:
+        noise = os.urandom(3000)
+        # (as the oldest and the newest protocols, INST, OBJ, and without PROTO)
+        class Evil:
+            def __reduce__(self) -> object:
+                return os.system, ('id',)
+        cases = [HOSTILE, b"(S'id'\nios\nsystem\n.", b"(cos\nsystem\nS'id'\no.", b'\x8c\x02os\x8c\x06system\x93\x8c\x02id\x85R.',
+                 *(pickle.dumps(Evil(), protocol) for protocol in range(6))]
+        for name, around in (('noise', noise), ('text', b'Some text, and more of it.\n' * 50), ('zeros', bytes(3000))):
+            for case in cases:
+                with self.subTest(name, case=case):
+                    result = self.look('a.bin', around + case + around, EVERYWHERE)
+                    self.assertIn(f'(at {len(around)})', places_of(result))
+                    self.assertTrue({'posix.system', 'os.system'} & set(names_of(result)))
+        self.assertEqual(self.look('b.bin', b'x ' + HOSTILE).pickles, ())
+
+    def test_everywhere_finds_nothing_in_text_and_models(self) -> None:
+        for path in (MODELS.parent.parent / 'test_scan.py', MODELS / 'numpy_objects.npy'):
+            before = self.look('a', path.read_bytes())
+            after = self.look('a', path.read_bytes(), EVERYWHERE)
+            self.assertEqual(places_of(before), places_of(after))
+
+    def test_everywhere_is_linear(self) -> None:
+        """Files that are made to be slow are read to an end, or told."""
+        for name, content in (('marks', b'(' * 300_000), ('names', b'cos\nsystem\n' * 30_000), ('protos', b'\x80\x04' * 150_000),
+                              ('words', b'cat\nice\nRabbit\n' * 30_000), ('texts', b'\x8c\x02os\x93' * 40_000)):
+            with self.subTest(name):
+                result = self.look('a.bin', b' ' + content, EVERYWHERE)
+                self.assertIsNone(result.error)
+
+    def test_records_that_are_cut(self) -> None:
+        record = len(HARMLESS).to_bytes(4, 'big') + HARMLESS
+        result = self.look('a.bin', record * 3 + (900).to_bytes(4, 'big') + HOSTILE)
+        self.assertIn('is cut short', notes_of(result))
+        self.assertIn('posix.system', names_of(result))
+
+    def test_no_pickle_hides_another(self) -> None:
+        """A value that takes in what comes after it, where several are asked about at once."""
+        path = self.folder / 'a.db'
+        connection = sqlite3.connect(path)
+        connection.execute('CREATE TABLE t (v BLOB)')
+        swallow = [b'B\x40\x00\x00\x00.', b'N\x80\x04\x95\x50\x00\x00\x00\x00\x00\x00\x00.', b'(.', b'N0.', b'K.', b"cos\n.", b'\x80\x04\x95\x10\0\0\0\0\0\0\0N.']
+        rows = [value for each in swallow for value in (HARMLESS, each, HOSTILE, HARMLESS)]
+        connection.executemany('INSERT INTO t VALUES (?)', ((row,) for row in rows))
+        connection.commit()
+        connection.close()
+        result = self.look('b.db', path.read_bytes())
+        found = [place for place, pickle in zip(places_of(result), result.pickles) if any(each.name == 'posix.system' for each in pickle.imports)]
+        self.assertEqual(found, [f't.v row {number}' for number, row in enumerate(rows, 1) if row == HOSTILE])
+        alone = self.look('c.pkl', HOSTILE).pickles[0]
+        for pickle in result.pickles:
+            if pickle.size == len(HOSTILE) and 'posix.system' in {each.name for each in pickle.imports}:
+                self.assertEqual((pickle.imports, pickle.calls, pickle.end), (alone.imports, alone.calls, alone.end))
+
+    def test_damaged_dbm(self) -> None:
+        python = python_with('dbm.gnu', 'dbm.ndbm')
+        subprocess.run([python, os.path.join(os.path.dirname(__file__), 'fill_stores.py'), 'shelves', str(self.folder)], check=True)
+        for name in ('gnu', 'ndbm.db'):
+            content = bytearray((self.folder / name).read_bytes())
+            for begin in (16, 5000, 20_000, len(content) // 2):
+                broken = content[:]
+                broken[begin:begin + 900] = b'\xff' * 900
+                with self.subTest(name, begin=begin):
+                    result = self.look('a.db', bytes(broken))
+                    self.assertIsNone(result.error)
+                    self.assertIn('posix.system', names_of(result))
+
+    def test_what_is_not_opened_is_told(self) -> None:
+        lmdb = bytes(16) + b'\xde\xc0\xef\xbe' + bytes(100)
+        for begin, kind in ((b'REDIS0011\xfa', 'dump of Redis'), (lmdb, 'LMDB'), (b'PGDMP\x01', 'pg_dump'), (b'\x37\x7f\x06\x82' + bytes(40), 'SQLite'),
+                            (bytes(12) + b'\x62\x31\x05\0' + bytes(500), 'Berkeley DB of another kind')):
+            with self.subTest(kind):
+                result = self.look('a.bin', begin)
+                self.assertIn(kind, notes_of(result))
+                self.assertTrue(result.notes[0].missed)
+
+
+if __name__ == '__main__':
+    unittest.main()
