@@ -27,6 +27,8 @@ ROOT = Path(__file__).resolve().parent.parent
 SOURCES = ROOT / 'python'
 RELEASED = ROOT / 'dist' / 'linux-x86_64' / 'picklestep'
 MOST_SECONDS = 600
+# All tests of the package together, on a machine that has much else to do.
+MOST_SECONDS_OF_TESTS = 3600
 WHEEL = 'python: the wheel is built and installed'
 TYPES = 'python: mypy --strict'
 NO_BUILDER = 'there is no setuptools, wheel and pip'
@@ -113,12 +115,12 @@ def from_sources(program: str) -> Dict[str, str]:
     return {'PYTHONPATH': str(SOURCES), 'PICKLESTEP_PROGRAM': program, 'PYTHONDONTWRITEBYTECODE': '1'}
 
 
-def call(words: List[str], folder: Path, **environment: str) -> str:
+def call(words: List[str], folder: Path, seconds: int = MOST_SECONDS, **environment: str) -> str:
     """Runs a command, and says what was wrong with it."""
     with open(folder / 'log', 'ab') as log:
         try:
             status = subprocess.run(words, cwd=folder, env={**own_environment(), **environment}, stdin=subprocess.DEVNULL, stdout=log, stderr=log,
-                                    timeout=MOST_SECONDS, check=False).returncode
+                                    timeout=seconds, check=False).returncode
         except (OSError, subprocess.TimeoutExpired) as error:
             return str(error).replace('\n', ' ')
     return '' if status == 0 else f'status {status}: ' + ' | '.join((folder / 'log').read_text(errors='replace').splitlines()[-5:])
@@ -181,7 +183,7 @@ class Package:
         environment = {'PYTHONDONTWRITEBYTECODE': '1'} if interpreter else from_sources(self.program)
         lines = self.folder / 'lines'
         words = [interpreter or sys.executable, str(Path(__file__).resolve()), '--run', str(lines), *names]
-        why = call(words, self.folder, **environment)
+        why = call(words, self.folder, MOST_SECONDS_OF_TESTS, **environment)
         told = lines.read_text(encoding='utf-8').splitlines() if lines.exists() else []
         for line in told:
             name, note, fault = line.split('\t', 2)

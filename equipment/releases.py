@@ -456,7 +456,7 @@ def completions(releases: Releases) -> str:
         (["list", "--"], ["--help", "--many"]),
         (["calls", "--m"], ["--many"]),
         (["debug", "--"], ["--help", "--many", "--save", "--window"]),
-        (["scan", "--sa"], ["--sarif"]),
+        (["scan", "--sar"], ["--sarif"]),
         (["one.pickle", "--j"], ["--jobs", "--json"]),
         (["scan", "--allow", "torch"], ["torch", "torch-modules"]),
         (["debug", "one.pickle", "--w"], ["--window"]),

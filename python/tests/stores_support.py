@@ -55,13 +55,13 @@ class StoreCase(ScanCase):
 
     def fill(self, python: str, name: str, *words: str) -> None:
         """Fills a store by a library."""
-        done = subprocess.run([python, str(FILL), name, *words], cwd=self.folder, capture_output=True, text=True, timeout=120)
+        done = subprocess.run([python, str(FILL), name, *words], cwd=self.folder, capture_output=True, text=True, timeout=600)
         self.assertEqual((done.returncode, done.stderr[-2000:] if done.returncode else ''), (0, ''))
 
     def told(self, *words: str, python: str = sys.executable, **variables: str) -> List[str]:
         """The lines of `scan --brief` that ask for a closer look. No traceback, and no password, is in what it writes."""
         run = subprocess.run([python, '-m', 'picklestep', 'scan', '--brief', '--allow', 'numpy', *words], cwd=self.folder, capture_output=True,
-                             text=True, errors='surrogateescape', timeout=150, env={**environment(), **variables})
+                             text=True, errors='surrogateescape', timeout=600, env={**environment(), **variables})
         self.assertNotIn('Traceback', run.stderr)
         self.assertNotIn(SECRET, run.stdout + run.stderr)
         lines = run.stdout.splitlines()
@@ -86,7 +86,7 @@ class StoreCase(ScanCase):
         def stop() -> None:
             process.terminate()
             try:
-                process.wait(20)
+                process.wait(60)
             except subprocess.TimeoutExpired:
                 process.kill()
                 process.wait()
@@ -111,8 +111,8 @@ class StoreCase(ScanCase):
         return name
 
     def wait_for_port(self, port: int) -> None:
-        """Waits until a server answers, twenty seconds at most."""
-        end = time.monotonic() + 20
+        """Waits until a server answers, two minutes at most."""
+        end = time.monotonic() + 120
         while True:
             try:
                 socket.create_connection(('127.0.0.1', port), 1).close()

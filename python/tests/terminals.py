@@ -33,7 +33,7 @@ class Terminal:
         os.close(slave)
         self.read = ''
 
-    def until(self, *endings: str, seconds: float = 30) -> str:
+    def until(self, *endings: str, seconds: float = 200) -> str:
         """What is shown up to one of these endings, or to the end of the program."""
         deadline = time.monotonic() + seconds
         while True:
@@ -64,7 +64,7 @@ class Terminal:
         """Ends the program where it runs, and answers its status."""
         os.close(self.master)
         try:
-            return self.process.wait(10)
+            return self.process.wait(60)
         except subprocess.TimeoutExpired:
             self.process.kill()
             return self.process.wait()

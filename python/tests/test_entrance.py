@@ -37,7 +37,7 @@ class EntranceCase(ScanCase):
 
     def start(self, words: List[str]) -> 'subprocess.CompletedProcess[str]':
         settings = {**environment(), 'PYTHONDONTWRITEBYTECODE': '1'}
-        return subprocess.run(words, cwd=self.folder, env=settings, stdin=subprocess.DEVNULL, capture_output=True, text=True, timeout=120)
+        return subprocess.run(words, cwd=self.folder, env=settings, stdin=subprocess.DEVNULL, capture_output=True, text=True, timeout=600)
 
 
 class Words(EntranceCase):
@@ -152,7 +152,7 @@ class HostileFolders(EntranceCase):
             settings = {**os.environ, 'PYTHONPATH': path, 'PYTHONDONTWRITEBYTECODE': '1'}
             for way, entrance in ways().items():
                 if way in ('clone', '-I -m'):
-                    run = subprocess.run([*entrance, 'model.pkl'], cwd=self.folder, env=settings, capture_output=True, text=True, timeout=60)
+                    run = subprocess.run([*entrance, 'model.pkl'], cwd=self.folder, env=settings, capture_output=True, text=True, timeout=300)
                     self.assertEqual((run.returncode, run.stderr, self.seen()), (0, '', ''), way)
 
 

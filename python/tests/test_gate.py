@@ -77,7 +77,7 @@ class Files(ScanCase):
         # (the owner of the clone may be another than the one who runs the tests)
         git = {'GIT_CONFIG_COUNT': '1', 'GIT_CONFIG_KEY_0': 'safe.directory', 'GIT_CONFIG_VALUE_0': '*'}
         return subprocess.run(['bash', '-e', '-c', '\n'.join(lines)], cwd=self.folder, env={**os.environ, **git, **settings},
-                              capture_output=True, text=True, timeout=120)
+                              capture_output=True, text=True, timeout=600)
 
     def test_workflows(self) -> None:
         section = PAGE.partition('## In CI')[2].partition('\n## ')[0]
@@ -110,7 +110,7 @@ class Files(ScanCase):
         self.file('a.pkl', HARMLESS)
         self.file('b.pkl', HOSTILE)
         for name, status in (('a.pkl', 0), ('b.pkl', 1)):
-            run = subprocess.run([str(ROOT / entry), *words, name], cwd=self.folder, capture_output=True, text=True, timeout=60)
+            run = subprocess.run([str(ROOT / entry), *words, name], cwd=self.folder, capture_output=True, text=True, timeout=300)
             self.assertEqual(run.returncode, status, run.stderr)
 
     def test_image(self) -> None:

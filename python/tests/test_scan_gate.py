@@ -61,7 +61,7 @@ class Evasions(ScanCase):
         missing = {loader for loader, module in NEEDS.items() if not has(module)}
         chosen = [(each, path) for each, path in self.tries if each.loader not in missing | {'none'}]
         lines = '\0'.join(f'{path}\1{LOADERS[each.loader]}' for each, path in chosen)
-        subprocess.run([DEBIAN, '-c', BEGIN], input=lines, text=True, capture_output=True, timeout=300, check=False)
+        subprocess.run([DEBIAN, '-c', BEGIN], input=lines, text=True, capture_output=True, timeout=900, check=False)
         for each, path in chosen:
             with self.subTest(each.name):
                 mark = path.parent / 'mark'
@@ -98,7 +98,7 @@ class Whole(ScanCase):
     def test_a_thousand_arrays(self) -> None:
         begin = time.process_time()
         self.assertFalse(is_told(self.look('model.joblib', self.content(1000))))
-        self.assertLess(time.process_time() - begin, 3)
+        self.assertLess(time.process_time() - begin, 10)
 
 
 class LimitsOfAFile(ScanCase):

@@ -33,7 +33,7 @@ CHANGES = int(os.environ.get('CHANGES', '3000'))
 
 def made(folder: Path) -> Tuple[List[Path], str]:
     """Honest files, and which writers are not here."""
-    run = subprocess.run([DEBIAN, str(MAKER), str(folder)], capture_output=True, text=True, timeout=300, check=False)
+    run = subprocess.run([DEBIAN, str(MAKER), str(folder)], capture_output=True, text=True, timeout=900, check=False)
     return sorted(path for path in folder.rglob('*') if path.is_file() and not path.is_symlink()), run.stdout + run.stderr
 
 

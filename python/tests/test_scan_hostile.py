@@ -282,12 +282,12 @@ class Bombs(ScanCase):
             self.assertTrue(self.look('a.pkl', many).pickles[0].end.is_stopped)
 
     def test_an_answer_that_takes_long(self) -> None:
-        program = self.file('program', b"#!/bin/sh\necho '    0: import '\"'os' 'x'\"' as #0'\nexec sleep 30\n")
+        program = self.file('program', b"#!/bin/sh\necho '    0: import '\"'os' 'x'\"' as #0'\nexec sleep 300\n")
         program.chmod(0o755)
         begin = time.monotonic()
         with mock.patch.dict(os.environ, PICKLESTEP_PROGRAM=str(program)):
             result = self.look('a.pkl', b'N.', Options(Limits(seconds=0.5)))
-        self.assertLess(time.monotonic() - begin, 10)
+        self.assertLess(time.monotonic() - begin, 100)
         self.assertIn('! : the program took more than 0.5 seconds: the rest of it is not looked at', notes_of(result))
         self.assertEqual(names_of(result), ['os.x'])  # (what it said before is reported)
 

@@ -52,7 +52,7 @@ class RealFiles(ScanCase):
         python = sys.executable if library == 'plain' else python_with(library)
         if python is None:
             self.skipTest(f'{library} is not installed')
-        subprocess.run([python, str(WRITER), str(self.folder), library], check=True, timeout=300, cwd=tempfile.gettempdir())
+        subprocess.run([python, str(WRITER), str(self.folder), library], check=True, timeout=900, cwd=tempfile.gettempdir())
         judge = Judge(read_names(NEEDED[library]))
         files = sorted(self.folder.iterdir())
         for file in files:

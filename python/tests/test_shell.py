@@ -268,10 +268,10 @@ class Words(unittest.TestCase):
             for lines, status, errors in (('# a comment\n\nset 2 to 4\nsave\nquit\nbogus\n', 0, ''),
                                           ('step\nbogus\nstep\n', 1, f"picklestep: {script}, line 2: there is no word 'bogus'; `help` shows them\n")):
                 script.write_text(lines)
-                done = subprocess.run(words, env=path, capture_output=True, text=True, timeout=60, check=False)
+                done = subprocess.run(words, env=path, capture_output=True, text=True, timeout=300, check=False)
                 self.assertEqual((done.returncode, done.stderr), (status, errors))
             self.assertEqual(pickled.read_bytes(), SAMPLE.replace(b'K\x03', b'K\x04'))
-            done = subprocess.run([*words[:-1], os.path.join(folder, 'none')], env=path, capture_output=True, text=True, timeout=60, check=False)
+            done = subprocess.run([*words[:-1], os.path.join(folder, 'none')], env=path, capture_output=True, text=True, timeout=300, check=False)
             self.assertEqual(done.returncode, 2)
 
 

@@ -57,7 +57,7 @@ class Examples(ScanCase):
         for command, wanted in found:
             with self.subTest(command):
                 run = subprocess.run(['bash', '-c', command], cwd=self.folder, env={**environment(), 'PATH': path}, stdout=subprocess.PIPE,
-                                     stderr=subprocess.STDOUT, text=True, timeout=120)
+                                     stderr=subprocess.STDOUT, text=True, timeout=600)
                 self.assertEqual(run.stdout, re.sub('(?m)^    ', '', wanted))
 
 

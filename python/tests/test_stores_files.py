@@ -66,7 +66,7 @@ class Libraries(StoreCase):
         self.fill(python, 'hdf5', str(self.folder / 'a.h5'))
         self.assertEqual(places(self.told('a.h5', python=python)), ['/bytes', '/group @evil', '/opaque', '/rows > [7]', '/texts > [1] > (base64 at 0)'])
         code = "import sys; sys.modules['h5py'] = None; from picklestep.scan import look; print(look('a.h5').notes)"
-        run = subprocess.run([python, '-c', code], cwd=self.folder, env=environment(), capture_output=True, text=True, timeout=60)
+        run = subprocess.run([python, '-c', code], cwd=self.folder, env=environment(), capture_output=True, text=True, timeout=300)
         self.assertEqual(run.stdout, "(Note(where=(), text='hdf5: not opened, since h5py is not installed', missed=True),)\n", run.stderr)
 
     def test_joblib_memory(self) -> None:

@@ -99,7 +99,7 @@ class RedisServers(StoreCase):
                                        stdout=subprocess.DEVNULL, stderr=subprocess.DEVNULL)
             self.addCleanup(process.wait)
             self.addCleanup(process.kill)
-            end = time.monotonic() + 30
+            end = time.monotonic() + 120
             while not (file.exists() and file.stat().st_size):
                 self.assertLess(time.monotonic(), end)
                 time.sleep(0.1)
@@ -111,7 +111,7 @@ class RedisServers(StoreCase):
         port = self.redis()
         words = [python, '-m', 'picklestep', 'scan', '--follow', f'redis://127.0.0.1:{port}/0']
         env = {**environment(), 'REDISCLI_AUTH': SECRET}
-        run = subprocess.run(words, env=env, capture_output=True, text=True, timeout=30)
+        run = subprocess.run(words, env=env, capture_output=True, text=True, timeout=300)
         self.assertEqual(run.returncode, 2)
         self.assertIn('notify-keyspace-events', run.stderr)
 
@@ -121,7 +121,12 @@ class RedisServers(StoreCase):
         following = subprocess.Popen(words, env=env, stdout=subprocess.PIPE, stderr=subprocess.PIPE, text=True,
                                      preexec_fn=lambda: signal.signal(signal.SIGINT, signal.default_int_handler) and None)
         assert following.stdout is not None
-        tell('[time.sleep(0.1) for _ in range(100) if not c.pubsub_numpat()]')
+        # (Where an event is lost it would wait for ever.)
+        ended = threading.Timer(300, following.kill)
+        ended.start()
+        self.addCleanup(ended.cancel)
+        self.addCleanup(following.kill)
+        tell('[time.sleep(0.1) for _ in range(1000) if not c.pubsub_numpat()]')
         tell(f'c.rpush("jobs", b"N.", {HOSTILE!r}); c.rpush("jobs", b"I01\\n.")')
         result = from_json(json.loads(following.stdout.readline()))
         self.assertEqual((result.path, set(places_of(result))), (f'redis://127.0.0.1:{port}/0', {'jobs'}))
@@ -131,7 +136,7 @@ class RedisServers(StoreCase):
         while places_of(result) != ['other']:
             result = from_json(json.loads(following.stdout.readline()))
         following.send_signal(signal.SIGINT)
-        self.assertIn('posix.system: 2 times', following.communicate(timeout=30)[1])
+        self.assertIn('posix.system: 2 times', following.communicate(timeout=300)[1])
         self.assertEqual(following.returncode, 130)
 
     def test_a_server_that_goes_away(self) -> None:
