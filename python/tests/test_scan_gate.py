@@ -5,6 +5,7 @@ from __future__ import annotations
 import gzip
 import os
 import subprocess
+import sys
 import time
 import unittest
 
@@ -13,8 +14,8 @@ from picklestep.scan import Limits, Options, Result, look
 from picklestep.scan.allow import SETS, read_names
 from scan_support import HARMLESS, HOSTILE, ScanCase, names_of, notes_of
 
-# What loads a try: Debian's Python, which has the libraries of Debian.
-DEBIAN = '/usr/bin/python3'
+# What loads a try: Debian's Python, which has the libraries of Debian; elsewhere that of the tests.
+DEBIAN = '/usr/bin/python3' if os.path.exists('/usr/bin/python3') else sys.executable
 BEGIN = '''import bz2, gzip, io, lzma, os, pickle, sys, tarfile, warnings, zipfile
 warnings.simplefilter("ignore")
 def tried(load):

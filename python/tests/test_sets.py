@@ -56,8 +56,7 @@ class RealFiles(ScanCase):
         judge = Judge(read_names(NEEDED[library]))
         files = sorted(self.folder.iterdir())
         for file in files:
-            # (whether joblib's arrays are read is the matter of other tests)
-            looks = [each.lines for each in judge.looks(look(str(file))) if library != 'joblib' or each.name]
+            looks = [each.lines for each in judge.looks(look(str(file)))]
             self.assertEqual(looks, [], f'{library}: {file.name}')
         self.assertGreaterEqual(len(files), 10)
         return len(files)
