@@ -17,7 +17,8 @@ import zlib
 from pathlib import Path
 from typing import Any, Callable, Dict, List, Sequence, Tuple, Type
 
-from picklestep.scan import look
+from picklestep.scan import Judge, look
+from picklestep.scan.allow import SETS, read_names
 from picklestep.scan.blobs import BytesBlob
 from picklestep.scan.canonical import NotCanonical, npy, streams, tars, zips
 from picklestep.scan.canonical.layouts import layout_of
@@ -27,6 +28,8 @@ from scan_support import ScanCase, notes_of
 from test_scan_gate import DEBIAN, is_told
 
 MAKER = Path(__file__).resolve().parent / 'honest.py'
+# These hold code, so no set that comes with the package allows them.
+CODE = ('functions/', 'torch/script.pt')
 # Changes in a run of the tests. The whole is 20,000: CHANGES=20000 python3 test_scan_honest.py
 CHANGES = int(os.environ.get('CHANGES', '3000'))
 
@@ -42,10 +45,14 @@ class Honest(ScanCase):
 
     def test_none_is_told(self) -> None:
         files, missing = made(self.folder)
+        sets = Judge(read_names(SETS))
         for path in files:
-            with self.subTest(path.relative_to(self.folder)):
+            name = str(path.relative_to(self.folder))
+            with self.subTest(name):
                 result = look(str(path))
                 self.assertFalse(is_told(result), notes_of(result))
+                if not name.startswith(CODE):
+                    self.assertEqual(list(sets.looks(result)), [])
         if missing:
             self.skipTest(f'{len(files)} files, and some writers are not here: {missing.strip()}')
         self.assertGreaterEqual(len(files), 300)
