@@ -33,7 +33,8 @@ NEEDS = {'torch': 'torch', 'joblib': 'joblib', 'numpy': 'numpy', 'numpy twice': 
 
 def has(module: str) -> bool:
     """Whether Debian's Python has a module."""
-    return subprocess.run([DEBIAN, '-c', f'import {module}'], capture_output=True, check=False).returncode == 0
+    code = f'import {module}; {module}.__file__.strip()'  # (a folder of this name alone has no file)
+    return subprocess.run([DEBIAN, '-c', code], capture_output=True, check=False).returncode == 0
 
 
 def is_told(result: Result) -> bool:

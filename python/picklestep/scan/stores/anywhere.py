@@ -173,7 +173,8 @@ def _may_end_text(window: bytes, at: int) -> bool:
             return False
         if window[end - length - 1] == length and window[end - length - 2] in b'\x8cU':
             return True
-        if window[end - length - 1] == 0 and window[end - length - 5:end - length] in (b'X' + bytes([length, 0, 0, 0]), b'T' + bytes([length, 0, 0, 0])):
+        begin = window[end - length - 5:end - length]
+        if begin[:1] in (b'X', b'T') and begin[1:] == bytes([length, 0, 0, 0]):
             return True
     return False
 

@@ -80,7 +80,8 @@ def _together(contents: Sequence[bytes], budget: Budget, keep_lines: bool) -> Li
         except PicklestepError:
             return []
     told = text.decode('ascii', 'replace')
-    return list(_taken_apart(told, [len(content) for content in contents], f"import 'picklestep' '{name}' as #", len(marker), budget, keep_lines))
+    sizes = [len(content) for content in contents]
+    return list(_taken_apart(told, sizes, f"import 'picklestep' '{name}' as #", len(marker), budget, keep_lines))
 
 
 def _taken_apart(told: str, sizes: Sequence[int], marker: str, width: int, budget: Budget, keep_lines: bool) -> Iterator[Summary]:

@@ -100,9 +100,11 @@ def look_at_gnu(looker: 'Looker', blob: Blob, where: Place, depth: int) -> None:
 def _gnu_pairs(blob: Blob, kind: _Gnu) -> Iterator[_Pair]:
     header = kind.header
     _, directory, size, _, bucket_size, entries = header.unpack(blob.read(4, header.size))
-    if not (0 < directory < blob.size and 0 < size <= blob.size and 0 < entries * kind.entry.size + kind.bucket <= max(bucket_size, 0) <= blob.size):
+    least = entries * kind.entry.size + kind.bucket
+    if not (0 < directory < blob.size and 0 < size <= blob.size and 0 < least <= max(bucket_size, 0) <= blob.size):
         raise _Damaged('gdbm: its header does not fit the file')
-    offsets = struct.unpack(f'{kind.order}{size // kind.width}{"q" if kind.width == 8 else "i"}', blob.read(directory, size // kind.width * kind.width))
+    count = size // kind.width
+    offsets = struct.unpack(f'{kind.order}{count}{"q" if kind.width == 8 else "i"}', blob.read(directory, count * kind.width))
     for bucket in sorted(set(offsets)):
         found = blob.read(bucket + kind.bucket, entries * kind.entry.size) if 0 < bucket < blob.size else b''
         if len(found) < entries * kind.entry.size:

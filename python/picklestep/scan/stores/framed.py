@@ -78,6 +78,8 @@ def _has_pickle(framing: Framing, blob: Blob) -> bool:
         begin = blob.read(start, min(length, 2))
         if length > 2 and begin[0] == 0x80 and begin[1] <= 5 and blob.read(start + length - 1, 1) == b'.':
             return True
-        if length > 2 and kind_of(blob.read(start, min(length, 8))) in _PACKED or 1 < length < 65_536 and stops_at_end(blob.read(start, length)):
+        if length > 2 and kind_of(blob.read(start, min(length, 8))) in _PACKED:
+            return True
+        if 1 < length < 65_536 and stops_at_end(blob.read(start, length)):
             return True
     return False

@@ -67,7 +67,8 @@ class MysqlServer(SqlServer):
         return f'SELECT {", ".join(words)} FROM {_place_of(table)}', []
 
     def part_query(self, table: Table, column: Column) -> str:
-        return f'SELECT SUBSTRING(CAST({_quoted(column.name)} AS BINARY), %s, %s) FROM {_place_of(table)} WHERE {_quoted(table.keys[0])} = %s'
+        value = f'CAST({_quoted(column.name)} AS BINARY)'
+        return f'SELECT SUBSTRING({value}, %s, %s) FROM {_place_of(table)} WHERE {_quoted(table.keys[0])} = %s'
 
     def cursor(self) -> Any:
         return self.connection.cursor(library('pymysql.cursors').SSCursor)

@@ -1,4 +1,7 @@
-"""Redis: strings, hashes, lists, sets, sorted sets and streams, through redis-py. The keys come from SCAN, so the server goes on meanwhile."""
+"""Redis: strings, hashes, lists, sets, sorted sets and streams, through redis-py.
+
+The keys come from SCAN, so the server goes on meanwhile.
+"""
 
 from __future__ import annotations
 
@@ -37,7 +40,8 @@ class RedisServer(Server):
         super().__init__(address)
         self.redis = library('redis')
         words = {} if address.password else {'password': os.environ.get('REDISCLI_AUTH') or None}
-        self.client = self.redis.Redis.from_url(address.plain, socket_connect_timeout=_CONNECT_SECONDS, socket_timeout=_ANSWER_SECONDS, **words)
+        self.client = self.redis.Redis.from_url(address.plain, socket_connect_timeout=_CONNECT_SECONDS, socket_timeout=_ANSWER_SECONDS,
+                                                **words)
         # (redis-py makes a dictionary of each entry of a stream, and loses fields that come twice)
         self.client.response_callbacks.pop('XRANGE', None)
         self.client.response_callbacks.pop('XREVRANGE', None)

@@ -87,7 +87,8 @@ def _path(blob: Blob) -> Optional[str]:
 
 
 def _connected(path: str, how: str) -> sqlite3.Connection:
-    connection = sqlite3.connect(f'file:{urllib.parse.quote(os.fsencode(path))}?{how}', uri=True, timeout=_BUSY_SECONDS, isolation_level=None)
+    name = f'file:{urllib.parse.quote(os.fsencode(path))}?{how}'
+    connection = sqlite3.connect(name, uri=True, timeout=_BUSY_SECONDS, isolation_level=None)
     connection.text_factory = bytes
     for pragma in ('trusted_schema=OFF', 'query_only=ON', 'cell_size_check=ON', 'mmap_size=0', 'cache_size=-8000'):
         connection.execute(f'PRAGMA {pragma}')

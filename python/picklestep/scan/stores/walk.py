@@ -117,6 +117,22 @@ class Walk:
         return not self.lacks and (self.is_called or self.goes_on or self.stops and self.opcodes > 3)
 
 
+def _depth_after(code: int, depth: int, marks: List[int]) -> int:
+    """How much is on the stack after an opcode; -1 where it takes more than is there. `marks` has how much was below each MARK."""
+    if code == _MARK:
+        marks.append(depth)
+        return depth
+    if code == _POP and marks and marks[-1] == depth:
+        marks.pop()
+        return depth
+    needs, takes_mark, leaves = _NEEDS[code]
+    if takes_mark:
+        if not marks:
+            return -1
+        depth = marks.pop()
+    return depth + leaves - needs if depth - needs >= (marks[-1] if marks else 0) else -1
+
+
 def walk(content: bytes, at: int, until: Optional[int] = None, most: int = MOST, dead: Optional[Set[int]] = None) -> Walk:
     """Goes over opcodes from a place on, and counts what they put on the stack, as far as some loader could go on (or up to `until`, or
     `most` opcodes). From the offsets in `dead` no way leads to a call or a STOP, with what an earlier walk had on the stack; those of
@@ -138,21 +154,10 @@ def walk(content: bytes, at: int, until: Optional[int] = None, most: int = MOST,
             step = _variable(content, at, step)
         if step <= 0 or at + step > size:
             break
-        needs, takes_mark, leaves = _NEEDS[code]
-        if code == _MARK:
-            marks.append(depth)
-        elif code == _POP and marks and marks[-1] == depth:
-            marks.pop()
-        else:
-            if takes_mark:
-                if not marks:
-                    found.lacks = True
-                    break
-                depth = marks.pop()
-            if depth - needs < (marks[-1] if marks else 0):
-                found.lacks = True
-                break
-            depth += leaves - needs
+        depth = _depth_after(code, depth, marks)
+        if depth < 0:
+            found.lacks = True
+            break
         if _WHAT[code] & 1 and (code == _STACK_GLOBAL or _MODULE.match(content, at + 1)):
             found.imports = True
         if _WHAT[code] & 2:
