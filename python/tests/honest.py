@@ -223,7 +223,7 @@ def main() -> None:
     for maker in MAKERS:
         try:
             maker()
-        except ImportError as error:
+        except (ImportError, AttributeError) as error:  # (or only a part of a library is there)
             print(f'{maker.__name__}: {error}')
 
 
