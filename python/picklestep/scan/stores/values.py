@@ -49,7 +49,7 @@ def key_name(key: bytes) -> str:
     """A key as a part of a place. Of a long one the first signs are shown, and its length.
 
     >>> key_name(b'user:1'), key_name(b'\\xff'), key_name(b'k' * 1000)[-15:]
-    ('user:1', '\\\\xff', 'k.. (1000 bytes)'[-15:])
+    ('user:1', '\\\\xff', '.. (1000 bytes)')
     """
     text = key[:4 * _MOST_OF_KEY].decode('utf-8', 'backslashreplace')
     return text if len(key) <= _MOST_OF_KEY else f'{text[:_MOST_OF_KEY]}.. ({len(key)} bytes)'
