@@ -3,10 +3,10 @@
 from __future__ import annotations
 
 import json
-import os
 import signal
 import socket
 import subprocess
+import sys
 import threading
 import time
 import unittest
@@ -209,9 +209,11 @@ class OtherServers(StoreCase):
         self.assertIn('Access denied', found[0])
 
     def test_a_library_that_is_not_there(self) -> None:
-        blocked = self.file('blocked/redis/__init__.py', b'raise ImportError')
-        found = self.told('redis://127.0.0.1:1/0', PYTHONPATH=os.pathsep.join([str(blocked.parent.parent), environment()['PYTHONPATH']]))
-        self.assertIn('redis is not installed', found[0])
+        code = ("import sys; sys.modules['redis'] = None; from picklestep.scan.command import main; "
+                "sys.exit(main(['redis://127.0.0.1:1/0']))")
+        run = subprocess.run([sys.executable, '-c', code], env=environment(), capture_output=True, text=True, timeout=300)
+        self.assertEqual((run.returncode, run.stderr), (1, ''))
+        self.assertIn('redis is not installed', run.stdout.splitlines()[0])
 
 
 if __name__ == '__main__':
