@@ -372,7 +372,7 @@ class TheCommand(ScanCase):
 
 def load_tests(loader: unittest.TestLoader, tests: unittest.TestSuite, pattern: str) -> unittest.TestSuite:
     """The examples in the modules count too."""
-    for module in pkgutil.iter_modules(picklestep.scan.__path__, 'picklestep.scan.'):
+    for module in pkgutil.walk_packages(picklestep.scan.__path__, 'picklestep.scan.'):
         tests.addTests(doctest.DocTestSuite(importlib.import_module(module.name)))
     return tests
 
