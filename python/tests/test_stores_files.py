@@ -3,6 +3,7 @@
 from __future__ import annotations
 
 import base64
+import gzip
 import json
 import os
 import pickle
@@ -10,12 +11,13 @@ import shutil
 import sqlite3
 import struct
 import subprocess
+import time
 import unittest
 import zlib
 from pathlib import Path
 from typing import List
 
-from picklestep.scan import Options, Result, from_json
+from picklestep.scan import Limits, Options, Result, from_json, look
 from scan_support import HARMLESS, HOSTILE, MODELS, ScanCase, environment, names_of, notes_of, places_of
 from stores_support import StoreCase, python_with
 
@@ -253,6 +255,28 @@ class Bytes(ScanCase):
         for each in result.pickles:
             if ' > '.join(each.where) in found:
                 self.assertEqual((each.imports, each.calls, each.end), (alone.imports, alone.calls, alone.end))
+
+    def test_limits_are_those_of_the_file(self) -> None:
+        path = self.folder / 'a.db'
+        connection = sqlite3.connect(path)
+        connection.execute('CREATE TABLE t (id INTEGER PRIMARY KEY, v BLOB)')
+        long = gzip.compress(HOSTILE[:-1] + b'(' + b'N' * 1_500_000 + b'l.')
+        connection.executemany('INSERT INTO t (v) VALUES (?)', [(long,)] * 100)
+        connection.commit()
+        connection.close()
+        begin = time.process_time()
+        result = look(str(path), Options(Limits(seconds=0.5)))
+        self.assertLess(time.process_time() - begin, 10)
+        self.assertRegex(notes_of(result), '! t.v row [0-9]+.*: it took 0.5 seconds of processor time')
+        self.assertLess(len(result.notes), 5)
+        connection = sqlite3.connect(path)
+        connection.execute('UPDATE t SET v = ?', (HOSTILE,))
+        connection.commit()
+        connection.close()
+        result = look(str(path), Options(Limits(lines=20)))
+        self.assertIn('the answers about the file have more than 20 lines', notes_of(result))
+        self.assertIn('posix.system', names_of(result))
+        self.assertIsNone(result.error)
 
     def test_damaged_dbm(self) -> None:
         python = python_with('dbm.gnu', 'dbm.ndbm')

@@ -18,7 +18,7 @@ from .begins import is_dotted
 from .blobs import Blob, Budget, FileBlob, spooled
 from .results import Call, Import, Pickle, Place
 
-__all__ = ['Summary', 'WAITING', 'asks_program', 'held', 'offset_of_item', 'shown_name', 'why_unread']
+__all__ = ['Enough', 'Summary', 'WAITING', 'asks_program', 'held', 'offset_of_item', 'shown_name', 'why_unread']
 
 # These lines are about an import.
 _IMPORTS = ('import', 'inst')
@@ -52,7 +52,7 @@ WAITING = 5
 _LEGACY_TORCH = b'\x80\x02\x8a\x0al\xfc\x9cF\xf9 j\xa8P\x19.'
 
 
-class _Enough(Exception):
+class Enough(Exception):
     """A limit of the answer is met; the text says which."""
 
 
@@ -104,7 +104,7 @@ class Summary:
         self._count += 1
         self._budget.lines -= 1
         if self._budget.lines < 0:
-            raise _Enough(f'the answers about the file have more than {self._budget.limits.lines:,} lines')
+            raise Enough(f'the answers about the file have more than {self._budget.limits.lines:,} lines')
         offset, text, what, quoted = match.groups()
         name = self._imported.get(_number_of(text), '') if what in _CHANGES else quoted or ''
         has_other_name = quoted is None and what in _WITH_NAME  # one that is no text: a number, or an object of the pickle
@@ -142,7 +142,7 @@ class Summary:
     def _keep(self, text: str) -> None:
         self._kept += len(text)
         if self._kept > _MOST_KEPT:
-            raise _Enough(f'the answer about it has more than {_MOST_KEPT:,} bytes of different lines')
+            raise Enough(f'the answer about it has more than {_MOST_KEPT:,} bytes of different lines')
 
     def pickle(self, where: Place, size: int) -> Pickle:
         """What was found, by names, in the order in which they come first."""
@@ -205,7 +205,7 @@ def asks_program(path: str, size: int, budget: Budget, keep_lines: bool = False,
         process.limit_seconds(budget.seconds)
         with closing(process.blocks(max(0.5, budget.seconds) * WAITING)) as pieces:
             summary.take(pieces)
-    except _Enough as limit:
+    except Enough as limit:
         summary.trouble = f'{limit}: the rest of it is not looked at'
     except OutOfMemory:
         summary.trouble = f'the program had no more memory (it may take {may_take:,} bytes): the rest of it is not looked at'

@@ -17,7 +17,7 @@ from ...errors import PicklestepError
 from ...program import Process
 from ...texts import QUOTED
 from ..blobs import Budget, Limits, spooled
-from ..reading import WAITING, Summary, asks_program, offset_of_item
+from ..reading import WAITING, Enough, Summary, asks_program, offset_of_item
 
 __all__ = ['MOST_BYTES', 'MOST_PICKLES', 'answers']
 
@@ -62,10 +62,10 @@ def _alone(content: bytes, budget: Budget, keep_lines: bool) -> Summary:
 
 def _together(contents: Sequence[bytes], budget: Budget, keep_lines: bool) -> List[Summary]:
     """The answers about the first of them, up to one that has to be asked about alone."""
+    budget.spend()
     name = secrets.token_hex(8)
     marker = b'cpicklestep\n%b\n.' % name.encode()
     copy = spooled([b''.join(content + marker for content in contents)])
-    budget.spend()
     may_take = budget.memory()
     text = bytearray()
     with copy.file:
@@ -120,5 +120,8 @@ def _summary(lines: List[str], budget: Budget, keep_lines: bool) -> Summary:
     if not lines:
         return _NOTHING
     summary = Summary(budget, keep_lines)
-    summary.take(iter([''.join([*lines, '0 imports, 0 calls\n']).encode()]))
+    try:
+        summary.take(iter([''.join([*lines, '0 imports, 0 calls\n']).encode()]))
+    except Enough as limit:
+        summary.trouble = f'{limit}: the rest of it is not looked at'
     return summary

@@ -10,6 +10,7 @@ from dataclasses import dataclass
 from importlib import import_module
 from typing import TYPE_CHECKING, Any, Callable, Dict, Iterator, Optional, Tuple, Type, Union
 
+from ..blobs import LimitMet
 from ..results import Result
 from .address import Address
 from .values import Values
@@ -84,6 +85,8 @@ def looked(address: Address, options: 'Options', work: Callable[[Server, Values]
     except NoServer as failure:
         _servers().pop(address.url, None)
         error = address.cleaned(str(failure))
+    except LimitMet as limit:
+        looker.note(looker.at, str(limit), missed=True)
     except Exception as failure:  # a hostile value must not end the others
         looker.note(looker.at, address.cleaned(f'{type(failure).__name__}: {failure}'), missed=True)
     try:

@@ -11,7 +11,7 @@ from dataclasses import dataclass
 from typing import TYPE_CHECKING, Callable, List, Optional, Set
 
 from ..begins import HEAD, kind_of, may_be_pickle, unread_kind_of
-from ..blobs import Blob, BytesBlob, LimitMet
+from ..blobs import STEPS, Blob, BytesBlob, LimitMet
 from ..packed import METHODS, Unpacking
 from ..reading import Summary
 from ..results import Place
@@ -103,7 +103,7 @@ class Values:
         try:
             self._look(content, where, depth, guessed=False)
         except LimitMet as limit:
-            self.looker.note(self.looker.at, str(limit), missed=True)
+            self._met(limit)
 
     def add_blob(self, blob: Blob, where: Place, depth: int = 0) -> None:
         """Looks at a value that may be large."""
@@ -115,7 +115,7 @@ class Values:
         try:
             self.looker.look_at(blob, where, (), depth)
         except LimitMet as limit:
-            self.looker.note(self.looker.at, str(limit), missed=True)
+            self._met(limit)
         if len(self.looker.pickles) > found:
             self._found.add(self.count)
         self.looker.others = others
@@ -132,15 +132,26 @@ class Values:
             self._outer.lines = min(self._outer.lines, self.looker.budget.lines)
         self.looker.budget = self._outer
         self.looker.at = where
+        self._spend(_STEPS_OF_A_VALUE)
+        self.count += 1
+        self.looker.budget = self._outer.of_value(size)
+
+    def _spend(self, steps: int) -> None:
+        """Raises LimitMet where a limit of the whole is met."""
         try:
             if self._unpacked > _MOST_TIMES * self._size + self._outer.limits.unpacked:
                 raise LimitMet(f'more than {_MOST_TIMES} times the bytes of all values are unpacked: the rest of them is not looked at')
-            self._outer.count(_STEPS_OF_A_VALUE)
+            if self._outer.lines < 0:
+                raise LimitMet(f'the answers about the file have more than {self._outer.limits.lines:,} lines: the rest of it is not looked at')
+            self._outer.count(steps)
         except LimitMet:
             self.flush()
             raise
-        self.count += 1
-        self.looker.budget = self._outer.of_value(size)
+
+    def _met(self, limit: LimitMet) -> None:
+        """Tells that a value met a limit. Raises LimitMet where it is one of the whole."""
+        self._spend(STEPS)
+        self.looker.note(self.looker.at, str(limit), missed=True)
 
     def flush(self) -> None:
         """Asks about what waits. It counts the values that are no pickles, too."""
@@ -328,7 +339,7 @@ class Values:
         try:
             found = told.result() if told is not None else []
         except LimitMet as limit:
-            self.looker.note(asked[0].where, f'{limit} (also {len(asked)} values from this one on)', missed=True)
+            self.looker.note(asked[0].where, f'{limit} (this value, and {len(asked) - 1} behind it)', missed=True)
             return
         for each, answer in zip(asked, found):
             self._keep(each, answer)
