@@ -293,6 +293,28 @@ class Bytes(ScanCase):
                     self.assertIsNone(result.error)
                     self.assertIn('posix.system', names_of(result))
 
+    def look_at_dumb(self, index: bytes, values: bytes) -> Result:
+        """What is found in a file of `dbm.dumb` with this index."""
+        self.file('a.dir', index)
+        return self.look('a.dat', values)
+
+    def test_an_index_that_another_program_wrote(self) -> None:
+        """Python's `dbm.dumb` reads these, too."""
+        values = HARMLESS.ljust(512, b'\0') + HOSTILE
+        for line in ("'evil',(512,%d)", "'ev' 'il' , (512, %d)", "('evil', [0x200, %d])", " 'evil', (512, %d)\t"):
+            with self.subTest(line):
+                index = (line % len(HOSTILE)).encode()
+                for lines in (index + b'\n', b"'a', (0, 10)\r" + index):
+                    self.assertIn('evil', places_of(self.look_at_dumb(lines, values)))
+        result = self.look_at_dumb(b"'evil', (512, -1)\n", values)
+        self.assertIn('! : dbm.dumb: its index cannot be read to its end', notes_of(result))
+
+    def test_an_index_that_is_one_long_text(self) -> None:
+        begin = time.monotonic()
+        result = self.look_at_dumb(b"'a', (0, 10)\n" + b'\\"' * 500_000, HARMLESS)
+        self.assertIn('! : dbm.dumb: its index cannot be read to its end', notes_of(result))
+        self.assertLess(time.monotonic() - begin, 20)
+
     def test_what_is_not_opened_is_told(self) -> None:
         lmdb = bytes(16) + b'\xde\xc0\xef\xbe' + bytes(100)
         for begin, kind in ((b'REDIS0011\xfa', 'dump of Redis'), (lmdb, 'LMDB'), (b'PGDMP\x01', 'pg_dump'), (b'\x37\x7f\x06\x82' + bytes(40), 'SQLite'),

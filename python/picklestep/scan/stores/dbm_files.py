@@ -194,10 +194,15 @@ def _parts(blob: Blob, item: Tuple[int, int], at: int, page: bytes, order: str, 
 
 # --- dumb ---
 
-# A line of the index: a key as Python writes it, and where its value is.
-_INDEX = re.compile(rb"""(b?(?:'(?:[^'\\\n]|\\.)*'|"(?:[^"\\\n]|\\.)*")), \(([0-9]{1,18}), ([0-9]{1,18})\)\r?\n?""")
+# A line of the index as `dbm.dumb` writes it: a key, and where its value is.
+_INDEX = re.compile(rb"""(b?(?:'[^'\\]*(?:\\.[^'\\]*)*'|"[^"\\]*(?:\\.[^"\\]*)*")), \(([0-9]{1,18}), ([0-9]{1,18})\)""")
+# How a line begins that may be one of an index, since `dbm.dumb` takes more than it writes.
+_BEGINS_INDEX = re.compile(rb"""[ \t(\[]*[bBrRuU]{0,2}['"]""")
+_END_OF_LINE = re.compile(rb'\r\n?|\n')
 _BLOCK = 512
 _MOST_OF_INDEX = 256 << 20
+# Lines of other forms are read up to this length: a parser may go as deep as they are long.
+_MOST_OF_OTHER_LINE = 1000
 
 
 def has_index(path: str) -> bool:
@@ -206,31 +211,59 @@ def has_index(path: str) -> bool:
         return False
     with open(path[:-4] + '.dir', 'rb') as index:
         line = index.readline(_MOST_OF_KEY)
-    return not line or _INDEX.fullmatch(line) is not None
+    return not line or _BEGINS_INDEX.match(line) is not None
 
 
 def look_at_dumb(looker: 'Looker', blob: Blob, where: Place, depth: int, path: str) -> None:
     """Looks at all values of a file of `dbm.dumb`, also at those that its index has no more."""
     with open(path[:-4] + '.dir', 'rb') as index:
-        lines = index.read(_MOST_OF_INDEX)
+        lines = index.read(_MOST_OF_INDEX + 1)
     _look(looker, blob, where, depth, _dumb_pairs(blob, lines))
 
 
 def _dumb_pairs(blob: Blob, lines: bytes) -> Iterator[_Pair]:
     taken: List[Tuple[int, int]] = []
-    end = 0
-    for match in _INDEX.finditer(lines):
-        if match.start() != end:
+    is_whole = len(lines) <= _MOST_OF_INDEX
+    for line in _lines(lines):
+        entry = _entry(line)
+        if entry is None:
+            is_whole = False
             break
-        end = match.end()
-        at, length = int(match[2]), int(match[3])
+        key, at, length = entry
         if at + length > blob.size:
             raise _Damaged('dbm.dumb: its index leads out of the file')
         taken.append((at, at + length))
-        yield _text_of(match[1]), [(at, length)]
+        yield key, [(at, length)]
     yield from _left_over(blob, taken)
-    if end < len(lines):
+    if not is_whole:
         raise _Damaged('dbm.dumb: its index cannot be read to its end')
+
+
+def _lines(text: bytes) -> Iterator[bytes]:
+    """The lines as Python splits a text."""
+    at = 0
+    for match in _END_OF_LINE.finditer(text):
+        yield text[at:match.start()]
+        at = match.end()
+    if at < len(text):
+        yield text[at:]
+
+
+def _entry(line: bytes) -> Optional[Tuple[bytes, int, int]]:
+    """The key of a line of the index, and where its value is. None where this cannot be read."""
+    line = line.rstrip()
+    match = _INDEX.fullmatch(line) if len(line) <= 4 * _MOST_OF_KEY else None
+    if match is not None:
+        return _text_of(match[1]), int(match[2]), int(match[3])
+    if len(line) > _MOST_OF_OTHER_LINE:
+        return None
+    try:
+        key, (at, length) = ast.literal_eval(line.decode('latin-1'))
+    except (ValueError, TypeError, SyntaxError, MemoryError, RecursionError):
+        return None
+    if not (isinstance(key, str) and isinstance(at, int) and isinstance(length, int) and at >= 0 and length >= 0):
+        return None
+    return key.encode('latin-1', 'replace'), at, length
 
 
 def _left_over(blob: Blob, taken: List[Tuple[int, int]]) -> Iterator[_Pair]:
