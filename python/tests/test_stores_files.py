@@ -315,6 +315,17 @@ class Bytes(ScanCase):
         self.assertIn('! : dbm.dumb: its index cannot be read to its end', notes_of(result))
         self.assertLess(time.monotonic() - begin, 20)
 
+    def test_several_values_of_a_key(self) -> None:
+        """Berkeley DB keeps them in an item of another kind. dbm.ndbm writes none."""
+        values = b'\x02' + (len(HOSTILE).to_bytes(2, 'little')) + HOSTILE + len(HOSTILE).to_bytes(2, 'little')
+        end = 512 - len(b'\x01k')
+        page = struct.pack('<20xHHBBHH', 2, end - len(values), 0, 13, end, end - len(values)).ljust(end - len(values), b'\0') + values + b'\x01k'
+        head = struct.pack('<12xIIIB', 0x061561, 9, 512, 0).ljust(512, b'\0')
+        result = self.look('a.db', head + page)
+        self.assertIn('! : Berkeley DB: the values of 1 keys are of a kind that is not read', notes_of(result))
+        self.assertEqual(names_of(result), ['posix.system'])
+        self.assertGreaterEqual(result.others, 0)
+
     def test_what_is_not_opened_is_told(self) -> None:
         lmdb = bytes(16) + b'\xde\xc0\xef\xbe' + bytes(100)
         for begin, kind in ((b'REDIS0011\xfa', 'dump of Redis'), (lmdb, 'LMDB'), (b'PGDMP\x01', 'pg_dump'), (b'\x37\x7f\x06\x82' + bytes(40), 'SQLite'),

@@ -144,6 +144,7 @@ def _berkeley_pairs(blob: Blob, order: str) -> Iterator[_Pair]:
     size, encrypted = struct.unpack(f'{order}IB', blob.read(20, 5))
     if encrypted or not 512 <= size <= 65_536:
         raise _Damaged('Berkeley DB: it is encrypted, or its header does not fit')
+    unread = 0
     for at in range(size, blob.size, size):
         page = blob.read(at, size)
         if len(page) < _BERKELEY_PAGE or page[25] not in _HASH_PAGES:
@@ -151,8 +152,12 @@ def _berkeley_pairs(blob: Blob, order: str) -> Iterator[_Pair]:
         items = list(_items(page, order))
         for key, value in zip(items[::2], items[1::2]):
             found = _parts(blob, value, at, page, order, size)
-            if found is not None:
+            if found is None:
+                unread += 1
+            else:
                 yield b''.join(blob.read(*part) for part in (_parts(blob, key, at, page, order, size) or [])[:16])[:_MOST_OF_KEY], found
+    if unread:
+        raise _Damaged(f'Berkeley DB: the values of {unread} keys are of a kind that is not read, such as several of one key')
 
 
 def _items(page: bytes, order: str) -> Iterator[Tuple[int, int]]:

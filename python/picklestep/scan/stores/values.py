@@ -159,6 +159,7 @@ class Values:
         self._settle()
         self._background.shutdown()
         self.looker.budget = self._outer
+        self._found.discard(0)  # (what a search before the first value found)
         self.looker.others += self.count - len(self._found)
         self.count, self._found = 0, set()
 
