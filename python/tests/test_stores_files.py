@@ -147,7 +147,31 @@ class SqliteFiles(ScanCase):
         for name, first in (('b.db', ''), ('packed.zip', 'b.db > ')):
             result = self.look(name, (self.folder / name).read_bytes())
             self.assertEqual(places_of(result), [f'{first}a "t.value row 1', f'{first}c.v row 1 > (base64 at 0)'])
-            self.assertFalse(any(note.missed for note in result.notes), notes_of(result))
+            place = first[:-3]
+            self.assertEqual(notes_of(result).splitlines(), [f'! {place}: sqlite: views are not looked at (1, such as v)',
+                                                             f'! {place}: sqlite: computed columns are not looked at (1, such as c.w)'])
+
+    def test_a_rollback_journal(self) -> None:
+        path = self.made()
+        connection = sqlite3.connect(path, isolation_level=None)
+        connection.execute('PRAGMA cache_size=1')
+        connection.execute('BEGIN')
+        connection.execute('UPDATE t SET value = zeroblob(3000)')
+        for name in ('a.db', 'a.db-journal'):
+            shutil.copy(self.folder / name, self.folder / name.replace('a', 'b', 1))
+        connection.execute('ROLLBACK')
+        connection.close()
+        self.assertIn('the rollback journal beside it is not looked at', notes_of(look(str(self.folder / 'b.db'))))
+        self.assertNotIn('journal', notes_of(look(path)))
+
+    def test_a_schema_with_other_letters(self) -> None:
+        path = self.made()
+        connection = sqlite3.connect(path)
+        connection.execute('PRAGMA writable_schema=ON')
+        connection.execute("UPDATE sqlite_master SET type = 'Table', sql = replace(sql, 'CREATE TABLE', 'create/**/table')")
+        connection.commit()
+        connection.close()
+        self.assertIn('t.value row 51', places_of(look(path)))
 
     def test_large_values(self) -> None:
         path = str(self.folder / 'a.db')

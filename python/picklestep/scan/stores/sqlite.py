@@ -1,7 +1,8 @@
 """SQLite files: each value of each table, read through the standard library.
 
 The file is opened read-only and as one that nobody changes, so nothing is written beside it and nothing waits. What its schema would run
-(views, triggers, computed columns, virtual tables) is not touched. Where a write-ahead log is beside it, both are copied into memory.
+(views, triggers, computed columns, virtual tables) is not touched; views and computed columns are told. Where a write-ahead log is beside it,
+both are copied into memory.
 """
 
 from __future__ import annotations
@@ -16,7 +17,7 @@ from typing import TYPE_CHECKING, Any, Iterator, List, Optional, Tuple
 
 from ..blobs import Blob, FileBlob
 from ..results import Place
-from .values import SMALL, Values
+from .values import SMALL, Values, key_name
 
 if TYPE_CHECKING:
     from ..looking import Looker
@@ -25,10 +26,16 @@ __all__ = ['BEGIN', 'look_at_sqlite']
 
 BEGIN = b'SQLite format 3\0'
 
+# How a rollback journal begins that has not been put back or ended.
+_JOURNAL = b'\xd9\xd5\x05\xf9\x20\xa1\x63\xd7'
+
 # Stands for a value that is larger than SMALL.
 _LARGE = -1
 
 _BUSY_SECONDS = 1.0
+
+# What `table_xinfo` says of computed columns: worked out as they are read, or stored.
+_COMPUTED = (2, 3)
 
 
 def look_at_sqlite(looker: 'Looker', blob: Blob, where: Place, depth: int) -> None:
@@ -37,11 +44,16 @@ def look_at_sqlite(looker: 'Looker', blob: Blob, where: Place, depth: int) -> No
     trouble: List[str] = []
     try:
         with _opened(blob, looker, where) as connection:
+            computed: List[str] = []
             for table in _tables(connection):
                 try:
-                    _Table(connection, table, blob.size).look(values, where, depth)
+                    opened = _Table(connection, table, blob.size)
+                    computed.extend(opened.computed)
+                    opened.look(values, where, depth)
                 except (sqlite3.Error, OverflowError, UnicodeError) as error:
                     trouble.append(f'{table}: {error}')
+            _tell_computed(looker, where, 'views', _names(connection, "rootpage = 0 AND sql LIKE 'create%view%'"))
+            _tell_computed(looker, where, 'computed columns', computed)
     except (sqlite3.Error, UnicodeError) as error:
         trouble.append(str(error))
     for text in trouble:
@@ -51,11 +63,26 @@ def look_at_sqlite(looker: 'Looker', blob: Blob, where: Place, depth: int) -> No
     values.flush()
 
 
+def _tell_computed(looker: 'Looker', where: Place, what: str, names: List[str]) -> None:
+    """Notes what is worked out as it is read."""
+    if names:
+        looker.note(where, f'sqlite: {what} are not looked at ({len(names)}, such as {key_name(names[0].encode())})', missed=True)
+
+
+def _tell_journal(looker: 'Looker', where: Place, path: str) -> None:
+    """Notes a rollback journal that another reader would put back into the file."""
+    with suppress(OSError), open(f'{path}-journal', 'rb') as journal:
+        if journal.read(len(_JOURNAL)) == _JOURNAL:
+            looker.note(where, 'sqlite: the rollback journal beside it is not looked at with it', missed=True)
+
+
 @contextmanager
 def _opened(blob: Blob, looker: 'Looker', where: Place) -> Iterator[sqlite3.Connection]:
     """A connection that reads the file."""
     path = _path(blob)
     log = None if path is None else f'{path}-wal'
+    if path is not None:
+        _tell_journal(looker, where, path)
     if path is not None and not (log is not None and os.path.exists(log) and os.path.getsize(log)):
         with closing(_connected(path, 'mode=ro&immutable=1')) as connection:
             yield connection
@@ -100,8 +127,12 @@ def _quoted(name: str) -> str:
 
 
 def _tables(connection: sqlite3.Connection) -> List[str]:
-    """The names of the tables that are in the file itself."""
-    rows = connection.execute("SELECT name FROM sqlite_master WHERE type = 'table' AND rootpage > 0").fetchall()
+    """The names of the tables that are in the file itself. SQLite knows them by their statements: the column `type` may say anything."""
+    return _names(connection, "rootpage > 0 AND sql NOT LIKE 'create index %' AND sql NOT LIKE 'create unique index %'")
+
+
+def _names(connection: sqlite3.Connection, which: str) -> List[str]:
+    rows = connection.execute(f'SELECT CAST(name AS TEXT) FROM sqlite_master WHERE name IS NOT NULL AND {which}').fetchall()
     return [name.decode('utf-8') for (name,) in rows]
 
 
@@ -114,6 +145,7 @@ class _Table:
         self.size = size
         columns = [(row[1].decode('utf-8'), row[6]) for row in connection.execute(f'PRAGMA table_xinfo({_quoted(name)})')]
         self.columns = [column for column, hidden in columns if not hidden]
+        self.computed = [f'{name}.{column}' for column, hidden in columns if hidden in _COMPUTED]
         taken = {column.lower() for column, _ in columns}
         self.number = next((word for word in ('rowid', '_rowid_', 'oid') if word not in taken and self._has(word)), None)
 
