@@ -12,11 +12,13 @@ import shutil
 import sqlite3
 import struct
 import subprocess
+import sys
 import time
 import unittest
 import zlib
 from pathlib import Path
 from typing import List
+from unittest import mock
 
 from picklestep.scan import Limits, Options, Result, from_json, look
 from scan_support import HARMLESS, HOSTILE, MODELS, ScanCase, environment, names_of, notes_of, places_of
@@ -172,6 +174,18 @@ class SqliteFiles(ScanCase):
         connection.commit()
         connection.close()
         self.assertIn('t.value row 51', places_of(look(path)))
+
+    @unittest.skipIf(sys.version_info < (3, 11), 'Python 3.11 reads values piece by piece')
+    def test_a_large_text_with_zeros(self) -> None:
+        path = self.folder / 'a.db'
+        connection = sqlite3.connect(path)
+        connection.execute('CREATE TABLE t (value TEXT)')
+        connection.execute('INSERT INTO t VALUES (CAST(? AS TEXT))', (bytes(9 << 20) + HOSTILE,))
+        connection.commit()
+        connection.close()
+        with mock.patch('picklestep.scan.stores.sqlite.Values.add') as add:
+            look(str(path))
+        self.assertFalse(add.called)
 
     def test_large_values(self) -> None:
         path = str(self.folder / 'a.db')

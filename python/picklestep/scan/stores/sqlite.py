@@ -173,11 +173,14 @@ class _Table:
                 raise sqlite3.DatabaseError('its rows have more bytes than the file')
 
     def _rows(self) -> Iterator[Tuple[Any, ...]]:
-        """The rows: their number, and the values that are bytes or text. `_LARGE` stands for one that is too large."""
+        """The rows: their number, and the values that are bytes or text. `_LARGE` stands for one that is too large.
+
+        (The length of a text is that up to its first NUL.)
+        """
         def asked(column: str) -> str:
             name = _quoted(column)
             return (f"CASE typeof({name}) WHEN 'blob' THEN CASE WHEN length({name}) > {SMALL} THEN {_LARGE} ELSE {name} END "
-                    f"WHEN 'text' THEN CASE WHEN length({name}) > {SMALL} THEN {_LARGE} ELSE {name} END END")
+                    f"WHEN 'text' THEN CASE WHEN length(CAST({name} AS BLOB)) > {SMALL} THEN {_LARGE} ELSE {name} END END")
         words = ', '.join([self.number or 'NULL', *map(asked, self.columns)])
         return iter(self.connection.execute(f'SELECT {words} FROM {_quoted(self.name)}'))
 
