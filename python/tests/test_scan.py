@@ -328,6 +328,9 @@ class TheCommand(ScanCase):
         run = self.scan('-', '--null', given=b'a.pkl\0b\n.pkl\0')
         self.assertIn('  b\\n.pkl: 25 bytes\n', run.stdout)
         self.assertIn('2 files', run.stdout)
+        run = self.scan('-', given=b'a.pkl\0b\n.pkl\0')
+        self.assertEqual((run.returncode, run.stdout), (2, ''))
+        self.assertRegex(run.stderr, '^picklestep: standard input has a NUL byte[^\n]*: --null is for names that end in one\n$')
 
     def test_no_program(self) -> None:
         self.file('a.pkl', HARMLESS)

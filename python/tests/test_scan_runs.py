@@ -145,6 +145,15 @@ class Runs(RunCase):
         self.assertEqual([json.loads(line)['path'] for line in run.stdout.splitlines()], [f'files/{names[2]}'])
         self.assertEqual(self.scan('files', '--resume', 'no_such_log').returncode, 2)
 
+    def test_a_log_that_is_none(self) -> None:
+        """Its lines count as not there."""
+        self.fill(2)
+        odd = '{"path": [], "size": 1, "modified": 1, "changed": 1, "pickles": [], "notes": [], "others": 0, "error": null, "left": null}'
+        self.file('log', '\n'.join(['[' * 100_000, '{"path": ' * 100_000, '[]', '""', 'null', odd, '']).encode())
+        run = self.scan('files', '--json', '--resume', 'log')
+        self.assertEqual(len(run.stdout.splitlines()), 2)
+        self.assertRegex(run.stderr, r'^2 files, 2 pickles')
+
     def test_going_on_in_the_same_log(self) -> None:
         names = self.fill(30)
         env = self.wrapped('sleep 0.02')

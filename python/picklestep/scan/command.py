@@ -18,7 +18,7 @@ from ..program import find_program
 from .allow import SETS, Used, read_names
 from .blobs import Limits
 from .cluster import NoCluster, look_on_cluster
-from .files import find_files
+from .files import NoNames, find_files
 from .looking import Options
 from .looks import Judge
 from .pool import look_at_all
@@ -101,10 +101,10 @@ def _earlier(log: Optional[str]) -> Dict[str, Result]:
         for line in lines:
             try:
                 result = from_json(json.loads(line))
-            except (ValueError, KeyError, TypeError):
+                if result.error is None and result.left is None:
+                    earlier[result.path] = result
+            except (ValueError, KeyError, TypeError, AttributeError, RecursionError):
                 continue
-            if result.error is None and result.left is None:
-                earlier[result.path] = result
     return earlier
 
 
@@ -256,6 +256,6 @@ def main(words: Optional[List[str]] = None) -> int:
     except OSError as error:
         words_of = f'cannot open {error.filename}: {error.strerror}' if error.filename is not None else str(error)
         print(f'picklestep: {words_of}', file=sys.stderr)
-    except (ProgramError, NoCluster, NoServer, UnicodeDecodeError) as error:
+    except (ProgramError, NoCluster, NoNames, NoServer, UnicodeDecodeError) as error:
         print(f'picklestep: {error}', file=sys.stderr)
     return 2

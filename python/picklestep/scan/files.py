@@ -11,7 +11,11 @@ from typing import BinaryIO, Iterable, Iterator, List
 from .looking import is_url, left_out
 from .results import Note, Result
 
-__all__ = ['Found', 'find_files', 'read_names']
+__all__ = ['Found', 'NoNames', 'find_files', 'read_names']
+
+
+class NoNames(Exception):
+    """What standard input has are no names of files, each up to a newline."""
 
 
 class Found:
@@ -72,8 +76,11 @@ def _urls(url: str) -> List[str]:
 
 
 def read_names(source: BinaryIO, separator: bytes) -> Iterator[str]:
-    """The paths that an input names, each up to a newline or a NUL byte."""
-    return (os.fsdecode(name) for name in source.read().split(separator) if name)
+    """The paths that an input names, each up to a newline or a NUL byte. Raises NoNames where one has a NUL byte in it."""
+    text = source.read()
+    if separator != b'\0' and b'\0' in text:
+        raise NoNames('standard input has a NUL byte, which is in no name: --null is for names that end in one')
+    return (os.fsdecode(name) for name in text.split(separator) if name)
 
 
 def find_files(paths: Iterable[str], separator: bytes = b'\n') -> Found:
