@@ -4,13 +4,15 @@ from __future__ import annotations
 
 from typing import List, Optional, Sequence
 
+from .wording import shown
+
 __all__ = ['NoResult', 'NotAllowed', 'OutOfMemory', 'PicklestepError', 'ProgramError', 'Refused', 'TimedOut', 'TooLarge']
 
 
 def reason(error: Exception) -> str:
     """What is wrong, in the words of the command line: of a file that cannot be read, which and why."""
     if isinstance(error, OSError) and error.filename is not None:
-        return f'cannot read {error.filename}: {error.strerror}'
+        return f'cannot read {shown(str(error.filename))}: {error.strerror}'
     return str(error)
 
 

@@ -93,6 +93,14 @@ class Words(EntranceCase):
         self.file('a.pkl', HARMLESS)
         self.assertEqual(self.start([*entrance, 'a.pkl', '--allow', 'none']).stderr, 'picklestep: cannot open none: No such file or directory\n')
 
+    def test_names_that_a_terminal_obeys(self) -> None:
+        entrance, name = ways()['-m'], 'a\x1b[2J\n.pkl'
+        for words in (['source', name], ['diff', name, name], ['shell', name], ['view', name], ['scan', 'a.pkl', '--allow', name]):
+            with self.subTest(words):
+                run = self.start([*entrance, *words])
+                self.assertEqual(run.returncode, 2)
+                self.assertRegex(run.stderr, r'^picklestep: cannot (read|open) a\\x1b\[2J\\n\.pkl: No such file or directory\n$')
+
     def test_no_program_for_this_machine(self) -> None:
         with tempfile.TemporaryDirectory() as folder:
             code = (f'import os; from picklestep import place, entrance; place._HERE = {folder!r}; os.environ.pop("PICKLESTEP_PROGRAM", 0); '

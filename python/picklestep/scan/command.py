@@ -15,6 +15,7 @@ from typing import Dict, Generator, Iterable, List, Optional, TextIO, Union
 
 from ..errors import ProgramError
 from ..program import find_program
+from ..wording import shown
 from .allow import SETS, Used, read_names
 from .blobs import Limits
 from .cluster import NoCluster, look_on_cluster
@@ -254,7 +255,7 @@ def main(words: Optional[List[str]] = None) -> int:
         os.dup2(os.open(os.devnull, os.O_WRONLY), sys.stdout.fileno())
         return 128 + signal.SIGPIPE
     except OSError as error:
-        words_of = f'cannot open {error.filename}: {error.strerror}' if error.filename is not None else str(error)
+        words_of = f'cannot open {shown(str(error.filename))}: {error.strerror}' if error.filename is not None else str(error)
         print(f'picklestep: {words_of}', file=sys.stderr)
     except (ProgramError, NoCluster, NoNames, NoServer, UnicodeDecodeError) as error:
         print(f'picklestep: {error}', file=sys.stderr)

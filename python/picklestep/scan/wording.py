@@ -2,18 +2,10 @@
 
 from __future__ import annotations
 
+from ..wording import shown
 from .results import Place
 
 __all__ = ['count_of', 'place_of', 'shown', 'times']
-
-
-def shown(text: str) -> str:
-    """A text from outside, on one line and without signs that a terminal obeys.
-
-    >>> shown('a\\nb\\x1b[2J')
-    'a\\\\nb\\\\x1b[2J'
-    """
-    return ''.join(sign if sign.isprintable() else ascii(sign)[1:-1] for sign in text)
 
 
 def place_of(path: str, where: Place) -> str:

@@ -15,6 +15,7 @@ from pathlib import Path
 from typing import IO, Iterator, List, Optional
 
 from ..errors import PicklestepError
+from ..wording import shown
 from .document import Document
 from .export import MOST, write_report
 from .server import IDLE, Viewer
@@ -118,6 +119,6 @@ def main(words: Optional[List[str]] = None) -> int:
     except (OSError, PicklestepError) as error:
         why = str(error)
         if isinstance(error, OSError) and error.filename == options.file:
-            why = f'cannot read {options.file}: {error.strerror}'
+            why = f'cannot read {shown(options.file)}: {error.strerror}'
         print(f'picklestep: {why}', file=sys.stderr)
         return 2
