@@ -192,6 +192,20 @@ class Runs(RunCase):
         self.assertEqual(run.stderr.read(), '')
         run.stderr.close()
 
+    def test_a_reader_that_leaves_and_other_files(self) -> None:
+        """These are written whole."""
+        self.fill(40)
+        self.scan('files', '--sarif', 'whole', '--write-allow', 'whole.txt')
+        run = self.start(['files', '--sarif', 'left', '--write-allow', 'left.txt'], environment())
+        assert run.stdout is not None and run.stderr is not None
+        run.stdout.readline()
+        run.stdout.close()
+        self.assertEqual(run.wait(60), 128 + signal.SIGPIPE)
+        self.assertEqual(run.stderr.read(), '')
+        run.stderr.close()
+        for whole, left in (('whole', 'left'), ('whole.txt', 'left.txt')):
+            self.assertEqual((self.folder / left).read_text(), (self.folder / whole).read_text())
+
     def test_progress_on_a_terminal(self) -> None:
         self.fill(5)
         for python in (python_with('rich'), sys.executable):

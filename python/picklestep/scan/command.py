@@ -155,23 +155,44 @@ class _Output:
         self._words = words
         self._sarif = Sarif()
         self._used = Used()
+        # Whether the reader of standard output has left.
+        self.is_left = False
 
     def add(self, result: Result, is_new: bool = True) -> None:
-        looks = self.report.add(result, is_new)
+        """Writes a result. Where other files are wanted the run goes on though the reader of this output has left."""
+        looks = self.report.count(result)
+        if is_new and not self.is_left:
+            try:
+                self.report.write(result, looks)
+            except BrokenPipeError:
+                if self._words.sarif is None and self._words.write_allow is None:
+                    raise
+                self.is_left = True
+                _leave()
         if self._words.sarif is not None:
             self._sarif.add(result.path, looks)
         if self._words.write_allow is not None:
             self._used.add(result)
 
     def end(self, is_whole: bool) -> None:
-        """Writes the summary, and the other files where the run came to its end."""
-        for line in self.report.summary():
-            print(line, file=self.summary)
-        self.summary.flush()
+        """Writes the other files where the run came to its end, and the summary, whose reader may have left.
+
+        Raises BrokenPipeError where the reader of standard output has.
+        """
         if is_whole and self._words.sarif is not None:
             _write(self._words.sarif, json.dumps(self._sarif.object(), indent=1) + '\n')
         if is_whole and self._words.write_allow is not None:
             _write(self._words.write_allow, ''.join(f'{line}\n' for line in self._used.lines()))
+        if self.is_left:
+            raise BrokenPipeError
+        for line in self.report.summary():
+            print(line, file=self.summary)
+        self.summary.flush()
+
+
+def _leave() -> None:
+    """The reader of standard output has left. What is still held cannot be written, at the end of Python neither."""
+    os.dup2(os.open(os.devnull, os.O_WRONLY), sys.stdout.fileno())
 
 
 def _write(path: str, text: str) -> None:
@@ -251,8 +272,7 @@ def main(words: Optional[List[str]] = None) -> int:
         find_program()
         return _follow(parsed) if parsed.follow else _scan(parsed)
     except BrokenPipeError:
-        # The reader has left. What is still held cannot be written, at the end of Python neither.
-        os.dup2(os.open(os.devnull, os.O_WRONLY), sys.stdout.fileno())
+        _leave()
         return 128 + signal.SIGPIPE
     except OSError as error:
         words_of = f'cannot open {shown(str(error.filename))}: {error.strerror}' if error.filename is not None else str(error)

@@ -33,17 +33,25 @@ class Report:
 
     def add(self, result: Result, is_new: bool = True) -> List[Look]:
         """Counts a result and writes it, and answers what asks for a closer look in it. One that an earlier run wrote is counted alone."""
+        looks = self.count(result)
+        if is_new:
+            self.write(result, looks)
+        return looks
+
+    def count(self, result: Result) -> List[Look]:
+        """Counts a result, and answers what asks for a closer look in it."""
         looks = list(self.judge.looks(result))
         self._count(result, looks)
-        if not is_new:
-            return looks
+        return looks
+
+    def write(self, result: Result, looks: List[Look]) -> None:
+        """Writes a result."""
         if self.as_json:
             self.out.write(json.dumps(self._object(result, looks)) + '\n')
         else:
             for line in self._brief_lines(result, looks) if self.brief else self._lines(result):
                 self.out.write(line + '\n')
         self.out.flush()
-        return looks
 
     def _count(self, result: Result, looks: List[Look]) -> None:
         counts = self.counts
