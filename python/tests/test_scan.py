@@ -332,6 +332,12 @@ class TheCommand(ScanCase):
         self.assertEqual((run.returncode, run.stdout), (2, ''))
         self.assertRegex(run.stderr, '^picklestep: standard input has a NUL byte[^\n]*: --null is for names that end in one\n$')
 
+    def test_paths_between_options(self) -> None:
+        self.file('a.pkl', HARMLESS)
+        self.file('b.pkl', HOSTILE)
+        self.assertIn('2 files', self.scan('a.pkl', '--brief', 'b.pkl').stdout)
+        self.assertEqual(self.scan('--brief').returncode, 2)
+
     def test_no_program(self) -> None:
         self.file('a.pkl', HARMLESS)
         before = os.environ.get('PICKLESTEP_PROGRAM')

@@ -264,7 +264,7 @@ def _scan(words: argparse.Namespace) -> int:
 
 def main(words: Optional[List[str]] = None) -> int:
     """Does what the words say, and answers the status."""
-    parsed = _parser().parse_args(words)
+    parsed = _parser().parse_intermixed_args(words)
     for stream in (sys.stdout, sys.stderr):
         if isinstance(stream, io.TextIOWrapper):  # names of files may hold what the terminal's encoding does not
             stream.reconfigure(errors='backslashreplace')
