@@ -13,11 +13,12 @@ import sqlite3
 import struct
 import subprocess
 import sys
+import tempfile
 import time
 import unittest
 import zlib
 from pathlib import Path
-from typing import List
+from typing import Any, List
 from unittest import mock
 
 from picklestep.scan import Limits, Options, Result, from_json, look
@@ -152,6 +153,23 @@ class SqliteFiles(ScanCase):
             place = first[:-3]
             self.assertEqual(notes_of(result).splitlines(), [f'! {place}: sqlite: views are not looked at (1, such as v)',
                                                              f'! {place}: sqlite: computed columns are not looked at (1, such as c.w)'])
+
+    def test_copies_have_no_names(self) -> None:
+        """They go with the process, whatever ends it."""
+        shutil.make_archive(self.made()[:-3], 'zip', self.folder, 'a.db')
+        folders: List[str] = []
+        seen: List[str] = []
+        made = tempfile.TemporaryDirectory
+
+        def make(**words: Any) -> 'tempfile.TemporaryDirectory[str]':
+            held = made(**words)
+            folders.append(held.name)
+            return held
+        with mock.patch('picklestep.scan.stores.sqlite.tempfile.TemporaryDirectory', make), \
+                mock.patch('picklestep.scan.stores.sqlite.Values.add', side_effect=lambda *_: seen.extend(os.listdir(folders[-1]))) as add:
+            look(str(self.folder / 'a.zip'))
+        self.assertTrue(add.called and folders)
+        self.assertEqual(seen, [])
 
     def test_a_rollback_journal(self) -> None:
         path = self.made()
