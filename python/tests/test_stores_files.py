@@ -144,6 +144,7 @@ class SqliteFiles(ScanCase):
         connection.execute('CREATE TABLE c (rowid TEXT, v TEXT, w AS (length(v)))')
         connection.execute('INSERT INTO c (rowid, v) VALUES (?, ?)', ('x', base64.b64encode(HOSTILE).decode()))
         connection.execute('CREATE VIEW v AS SELECT v FROM c')
+        connection.execute('CREATE TRIGGER review AFTER INSERT ON c BEGIN SELECT 1; END')
         connection.commit()
         connection.close()
         shutil.make_archive(str(self.folder / 'packed'), 'zip', self.folder, 'b.db')

@@ -8,12 +8,13 @@ both are copied into memory.
 from __future__ import annotations
 
 import os
+import re
 import shutil
 import sqlite3
 import tempfile
 import urllib.parse
 from contextlib import closing, contextmanager, suppress
-from typing import TYPE_CHECKING, Any, Iterator, List, Optional, Tuple
+from typing import TYPE_CHECKING, Any, Dict, Iterator, List, Optional, Tuple
 
 from ..blobs import Blob, FileBlob
 from ..results import Place
@@ -28,6 +29,10 @@ BEGIN = b'SQLite format 3\0'
 
 # How a rollback journal begins that has not been put back or ended.
 _JOURNAL = b'\xd9\xd5\x05\xf9\x20\xa1\x63\xd7'
+
+# What a statement of the schema makes, and what of it has no values of its own (those of virtual tables are in others).
+_STATEMENT = re.compile(rb'create(?:\s|/\*(?:[^*]|\*(?!/))*\*/|--[^\n]*\n)+(table|view|trigger|index|unique|virtual)\b', re.IGNORECASE)
+_WITHOUT_VALUES = ('trigger', 'index', 'unique', 'virtual')
 
 # Stands for a value that is larger than SMALL.
 _LARGE = -1
@@ -45,14 +50,16 @@ def look_at_sqlite(looker: 'Looker', blob: Blob, where: Place, depth: int) -> No
     try:
         with _opened(blob, looker, where) as connection:
             computed: List[str] = []
-            for table in _tables(connection):
+            made = _made_by(connection)
+            for table in made.pop('table', []):
                 try:
                     opened = _Table(connection, table, blob.size)
                     computed.extend(opened.computed)
                     opened.look(values, where, depth)
                 except (sqlite3.Error, OverflowError, UnicodeError) as error:
                     trouble.append(f'{table}: {error}')
-            _tell_computed(looker, where, 'views', _names(connection, "rootpage = 0 AND sql LIKE 'create%view%'"))
+            _tell_computed(looker, where, 'views', made.pop('view', []))
+            _tell_computed(looker, where, 'unknown statements', [name for kind in made if kind not in _WITHOUT_VALUES for name in made[kind]])
             _tell_computed(looker, where, 'computed columns', computed)
     except (sqlite3.Error, UnicodeError) as error:
         trouble.append(str(error))
@@ -136,14 +143,15 @@ def _quoted(name: str) -> str:
     return '"' + name.replace('"', '""') + '"'
 
 
-def _tables(connection: sqlite3.Connection) -> List[str]:
-    """The names of the tables that are in the file itself. SQLite knows them by their statements: the column `type` may say anything."""
-    return _names(connection, "rootpage > 0 AND sql NOT LIKE 'create index %' AND sql NOT LIKE 'create unique index %'")
-
-
-def _names(connection: sqlite3.Connection, which: str) -> List[str]:
-    rows = connection.execute(f'SELECT CAST(name AS TEXT) FROM sqlite_master WHERE name IS NOT NULL AND {which}').fetchall()
-    return [name.decode('utf-8') for (name,) in rows]
+def _made_by(connection: sqlite3.Connection) -> Dict[str, List[str]]:
+    """What the schema names, by the kinds that its statements make. SQLite goes by these: the column `type` may say anything."""
+    made: Dict[str, List[str]] = {}
+    rows = connection.execute('SELECT CAST(name AS TEXT), CAST(substr(sql, 1, 1000) AS TEXT) FROM sqlite_master '
+                              'WHERE name IS NOT NULL AND sql IS NOT NULL').fetchall()
+    for name, statement in rows:
+        match = _STATEMENT.match(statement)
+        made.setdefault(match[1].decode().lower() if match is not None else '', []).append(name.decode('utf-8'))
+    return made
 
 
 class _Table:
