@@ -3,9 +3,11 @@
 from __future__ import annotations
 
 import gzip
+import io
 import os
 import subprocess
 import sys
+import tarfile
 import time
 import unittest
 
@@ -101,6 +103,28 @@ class Whole(ScanCase):
         begin = time.process_time()
         self.assertFalse(is_told(self.look('model.joblib', self.content(1000))))
         self.assertLess(time.process_time() - begin, 10)
+
+
+class Tars(ScanCase):
+    """Archives whose numbers are spelled as no writer spells them."""
+
+    def content(self, spelling: bytes) -> bytes:
+        """An archive with a hostile member, whose sum is spelled so."""
+        told = tarfile.TarInfo('model.bin')
+        told.size = len(HOSTILE)
+        header = bytearray(told.tobuf(tarfile.USTAR_FORMAT))
+        header[257:265] = bytes(8)
+        header[148:156] = b' ' * 8
+        header[148:156] = (spelling % sum(header)).ljust(8, b'\0')
+        return bytes(header) + HOSTILE.ljust(512, b'\0') + bytes(1024)
+
+    def test_each_spelling_of_a_sum_is_told(self) -> None:
+        for spelling in (b'0o%05o', b'0O%05o', b'0o_%05o', b'+%06o', b'0_%05o', b'\t%06o', b'\x1c%06o'):
+            with self.subTest(spelling):
+                content = self.content(spelling)
+                with tarfile.open(fileobj=io.BytesIO(content)) as archive:
+                    self.assertEqual(archive.getnames(), ['model.bin'])
+                self.assertTrue(is_told(self.look('a.bin', content)))
 
 
 class LimitsOfAFile(ScanCase):
