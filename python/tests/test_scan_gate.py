@@ -4,17 +4,19 @@ from __future__ import annotations
 
 import gzip
 import io
+import lzma
 import os
 import subprocess
 import sys
 import tarfile
 import time
 import unittest
+import zlib
 
 from evasions import LOADERS, short, tries, wrapper
 from picklestep.scan import Limits, Options, Result, look
 from picklestep.scan.allow import SETS, read_names
-from scan_support import HARMLESS, HOSTILE, ScanCase, names_of, notes_of
+from scan_support import HARMLESS, HOSTILE, Made, ScanCase, names_of, notes_of, zip_of
 
 # What loads a try: Debian's Python, which has the libraries of Debian; elsewhere that of the tests.
 DEBIAN = '/usr/bin/python3' if os.path.exists('/usr/bin/python3') else sys.executable
@@ -125,6 +127,31 @@ class Tars(ScanCase):
                 with tarfile.open(fileobj=io.BytesIO(content)) as archive:
                     self.assertEqual(archive.getnames(), ['model.bin'])
                 self.assertTrue(is_told(self.look('a.bin', content)))
+
+
+class Streams(ScanCase):
+    """Compressed files that do not show at once that they are some."""
+
+    def contents(self) -> 'dict[str, bytes]':
+        packed = zlib.compress(HOSTILE)
+        alone = lzma.compress(HOSTILE, lzma.FORMAT_ALONE)
+        chain = [{'id': lzma.FILTER_LZMA1, 'lc': 0, 'lp': 0, 'pb': 2}]
+        empty = lzma.compress(b'', lzma.FORMAT_ALONE, filters=chain)
+        return {'zlib': packed[:2] + b'\0\0\0\xff\xff' * 4000 + packed[2:], 'large': alone[:1] + (3 << 30).to_bytes(4, 'little') + alone[5:],
+                'empty': empty + alone, 'zeros': bytes(18 * 300) + alone, 'zeros and xz': bytes(36) + lzma.compress(HOSTILE)}
+
+    def test_each_is_told(self) -> None:
+        for name, content in self.contents().items():
+            unpacked = zlib.decompress(content) if name == 'zlib' else lzma.decompress(content)
+            self.assertEqual(unpacked, HOSTILE, name)
+            for packed in (content, zip_of([Made(b'weights.bin', content, 8)])):
+                with self.subTest(name, in_zip=packed is not content):
+                    result = self.look('a.sav', packed)
+                    self.assertTrue(is_told(result) or names_of(result) == ['posix.system'], notes_of(result))
+
+    def test_zeros_and_numbers_are_not(self) -> None:
+        for content in (bytes(18 * 300_000), bytes(70_000) + b'\1\0\0\0' * 20_000):
+            self.assertFalse(is_told(self.look('a.bin', content)))
 
 
 class LimitsOfAFile(ScanCase):

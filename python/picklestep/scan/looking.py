@@ -44,8 +44,8 @@ _NO_PICKLE = ('npy', 'sqlite', 'Django cache')
 _GLANCE = HEAD + zips.TAIL
 # Of a pickle that is too large for the program, this much is looked at.
 _FIRST_BYTES = 64 << 20
-# Kinds of streams in which a first part must unpack before they count as such.
-_BY_TRIAL = ('zlib', 'lzma', 'zfile')
+# Kinds of streams in which a first part must unpack before they count as such. (Those of lzma were tried, with a small dictionary.)
+_BY_TRIAL = ('zlib', 'zfile')
 
 # More bytes than anything has.
 _ENDLESS = 1 << 62
