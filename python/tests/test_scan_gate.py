@@ -149,6 +149,13 @@ class Streams(ScanCase):
                     result = self.look('a.sav', packed)
                     self.assertTrue(is_told(result) or names_of(result) == ['posix.system'], notes_of(result))
 
+    def test_pickles_that_are_cut_off(self) -> None:
+        for begin in (b'', b'N0' * 9000, b'(X\x00\x50\x00\x00' + b'a' * 0x5000 + b'l0'):
+            content = begin + b'cantigravity\nflyX'  # (the last line has no end, and Python's unpickler takes it)
+            for packed in (content, zip_of([Made(b'weights.bin', content, 8)]), gzip.compress(content)):
+                with self.subTest(begin[:4], packed=packed[:2]):
+                    self.assertTrue(is_told(self.look('a.bin', packed)))
+
     def test_zeros_and_numbers_are_not(self) -> None:
         for content in (bytes(18 * 300_000), bytes(70_000) + b'\1\0\0\0' * 20_000):
             self.assertFalse(is_told(self.look('a.bin', content)))
