@@ -101,6 +101,25 @@ class Whole(ScanCase):
             with self.subTest(other):
                 self.assertTrue(is_told(self.look('model.joblib', content.replace(one, other, 1))))
 
+    def test_an_array_that_is_not_made_directly_is_told(self) -> None:
+        content = self.content(1)
+        made = short(b'joblib.numpy_pickle') + short(b'NumpyArrayWrapper') + b'\x93'
+        alias = short(b'joblib') + short(b'numpy_pickle.NumpyArrayWrapper') + b'\x93'
+        maker = short(b'copyreg') + short(b'_reconstructor') + b'\x93'
+        base = short(b'builtins') + short(b'object') + b'\x93N\x87R'
+        hidden = b'B' + (40).to_bytes(4, 'little')
+        for other in (alias + b')\x81', maker + made + base, maker + alias + base, maker + made + b'\x94' + base):
+            with self.subTest(other):
+                replaced = content.replace(made + b')\x81', other).replace(b'ub' + bytes(5), b'ub' + hidden)
+                self.assertTrue(is_told(self.look('model.joblib', replaced)))
+
+    def test_flags_that_do_not_fit_are_told(self) -> None:
+        content = self.content(1)
+        flags = b'J\xff\xff\xff\xffK\0t'
+        self.assertIn(flags, content)
+        result = self.look('model.joblib', content.replace(flags, flags[:-2] + b'?t'))
+        self.assertIn('flags of a numpy.dtype that do not fit its fields', notes_of(result))
+
     def test_a_thousand_arrays(self) -> None:
         begin = time.process_time()
         self.assertFalse(is_told(self.look('model.joblib', self.content(1000))))
