@@ -102,16 +102,17 @@ class Whole(ScanCase):
                 self.assertTrue(is_told(self.look('model.joblib', content.replace(one, other, 1))))
 
     def test_an_array_that_is_not_made_directly_is_told(self) -> None:
-        content = self.content(1)
         made = short(b'joblib.numpy_pickle') + short(b'NumpyArrayWrapper') + b'\x93'
         alias = short(b'joblib') + short(b'numpy_pickle.NumpyArrayWrapper') + b'\x93'
         maker = short(b'copyreg') + short(b'_reconstructor') + b'\x93'
         base = short(b'builtins') + short(b'object') + b'\x93N\x87R'
-        hidden = b'B' + (40).to_bytes(4, 'little')
+        state = wrapper(b'u1', 5).partition(made + b')\x81')[2]
+        # joblib takes the first five bytes for the array, and goes on with the pickle that these five bytes hide.
+        hidden = b'B' + len(HOSTILE).to_bytes(4, 'little') + HOSTILE + b'\x86.'
         for other in (alias + b')\x81', maker + made + base, maker + alias + base, maker + made + b'\x94' + base):
             with self.subTest(other):
-                replaced = content.replace(made + b')\x81', other).replace(b'ub' + bytes(5), b'ub' + hidden)
-                self.assertTrue(is_told(self.look('model.joblib', replaced)))
+                result = self.look('model.joblib', b'\x80\x04' + other + state + hidden)
+                self.assertIn("joblib's class of arrays under another name", notes_of(result))
 
     def test_flags_that_do_not_fit_are_told(self) -> None:
         content = self.content(1)
