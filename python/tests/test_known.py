@@ -156,6 +156,13 @@ class TheList(unittest.TestCase):
         for name in ('__builtin__.eval', 'cPickle.loads', 'commands.getoutput', 'urllib2.urlopen', '__builtin__.reduce', 'itertools.imap'):
             self.assertIsNotNone(known_names().note(name), name)
 
+    def test_modules_under_names_of_their_own(self) -> None:
+        for name in ('enum.bltns.eval', 'numpy._builtins.eval', 'random._os.system', 'collections._sys.modules', 'a._subprocess.Popen',
+                     'a._posix.system', 'a.b._importlib.import_module', 'enum.types.FunctionType'):
+            self.assertIsNotNone(known_names().note(name), name)
+        for name in ('enum.types.DynamicClassAttribute', 'a._system.b', 'torch._utils._rebuild'):
+            self.assertIsNone(known_names().note(name), name)
+
     def test_a_long_name_takes_no_long_time(self) -> None:
         self.assertIsNone(Names(known_names_lines()).note('a.' * 200_000 + 'b'))
 

@@ -28,7 +28,7 @@ from .canonical.forms import WRITERS
 from .canonical.kinds import UNREAD, asked_form, kinds_of, without_ending
 from .canonical.layouts import Layout, alone, another_import, layout_of, of_torch_tar
 from .canonical.pickles import read_pickle
-from .canonical.wide import reach_of
+from .canonical.wide import may_lead_on, reach_of
 from .packed import METHODS, Unpacking
 from .reading import asks_program, held, offset_of_item, why_unread
 from .results import Note, Pickle, Place, Result
@@ -44,8 +44,8 @@ _NO_PICKLE = ('npy', 'sqlite', 'Django cache')
 _GLANCE = HEAD + zips.TAIL
 # Of a pickle that is too large for the program, this much is looked at.
 _FIRST_BYTES = 64 << 20
-# Kinds of streams in which a first part must unpack before they count as such.
-_BY_TRIAL = ('zlib', 'lzma', 'zfile')
+# Kinds of streams in which a first part must unpack before they count as such. (Those of lzma were tried, with a small dictionary.)
+_BY_TRIAL = ('zlib', 'zfile')
 
 # More bytes than anything has.
 _ENDLESS = 1 << 62
@@ -558,8 +558,9 @@ class Looker:
                 break
             begin.append(piece)
         head = b''.join(begin)[:HEAD]
-        size = holder.size if holder.size < HEAD else _ENDLESS  # (of a stream that is not at its end the size is not known)
-        asks = bool(_all_kinds(BytesBlob(head), head) or may_be_pickle(head, size) or holder.closing)
+        is_whole = holder.size < HEAD  # (of a stream that is not at its end the size is not known)
+        asks = bool(_all_kinds(BytesBlob(head), head) or may_lead_on(head, is_whole) or holder.closing)
+        asks = asks or _begins_as_pickle(head, ()) or not is_whole and not head.strip(b'\0')  # (zeros are empty streams of lzma)
         asks = asks or self.options.everywhere or stores.asks(head, holder.size)
         if asks or any(is_pickle_name(name) or asked_form(name) for name in names):
             self._look_at_held(_joined(begin, pieces), where, names, depth, holder)

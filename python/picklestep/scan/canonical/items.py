@@ -19,6 +19,7 @@ Item = Tuple[int, bool]
 _CODE = re.compile(r'([<>|=]?)([biufcSUVmMO])([0-9]*)(\[[0-9]*[A-Za-z]+(?:/[0-9]+)?\])?')
 _SIZES = {'b': (1,), 'i': (1, 2, 4, 8), 'u': (1, 2, 4, 8), 'f': (2, 4, 8, 12, 16), 'c': (8, 16, 24, 32), 'm': (8,), 'M': (8,)}
 _LARGEST = 2 ** 63
+_HAS_OBJECT = 1
 
 
 def item_of_description(description: Any) -> Item:
@@ -76,6 +77,13 @@ def count_of_shape(shape: Any) -> int:
 
 def item_of_pickled(value: Any, depth: int = 0) -> Item:
     """The items that a pickled numpy.dtype describes: a call of numpy.dtype with a code, given the state of dtype.__reduce__."""
+    item = _of_state(value, depth)
+    flags = value.state[7]  # (joblib asks them, and not the fields, whether a pickle follows)
+    require(type(flags) is int and bool(flags & _HAS_OBJECT) == item[1], 'flags of a numpy.dtype that do not fit its fields')
+    return item
+
+
+def _of_state(value: Any, depth: int) -> Item:
     require(depth < 20, 'items of items of items')
     if not isinstance(value, Made) or value.function != Global('numpy', 'dtype') or not isinstance(value.arguments, tuple):
         wrong('items that are no numpy.dtype')

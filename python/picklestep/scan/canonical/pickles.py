@@ -84,9 +84,15 @@ class _Opaque:
 
 _DATA, _FILLED, _MADE, _PERSISTENT = _Opaque(), _Opaque(), _Opaque(), _Opaque()
 
+# joblib reads an array where such an object gets its state, whatever made the object.
+_WRAPPER_NAMES = ('NumpyArrayWrapper', 'NDArrayWrapper', 'ZNDArrayWrapper')
+_WRAPPERS = frozenset(Global(module, name) for module in ('joblib.numpy_pickle', 'joblib.numpy_pickle_compat') for name in _WRAPPER_NAMES)
+# Picklers make one at once: EMPTY_TUPLE and NEWOBJ follow, perhaps behind a key of the memo and the begin of a frame.
+_MADE_AT_ONCE = re.compile(rb'(\x94|q.|r.{4}|p[0-9]{1,10}\n)?(\x95.{8})?\)\x81', re.DOTALL)
+_LONGEST_MAKING = 24
+
 # What these make decides how many bytes follow, so their arguments and states are kept.
-_KEPT = frozenset({Global('numpy', 'dtype'), *(Global(module, name) for module in ('joblib.numpy_pickle', 'joblib.numpy_pickle_compat')
-                                               for name in ('NumpyArrayWrapper', 'NDArrayWrapper', 'ZNDArrayWrapper'))})
+_KEPT = _WRAPPERS | {Global('numpy', 'dtype')}
 
 
 @dataclass
@@ -295,7 +301,9 @@ class Reader:
         place = key - self._first_key
         if not 0 <= place < len(self._memo):
             self.fail(f'nothing is in the memo at {key} (it may be of an earlier pickle)')
-        self._top.append(self._memo[place])
+        value = self._memo[place]
+        self._top.append(value)
+        self._check_wrapper(value)
         self.pickle.counts = self._puts == 'MEMOIZE'
 
     def put(self, key: int, how: str = 'PUT') -> None:
@@ -330,14 +338,25 @@ class Reader:
         except UnicodeDecodeError:
             self.fail('a name that is not UTF-8')
 
+    def _check_wrapper(self, value: Any) -> None:
+        """Where this is one of joblib's classes of arrays, that one is made of it at once, under its own name."""
+        if type(value) is not Global or value.name.rpartition('.')[2] not in _WRAPPER_NAMES:
+            return
+        if value not in _WRAPPERS or not _MADE_AT_ONCE.match(self.blob.read(self.at, _LONGEST_MAKING)):
+            self.fail("joblib's class of arrays under another name, or used for something else than to make one")
+
     def global_(self) -> None:
-        self.push(self.imported(self._name_of_line(), self._name_of_line()))
+        value = self.imported(self._name_of_line(), self._name_of_line())
+        self.push(value)
+        self._check_wrapper(value)
 
     def stack_global(self) -> None:
         name, module = self.pop(), self.pop()
         if not isinstance(name, str) or not isinstance(module, str):
             self.fail('the name of an import is no text')
-        self.push(self.imported(module, name))
+        value = self.imported(module, name)
+        self.push(value)
+        self._check_wrapper(value)
 
     def extension(self, width: int) -> None:
         code = int.from_bytes(self.take(width), 'little')
@@ -365,6 +384,7 @@ class Reader:
     def inst(self) -> None:
         self._of_python_2()
         function = self.imported(self._name_of_line(), self._name_of_line())
+        self._check_wrapper(function)
         self.called(function, tuple(self.marked()))
 
     def obj(self) -> None:

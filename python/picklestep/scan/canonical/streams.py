@@ -9,17 +9,22 @@ from __future__ import annotations
 import lzma
 import re
 import zlib
-from typing import Callable, Dict, Iterator, Optional, Tuple
+from typing import Callable, Dict, Optional
 
+from ..begins import HEAD
 from ..blobs import Blob
-from ..packed import LZMA_MEMORY, METHODS, Decompressor, Unpacking
+from ..packed import LZMA_MEMORY, METHODS, Unpacking
 from .forms import require
 
 __all__ = ['also_unpacks', 'start_of', 'verify_begin', 'verify_end']
 
 _FNAME = 8
 _EMPTY = bytes(18)
-_MOST_ZEROS = 1 << 22
+# A stream is tried up to so many unpacked bytes, with such a dictionary, and behind so many empty ones.
+_FIRST_PART = 1 << 12
+_DICTIONARY = 1 << 20
+_MOST_STREAMS = 4096
+_LZMA_HEADER = 13
 # Names in a gzip header are Latin-1 without control characters.
 _NAME = re.compile(rb'[\x20-\x7e\xa0-\xff]{1,255}\0')
 _BZ2 = re.compile(rb'BZh[1-9](1AY&SY|\x17rE8P\x90)')
@@ -91,12 +96,58 @@ _BEGINS: Dict[str, Callable[[Blob], None]] = {'gzip': _gzip, 'bz2': _bz2, 'xz': 
 
 # --- What other readers would take ---
 
-def _tries(head: bytes) -> Iterator[Tuple[str, Decompressor]]:
-    if len(head) >= 13 and head[0] < 225:
-        # LZMAFile takes whatever liblzma takes, and tarfile tries it on each file. 13 bytes are the header.
-        yield 'lzma', lzma.LZMADecompressor(lzma.FORMAT_ALONE if head[0] == 0x5D else lzma.FORMAT_AUTO, LZMA_MEMORY)
-    if len(head) > 2 and head[0] & 15 == 8 and (head[0] << 8 | head[1]) % 31 == 0:
-        yield 'zlib', METHODS['zlib']()
+def _for_trial(head: bytes) -> bytes:
+    """The beginning of an lzma stream, with a dictionary that fits in memory: a first part reaches no further back."""
+    dictionary = int.from_bytes(head[1:5], 'little')
+    is_plain = head[0] == 0x5D or bin(dictionary).rstrip('0') in ('0b1', '0b11') or dictionary == 2 ** 32 - 1
+    return head[:1] + _DICTIONARY.to_bytes(4, 'little') + head[5:] if is_plain and dictionary > _DICTIONARY else head
+
+
+def _zeros(blob: Blob, at: int) -> int:
+    """How many bytes from here on are zeros."""
+    count = 0
+    for piece in blob.chunks(at):
+        rest = piece.lstrip(b'\0')
+        count += len(piece) - len(rest)
+        if rest:
+            break
+    return count
+
+
+def _is_lzma(blob: Blob) -> bool:
+    """Whether LZMAFile, which takes whatever liblzma takes, gets something out of these bytes. tarfile tries it on each file.
+
+    It goes on over empty streams; 18 zeros are one.
+    """
+    at = 0
+    for _ in range(_MOST_STREAMS):
+        if blob.read(at, len(_EMPTY)) == _EMPTY:
+            at += _zeros(blob, at) // len(_EMPTY) * len(_EMPTY)
+        head = blob.read(at, HEAD)
+        if len(head) < _LZMA_HEADER or not at and head[0] >= 225:
+            return False
+        inner = lzma.LZMADecompressor(lzma.FORMAT_ALONE if head[0] == 0x5D else lzma.FORMAT_AUTO, LZMA_MEMORY)
+        try:
+            made = inner.decompress(_for_trial(head), _FIRST_PART)
+        except (lzma.LZMAError, ValueError, EOFError, MemoryError):
+            return False
+        if made or inner.eof and head[0] == 0x5D:
+            return True
+        if not inner.eof:
+            return len(head) == HEAD
+        at += len(head) - len(inner.unused_data)
+    return True
+
+
+def _is_zlib(head: bytes) -> bool:
+    """Whether a first part unpacks. What gives nothing for so long, and has no fault, begins with empty blocks."""
+    if len(head) < 3 or head[0] & 15 != 8 or (head[0] << 8 | head[1]) % 31:
+        return False
+    inner = METHODS['zlib']()
+    try:
+        return bool(inner.decompress(head, _FIRST_PART)) or inner.eof or len(head) >= HEAD
+    except zlib.error:
+        return False
 
 
 def also_unpacks(blob: Blob, head: bytes, tries: bool = True) -> Optional[str]:
@@ -110,15 +161,6 @@ def also_unpacks(blob: Blob, head: bytes, tries: bool = True) -> Optional[str]:
         return 'xz'
     if not tries:
         return None
-    if head[:18] == _EMPTY:
-        # Zeros are empty streams of lzma, 18 bytes each, over which LZMAFile goes on.
-        zeros = blob.read(0, _MOST_ZEROS)
-        head = zeros[(len(zeros) - len(zeros.lstrip(b'\0'))) // 18 * 18:]
-    for kind, inner in _tries(head):
-        try:
-            made = inner.decompress(head, 1 << 12)
-        except (zlib.error, lzma.LZMAError, OSError, ValueError, EOFError, MemoryError):
-            continue
-        if made or inner.eof and (kind != 'lzma' or head[0] == 0x5D):
-            return kind
-    return None
+    if _is_lzma(blob):
+        return 'lzma'
+    return 'zlib' if _is_zlib(head) else None

@@ -15,9 +15,9 @@ import re
 from dataclasses import dataclass
 from typing import Any, Callable, Dict, List, Optional, Set, Tuple
 
-from ..blobs import CHUNK, STEPS, Blob, Budget
+from ..blobs import CHUNK, STEPS, Blob, Budget, BytesBlob
 
-__all__ = ['Reach', 'imports_of', 'reach_of']
+__all__ = ['Reach', 'imports_of', 'may_lead_on', 'reach_of']
 
 # Opcodes that are gone over. Where there are more, something may be reached.
 _MOST = 2_000_000
@@ -25,6 +25,8 @@ _MOST = 2_000_000
 _LONGEST_LINE = 1 << 16
 _LONGEST_TEXT = 1024
 _ENDLESS = 2 ** 63
+# The longest argument of a fixed length.
+_LONGEST_NUMBER = 8
 
 
 @dataclass(frozen=True)
@@ -445,6 +447,17 @@ def reach_of(blob: Blob, budget: Optional[Budget] = None, extends: bool = True) 
             return found, stops
         framed = machine.framed or way.drops
     return None, stops
+
+
+def may_lead_on(head: bytes, is_whole: bool) -> bool:
+    """Whether some loader gets to an import, to a call or to a STOP in these first bytes or, unless they are all, perhaps behind them."""
+    for way in _WAYS:
+        machine = _Machine(BytesBlob(head), way, None)
+        if machine.run() is not None or machine.stops:
+            return True
+        if not is_whole and (machine.framed or machine.at + _LONGEST_NUMBER >= len(head)):
+            return True
+    return False
 
 
 def imports_of(blob: Blob, keeps: bool, budget: Optional[Budget] = None) -> Set[Tuple[str, str]]:
