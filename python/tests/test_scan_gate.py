@@ -109,10 +109,12 @@ class Whole(ScanCase):
         state = wrapper(b'u1', 5).partition(made + b')\x81')[2]
         # joblib takes the first five bytes for the array, and goes on with the pickle that these five bytes hide.
         hidden = b'B' + len(HOSTILE).to_bytes(4, 'little') + HOSTILE + b'\x86.'
-        for other in (alias + b')\x81', maker + made + base, maker + alias + base, maker + made + b'\x94' + base):
+        copied = short(b'copy') + short(b'copy') + b'\x93' + made + b')\x81\x85R'
+        through_memo = made + b')\x81\x94' + short(b'copy') + short(b'copy') + b'\x93h\0\x85R'
+        for other in (copied, through_memo, alias + b')\x81', maker + made + base, maker + alias + base, maker + made + b'\x94' + base):
             with self.subTest(other):
                 result = self.look('model.joblib', b'\x80\x04' + other + state + hidden)
-                self.assertIn("joblib's class of arrays under another name", notes_of(result))
+                self.assertIn("joblib's class of arrays", notes_of(result))
 
     def test_flags_that_do_not_fit_are_told(self) -> None:
         content = self.content(1)

@@ -38,7 +38,7 @@ def on_build(reader: Reader, target: Made) -> None:
     except NotCanonical as reason:
         reader.fail(reason.reason)
     reader.frame_end = None
-    target.state = None
+    target.state = ()  # (it has one, which is no longer needed)
     if has_objects:
         inner = read_pickle(reader.blob, reader.at, None, reader.budget)
         reader.pickle.inner.append(inner)

@@ -150,6 +150,7 @@ class Reader:
         self._under: List[List[Any]] = []
         self._globals: Dict[Tuple[str, str], Global] = {}
         self._left = _MOST_VALUES
+        self._unfilled = 0
         self._base = 0
         self._window = b''
 
@@ -238,6 +239,8 @@ class Reader:
             self.fail('STOP where the stack has not one item')
         if self.frame_end is not None and self.at != self.frame_end:
             self.fail('STOP within a frame')
+        if self._unfilled:
+            self.fail("an object of joblib's class of arrays that gets no state")
         self.pickle.value = self._top[0]
         self.pickle.end = self.at
         return self.pickle
@@ -339,7 +342,12 @@ class Reader:
             self.fail('a name that is not UTF-8')
 
     def _check_wrapper(self, value: Any) -> None:
-        """Where this is one of joblib's classes of arrays, that one is made of it at once, under its own name."""
+        """Where this is one of joblib's classes of arrays, one is made of it at once, under its own name.
+
+        What was made of it gets its state before anything else.
+        """
+        if type(value) is Made and value.state is None and value.function in _WRAPPERS:
+            self.fail("an object of joblib's class of arrays that is used before it has its state")
         if type(value) is not Global or value.name.rpartition('.')[2] not in _WRAPPER_NAMES:
             return
         if value not in _WRAPPERS or not _MADE_AT_ONCE.match(self.blob.read(self.at, _LONGEST_MAKING)):
@@ -367,6 +375,7 @@ class Reader:
     def called(self, function: Any, arguments: Any) -> None:
         if not isinstance(function, (Global, Made)) and function not in (_MADE, _PERSISTENT):
             self.fail('a call of something that cannot be called')
+        self._unfilled += function in _WRAPPERS
         self.push(Made(function, arguments) if function in _KEPT else _MADE)
 
     def reduce(self) -> None:
@@ -401,6 +410,7 @@ class Reader:
     def build(self) -> None:
         state, target = self.pop(), self.peek()
         if isinstance(target, Made):
+            self._unfilled -= target.state is None and target.function in _WRAPPERS
             target.state = state
             if self.on_build is not None:
                 self.on_build(self, target)
