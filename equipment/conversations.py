@@ -2,8 +2,8 @@
 
 A conversation on the page is a block of lines, indented or not, that begins with `pickle` and the bytes of a pickle in
 hexadecimal. After `pickles` they are of several pickles, and every command has the option --many. Then comes a line of the
-script after `debug> `, then the lines that answer it, and so on. `$ list`, `$ objects` or `$ calls` comes before what that command
-writes. A last line `saved` has the bytes that the pickle is saved as. The block ends at an empty line, or at the end of the page.
+script after `debug> `, then the lines that answer it, and so on. `$ list`, `$ objects` or `$ calls` (with options: `$ calls --first`) comes before what
+that command writes. A last line `saved` has the bytes that the pickle is saved as. The block ends at an empty line, or at the end of the page.
 
 Each script is run with all records and in windows of 1 and 2. The status has to be 1 just where an answer refuses. What is shown of one
 pickle is also tried with --many, where no byte is after its STOP: the answers are the same then.
@@ -25,6 +25,9 @@ WINDOWS: list[list[str]] = [[], ["--window", "1"], ["--window", "2"]]
 # the first line of a block; its first word, and the options that it gives to every command
 START = re.compile(r" *(pickles?)((?: [0-9a-f]+)*)")
 OPTIONS: dict[str, list[str]] = {"pickle": [], "pickles": ["--many"]}
+# the lines with which a command has status 1
+REFUSED = ("refused: ", "fault: ")
+REFUSALS: dict[str, tuple[str, ...]] = {"list": REFUSED, "objects": REFUSED, "calls": (*REFUSED, "kept: ", "unsure: ")}
 
 
 @dataclass
@@ -89,9 +92,10 @@ def differs(words: list[str], done: Done, wanted: list[str], status: int) -> str
 
 def fault_of_command(program: str, block: Block, mode: list[str], command: str, file: pathlib.Path) -> str:
     wanted = block.written[command]
-    status = int(any(line.startswith(("refused: ", "fault: ")) for line in wanted))
-    done, why = run(program, [command, *mode, str(file)], b"")
-    return why or differs([command, *mode], done, wanted, status)
+    status = int(any(line.startswith(REFUSALS[command.split()[0]]) for line in wanted))
+    words = [*command.split(), *([] if "--" in command else mode)]
+    done, why = run(program, [*words, str(file)], b"")
+    return why or differs(words, done, wanted, status)
 
 
 def fault_of_script(program: str, block: Block, mode: list[str], file: pathlib.Path, saved: pathlib.Path) -> str:

@@ -13,7 +13,7 @@ from pathlib import Path
 
 from trials.trial import Trial
 
-WORDS = 16000
+WORDS = 17200
 WORDS_OF_README = 900
 COLUMNS = 100
 
@@ -26,7 +26,7 @@ CHECKLISTS = [
     ),
     (
         "To add a word of the debugger",
-        r"(?i)unframe",
+        r"(?i)unframe(?!r\b)",
         ["crates/*/src/**/*.rt", "crates/*/specs/**/*.antt", "share/**/*", "equipment/*.txt", "equipment/*.py", "python/picklestep/**/*", "python/tests/*.py"],
     ),
     (
@@ -36,7 +36,7 @@ CHECKLISTS = [
     ),
     (
         "To add a text or a command",
-        r"\bcalls_many\b|[\"']calls[\"':]|\bTask::Calls\b|\btext\.Calls\b|Cm calls|objects calls",
+        r"\b(?:Text|Task)::Calls\b|\btext\.Calls\b|\bIsCallsText\b|\bpub fn calls<|\bcalls\(alloc, pickles\b|[\"']calls[\"':]|Cm calls|objects calls",
         ["crates/*/src/**/*.rt", "crates/*/specs/**/*.antt", "share/**/*", "equipment/*.py", "python/picklestep/*.py"],
     ),
 ]
@@ -132,7 +132,7 @@ def examples(text: str) -> Iterator[Example]:
                 yield Example(named[1], spans[0], spans[1:])
             else:
                 yield Example(named[1], "4e 2e", spans)
-        elif heading.startswith("What CPython"):
+        elif heading.startswith("What loaders load"):
             for span in re.findall(r"\(`([0-9a-f ]+)`[):]", item):
                 yield Example(item.split(",")[0] + " ..", span, [])
 
@@ -140,12 +140,13 @@ def examples(text: str) -> Iterator[Example]:
 def fault_of_example(program: str, example: Example, file: Path) -> str:
     file.parent.mkdir(parents=True, exist_ok=True)
     file.write_bytes(bytes.fromhex(example.pickle))
-    # (an example without commands is listed; a pickle that refers to an earlier one needs --many)
-    command = ["debug"] if example.commands else ["list", "--many"] if example.code == "S3 .." else ["list"]
+    # (an example without commands is listed; a pickle that refers to an earlier one needs --many, and only calls is unsure)
+    listed = {"S3 ..": ["list", "--many"], "U1": ["calls"]}.get(example.code if example.code == "S3 .." else example.code[:2], ["list"])
+    command = ["debug"] if example.commands else listed
     script = "".join(line + "\n" for line in example.commands).encode()
     done = subprocess.run([program, *command, str(file)], input=script, capture_output=True, timeout=60)
     said = done.stdout.decode("latin-1").splitlines()
-    last = [line for line in said if line.startswith(("refused: ", "fault: "))] if not example.commands else said[-1:]
+    last = [line for line in said if line.startswith(("refused: ", "fault: ", "unsure: "))] if not example.commands else said[-1:]
     # (a code whose words depend on the pickle is known by its first word)
     wanted = example.code if not re.search(r"\.\.|\b[KO]\b", example.code) else example.code.split()[0] + " "
     if not any(wanted in line for line in last):

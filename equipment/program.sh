@@ -5,6 +5,7 @@
 crate=$root/crates/picklestep
 program=$crate/out/picklestep
 released=$root/dist/linux-x86_64
+further=$root/dist
 checked=$root/out/released
 
 complain() {
@@ -73,14 +74,53 @@ release_fault() {
     fi
 }
 
-# Whether the released program can be started here. That it fits the sources is remembered by the file $checked, which is as old
-# as the beginning of the comparison; where it cannot be written, each start compares.
+# The SHA-256 over what the programs for further machines are made from: the program's sources, and the folder `targets`.
+sum_of_further() {
+    {
+        sum_of_sources
+        (cd -- "$root" && find targets -type f -not -name '*.pyc' -print0 | LC_ALL=C sort -z | xargs -0 -r sha256sum --)
+    } | sha256sum | cut -d ' ' -f 1
+}
+
+# The same for the programs for further machines.
+further_fault() {
+    if [ ! -r "$further/SOURCES" ] || [ "$(sum_of_further)" != "$(<"$further/SOURCES")" ]; then
+        echo 'dist/SOURCES is not the sum of the sources and of targets/'
+    elif ! (cd -- "$further" && sha256sum --check --status SHA256SUMS) 2>/dev/null; then
+        echo 'a program for a further machine has not the sum in dist/SHA256SUMS'
+    fi
+}
+
+# Whether the machine has a C library that the released program can be started with: glibc of that version or later.
+has_glibc() {
+    local needs there
+    needs=$(cat -- "$released/GLIBC" 2>/dev/null) || return
+    there=$(getconf GNU_LIBC_VERSION 2>/dev/null) && there=${there#glibc } || return
+    [ "$(printf '%s\n' "$needs" "$there" | sort -V | head -n 1)" = "$needs" ]
+}
+
+# Names the released program for this machine, in `fits`; where there is none, the module for Node.
+find_fitting() {
+    case $(uname -sm) in
+    'Linux x86_64') if has_glibc; then fits=$released/picklestep; else fits=$further/linux-x86_64-static/picklestep; fi ;;
+    'Linux aarch64') fits=$further/linux-aarch64/picklestep ;;
+    *) fits=$further/picklestep.mjs && command -v node >/dev/null ;;
+    esac
+}
+
+# Whether the released program for this machine is the one of the sources as they are, and whole. That it fits them is remembered by
+# the file $checked, which is as old as the beginning of the comparison; where it cannot be written, each start compares.
 is_released() {
-    local stamp=$checked.$$
-    [ "$(uname -sm)" = 'Linux x86_64' ] && [ -x "$released/picklestep" ] || return 1
-    [ -e "$checked" ] && [ -z "$(newer_source "$checked" "$released")" ] && return
-    { mkdir -p -- "$root/out" && : >"$stamp"; } 2>/dev/null || stamp=
-    if [ -z "$(release_fault)" ]; then
+    local stamp=$checked.$$ fault
+    find_fitting && [ -x "$fits" ] || return 1
+    [ -e "$checked" ] && [ -z "$(newer_source "$checked" "$further")" ] && [ "$fits" = "$(<"$checked")" ] && return
+    { mkdir -p -- "$root/out" && printf '%s\n' "$fits" >"$stamp"; } 2>/dev/null || stamp=
+    if [ "$fits" = "$released/picklestep" ]; then
+        fault=$(release_fault)
+    else
+        fault=$(further_fault)
+    fi
+    if [ -z "$fault" ]; then
         [ -z "$stamp" ] || mv -f -- "$stamp" "$checked"
     else
         rm -f -- "$stamp" "$checked"
@@ -88,17 +128,20 @@ is_released() {
     fi
 }
 
-# Names the program to start, in `chosen`. Where none fits the sources it is built, and where that fails there is none. On another kind of
-# machine nothing is built unasked.
+# Names the program to start, in `chosen`. Where none fits the sources it is built, if the toolchain runs on such a machine, and where that
+# fails there is none. On another machine nothing is built.
 choose_program() {
-    if is_built; then
+    if is_built && has_glibc; then
         chosen=$program
     elif is_released; then
-        chosen=$released/picklestep
-    elif [ "$(uname -sm)" != 'Linux x86_64' ]; then
-        complain "there is no program for this machine ($(uname -sm)): ./build makes one where the toolchain is (CONTRIBUTING.md)"
+        chosen=$fits
+    elif [ "$fits" = "$released/picklestep" ]; then
+        "$root/build" --kept >/dev/null && chosen=$program
+    elif find_fitting; then
+        complain 'no program for this machine is of the sources as they are: ./release makes it where the toolchain is (CONTRIBUTING.md)'
         return 1
     else
-        "$root/build" --kept >/dev/null && chosen=$program
+        complain "there is no program for this machine ($(uname -sm)): with Node 20 or later on the path its module runs (https://nodejs.org)"
+        return 1
     fi
 }

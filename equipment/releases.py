@@ -1,4 +1,4 @@
-"""Tries the released program, from outside: in a fresh clone, where something was changed, installed, and with nothing but the C library."""
+"""Tries the released programs, from outside: in a fresh clone, where something was changed, installed, and with nothing but the C library."""
 
 from __future__ import annotations
 
@@ -113,6 +113,15 @@ class Releases:
         self.called.unlink(missing_ok=True)
         return self.run(*words, at=at, **{**environment, "PATH": f"{self.folder}/bin:{self.environment['PATH']}"})
 
+    def run_elsewhere(self, *words: str, at: pathlib.Path, PATH: str | None = None) -> Run:
+        """Runs a command with the stand-in, where uname tells of a machine that there is no program for."""
+        self.called.unlink(missing_ok=True)
+        folder = self.folder / "elsewhere"
+        folder.mkdir(exist_ok=True)
+        (folder / "uname").write_text("#!/bin/sh\necho Plan9 mips\n")
+        (folder / "uname").chmod(0o755)
+        return self.run(*words, at=at, PATH=f"{folder}:{self.folder}/bin:{PATH or self.environment['PATH']}")
+
     def copy(self, name: str) -> pathlib.Path:
         """A copy of the clone that may be changed."""
         at = self.folder / name
@@ -222,16 +231,23 @@ def crates_changed(releases: Releases) -> str:
 
 
 def other_machine(releases: Releases) -> str:
+    """The module where Node is, else a sentence; nothing is built."""
     at = releases.copy("machine")
-    uname = releases.folder / "bin" / "uname"
-    uname.write_text("#!/bin/sh\necho 'Linux aarch64'\n")
-    uname.chmod(0o755)
-    start = releases.run_stand_in("./picklestep", "list", "x", at=at)
-    uname.unlink()
+    if shutil.which("node"):
+        start = releases.run_elsewhere("./picklestep", "list", str(releases.folder / "hostile.pickle"), at=at)
+        if (start.status, start.output, start.errors) != (0, LISTING, ""):
+            return f"with Node: status {start.status}, errors {start.errors[:200]!r}"
+    few = releases.folder / "few"
+    few.mkdir()
+    for folder in ("/bin", "/usr/bin"):
+        for name in os.listdir(folder):
+            if not name.startswith("node") and not (few / name).is_symlink():
+                (few / name).symlink_to(f"{folder}/{name}")
+    start = releases.run_elsewhere("./picklestep", "list", "x", at=at, PATH=str(few))
     if start.status != 2 or start.output or releases.called.exists():
         return f"status {start.status}, errors {start.errors[:200]!r}"
     said = start.errors.splitlines()
-    return "" if len(said) == 1 and "no program for this machine (Linux aarch64)" in said[0] else start.errors[:200]
+    return "" if len(said) == 1 and "no program for this machine (Plan9 mips)" in said[0] else start.errors[:200]
 
 
 # --- The release ---
@@ -252,14 +268,32 @@ def release_again(releases: Releases) -> str:
     change_byte(at / "crates/picklestep/src/main.rt")
     other = releases.folder / "other"
     other.write_bytes((releases.clone / DIST / "picklestep").read_bytes() + b"\n")
-    run = releases.run_stand_in("./release", at=at, BUILT=str(other), VERSION=version)
+    run = releases.run_stand_in("./release", "--program", at=at, BUILT=str(other), VERSION=version)
     if run.status != 0 or (at / DIST / "picklestep").read_bytes() != other.read_bytes():
         return f"another program: status {run.status}, errors {run.errors[:200]!r}"
     check = releases.run("./release", "--check", at=at)
-    if check.status != 0:
-        return f"another program: {check.errors[:200]}"
+    if check.status != 1 or "dist/SOURCES" not in check.errors:
+        return f"another program, and the others are older: status {check.status}, errors {check.errors[:200]}"
+    was = [(file, file.read_bytes()) for file in sorted((at / "dist").rglob("*")) if file.is_file()]
     run = releases.run_stand_in("./release", at=at)
-    return "" if run.status != 0 and releases.run("./release", "--check", at=at).status == 0 else "a build that fails: it is released"
+    same_files = all(file.read_bytes() == content for file, content in was)
+    return "" if run.status != 0 and same_files else "a build that fails: it is released"
+
+
+def further_changed(releases: Releases) -> str:
+    """A further program, or what makes it, that was changed: the check says it, and such a machine does not start it."""
+    at = releases.copy("further")
+    for file, says in (("dist/picklestep.wasm", "dist/SHA256SUMS"), ("targets/c/heap.c", "dist/SOURCES")):
+        was = (at / file).read_bytes()
+        change_byte(at / file)
+        check = releases.run("./release", "--check", at=at)
+        if check.status != 1 or says not in check.errors:
+            return f"{file}: status {check.status}, errors {check.errors[:200]!r}"
+        start = releases.run_elsewhere("./picklestep", "list", "x", at=at)
+        if start.status != 2 or len(start.errors.splitlines()) != 1 or "./release" not in start.errors:
+            return f"a start, {file}: status {start.status}, errors {start.errors[:200]!r}"
+        (at / file).write_bytes(was)
+    return ""
 
 
 def builds(releases: Releases) -> str:
@@ -417,7 +451,7 @@ def manual(releases: Releases) -> str:
 def options_told(releases: Releases) -> str:
     """Each word has its options in its manual page and in both completions."""
     shells = {name: (releases.clone / name).read_text() for name in (BASH, ZSH)}
-    others = ("list", "objects", "calls", "debug", "shell", "source", "diff")
+    others = ("list", "objects", "calls", "debug", "shell", "source", "diff", "mend")
     for word, name in (("scan", PAGES[1]), ("view", PAGES[2]), *((word, PAGES[0]) for word in others)):
         run = releases.run("./picklestep", word, "--help", PYTHONDONTWRITEBYTECODE="1")
         options = set(re.findall(r"--([a-z][a-z-]*)", run.output)) - {"help"}
@@ -450,11 +484,11 @@ def completions(releases: Releases) -> str:
     (at / "two words").write_text("")
     page = str(releases.clone / BASH)
     for words, wanted in (
-        ([""], ["--help", "--version", "calls", "debug", "diff", "list", "objects", "scan", "shell", "source", "view"]),
+        ([""], ["--help", "--version", "calls", "debug", "diff", "list", "mend", "objects", "scan", "shell", "source", "view"]),
         (["ob"], ["objects"]),
         (["one"], ["one.pickle"]),
         (["list", "--"], ["--help", "--many"]),
-        (["calls", "--m"], ["--many"]),
+        (["calls", "--m"], ["--memo"]),
         (["debug", "--"], ["--help", "--many", "--save", "--window"]),
         (["scan", "--sar"], ["--sarif"]),
         (["one.pickle", "--j"], ["--jobs", "--json"]),
@@ -483,6 +517,7 @@ TRIED: list[tuple[str, Callable[[Releases], str]]] = [
     ("a released program that was changed", program_changed),
     ("crates that come to it", crates_changed),
     ("another machine", other_machine),
+    ("a program for a further machine that was changed", further_changed),
     ("a build", builds),
     ("a release from a built program", release_again),
     ("the released program with the C library alone", runs_bare),

@@ -8,6 +8,7 @@ package=${here%/bin/*}/lib/picklestep/picklestep
 choose_program() {
     # shellcheck disable=SC2034
     chosen=$package/bin/picklestep
+    [ -e "$chosen" ] || chosen=$chosen.mjs # (the module, which Node starts)
 }
 
 enter "$@"

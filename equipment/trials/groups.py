@@ -11,6 +11,8 @@ from typing import Optional, Protocol
 import count_calls
 import devices
 import hostile
+import loads
+import machines
 import opcodes
 import packages
 import pages
@@ -88,12 +90,16 @@ def of_surroundings(room: Room) -> list[AnyGroup]:
     broken = devices.Devices(str(room.program), library, room.folder / "devices")
     saved = saves.Saves(str(room.program), library, room.folder / "saves")
     released = releases.Releases(room.root, room.folder / "releases")
+    others = machines.Machines(room.root, room.program, room.folder / "machines", room.pickles)
+    loaded = loads.Loads(str(room.program), room.folder / "loads")
     return [
+        Group("loaders", functools.partial(loads.trials, loaded, room.pickles), loaded.closing, aside=lambda: None),
         Group("hostile", functools.partial(hostile.trials, cut), cut.closing, aside=hostile.limit_stack),
         packages.Package(str(room.program), room.folder / "python"),
         Group("devices", functools.partial(devices.trials, broken), broken.closing),
         Group("saves", functools.partial(saves.trials, saved), saved.closing),
         Group("release", functools.partial(releases.trials, released), released.closing),
+        Group("machines", functools.partial(machines.trials, others), others.closing, aside=lambda: None),
         Group("random", functools.partial(random_trials, room), aside=lambda: None),
     ]
 

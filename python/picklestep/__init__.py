@@ -12,13 +12,14 @@ What is public is imported when it is first used: the entrance starts faster, an
 __version__ = '1.0.0'
 
 __all__ = ['Answer', 'Argument', 'Brief', 'Briefs', 'Call', 'Calls', 'Change', 'Difference', 'End', 'Extension', 'Global', 'Heap', 'Item',
-           'Items', 'Listing', 'Mark', 'Name', 'NoResult', 'NotAllowed', 'Object', 'Objects', 'Opcode', 'OutOfMemory', 'PicklestepError',
-           'PlainValue', 'ProgramError', 'PythonSource', 'Ran', 'Reach', 'Ref', 'Refused', 'Session', 'Shown', 'ShownObjects', 'TimedOut',
-           'TooLarge', 'Value', 'Where', 'calls', 'check', 'compare', 'listing', 'objects', 'source', 'tree']
+           'Items', 'Listing', 'Mark', 'Name', 'NoResult', 'NotAllowed', 'Object', 'Objects', 'Opcode', 'OutOfMemory', 'Part',
+           'PicklestepError', 'PlainValue', 'ProgramError', 'PythonSource', 'Ran', 'Reach', 'Reached', 'Ref', 'Refused',
+           'Session', 'Shown', 'ShownObjects', 'TimedOut', 'TooLarge', 'Value', 'Where', 'calls', 'check', 'compare', 'listing',
+           'objects', 'source', 'tree']
 
 TYPE_CHECKING = False  # (`typing` would be an import)
 if TYPE_CHECKING:
-    from .answers import Answer, Calls, Heap, Items, Listing, Objects, ShownObjects
+    from .answers import Answer, Calls, Heap, Items, Listing, Objects, Part, Reached, ShownObjects
     from .comparing import Difference, compare
     from .errors import NoResult, NotAllowed, OutOfMemory, PicklestepError, ProgramError, Refused, TimedOut, TooLarge
     from .python_source import PythonSource, source

@@ -6,12 +6,13 @@ import html
 import re
 from array import array
 from functools import cached_property
+from itertools import chain
 from typing import ClassVar, Dict, Iterator, List, Optional, Pattern, Sequence, Tuple, TypeVar, Union, overload
 
 from . import texts
 from .records import End, Item, Object, Opcode, Reach, Shown
 
-__all__ = ['Answer', 'Calls', 'Heap', 'Items', 'Listing', 'Objects', 'ShownObjects']
+__all__ = ['Answer', 'Calls', 'Heap', 'Items', 'Listing', 'Objects', 'Part', 'Reached', 'ShownObjects']
 
 Line = TypeVar('Line')
 
@@ -35,6 +36,7 @@ class Answer(Sequence[Line]):
 
     def __init__(self, text: str, refused_at: Optional[int] = None) -> None:
         self.text = text
+        self._span = (0, len(text))  # where its lines are in the text
         self._refused_at = refused_at  # the offset of a refused opcode, where the text does not show it
 
     def _read(self, match: 're.Match[str]') -> Line:
@@ -44,7 +46,16 @@ class Answer(Sequence[Line]):
     @cached_property
     def _starts(self) -> 'array[int]':
         """Where the lines begin."""
-        return array('Q', (match.start() for match in self._line.finditer(self.text)))
+        return array('Q', (match.start() for match in self.matches()))
+
+    def matches(self) -> Iterator['re.Match[str]']:
+        """The lines as they stand in the text.
+
+        >>> import picklestep
+        >>> [match[0] for match in picklestep.objects(b'N.').matches()]
+        ['#0 none']
+        """
+        return self._line.finditer(self.text, *self._span)
 
     def __len__(self) -> int:
         return len(self._starts)
@@ -66,7 +77,14 @@ class Answer(Sequence[Line]):
         return self._read(match)
 
     def __iter__(self) -> Iterator[Line]:
-        return map(self._read, self._line.finditer(self.text))
+        return map(self._read, self.matches())
+
+    @cached_property
+    def _closing(self) -> Dict[str, str]:
+        """The closing lines, by their words. A line of which only a part was looked at is none of them."""
+        start, end = self._span
+        lines = self.text[max(start, end - _TAIL):end].split('\n')
+        return texts.closing_of(lines[1 if end - start > _TAIL else 0:-1])
 
     def _summary(self) -> str:
         return f'{len(self)} {self._what}'
@@ -97,10 +115,6 @@ class Listing(Answer[Opcode]):
 
     def _read(self, match: 're.Match[str]') -> Opcode:
         return texts.opcode_at(match)
-
-    @cached_property
-    def _closing(self) -> Dict[str, str]:
-        return _closing_lines(self.text)
 
     @cached_property
     def end(self) -> End:
@@ -144,7 +158,7 @@ class Listing(Answer[Opcode]):
         >>> picklestep.listing(b'NN(N.').left
         [(2, 1)]
         """
-        return [(int(match[1]), int(match[2])) for match in _LEFT.finditer(self.text)]
+        return [(int(match[1]), int(match[2])) for match in texts.LEFT.finditer(self.text)]
 
     def _summary(self) -> str:
         return f'{len(self)} opcodes, {self.end.text}'
@@ -159,7 +173,7 @@ class Heap(Answer[Object]):
     (1, 'none')
     """
 
-    _line = re.compile(r'^#.*$', re.MULTILINE)
+    _line = texts.OBJECT
     _what = 'objects'
 
     def _read(self, match: 're.Match[str]') -> Object:
@@ -183,7 +197,7 @@ class Objects(Heap):
         >>> picklestep.objects(b'N0.').end
         End(how='refused', code='S2', text='S2 stack underflow', offset=2, item=2)
         """
-        return _end_of_item(_closing_lines(self.text), self._refused_at)
+        return _end_of(self._closing, self._refused_at)
 
     @cached_property
     def results(self) -> Tuple[int, ...]:
@@ -194,29 +208,29 @@ class Objects(Heap):
         (2, 3)
         """
         after = self.text.rfind('\n#') + 1
-        return tuple(int(match[1]) for match in _RESULT.finditer(self.text, after))
+        return tuple(int(match[1]) for match in texts.RESULT.finditer(self.text, after))
 
     def _summary(self) -> str:
         return f'{len(self)} objects, {self.end.text}'
 
 
-class Calls(Answer[Reach]):
-    """What a pickle imports and calls.
+class Reached(Answer[Reach]):
+    """Lines of `calls` with the counts and the end that stand after them: those of `Calls`, or those of a `Part`.
 
     >>> import picklestep
-    >>> answer = picklestep.calls(b'cos\\ngetcwd\\n)R.')
-    >>> answer.imports, answer.calls, answer[1].what, answer[1].name
-    (1, 1, 'call', Global(module=b'os', name=b'getcwd'))
+    >>> isinstance(picklestep.calls(b'N.'), picklestep.Reached)
+    True
     """
 
-    _line = re.compile(r'^ *[0-9]+: .*$', re.MULTILINE)
+    _line = texts.REACHED
 
     def _read(self, match: 're.Match[str]') -> Reach:
         return texts.reach_of(match[0])
 
     @cached_property
     def _totals(self) -> Tuple[int, int]:
-        match = _TOTALS.search(self.text, max(0, len(self.text) - _TAIL))
+        start, end = self._span
+        match = texts.COUNTS.search(self.text, max(start, end - _TAIL), end)
         if match is None:
             raise texts.LinesError(self.text[-_TAIL:])
         return int(match[1]), int(match[2])
@@ -241,16 +255,6 @@ class Calls(Answer[Reach]):
         """
         return self._totals[1]
 
-    @property
-    def kept(self) -> int:
-        """How many bytes are after STOP. With `many` there are none.
-
-        >>> import picklestep
-        >>> picklestep.calls(b'N.cos\\ngetcwd\\n.').kept
-        12
-        """
-        return _first_number(_closing_lines(self.text).get('kept', '0'))
-
     @cached_property
     def end(self) -> End:
         """How reading ended.
@@ -259,10 +263,83 @@ class Calls(Answer[Reach]):
         >>> picklestep.calls(b'cos\\ngetcwd\\nR.').end
         End(how='refused', code='S2', text='S2 stack underflow', offset=11, item=1)
         """
-        return _end_of_item(_closing_lines(self.text), self._refused_at)
+        return _end_of(self._closing, self._refused_at)
 
     def _summary(self) -> str:
         return f'{self.imports} imports, {self.calls} calls, {self.end.text}'
+
+
+class Part(Reached):
+    """What loaders may reach behind the end of the strict reading, under a heading of `calls`. `heading` is its words.
+
+    >>> import picklestep
+    >>> part, = picklestep.calls(b'cos\\ngetcwd\\nU\\x01aR.').parts
+    >>> part.heading, part[0].text, part.calls, part.end.how
+    ('a loader may go on', "call 'os' 'getcwd' string 'a' as #2", 1, 'stopped')
+    """
+
+    def __init__(self, text: str, heading: str, start: int, end: int) -> None:
+        super().__init__(text)
+        self.heading = heading
+        self._span = (start, end)
+
+
+class Calls(Reached):
+    """What pickles import and call: the lines of the strict reading. What loaders may reach behind its end is in `parts`.
+
+    >>> import picklestep
+    >>> answer = picklestep.calls(b'cos\\ngetcwd\\n)R.')
+    >>> answer.imports, answer.calls, answer[1].what, answer[1].name
+    (1, 1, 'call', Global(module=b'os', name=b'getcwd'))
+    """
+
+    def __init__(self, text: str, refused_at: Optional[int] = None) -> None:
+        super().__init__(text, refused_at)
+        headings = list(texts.HEADING.finditer(text))
+        ends = [heading.start() for heading in headings[1:]] + [len(text)]
+        self._parts = tuple(Part(text, heading[1], heading.end() + 1, end) for heading, end in zip(headings, ends))
+        if headings:
+            self._span = (0, headings[0].start())
+
+    @property
+    def parts(self) -> Tuple[Part, ...]:
+        """The parts under headings, where the strict reading does not end with STOP.
+
+        >>> import picklestep
+        >>> picklestep.calls(b'N.').parts
+        ()
+        """
+        return self._parts
+
+    def everything(self) -> Iterator[Reach]:
+        """The lines of the strict reading and those of all parts.
+
+        >>> import picklestep
+        >>> [reach.what for reach in picklestep.calls(b'cos\\ngetcwd\\nU\\x01aR.').everything()]
+        ['import', 'call']
+        """
+        return chain(self, *self._parts)
+
+    @property
+    def container(self) -> Optional[str]:
+        """The container that the bytes begin like, into which `picklestep.scan` looks.
+
+        >>> import picklestep
+        >>> picklestep.calls(b'PK\\x03\\x04').container
+        'zip archive'
+        """
+        start, end = self._span
+        return texts.container_in(self.text, max(start, end - _TAIL), end)
+
+    @property
+    def kept(self) -> int:
+        """How many bytes are after STOP, with `first`.
+
+        >>> import picklestep
+        >>> picklestep.calls(b'N.cos\\ngetcwd\\n.', first=True).kept
+        12
+        """
+        return _first_number(self._closing.get('kept', '0'))
 
 
 class Items(Answer[Item]):
@@ -274,7 +351,7 @@ class Items(Answer[Item]):
     ['NONE', 'STOP']
     """
 
-    _line = re.compile(r'^([> ])([* ]) *([0-9]+) +([0-9]+): ([A-Z][A-Z0-9_]*)(?: (.*))?$', re.MULTILINE)
+    _line = texts.ITEM
     _what = 'items'
 
     def _read(self, match: 're.Match[str]') -> Item:
@@ -290,7 +367,7 @@ class ShownObjects(Answer[Shown]):
     (3, [1, 0])
     """
 
-    _line = re.compile(r'^([0-9]+) (#[0-9]+)( .*)?$', re.MULTILINE)
+    _line = texts.SHOWN
     _what = 'lines'
 
     def _read(self, match: 're.Match[str]') -> Shown:
@@ -298,30 +375,13 @@ class ShownObjects(Answer[Shown]):
         return Shown(int(match[1]), int(match[2][1:]), content)
 
 
-_LEFT = re.compile(r'^left: ([0-9]+) objects, ([0-9]+) marks$', re.MULTILINE)
-_RESULT = re.compile(r'^result #([0-9]+)$', re.MULTILINE)
-_TOTALS = re.compile(r'^([0-9]+) imports, ([0-9]+) calls$', re.MULTILINE)
-_CLOSING = re.compile(r'(refused|fault|left|kept): (.*)|(highest protocol among opcodes) = (.*)|result #.*|[0-9]+ imports, .*')
-
-
-def _closing_lines(text: str) -> Dict[str, str]:
-    """The closing lines of an answer, by their words. A line of which only a part was looked at is none of them."""
-    lines = text[-_TAIL:].split('\n')
-    closing: Dict[str, str] = {}
-    for line in reversed(lines[1 if len(text) > _TAIL else 0:-1]):
-        match = _CLOSING.fullmatch(line)
-        if match is None:
-            break
-        closing[match[1] or match[3] or ''] = match[2] or match[4] or ''
-    return closing
-
-
-def _end_of_item(closing: Dict[str, str], refused_at: Optional[int]) -> End:
-    """How reading ended, by a closing line that names the item that was refused."""
-    if 'refused' in closing:
-        item, _, text = closing['refused'].partition(': ')
-        return End('refused', text.partition(' ')[0], text, refused_at, int(item.rpartition(' ')[2]))
-    return texts.end_of(closing.get('fault', 'stopped'))
+def _end_of(closing: Dict[str, str], refused_at: Optional[int]) -> End:
+    """How reading ended, by the closing lines. Those of a part say it behind one word more."""
+    ends = closing.get('ends', '')
+    word, _, words = ends.partition(': ')
+    if 'refused' in closing or word == 'refused':
+        return texts.end_of_item(closing.get('refused', words), refused_at)
+    return texts.end_of(closing.get('fault') or closing.get('unsure') or words or 'stopped')
 
 
 def _first_number(text: str) -> int:

@@ -16,7 +16,7 @@ _HERE = os.path.dirname(os.path.realpath(__file__))
 # Each word of the program has a page here, by which it is known.
 _PAGES = os.path.join(_HERE, 'help')
 # The words of this package, and the modules that do them.
-_OWN = {'diff': 'diff', 'scan': 'scan', 'shell': 'shell', 'source': 'python_source', 'view': 'view'}
+_OWN = {'diff': 'diff', 'mend': 'mend', 'scan': 'scan', 'shell': 'shell', 'source': 'python_source', 'view': 'view'}
 _ASKS_HELP = ('--help', '-h')
 
 
@@ -63,10 +63,14 @@ def _print_page(word: str, to_output: bool = True) -> int:
 
 
 def _hand_over(words: 'list[str]') -> int:
-    from .place import find_program
+    from .place import find_program, program_words
     try:
         program = find_program()
-        os.execv(program, [program, *words])
+        command = [*program_words(program), *words]
+        if os.name == 'nt':  # (there execv would come back to the shell at once)
+            import subprocess
+            return subprocess.call(command)
+        os.execv(command[0], command)
     except OSError as error:
         return _complain(f'cannot start {program}: {error.strerror}')
     except Exception as error:  # (to name ProgramError takes the time of its module)

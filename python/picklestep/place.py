@@ -2,31 +2,83 @@
 
 import os
 
-__all__ = ['find_program', 'toolchain_of']
+__all__ = ['find_program', 'program_words', 'toolchain_of']
 
 _HERE = os.path.dirname(os.path.realpath(__file__))
-_MACHINE = ('Linux', 'x86_64')  # what the released program runs on
+# The released programs, by the system and the machine that each is for, in the order in which they are tried.
+_FOLDERS = {('Linux', 'x86_64'): ('linux-x86_64', 'linux-x86_64-static'), ('Linux', 'aarch64'): ('linux-aarch64',)}
+# What runs on any machine where there is Node: it starts the module beside it.
+_MODULE = 'picklestep.mjs'
 
 
 def find_program() -> str:
     """The path of the program: PICKLESTEP_PROGRAM, else the package's own copy, else that of the source tree.
 
-    There it is the newer one of the released program and the one that was built. Raises ProgramError where there is none for this machine.
+    There it is the newer one of the program that was built and of the released one for this machine. Where there is none it is the start of
+    the module, if Node is there to run it. Raises ProgramError where nothing runs on this machine.
     """
     named = os.environ.get('PICKLESTEP_PROGRAM')
     if named:
         return named
-    crates = os.path.join(os.path.dirname(os.path.dirname(_HERE)), 'crates', 'picklestep', 'out', 'picklestep')
-    released = os.path.join(os.path.dirname(os.path.dirname(_HERE)), 'dist', 'linux-x86_64', 'picklestep')
-    machine = os.uname()
-    fits = (machine.sysname, machine.machine) == _MACHINE
-    in_tree = sorted(filter(os.path.isfile, [released, crates] if fits else [crates]), key=os.path.getmtime, reverse=True)
+    root = os.path.dirname(os.path.dirname(_HERE))
+    dist = os.path.join(root, 'dist')
+    machine = _machine()
+    folders = [folder for folder in _FOLDERS.get(machine, ()) if folder != 'linux-x86_64' or _has_glibc(os.path.join(dist, folder))]
+    released = [os.path.join(dist, folder, 'picklestep') for folder in folders[:1]]
+    built = os.path.join(root, 'crates', 'picklestep', 'out', 'picklestep')
+    in_tree = sorted(filter(os.path.isfile, [*released, built]), key=os.path.getmtime, reverse=True)
     for path in (os.path.join(_HERE, 'bin', 'picklestep'), *in_tree):
         if os.path.isfile(path):
             return path
     from .errors import ProgramError
-    raise ProgramError(f'there is no program for this machine ({machine.sysname} {machine.machine}): '
-                       'build it by ./build in a clone, or set PICKLESTEP_PROGRAM to its path')
+    system = ' '.join(machine)
+    for path in (os.path.join(_HERE, 'bin', _MODULE), os.path.join(dist, _MODULE)):
+        if os.path.isfile(path):
+            if _node():
+                return path
+            raise ProgramError(f'there is no program for this machine ({system}): with Node 20 or later on the path its module runs '
+                               '(https://nodejs.org)')
+    raise ProgramError(f'there is no program for this machine ({system}): build it by ./build in a clone, or set PICKLESTEP_PROGRAM to its path')
+
+
+def program_words(program: str) -> 'list[str]':
+    """The words that start a program: Node comes first where it is the module."""
+    return [_node() or 'node', program] if program.endswith('.mjs') else [program]
+
+
+def _machine() -> 'tuple[str, str]':
+    """The system and the machine, as uname says them."""
+    if not hasattr(os, 'uname'):
+        return 'Windows', os.environ.get('PROCESSOR_ARCHITECTURE', 'unknown')
+    machine = os.uname()
+    return machine.sysname, machine.machine
+
+
+def _has_glibc(folder: str) -> bool:
+    """Whether the C library is one that the program in a folder can be started with: glibc of the version that a file there says, or later."""
+    try:
+        there = os.confstr('CS_GNU_LIBC_VERSION')
+        with open(os.path.join(folder, 'GLIBC'), encoding='ascii') as file:
+            needs = file.read()
+    except FileNotFoundError:
+        return True
+    except (AttributeError, OSError, ValueError):
+        return False
+    return there is not None and _numbers(needs) <= _numbers(there.rpartition(' ')[2])
+
+
+def _numbers(version: str) -> 'list[int]':
+    return [int(part) for part in version.strip().split('.')]
+
+
+def _node() -> 'str | None':
+    """Where Node is, if it is on the path."""
+    name = 'node.exe' if os.name == 'nt' else 'node'
+    for folder in os.environ.get('PATH', os.defpath).split(os.pathsep):
+        path = os.path.join(folder, name)
+        if os.path.isabs(path) and os.access(path, os.X_OK):
+            return path
+    return None
 
 
 def toolchain_of(program: str) -> str:

@@ -11,10 +11,8 @@ thread, and unlike PR_SET_PDEATHSIG it does not end a session when the thread th
 from __future__ import annotations
 
 import contextlib
-import fcntl
 import math
 import os
-import resource
 import select
 import signal
 import subprocess
@@ -22,17 +20,18 @@ import time
 from typing import IO, Generator, Iterable, List, NoReturn, Optional, Sequence
 
 from .errors import OutOfMemory, ProgramError, TimedOut, TooLarge
-from .place import find_program
+from .place import find_program, program_words
 
 __all__ = ['Process', 'find_program', 'run_program']
 
 _BLOCK = 1 << 18
+_HAS_MASKS = hasattr(signal, 'pthread_sigmask')  # (Windows has none)
 _LIMITED = ['/bin/sh', '-c', 'ulimit -v "$1" && shift && exec "$@"', 'sh']
 
 
 def _command(words: Sequence[str], memory: Optional[int]) -> List[str]:
     """The command that runs the program on these words, with at most this many bytes of memory."""
-    command = [find_program(), *words]
+    command = [*program_words(find_program()), *words]
     if memory is None:
         return command
     return [*_LIMITED, str(max(1, memory // 1024)), *command]
@@ -51,7 +50,7 @@ class Process:
         near, self._lifeline = os.pipe()
         # (An interrupt that came while the program starts would leave it without anybody who ends it. The program keeps the mask: a Ctrl-C
         # of the terminal interrupts the interpreter alone, and that ends the program.)
-        masked = signal.pthread_sigmask(signal.SIG_BLOCK, {signal.SIGINT})
+        masked = signal.pthread_sigmask(signal.SIG_BLOCK, {signal.SIGINT}) if _HAS_MASKS else ()
         try:
             self._popen = subprocess.Popen(command, stdin=subprocess.PIPE if stdin else subprocess.DEVNULL, stdout=subprocess.PIPE,
                                            stderr=subprocess.PIPE, bufsize=0, pass_fds=(*files, near))
@@ -69,7 +68,8 @@ class Process:
     def _unmask(self, masked: Iterable[int]) -> None:
         """Lets interrupts come again. One that came meanwhile ends the program."""
         try:
-            signal.pthread_sigmask(signal.SIG_SETMASK, masked)
+            if _HAS_MASKS:
+                signal.pthread_sigmask(signal.SIG_SETMASK, masked)
         except BaseException:
             self.close()
             raise
@@ -87,7 +87,9 @@ class Process:
     def limit_seconds(self, seconds: float) -> None:
         """Lets the program take this much processor time, rounded up, from its start on. The system then ends it."""
         most = max(1, math.ceil(seconds))
-        with contextlib.suppress(OSError, ValueError):  # it has ended already, or the limit of this process is lower
+        # (it has ended already, or the limit of this process is lower; and only Linux has limits of another process)
+        with contextlib.suppress(OSError, ValueError, ImportError, AttributeError):
+            import resource
             resource.prlimit(self._popen.pid, resource.RLIMIT_CPU, (most, most + 1))
 
     def communicate(self, script: Optional[bytes], timeout: Optional[float]) -> bytes:
@@ -157,8 +159,9 @@ def _pipe(stream: Optional[IO[bytes]]) -> int:
 
 
 def _end_with(lifeline: int, process: int) -> None:
-    """Asks the system to end a process when the lifeline's other end is closed."""
-    with contextlib.suppress(OSError):  # it has ended already
+    """Asks the system to end a process when the lifeline's other end is closed. Only Linux does that."""
+    with contextlib.suppress(OSError, ImportError, AttributeError):  # (it has ended already)
+        import fcntl
         fcntl.fcntl(lifeline, fcntl.F_SETSIG, signal.SIGKILL)
         fcntl.fcntl(lifeline, fcntl.F_SETOWN, process)
         fcntl.fcntl(lifeline, fcntl.F_SETFL, fcntl.fcntl(lifeline, fcntl.F_GETFL) | os.O_ASYNC)

@@ -3,7 +3,7 @@
 from __future__ import annotations
 
 import sys
-from dataclasses import dataclass
+from dataclasses import dataclass, field
 from typing import Any, Dict, Optional, Tuple, Union
 
 from .values import PLAIN_KINDS, Argument, PlainValue, argument_value, kind_value
@@ -18,9 +18,10 @@ _SLOTS: Dict[str, Any] = {'slots': True} if sys.version_info >= (3, 10) else {}
 class End:
     """How reading ended.
 
-    `how` is 'stopped' (STOP was read), 'refused' (the machine refused an opcode) or 'fault' (the bytes cannot be read on).
-    `code` is the code of the refusal or fault ('S2', 'F1'), and `text` the program's words for it. `offset` is where the
-    refused opcode or the fault is in the bytes, and `item` the place of the refused opcode. (`picklestep.scan` gives its place alone.)
+    `how` is 'stopped' (STOP was read), 'refused' (the machine refused an opcode), 'fault' (the bytes cannot be read on) or 'unsure'
+    (loaders go on at different places: only `calls`). `code` is the code of the refusal or fault ('S2', 'F1', 'U1'), and `text` the
+    program's words for it. `offset` is where the refused opcode or the fault is in the bytes, and `item` the place of the refused
+    opcode. (Of a part under a heading, and in `picklestep.scan`, its place alone may be known.)
 
     >>> import picklestep
     >>> picklestep.listing(b'N').end
@@ -134,7 +135,8 @@ class Ref:
 
 @dataclass(frozen=True, **_SLOTS)
 class Global:
-    r"""What an import names. A part that no text gives is the object that it comes from.
+    r"""What an import names, each part by its value. A part that no text gives is the object that it comes from. `raw` has the parts
+    that cannot be decoded, 'module' or 'name': these are the bytes as they stand in the pickle.
 
     >>> import picklestep
     >>> picklestep.calls(b'cos\ngetcwd\n.')[0].name
@@ -143,6 +145,7 @@ class Global:
 
     module: Union[bytes, Ref]
     name: Union[bytes, Ref]
+    raw: Tuple[str, ...] = field(default=(), repr=False)
 
 
 @dataclass(frozen=True, **_SLOTS)
@@ -163,7 +166,8 @@ Name = Union[Global, Extension, Ref]
 
 @dataclass(frozen=True, **_SLOTS)
 class Brief:
-    """A value in a line of `calls`: its kind ('text', 'int', 'global', 'object', ..), the value, and how many bytes were cut off.
+    """A value in a line of `calls`: its kind ('text', 'int', 'global', 'object', ..), the value, and how many bytes were cut off. Texts
+    that cannot be decoded are of the kinds 'raw' and 'raw string'.
 
     >>> import picklestep
     >>> picklestep.calls(b'NQ.')[0].value
@@ -196,9 +200,10 @@ class Reach:
     r"""A line of `calls`: an import, a call, or something else that reaches out of the pickle.
 
     `what` is the line's first word: 'import', 'inst', 'call', 'new', 'state', 'append', 'set', 'add', 'persistent', 'buffer' or
-    'readonly'. `name` is what is imported or called; `value` the arguments, the state or the persistent id; `keywords` those of a
-    'new' that has them; `count` how many items were put in, or the number of the buffer. `number` is the object that was made, and
-    `target` the one that was changed or made read-only. `text` is the line without its offset.
+    'readonly'. `name` is what is imported or called, as Python 3 does it, and `said` the names of Python 2 that stand in the pickle
+    for that; `value` the arguments, the state or the persistent id; `keywords` those of a 'new' that has them; `count` how many items
+    were put in, or the number of the buffer. `number` is the object that was made, and `target` the one that was changed or made
+    read-only. `text` is the line without its offset.
 
     >>> import picklestep
     >>> reach = picklestep.calls(b'ca\nb\n}b.')[1]
@@ -215,6 +220,7 @@ class Reach:
     count: Optional[int] = None
     number: Optional[int] = None
     target: Optional[int] = None
+    said: Optional[Global] = None
 
 
 @dataclass(frozen=True, **_SLOTS)

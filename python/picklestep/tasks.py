@@ -30,7 +30,7 @@ def listing(source: Source, *, many: bool = False, timeout: Optional[float] = No
     5 STOP None
     """
     with Input(source) as given:
-        return Listing(_answer('list', given, many, timeout, memory))
+        return Listing(_answer('list', given, _many(many), timeout, memory))
 
 
 def objects(source: Source, *, many: bool = False, timeout: Optional[float] = None, memory: Optional[int] = None) -> Objects:
@@ -40,47 +40,56 @@ def objects(source: Source, *, many: bool = False, timeout: Optional[float] = No
     >>> answer[2].kind, answer[2].parts, answer.results
     ('tuple', (0, 1), (2,))
     """
-    return _report(Objects, 'objects', source, many, timeout, memory)
+    return _report(Objects, 'objects', source, _many(many), _many(many), timeout, memory)
 
 
-def calls(source: Source, *, many: bool = False, timeout: Optional[float] = None, memory: Optional[int] = None) -> Calls:
-    """What a pickle imports and calls. An opcode that has no line here reaches nothing outside the pickle.
+def calls(source: Source, *, first: bool = False, memo_kept: bool = False, many: bool = True, timeout: Optional[float] = None,
+          memory: Optional[int] = None) -> Calls:
+    """What pickles that follow one another import and call. An opcode that has no line here reaches nothing outside the pickle.
+
+    With `first` only the first pickle is read. With `memo_kept` they are read as by one unpickler that loads again and again, and keeps
+    its memo. `many` changes nothing.
 
     >>> for reach in calls(b'cposix\\nsystem\\n(X\\x02\\x00\\x00\\x00idtR.'):
     ...     print(reach.offset, reach.text)
     0 import 'posix' 'system' as #0
     23 call 'posix' 'system' ('id') as #3
     """
-    return _report(Calls, 'calls', source, many, timeout, memory)
+    if first and memo_kept:
+        raise ValueError('first and memo_kept are two readings')
+    options = ['--first'] if first else ['--memo', 'kept'] if memo_kept else []
+    # (A listing does not read on as one unpickler does, so where that was refused only the place is known.)
+    return _report(Calls, 'calls', source, options, None if memo_kept else _many(not first), timeout, memory)
 
 
-def _report(kind: Type[_Report], word: str, source: Source, many: bool, timeout: Optional[float], memory: Optional[int]) -> _Report:
-    """An answer that counts opcodes and not bytes. Where one was refused, a listing shows its offset."""
+def _report(kind: Type[_Report], word: str, source: Source, options: List[str], listed: Optional[List[str]], timeout: Optional[float],
+            memory: Optional[int]) -> _Report:
+    """An answer that counts opcodes and not bytes. Where one was refused, a listing with the options `listed` shows its offset."""
     with Input(source) as given:
         begun = time.monotonic()
-        answer = kind(_answer(word, given, many, timeout, memory))
-        if answer.end.how != 'refused':
+        answer = kind(_answer(word, given, options, timeout, memory))
+        if answer.end.how != 'refused' or listed is None:
             return answer
         left = None if timeout is None else max(0.0, timeout - (time.monotonic() - begun))
-        return kind(answer.text, _last_offset(given, many, left, memory))
+        return kind(answer.text, _last_offset(given, listed, left, memory))
 
 
-def _words(word: str, given: Input, many: bool) -> List[str]:
-    return [word, given.path, *(['--many'] if many else [])]
+def _many(many: bool) -> List[str]:
+    return ['--many'] if many else []
 
 
-def _answer(word: str, given: Input, many: bool, timeout: Optional[float], memory: Optional[int]) -> str:
+def _answer(word: str, given: Input, options: List[str], timeout: Optional[float], memory: Optional[int]) -> str:
     """What the program writes about an input."""
-    answer = run_program(_words(word, given, many), given.files, timeout=timeout, memory=memory)
+    answer = run_program([word, given.path, *options], given.files, timeout=timeout, memory=memory)
     if not answer.endswith(b'\n'):
         raise ProgramError('the program gave no whole answer')
     return answer.decode('ascii')
 
 
-def _last_offset(given: Input, many: bool, timeout: Optional[float], memory: Optional[int]) -> Optional[int]:
+def _last_offset(given: Input, options: List[str], timeout: Optional[float], memory: Optional[int]) -> Optional[int]:
     """The offset of the last opcode that is listed. Of the listing only the beginning of its last line is kept."""
     offset, line = None, b''
-    for block in Process(_words('list', given, many), given.files, memory).blocks(timeout):
+    for block in Process(['list', given.path, *options], given.files, memory).blocks(timeout):
         block = line + block
         for match in deque(_OFFSET.finditer(block), 1):
             offset = int(match[1])

@@ -4,11 +4,13 @@ from __future__ import annotations
 
 import re
 import struct
-from typing import Callable, Dict, List, Optional, Tuple, Union
+from typing import Callable, Dict, List, Optional, Sequence, Tuple, Union
 
 from .records import (Argument, Brief, Briefs, Change, End, Extension, Global, Item, Mark, Name, Object, Opcode, Reach, Ref, Value, Where)
 
-__all__ = ['LinesError', 'OPCODE', 'QUOTED', 'memo_of', 'object_of', 'opcode_of', 'reach_of', 'stack_of', 'unquoted', 'where_of']
+__all__ = ['COUNTS', 'HEADING', 'ITEM', 'LEFT', 'LinesError', 'OBJECT', 'OFFSET', 'OPCODE', 'QUOTED', 'QUOTED_OR_NUMBER', 'REACHED',
+           'RESULT', 'SHOWN', 'closing_of', 'container_in', 'memo_of', 'object_of', 'opcode_of', 'reach_of', 'stack_of', 'unquoted',
+           'where_of']
 
 QUOTED = r"'[^'\\]*(?:\\.[^'\\]*)*'"
 _NUMBER = r'-?[0-9]+|le:[0-9a-f]*|f8:[0-9a-f]{16}'
@@ -18,6 +20,23 @@ _OBJECT = re.compile(r'#([0-9]+) ([a-z-]+)')
 _PARTS = re.compile(r' \((#[^)]*)\)')
 _CHANGE = re.compile(r' (?:([+&!])#([0-9]+)|\[#([0-9]+)\]=#([0-9]+))')
 _CHANGES = {'+': 'append', '&': 'add', '!': 'state'}
+# What is under these headings the strict reading does not reach.
+HEADING = re.compile(r'^(a loader may go on|a loader that buffers frames may go on):$', re.MULTILINE)
+COUNTS = re.compile(r'^([0-9]+) imports, ([0-9]+) calls$', re.MULTILINE)
+# A line of `calls`: its offset, its text and first word, and the name in it where the module is in quotes.
+REACHED = re.compile(rf"^ *([0-9]+): ((\w+)(?: ((?:raw )?{QUOTED} (?:(?:raw )?{QUOTED}|#[0-9]+)))?.*)$", re.MULTILINE)
+# A line with an offset, and its text; what may be the number of an object in that, beside texts.
+OFFSET = re.compile(r'^ *([0-9]+): (.*)$', re.MULTILINE)
+QUOTED_OR_NUMBER = re.compile(rf'{QUOTED}|#([0-9]+)')
+# Lines of `objects`, `items` and `show`, and closing lines of which there may be several.
+OBJECT = re.compile(r'^#.*$', re.MULTILINE)
+ITEM = re.compile(r'^([> ])([* ]) *([0-9]+) +([0-9]+): ([A-Z][A-Z0-9_]*)(?: (.*))?$', re.MULTILINE)
+SHOWN = re.compile(r'^([0-9]+) (#[0-9]+)( .*)?$', re.MULTILINE)
+LEFT = re.compile(r'^left: ([0-9]+) objects, ([0-9]+) marks$', re.MULTILINE)
+RESULT = re.compile(r'^result #([0-9]+)$', re.MULTILINE)
+_CONTAINER = re.compile(r'^begins like an? (.*): picklestep scan looks into it$', re.MULTILINE)
+_CLOSING = re.compile(r'(?:it (?=ends: ))?(refused|fault|unsure|left|kept|ends): (.*)|(highest protocol among opcodes) = (.*)|result #.*|'
+                      r'[0-9]+ imports, .*|begins like .*')
 _WHERE = re.compile(r'at ([0-9]+) of ([0-9]+), offset ([0-9]+), buffers ([0-9]+), result (none|#[0-9]+(?: #[0-9]+)*), end (.*)')
 
 
@@ -138,12 +157,51 @@ def end_of(text: str, item: Optional[int] = None) -> End:
     >>> end_of('F1 ended at 3')
     End(how='fault', code='F1', text='F1 ended at 3', offset=3, item=None)
     """
-    if text == 'stopped':
+    if text in ('stopped', 'STOP'):
         return End('stopped')
     code = text.partition(' ')[0]
-    if code.startswith('F'):
-        return End('fault', code, text, offset=int(text.rpartition(' ')[2]))
+    if code[0] in _AT:
+        return End(_AT[code[0]], code, text, offset=int(text.rpartition(' ')[2]))
     return End('refused', code, text, item=item)
+
+
+# Codes that stand with an offset, by their letter.
+_AT = {'F': 'fault', 'U': 'unsure'}
+
+
+def end_of_item(text: str, offset: Optional[int] = None) -> End:
+    """The end that a closing line shows which names the item that was refused.
+
+    >>> end_of_item('item 2: S2 stack underflow')
+    End(how='refused', code='S2', text='S2 stack underflow', offset=None, item=2)
+    """
+    place, _, words = text.partition(': ')
+    return End('refused', words.partition(' ')[0], words, offset, int(place.rpartition(' ')[2]))
+
+
+def closing_of(lines: Sequence[str]) -> Dict[str, str]:
+    """The closing lines at the end of lines, by their words.
+
+    >>> closing_of(['    0: N    NONE', 'kept: 3 bytes after STOP'])
+    {'kept': '3 bytes after STOP'}
+    """
+    closing: Dict[str, str] = {}
+    for line in reversed(lines):
+        match = _CLOSING.fullmatch(line)
+        if match is None:
+            break
+        closing[match[1] or match[3] or ''] = match[2] or match[4] or ''
+    return closing
+
+
+def container_in(text: str, start: int, end: int) -> Optional[str]:
+    """The container that bytes begin like, where a closing line says one.
+
+    >>> container_in('begins like a zip archive: picklestep scan looks into it\\n0 imports, 0 calls\\n', 0, 76)
+    'zip archive'
+    """
+    match = _CONTAINER.search(text, start, end)
+    return None if match is None else match[1]
 
 
 def where_of(line: str) -> Where:
@@ -225,19 +283,30 @@ class _Units:
         word = self.take()
         if word[0] == "'":
             return Brief('text', unquoted(word), self.more())
+        if word == 'raw':
+            return Brief('raw', unquoted(self.take()), self.more())
         if word[0] == '#':
             return Brief('object', Ref(int(word[1:])))
         if word in _CONSTANTS:
             return Brief(word, _CONSTANTS[word])
         if word == 'global':
-            return Brief(word, Global(_part(self.brief()), _part(self.brief())))
+            return Brief(word, self.named())
         if word == 'ext':
             return Brief(word, Extension(int(self.take())))
         return self.payload(word)
 
+    def named(self) -> Union[Global, Ref]:
+        """What an object imports that is an argument; its number where its names are not known."""
+        module = self.brief()
+        if isinstance(module.value, Ref) and not _TEXT_NEXT.match(self.text, self.at):
+            return module.value
+        return _global(module, self.brief())
+
     def payload(self, kind: str) -> Brief:
         """The value after the word for its kind. Of a number that was cut the first bytes are shown."""
         text = self.take()
+        if text == 'raw':
+            kind, text = f'raw {kind}', self.take()
         more = self.more()
         if text[0] == "'":
             return Brief(kind, unquoted(text), more)
@@ -252,6 +321,7 @@ class _Units:
         return int(match[1])
 
 
+_TEXT_NEXT = re.compile(" (?:raw )?'")
 _MORE = re.compile(r'(?:, )?\+([0-9]+)')
 _CONSTANTS: Dict[str, Optional[bool]] = {'none': None, 'true': True, 'false': False}
 
@@ -263,33 +333,38 @@ def _part(brief: Brief) -> Union[bytes, Ref]:
     raise LinesError(str(brief))
 
 
+def _global(module: Brief, name: Brief) -> Global:
+    """What two parts name."""
+    raw = tuple(part for part, brief in (('module', module), ('name', name)) if brief.kind == 'raw')
+    return Global(_part(module), _part(name), raw)
+
+
 def _brief(value: Value) -> Brief:
     if isinstance(value, Brief):
         return value
     raise LinesError(str(value))
 
 
-def _is_pair(what: str, units: List[Value]) -> bool:
-    """Whether the name in front of these units is a module and a name, the module being an object. Two numbers and one more after
-    'new' can be read in two ways; then they are a class, its arguments and its keywords."""
-    second = units[1] if len(units) > 1 else None
-    if what == 'import' or (isinstance(second, Brief) and second.kind == 'text'):
-        return True
-    if what == 'call':
-        return len(units) == 3
-    return len(units) == 4 or (len(units) == 3 and isinstance(units[2], Briefs))
-
-
 def _name(what: str, units: List[Value]) -> Tuple[Name, List[Value]]:
-    """The name in front of units, and what comes after it."""
+    """The name in front of units, and what comes after it. Only an import shows an object as a module: what is called is shown by its
+    own number where its names are no texts."""
     first = _brief(units[0])
     if isinstance(first.value, Extension):
         return first.value, units[1:]
-    if isinstance(first.value, bytes) or _is_pair(what, units):
-        return Global(_part(first), _part(_brief(units[1]))), units[2:]
+    if isinstance(first.value, bytes) or what == 'import':
+        return _global(first, _brief(units[1])), units[2:]
     if isinstance(first.value, Ref):
         return first.value, units[1:]
     raise LinesError(str(first))
+
+
+def _said(what: str, units: '_Units') -> Tuple[Optional[Global], List[Value]]:
+    """The names of Python 2 behind `for`, and what comes after them."""
+    units.take()
+    said, values = _name(what, units.until('as'))
+    if not isinstance(said, Global):
+        raise LinesError(str(said))
+    return said, values
 
 
 def reach_of(line: str) -> Reach:
@@ -297,6 +372,8 @@ def reach_of(line: str) -> Reach:
 
     >>> reach_of("   23: call 'posix' 'system' ('id') as #3").name
     Global(module=b'posix', name=b'system')
+    >>> reach_of("    0: import 'builtins' 'eval' for '__builtin__' 'eval' as #0").said
+    Global(module=b'__builtin__', name=b'eval')
     """
     match = _REACH.match(line)
     if match is None:
@@ -307,10 +384,13 @@ def reach_of(line: str) -> Reach:
 
 def _named(offset: int, what: str, text: str, units: _Units) -> Reach:
     """Lines that name what is imported or called, and end in the object that is made."""
-    name, values = _name(what, units.until('as'))
+    name, values = _name(what, units.until('as', 'for'))
+    said = None
+    if units.peek() == 'for':
+        said, values = _said(what, units)
     number = _last_number(units)
     return Reach(offset, what, text, name=name, value=values[0] if values else None,
-                 keywords=values[1] if len(values) > 1 else None, number=number)
+                 keywords=values[1] if len(values) > 1 else None, number=number, said=said)
 
 
 def _last_number(units: _Units) -> int:

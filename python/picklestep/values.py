@@ -8,7 +8,8 @@ from __future__ import annotations
 
 import codecs
 import pickletools
-from typing import Any, Callable, Dict, Tuple, Union
+import re
+from typing import Any, Callable, Dict, Optional, Tuple, Union
 
 __all__ = ['Argument', 'PLAIN_KINDS', 'PlainValue', 'Unreadable', 'argument_value', 'kind_value', 'read_form', 'unescaped']
 
@@ -45,19 +46,46 @@ def _quoted(data: bytes) -> str:
     return unescaped(data).decode('ascii')
 
 
+# What C's `strtol` takes for a number: one that begins with 0 is octal.
+_C_NUMBER = re.compile(rb'[ \t\v\f\r]*([+-]?)(0[xX][0-9a-fA-F]+|0[0-7]*|[1-9][0-9]*)')
+
+
+def _up_to_nul(data: bytes) -> bytes:
+    """What C reads of the line of a number."""
+    return data.partition(b'\0')[0]
+
+
 def _decimal(data: bytes) -> Union[bool, int]:
-    """The line of INT, where 00 and 01 are the truth values."""
-    if data in (b'00', b'01'):
-        return data == b'01'
-    return int(data, 0)
+    """The line of INT as C reads it, which takes all that Python takes. A number of two letters that is 0 or 1 is a truth value.
+
+    Where `strtol` does not read the whole line, or the number is too large for it, the line is read as `int` does.
+    """
+    line = _up_to_nul(data)
+    number = _c_number(line) if line or not data else 0
+    if number is None:
+        return int(line, 0)
+    return bool(number) if len(data) == 2 and number in (0, 1) else number
+
+
+def _c_number(line: bytes) -> Optional[int]:
+    found = _C_NUMBER.fullmatch(line)
+    if found is None:
+        return None
+    digits = found[2]
+    number = int(found[1] + digits, 16 if digits[:2] in (b'0x', b'0X') else 8 if digits[:1] == b'0' else 10)
+    return number if -1 << 63 <= number < 1 << 63 else None
 
 
 def _long(data: bytes) -> int:
-    return int(data[:-1] if data.endswith(b'L') else data, 0)
+    return int(_up_to_nul(data[:-1] if data.endswith(b'L') else data), 0)
+
+
+def _float(data: bytes) -> float:
+    return float(_up_to_nul(data))
 
 
 _READERS: Dict[str, Callable[[bytes], Union[bool, int, float, str, bytes, bytearray]]] = {
-    'decimalnl_short': _decimal, 'decimalnl_long': _long, 'floatnl': float, 'stringnl': _quoted, 'stringnl_noescape': _legacy,
+    'decimalnl_short': _decimal, 'decimalnl_long': _long, 'floatnl': _float, 'stringnl': _quoted, 'stringnl_noescape': _legacy,
     'unicodestringnl': _escaped, 'string1': _legacy, 'string4': _legacy, 'unicodestring1': _text,
     'unicodestring4': _text, 'unicodestring8': _text, 'bytearray8': bytearray}
 

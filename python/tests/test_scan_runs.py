@@ -148,7 +148,7 @@ class Runs(RunCase):
     def test_a_log_that_is_none(self) -> None:
         """Its lines count as not there."""
         self.fill(2)
-        odd = '{"path": [], "size": 1, "modified": 1, "changed": 1, "pickles": [], "notes": [], "others": 0, "error": null, "left": null}'
+        odd = '{"path": [], "size": 1, "modified": 1, "changed": 1, "pickles": [], "notes": [], "not_pickles": 0, "forms": {}, "error": null, "skipped": null}'
         self.file('log', '\n'.join(['[' * 100_000, '{"path": ' * 100_000, '[]', '""', 'null', odd, '']).encode())
         run = self.scan('files', '--json', '--resume', 'log')
         self.assertEqual(len(run.stdout.splitlines()), 2)
@@ -182,9 +182,9 @@ class Runs(RunCase):
                            env=environment(), stdout=out, stderr=subprocess.DEVNULL, timeout=60)
         self.assertTrue((self.folder / 'other').read_text().startswith('{"path": "files/0001.pkl"'))
 
-    def test_a_reader_that_leaves(self) -> None:
-        self.fill(40)
-        run = self.start(['files', '--json'], environment())
+    def leave(self, *words: str) -> None:
+        """Reads the first line of a run, and leaves."""
+        run = self.start(['files', *words], environment())
         assert run.stdout is not None and run.stderr is not None
         run.stdout.readline()
         run.stdout.close()
@@ -192,17 +192,15 @@ class Runs(RunCase):
         self.assertEqual(run.stderr.read(), '')
         run.stderr.close()
 
+    def test_a_reader_that_leaves(self) -> None:
+        self.fill(40)
+        self.leave('--json')
+
     def test_a_reader_that_leaves_and_other_files(self) -> None:
         """These are written whole."""
         self.fill(40)
         self.scan('files', '--sarif', 'whole', '--write-allow', 'whole.txt')
-        run = self.start(['files', '--sarif', 'left', '--write-allow', 'left.txt'], environment())
-        assert run.stdout is not None and run.stderr is not None
-        run.stdout.readline()
-        run.stdout.close()
-        self.assertEqual(run.wait(60), 128 + signal.SIGPIPE)
-        self.assertEqual(run.stderr.read(), '')
-        run.stderr.close()
+        self.leave('--sarif', 'left', '--write-allow', 'left.txt')
         for whole, left in (('whole', 'left'), ('whole.txt', 'left.txt')):
             self.assertEqual((self.folder / left).read_text(), (self.folder / whole).read_text())
 

@@ -88,5 +88,20 @@ class ByNames(ScanCase):
                 self.assertEqual(list(judge.looks(result)), [], name)
 
 
+class Done(unittest.TestCase):
+    """What may be done with the names of the sets."""
+
+    def test_each_name_is_limited(self) -> None:
+        """What a pickler imports is called or passed on. It gets no state, and nothing is put into it."""
+        for name in SETS:
+            names = read_names([name])
+            for each in (*names.names, *(pattern for pattern, _, _ in names.patterns)):
+                with self.subTest(name, name=each):
+                    self.assertFalse(names.allows_done('state', each) or names.allows_done('set', each) or names.allows_done('append', each))
+        torch = read_names(['torch'])
+        self.assertTrue(torch.allows_done('call', 'torch._utils._rebuild_tensor_v2'))
+        self.assertFalse(torch.allows_done('call', 'torch.FloatStorage') or torch.allows_done('inst', 'torch.float32'))
+
+
 if __name__ == '__main__':
     unittest.main()

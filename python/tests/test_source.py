@@ -74,6 +74,8 @@ class Reaching(unittest.TestCase):
         for name, data in real_pickles().items():
             with self.subTest(name):
                 calls, answer = picklestep.calls(data, many=True), source(data, many=True)
+                if calls.end.how == 'unsure':  # (a frame goes on behind STOP: only `calls` ends there)
+                    continue
                 self.assertEqual(answer.end, calls.end)
                 self.assertEqual(_offsets(answer.text), sorted({reach.offset for reach in calls}))
                 self.assertEqual(_made(answer.text), sorted(reach.number for reach in calls if reach.number is not None and (
@@ -188,12 +190,21 @@ class Shown(unittest.TestCase):
         self.assertIn(f'from os import {name}  # ', source(data, full=False).text)
 
     def test_texts_that_no_loader_takes(self) -> None:
-        for data in (b'X\x01\0\0\0\xff.', b'U\x01\xff.', b'I1x\n.', b'Fa\n.', b'Lx\n.', b'V\\u12\n.'):
+        for data in (b'X\x01\0\0\0\xff.', b'U\x01\xff.', b'I1x\n.', b'I08\n.', b'I0777777777777777777777777\n.', b'Fa\n.', b'Lx\n.', b'V\\u12\n.'):
             with self.subTest(data):
                 with self.assertRaises(ValueError):
                     pickle.loads(data)
                 with self.assertRaises(ValueError):
                     executed(source(data).text)
+
+
+    def test_numbers_as_c_reads_them(self) -> None:
+        """A number of INT with a 0 before it is octal, and one ends at a NUL byte."""
+        for data in (b'I010\n.', b'I-0377\n.', b'I 010\n.', b'I001\n.', b'I-0\n.', b'I+1\n.', b'I7\0x\n.', b'I0x10\n.', b'I1_0\n.', b'L7\0x\n.',
+                     b'F1.5\0x\n.'):
+            with self.subTest(data):
+                made = executed(source(data).text)['result']
+                self.assertEqual((made, type(made)), (pickle.loads(data), type(pickle.loads(data))))
 
 
 class Large(unittest.TestCase):

@@ -20,6 +20,7 @@ use Rattle.pickle_ops.specs.Row.{count_of, values_of, change_of}
 use Rattle.pickle_machine.specs.declared.refusal.Refusal.TheVariants as refusal
 use Rattle.pickle_machine.specs.State.{Marked, Left, State, start}
 use Rattle.pickle_machine.specs.Move.{deep, put, memo_at, change_top, changes_of, pairs_of, refusal_of, next_of, begun, fresh, changed, push, last_of, without, cut, put_on, under, deeper}
+use Rattle.pickle_machine.specs.Loader.{cleared}
 use Rattle.pickle_machine.specs.Names.{AreNames, AreNaming, named_by, IsNaming, IsNamingBehind, NamesAll}
 use Rattle.pickle_machine.proofs.Leading.{good_of, deep_of}
 use Rattle.pickle_machine.proofs.HeapGrowth.{changed_length, push_length}
@@ -216,6 +217,17 @@ begun_names s i = record {
   memo = All-nil (λ id. id < length s.heap);
   results = i.results;
   left = All-cons (λ l. IsNamingBehind (length s.heap) l) (record { top = s.top; marked = s.marked }) s.left (record { top = i.top; marked = i.marked }) i.left;
+}
+
+-- the stack and the results are dropped
+pub cleared_names : (s : State) → NamesAll s → NamesAll (cleared s)
+cleared_names s i = record {
+  heap = i.heap;
+  top = All-nil (λ id. id < length s.heap);
+  marked = All-nil (λ m. AreNames (length s.heap) m.section);
+  memo = i.memo;
+  results = All-nil (λ id. id < length s.heap);
+  left = i.left;
 }
 
 -- a step, also a first one

@@ -5,8 +5,9 @@ ghost use Rattle.pickle_script.specs.Output.{AnswersText};
 
 use crate::stop::Stop;
 use pickle_doc::LIMIT;
+use pickle_further::Pickles;
 use pickle_ops::Page;
-use pickle_show::{calls_of_bytes, list_bytes, report_of_bytes};
+use pickle_show::{list_bytes, report_of_bytes};
 use std::alloc::Global;
 
 /// What is written of an input.
@@ -17,12 +18,14 @@ pub enum Text {
     /// The report of the objects that they make: the lines of all objects, up to the end or to one that is refused, a line for each
     /// result, and a closing line where one is refused or the bytes have a fault.
     Objects,
-    /// What they would import and call: a line for each step that does so, and how many imports and calls these are.
-    Calls,
+    /// What they would import and call in this reading, whatever the mode: a line for each step that does so, how many imports and calls
+    /// these are, and behind an end at which loaders part what those may do that go on.
+    Calls(Pickles),
 }
 
 /// Writes a text of the pickle that the bytes are, or where `many` holds of several pickles that follow one another, and answers its
-/// status: 1 where an item is refused or the bytes have a fault, else 0.
+/// status: 1 where an item is refused or the bytes have a fault, else 0. What is imported and called has a reading of its own and does
+/// not depend on `many`; its status is 0 where the reading ends with the bytes, right behind a STOP, else 1.
 /// `Stop::TooLarge` where there are more bytes than `LIMIT`: nothing was written then. `Stop::Memory` where memory runs out,
 /// `Stop::Write` where the sink fails: what was written then is a beginning of the text, and of a report nothing where memory ran out.
 /// The sink may still hold a part of what was written: the caller flushes it.
@@ -41,7 +44,7 @@ pub fn write_text<S: Page>(
     match text {
         Text::Listing => Ok(list_bytes(alloc, many, bytes, sink)?),
         Text::Objects => Ok(report_of_bytes(alloc, many, bytes, sink)?),
-        Text::Calls => Ok(calls_of_bytes(alloc, many, bytes, sink)?),
+        Text::Calls(pickles) => Ok(pickle_further::calls(alloc, pickles, bytes, sink)?),
     }
 }
 
@@ -73,17 +76,14 @@ pub fn objects_many<S: Page>(alloc: Global, bytes: &[u8], sink: &mut S) -> Resul
     write_text(alloc, Text::Objects, true, bytes, sink)
 }
 
-/// Writes what the pickle would import and call, as `write_text` does.
-pub fn calls<S: Page>(alloc: Global, bytes: &[u8], sink: &mut S) -> Result<u8, Stop>
-    ensures { AnswersText Text.Calls false bytes.now S.told sink.old sink.new result }
+/// Writes what the pickles would import and call in this reading, as `write_text` does: the lines of all of them, and the counts once.
+pub fn calls<S: Page>(
+    alloc: Global,
+    pickles: Pickles,
+    bytes: &[u8],
+    sink: &mut S,
+) -> Result<u8, Stop>
+    ensures { AnswersText (Text.Calls pickles) false bytes.now S.told sink.old sink.new result }
 {
-    write_text(alloc, Text::Calls, false, bytes, sink)
-}
-
-/// Writes what several pickles, one after another, would import and call, as `write_text` does: the lines of all of them, and the
-/// counts once.
-pub fn calls_many<S: Page>(alloc: Global, bytes: &[u8], sink: &mut S) -> Result<u8, Stop>
-    ensures { AnswersText Text.Calls true bytes.now S.told sink.old sink.new result }
-{
-    write_text(alloc, Text::Calls, true, bytes, sink)
+    write_text(alloc, Text::Calls(pickles), false, bytes, sink)
 }

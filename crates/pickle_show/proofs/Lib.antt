@@ -3,8 +3,12 @@ pub mod Fronts
 pub mod Walking
 pub mod Steps
 pub mod Reaches
+pub mod Exact
+pub mod LinesApart
 pub mod Codes
 pub mod Names
+pub mod Namings
+pub mod Cutting
 pub mod Moves
 pub mod Places
 pub mod Listings

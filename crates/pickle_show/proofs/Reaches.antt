@@ -27,6 +27,7 @@ use Rattle.pickle_machine.specs.State.{Marked, State, stack_size, section_sizes,
 use Rattle.pickle_machine.specs.Move.{next_of, refusal_of, refusal_at, next, outcome, cut, under, deeper, without, changes_of, change_top, last_of, deep, object_meets, unless, if_deep, begun, fresh}
 use Rattle.pickle_machine.proofs.HeapGrowth.{fresh_heap}
 use Rattle.pickle_machine.specs.Run.{after}
+use Rattle.pickle_machine.specs.Loader.{loose_at}
 use Rattle.pickle_machine.proofs.Shown.{last_of_more}
 use Rattle.pickle_show.proofs.Runs.{run_after}
 use Rattle.pickle_show.proofs.Walks.{one_line}
@@ -34,8 +35,9 @@ use Rattle.pickle_show.specs.Column.{right_aligned, newline}
 use Rattle.pickle_show.specs.declared.event.Event.{Event}
 use Rattle.pickle_show.specs.Event.{before_of, top_of, is_view, made_event, filled_event, event_of}
 use Rattle.pickle_show.specs.CallsLine.{event_text, event_line, line_of}
-use Rattle.pickle_show.specs.Calls.{CountedText, entry_at, calls}
-use Rattle.pickle_show.specs.CallsLaws.{OneText, IsStep, NoLineNoReach, Makes, Changes, LinesReach}
+use Rattle.pickle_show.specs.declared.naming.Naming.{Naming}
+use Rattle.pickle_show.specs.Calls.{naming_at, CountedText, entry_at, calls}
+use Rattle.pickle_show.specs.CallsLaws.{OneText, IsStep, NoLineNoReach, Makes, Changes, IsShown, row_adds, adds}
 use Rattle.pickle_show.proofs.Walking.{entry_is}
 use Rattle.pickle_show.proofs.Steps.{pushed_unseen, pushed_shown, none_made, Same, Grown, after_changes, got_changes, top_is, fills_unseen, fills_shown, is_there, not_there}
 
@@ -108,15 +110,15 @@ into_unseen f items s u same top n e id o there opaque = elim (after_changes u.h
   ])
 ]
 
--- an event: an opaque object got changes, or a state was set
+-- an event: an opaque object got changes, or one or a view of one was appended or added to, or a state was set
 into_shown : (f : Filling) (items : List ℕ) (s u : State) (x : Event) → u.heap ≡ s.heap → 0 < length u.top → stack_size s - stack_size u ≡ length items
     → filled_event f (before_of s) (change_top (changes_of f items) u) ≡ Some x
-    → Changes s (change_top (changes_of f items) u) ⊎ (f ≡ filling.Build)
+    → Changes s (change_top (changes_of f items) u) ⊎ (((adds f ≡ true) × (loose_at (change_top (changes_of f items) u).heap (top_of (change_top (changes_of f items) u)) ≡ true)) ⊎ (f ≡ filling.Build))
 into_shown f items s u x same top n e = elim (fills_shown f items (before_of s) (change_top (changes_of f items) u) x n e) [
-  | inr build ↦ inr build
-  | inl shown ↦
+  | inr rest ↦ inr rest
+  | inl some ↦
       let target : top_of u ≡ deep 0 u.top = top_is u top in
-      let new = is_there is_opaque (change_top (changes_of f items) u).heap (top_of u) shown.1 in
+      let new = is_there is_opaque (change_top (changes_of f items) u).heap (top_of u) some.1 in
       let here : slice_get (change_top (changes_of f items) u).heap (deep 0 u.top) ≡ Some new.0 = ap (slice_get (change_top (changes_of f items) u).heap) (sym target) ∙ new.1 in
       let old = got_changes u.heap (deep 0 u.top) (changes_of f items) new.0 here in
       inl (record {
@@ -126,7 +128,7 @@ into_shown f items s u x same top n e = elim (fills_shown f items (before_of s) 
         before = ap (λ (h : List Object). slice_get h (deep 0 u.top)) (sym same) ∙ old.1;
         after = here;
         opaque = ap (λ (y : Object). is_opaque y.kind) (sym old.2) ∙ new.2;
-        more = omega (arith, shown.0, ap (λ (y : Object). length y.changes) old.2, length-append old.0.changes (changes_of f items));
+        more = omega (arith, some.0, ap (λ (y : Object). length y.changes) old.2, length-append old.0.changes (changes_of f items));
       })
 ]
 
@@ -146,7 +148,7 @@ unseen_view true s u x e m id o h q = h
 unseen_view false s u x e m id o h q =
     pushed_unseen s.heap x (ap (λ (l : List Object). made_event l (length s.heap)) (sym e) ∙ m) id o (ap (λ (l : List Object). slice_get l id) (sym e) ∙ h) q
 
-row_unseen : (r : Row) (k : Kind) (place : ℕ) (s : State) → refusal_of r s ≡ None → event_of r (before_of s) (next_of r k place s) ≡ None
+pub row_unseen : (r : Row) (k : Kind) (place : ℕ) (s : State) → refusal_of r s ≡ None → event_of r (before_of s) (next_of r k place s) ≡ None
     → (id : ℕ) (o : Object) → slice_get (next_of r k place s).heap id ≡ Some o → is_opaque o.kind ≡ true → slice_get s.heap id ≡ Some o
 row_unseen row.Nothing k place s f m id o h q = h
 row_unseen (row.Protocol n) k place s f m id o h q = h
@@ -172,10 +174,10 @@ row_unseen row.Memoize k place s f m id o h q = h
 row_unseen row.Stop k place s f m id o h q = h
 
 -- what a row has an event for
-abbrev IsShown : Row → State → State → Type 0
-IsShown r s t = Makes s t ⊎ (Changes s t ⊎ ((r ≡ row.Change filling.Build) ⊎ (r ≡ row.CutChange filling.Build)))
+abbrev pub RowShown : Row → State → State → Type 0
+RowShown r s t = Makes s t ⊎ (Changes s t ⊎ (((row_adds r ≡ true) × (loose_at t.heap (top_of t) ≡ true)) ⊎ ((r ≡ row.Change filling.Build) ⊎ (r ≡ row.CutChange filling.Build))))
 
-pushes : (r : Row) (s t : State) (x : Object) (event : Event) → t.heap ≡ s.heap ++ x ∷ [] → made_event t.heap (length s.heap) ≡ Some event → IsShown r s t
+pushes : (r : Row) (s t : State) (x : Object) (event : Event) → t.heap ≡ s.heap ++ x ∷ [] → made_event t.heap (length s.heap) ≡ Some event → RowShown r s t
 pushes r s t x event e m =
     let at : made_event (s.heap ++ x ∷ []) (length s.heap) ≡ Some event = ap (λ (l : List Object). made_event l (length s.heap)) (sym e) ∙ m in
     let shown : (is_opaque x.kind ≡ true) ⊎ (is_view t.heap x ≡ true) = subst (λ (l : List Object). (is_opaque x.kind ≡ true) ⊎ (is_view l x ≡ true)) (sym e) (pushed_shown s.heap x event at) in
@@ -187,17 +189,17 @@ pushes r s t x event e m =
       shown = shown;
     })
 
-shown_stays : (r : Row) (s t : State) (event : Event) → t.heap ≡ s.heap → made_event t.heap (length s.heap) ≡ Some event → IsShown r s t
+shown_stays : (r : Row) (s t : State) (event : Event) → t.heap ≡ s.heap → made_event t.heap (length s.heap) ≡ Some event → RowShown r s t
 shown_stays r s t event e m =
     let no : None ≡ Some event = sym (none_made s.heap) ∙ ap (λ (l : List Object). made_event l (length s.heap)) (sym e) ∙ m in
     absurd cc
 
-shown_view : (r : Row) (b : Bool) (s u : State) (x : Object) (event : Event) → u.heap ≡ s.heap ++ x ∷ [] → made_event (cond b s u).heap (length s.heap) ≡ Some event → IsShown r s (cond b s u)
+shown_view : (r : Row) (b : Bool) (s u : State) (x : Object) (event : Event) → u.heap ≡ s.heap ++ x ∷ [] → made_event (cond b s u).heap (length s.heap) ≡ Some event → RowShown r s (cond b s u)
 shown_view r true s u x event e m = shown_stays r s s event refl m
 shown_view r false s u x event e m = pushes r s u x event e m
 
-row_shown : (r : Row) (k : Kind) (place : ℕ) (s : State) (event : Event) → refusal_of r s ≡ None → event_of r (before_of s) (next_of r k place s) ≡ Some event
-    → IsShown r s (next_of r k place s)
+pub row_shown : (r : Row) (k : Kind) (place : ℕ) (s : State) (event : Event) → refusal_of r s ≡ None → event_of r (before_of s) (next_of r k place s) ≡ Some event
+    → RowShown r s (next_of r k place s)
 row_shown row.Nothing k place s x f m = shown_stays _ s s x refl m
 row_shown (row.Protocol n) k place s x f m = shown_stays _ s s x refl m
 row_shown (row.Extension n) k place s x f m = pushes _ s _ _ x refl m
@@ -210,13 +212,19 @@ row_shown (row.Change g) k place s x f m =
     let deep : values_of g + 1 ≤ length s.top = deep_enough _ _ _ f in
     elim (into_shown g (last_of (values_of g) s) s (without (values_of g) s) x refl (left_without (values_of g) s (omega (arith, deep))) (taken_without (values_of g) s (omega (arith, deep))) m) [
       | inl changes ↦ inr (inl changes)
-      | inr build ↦ inr (inr (inl (ap row.Change build)))
+      | inr rest ↦ inr (inr (elim rest [
+        | inl touches ↦ inl touches
+        | inr build ↦ inr (inl (ap row.Change build))
+      ]))
     ]
 row_shown (row.CutChange g) k place s x f m =
     let there : 0 < length (under s.marked) = under_mark s _ f in
     elim (into_shown g s.top s (cut s) x refl there (taken_cut s s.marked refl there) m) [
       | inl changes ↦ inr (inl changes)
-      | inr build ↦ inr (inr (inr (ap row.CutChange build)))
+      | inr rest ↦ inr (inr (elim rest [
+        | inl touches ↦ inl touches
+        | inr build ↦ inr (inr (ap row.CutChange build))
+      ]))
     ]
 row_shown row.Pop k place s x f m = shown_stays _ s (cond (nat_lt 0 (length s.top)) (without 1 s) (cut s)) x (by_either (nat_lt 0 (length s.top)) s (without 1 s) (cut s) refl refl) m
 row_shown row.PopMark k place s x f m = shown_stays _ s _ x refl m
@@ -240,11 +248,11 @@ no_cut_build _ arg e = cc
 -- ---- items
 
 -- an item that is there, and has a move
-record Moves (x : Option Operation) (k : ℕ) (s t : State) : Type 0 where
-  item : Operation
-  there : x ≡ Some item
-  accepted : refusal_at item s ≡ None
-  leads : next item k s ≡ t
+pub record Moves (x : Option Operation) (k : ℕ) (s t : State) : Type 0 where
+  pub item : Operation
+  pub there : x ≡ Some item
+  pub accepted : refusal_at item s ≡ None
+  pub leads : next item k s ≡ t
 
 by_outcome : (r : Option Refusal) (u t : State) → result_ok (outcome r u) ≡ Some t → (r ≡ None) × (u ≡ t)
 by_outcome None u t e = (refl, cc)
@@ -254,7 +262,7 @@ moves : (x : Option Operation) (k : ℕ) (s t : State) → after x k (Some s) �
 moves None k s t e = absurd cc
 moves (Some o) k s t e = let m = by_outcome (refusal_at o s) (next o k s) t e in record { item = o; there = refl; accepted = m.0; leads = m.1 }
 
-moves_at : (d : Contents) (k : ℕ) (s t : State) → IsStep d k s t → Moves (item_at d k) k s t
+pub moves_at : (d : Contents) (k : ℕ) (s t : State) → IsStep d k s t → Moves (item_at d k) k s t
 moves_at d k s t step =
     moves (item_at d k) k s t (ap (λ (y : Option State). after (item_at d k) k y) (sym step.before) ∙ run_after (start d.many) (ops_of d) k t step.after)
 
@@ -271,17 +279,17 @@ changes_by false s t c = c
 -- ---- lines
 
 -- a line ends with a newline
-long : (offset : ℕ) (heap : List Object) (e : Event) → 0 < length (event_line offset heap e)
+pub long : (offset : ℕ) (m : Naming) (heap : List Object) (e : Event) → 0 < length (event_line offset m heap e)
 unfolding event_line
-long offset heap e = omega (arith, one_line (right_aligned 5 (decimal offset) ⧺ codes ": " ⧺ event_text heap e) newline)
+long offset m heap e = omega (arith, one_line (right_aligned 5 (decimal offset) ⧺ codes ": " ⧺ event_text m heap e) newline)
 
-no_line : (offset : ℕ) (heap : List Object) (x : Option Event) → line_of offset heap x ≡ [] → x ≡ None
-no_line offset heap None h = refl
-no_line offset heap (Some e) h = absurd (omega (arith, long offset heap e, ap length h))
+pub no_line : (offset : ℕ) (m : Naming) (heap : List Object) (x : Option Event) → line_of offset m heap x ≡ [] → x ≡ None
+no_line offset m heap None h = refl
+no_line offset m heap (Some e) h = absurd (omega (arith, long offset m heap e, ap length h))
 
-a_line : (offset : ℕ) (heap : List Object) (x : Option Event) → line_of offset heap x ≢ [] → (e : Event) × (x ≡ Some e)
-a_line offset heap None h = absurd (h refl)
-a_line offset heap (Some e) h = (e, refl)
+a_line : (offset : ℕ) (m : Naming) (heap : List Object) (x : Option Event) → line_of offset m heap x ≢ [] → (e : Event) × (x ≡ Some e)
+a_line offset m heap None h = absurd (h refl)
+a_line offset m heap (Some e) h = (e, refl)
 
 -- ---- the laws
 
@@ -289,27 +297,30 @@ pub no_line_no_reach : NoLineNoReach
 no_line_no_reach d k s t step none id o there opaque =
     let m = moves_at d k s t step in
     let from : State = fresh s in
-    let here : (entry_at d k).text ≡ line_of (offset_of d k) t.heap (event_of (row_of m.item) (before_of from) t) = ap (λ (e : CountedText). e.text) (entry_is d k m.item s t m.there step.before step.after) in
-    let nothing : event_of (row_of m.item) (before_of from) t ≡ None = no_line _ _ _ (sym here ∙ none) in
+    let here : (entry_at d k).text ≡ line_of (offset_of d k) (naming_at d k) t.heap (event_of (row_of m.item) (before_of from) t) = ap (λ (e : CountedText). e.text) (entry_is d k m.item s t m.there step.before step.after) in
+    let nothing : event_of (row_of m.item) (before_of from) t ≡ None = no_line _ _ _ _ (sym here ∙ none) in
     let at : event_of (row_of m.item) (before_of from) (next m.item k s) ≡ None = ap (λ (u : State). event_of (row_of m.item) (before_of from) u) m.leads ∙ nothing in
     ap (λ (h : List Object). slice_get h id) (sym (fresh_heap s))
     ∙ row_unseen (row_of m.item) (kind_of m.item) k from m.accepted at id o (ap (λ (u : State). slice_get u.heap id) m.leads ∙ there) opaque
 
-pub lines_reach : LinesReach
-lines_reach d k s t step some =
+pub only_shown : (d : Contents) (k : ℕ) (s t : State) → IsStep d k s t → (entry_at d k).text ≢ [] → IsShown d k s t
+only_shown d k s t step some =
     let m = moves_at d k s t step in
     let from : State = fresh s in
-    let here : (entry_at d k).text ≡ line_of (offset_of d k) t.heap (event_of (row_of m.item) (before_of from) t) = ap (λ (e : CountedText). e.text) (entry_is d k m.item s t m.there step.before step.after) in
-    let event = a_line (offset_of d k) t.heap (event_of (row_of m.item) (before_of from) t) (λ e. some (here ∙ e)) in
+    let here : (entry_at d k).text ≡ line_of (offset_of d k) (naming_at d k) t.heap (event_of (row_of m.item) (before_of from) t) = ap (λ (e : CountedText). e.text) (entry_is d k m.item s t m.there step.before step.after) in
+    let event = a_line (offset_of d k) (naming_at d k) t.heap (event_of (row_of m.item) (before_of from) t) (λ e. some (here ∙ e)) in
     let at : event_of (row_of m.item) (before_of from) (next m.item k s) ≡ Some event.0 = ap (λ (u : State). event_of (row_of m.item) (before_of from) u) m.leads ∙ event.1 in
-    let all : IsShown (row_of m.item) from t = subst (λ (u : State). IsShown (row_of m.item) from u) m.leads (row_shown (row_of m.item) (kind_of m.item) k from event.0 m.accepted at) in
+    let all : RowShown (row_of m.item) from t = subst (λ (u : State). RowShown (row_of m.item) from u) m.leads (row_shown (row_of m.item) (kind_of m.item) k from event.0 m.accepted at) in
     elim all [
       | inl makes ↦ inl (makes_by s.stopped s t makes)
       | inr rest ↦ (elim rest [
         | inl changes ↦ inr (inl (changes_by s.stopped s t changes))
-        | inr build ↦ (elim build [
-          | inl one ↦ inr (inr (m.item, m.there, build_only m.item.opcode m.item.arg one))
-          | inr two ↦ inr (inr (m.item, m.there, no_cut_build m.item.opcode m.item.arg two))
+        | inr more ↦ (elim more [
+          | inl touches ↦ inr (inr (inl (m.item, m.there, touches.0, touches.1)))
+          | inr build ↦ (elim build [
+            | inl one ↦ inr (inr (inr (m.item, m.there, build_only m.item.opcode m.item.arg one)))
+            | inr two ↦ inr (inr (inr (m.item, m.there, no_cut_build m.item.opcode m.item.arg two)))
+          ])
         ])
       ])
     ]

@@ -1,9 +1,8 @@
 -- What a move does to the heap, object by object, and its event.
-use Rattle.std.proofs.Common.{◌≡◌, ◌⊎◌, ℕ, zero, suc, ◌+◌, ◌-◌, ◌/◌, ◌<◌, ◌≤◌, Bool, true, false, List, [], ◌∷◌, ◌++◌, length, map, Option, Some, None, refl, sym, ap, subst, ◌∙◌, inl, inr, arith, length-append}
+use Rattle.std.proofs.Common.{◌≡◌, ◌⊎◌, ℕ, zero, suc, ◌+◌, ◌-◌, ◌/◌, ◌<◌, ◌≤◌, Bool, true, false, List, [], ◌∷◌, ◌++◌, length, Option, Some, None, refl, sym, ap, subst, ◌∙◌, inl, inr, arith, length-append}
 use Rattle.std.specs.Prelude.{slice_get, slice_set, ◌&&◌, ◌||◌, nat_lt, if◌then◌else◌}
 use Rattle.std.specs.Option.{option_map_or, unwrap_or}
 use Rattle.std.proofs.lemmas.Bool.{cases_lt, lt-ltb}
-use Rattle.std.proofs.lemmas.List.{length-map}
 use Rattle.std.proofs.lemmas.Option.{slice_get_past, slice_get_within, unwrap_or-slice_get}
 use Rattle.pickle_doc.proofs.Lists.{get-within, get-behind}
 use Rattle.pickle_ops.specs.declared.kind.Kind.{Kind}
@@ -12,13 +11,14 @@ use Rattle.pickle_ops.specs.declared.row.Filling.TheVariants as filling
 use Rattle.pickle_ops.specs.declared.object.Change.{Change}
 use Rattle.pickle_ops.specs.Object.{Object}
 use Rattle.pickle_ops.specs.Kind.{is_opaque}
-use Rattle.pickle_ops.specs.Row.{change_of}
 use Rattle.pickle_machine.specs.State.{State, stack_size, objects_below}
+use Rattle.pickle_machine.specs.Loader.{loose_at, view_at}
 use Rattle.pickle_machine.specs.Move.{changed, changes_of, pairs_of, deep}
 use Rattle.pickle_machine.proofs.Shown.{last_of_more, length-objects_below}
 use Rattle.pickle_show.specs.declared.event.Event.{Event}
 use Rattle.pickle_show.specs.declared.event.Before.{Before}
-use Rattle.pickle_show.specs.Event.{top_of, object_is, is_shown, is_view, made_event, made_as, taken_count, filled_count, into, filled_event}
+use Rattle.pickle_show.specs.Event.{top_of, object_is, is_shown, is_view, made_event, made_as, taken_count, filled_count, filled_event}
+use Rattle.pickle_show.specs.CallsLaws.{adds}
 
 -- ---- truth values
 
@@ -61,7 +61,7 @@ not_below (suc n) e = let t : nat_lt 0 (suc n) ≡ true = lt-ltb 0 (suc n) (omeg
 
 -- ---- one object more
 
-get_pushed : (heap : List Object) (x : Object) (id : ℕ) (o : Object) → slice_get (heap ++ x ∷ []) id ≡ Some o → (slice_get heap id ≡ Some o) ⊎ ((id ≡ length heap) × (o ≡ x))
+pub get_pushed : (heap : List Object) (x : Object) (id : ℕ) (o : Object) → slice_get (heap ++ x ∷ []) id ≡ Some o → (slice_get heap id ≡ Some o) ⊎ ((id ≡ length heap) × (o ≡ x))
 get_pushed heap x id o e = elim (cases_lt id (length heap)) [
   | inl there ↦ inl (sym (get-within heap (x ∷ []) id there) ∙ e)
   | inr far ↦
@@ -174,50 +174,26 @@ pairs_more [] h = absurd (omega (arith, h))
 pairs_more (k ∷ []) h = absurd (omega (arith, h))
 pairs_more (k ∷ v ∷ rest) h = omega arith
 
-items_none : (items : List ℕ) → length items ≡ 0 → items ≡ []
-items_none [] e = refl
-items_none (x ∷ items) e = absurd cc
-
-no_changes : (f : Filling) (items : List ℕ) → filled_count f (length items) ≡ 0 → changes_of f items ≡ []
-no_changes filling.Append items e = ap (map (change_of filling.Append)) (items_none items e)
-no_changes filling.SetItem items e = pairs_short items e
-no_changes filling.Add items e = ap (map (change_of filling.Add)) (items_none items e)
-no_changes filling.Build items e = ap (map (change_of filling.Build)) (items_none items e)
-
-some_changes : (f : Filling) (items : List ℕ) → 0 < filled_count f (length items) → 0 < length (changes_of f items)
-some_changes filling.Append items h = omega (arith, h, length-map items (change_of filling.Append))
-some_changes filling.SetItem items h = pairs_more items h
-some_changes filling.Add items h = omega (arith, h, length-map items (change_of filling.Add))
-some_changes filling.Build items h = omega (arith, h, length-map items (change_of filling.Build))
-
-into_none : (f : Filling) (items : List ℕ) (n : ℕ) (t : State) → n ≡ length items → into f (filled_count f n) t ≡ None
-    → (changes_of f items ≡ []) ⊎ (object_is is_opaque t.heap (top_of t) ≡ false)
-into_none f items n t same e = elim (one_not _ _ (shown_none _ _ e)) [
-  | inl none ↦ inl (no_changes f items (ap (filled_count f) (sym same) ∙ not_below (filled_count f n) none))
-  | inr plain ↦ inr plain
-]
-
-into_some : (f : Filling) (items : List ℕ) (n : ℕ) (t : State) (x : Event) → n ≡ length items → into f (filled_count f n) t ≡ Some x
-    → (0 < length (changes_of f items)) × (object_is is_opaque t.heap (top_of t) ≡ true)
-into_some f items n t x same e =
-    let shown = both _ _ (shown_some _ _ _ e).0 in
-    (some_changes f items (subst (λ (k : ℕ). 0 < filled_count f k) same (below (filled_count f n) shown.0)), shown.1)
-
 -- no event: there were no changes, or they went into no opaque object
 pub fills_unseen : (f : Filling) (items : List ℕ) (b : Before) (t : State) → taken_count b t ≡ length items → filled_event f b t ≡ None
     → (changes_of f items ≡ []) ⊎ (object_is is_opaque t.heap (top_of t) ≡ false)
-fills_unseen filling.Append items b t n e = into_none filling.Append items (taken_count b t) t n e
-fills_unseen filling.SetItem items b t n e = into_none filling.SetItem items (taken_count b t) t n e
-fills_unseen filling.Add items b t n e = into_none filling.Add items (taken_count b t) t n e
+fills_unseen filling.Append items b t n e = inr (neither (object_is is_opaque t.heap (top_of t)) (view_at t.heap (top_of t)) (shown_none _ _ e))
+fills_unseen filling.SetItem items b t n e = elim (one_not _ _ (shown_none _ _ e)) [
+  | inl none ↦ inl (pairs_short items (ap (filled_count filling.SetItem) (sym n) ∙ not_below (filled_count filling.SetItem (taken_count b t)) none))
+  | inr plain ↦ inr plain
+]
+fills_unseen filling.Add items b t n e = inr (neither (object_is is_opaque t.heap (top_of t)) (view_at t.heap (top_of t)) (shown_none _ _ e))
 fills_unseen filling.Build items b t n e = absurd cc
 
--- an event: changes went into an opaque object, or a state was set
+-- an event: changes went into an opaque object, or one or a view of one was appended or added to, or a state was set
 pub fills_shown : (f : Filling) (items : List ℕ) (b : Before) (t : State) (x : Event) → taken_count b t ≡ length items → filled_event f b t ≡ Some x
-    → ((0 < length (changes_of f items)) × (object_is is_opaque t.heap (top_of t) ≡ true)) ⊎ (f ≡ filling.Build)
-fills_shown filling.Append items b t x n e = inl (into_some filling.Append items (taken_count b t) t x n e)
-fills_shown filling.SetItem items b t x n e = inl (into_some filling.SetItem items (taken_count b t) t x n e)
-fills_shown filling.Add items b t x n e = inl (into_some filling.Add items (taken_count b t) t x n e)
-fills_shown filling.Build items b t x n e = inr refl
+    → ((0 < length (changes_of f items)) × (object_is is_opaque t.heap (top_of t) ≡ true)) ⊎ (((adds f ≡ true) × (loose_at t.heap (top_of t) ≡ true)) ⊎ (f ≡ filling.Build))
+fills_shown filling.Append items b t x n e = inr (inl (refl, (shown_some _ _ _ e).0))
+fills_shown filling.SetItem items b t x n e =
+    let shown = both _ _ (shown_some _ _ _ e).0 in
+    inl (pairs_more items (subst (λ (k : ℕ). 0 < filled_count filling.SetItem k) n (below (filled_count filling.SetItem (taken_count b t)) shown.0)), shown.1)
+fills_shown filling.Add items b t x n e = inr (inl (refl, (shown_some _ _ _ e).0))
+fills_shown filling.Build items b t x n e = inr (inr refl)
 
 -- an object that is of such a kind is there
 pub is_there : (test : Kind → Bool) (heap : List Object) (id : ℕ) → object_is test heap id ≡ true → (o : Object) × (slice_get heap id ≡ Some o) × (test o.kind ≡ true)

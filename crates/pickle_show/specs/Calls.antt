@@ -1,12 +1,15 @@
 -- What a document would import and call, place by place: what item k comes to is a function of the item and of the states that the
--- items before it, and those up to it, reach from nothing. It is the same for one pickle and for several.
+-- items before it, and those up to it, reach from nothing, and of how names are read there. Of several pickles, the text ends at a STOP
+-- behind which a frame goes on.
 -- Source: own.
-use Rattle.std.specs.Prelude.{ℕ, zero, suc, ◌+◌, List, [], length, Option, Some, None}
+use Rattle.std.specs.Prelude.{ℕ, zero, suc, ◌+◌, ◌&&◌, nat_lt, Bool, true, false, List, [], length, Option, Some, None}
 use Rattle.pickle_io.specs.Text.{◌⧺◌}
 use Rattle.pickle_ops.specs.Spelling.{Operation}
 use Rattle.pickle_doc.specs.declared.fault.Finish.{Finish}
 use Rattle.pickle_doc.specs.declared.fault.Finish.TheVariants as finish
-use Rattle.pickle_doc.specs.Document.{Contents, finish_of}
+use Rattle.pickle_doc.specs.Document.{Contents, document_bytes, finish_of}
+use Rattle.pickle_doc.specs.DocUnit.{is_stop}
+use Rattle.pickle_doc.specs.Fitting.{left_behind}
 use Rattle.pickle_doc.specs.Place.{ops_of, item_at, offset_of, tail_offset}
 use Rattle.pickle_ops.specs.Row.{row_of}
 use Rattle.pickle_ops.specs.Object.{Object}
@@ -17,11 +20,15 @@ use Rattle.pickle_machine.specs.Run.{run}
 use Rattle.pickle_show.specs.declared.report.Closing.{Closing}
 use Rattle.pickle_show.specs.declared.report.Closing.TheVariants as closing
 use Rattle.pickle_show.specs.Output.{Output}
-use Rattle.pickle_show.specs.Report.{closing_status, refused_on}
+use Rattle.pickle_show.specs.declared.end.Ending.{Ending}
+use Rattle.pickle_show.specs.declared.end.Ending.TheVariants as ending
+use Rattle.pickle_show.specs.Report.{refused_on}
 use Rattle.pickle_show.specs.Listing.{reached}
 use Rattle.pickle_show.specs.declared.event.Event.{Event}
 use Rattle.pickle_show.specs.Event.{before_of, event_of}
-use Rattle.pickle_show.specs.CallsLine.{line_of, imports_of, calls_of, calls_end_text}
+use Rattle.pickle_show.specs.CallsLine.{line_of, imports_of, calls_of, calls_end_text, ending_status}
+use Rattle.pickle_show.specs.declared.naming.Naming.{Naming}
+use Rattle.pickle_show.specs.Naming.{begin, naming_after}
 
 -- ---- what items come to
 
@@ -31,22 +38,32 @@ pub record CountedText : Type 0 where
   pub imports : ℕ
   pub calls : ℕ
 
-abbrev pub counted_text : ℕ → List Object → Option Event → CountedText
-counted_text offset heap e = record { text = line_of offset heap e; imports = imports_of heap e; calls = calls_of heap e }
+abbrev pub counted_text : ℕ → Naming → List Object → Option Event → CountedText
+counted_text offset m heap e = record { text = line_of offset m heap e; imports = imports_of heap e; calls = calls_of heap e }
 
 abbrev pub no_entry : CountedText
 no_entry = record { text = []; imports = 0; calls = 0 }
 
+-- how names are read at item k
+abbrev pub naming_on : Option Operation → Option State → Naming → Naming
+naming_on (Some o) (Some t) m = naming_after (row_of o) (length t.heap) m
+naming_on (Some o) None m = m
+naming_on None t m = m
+
+abbrev pub naming_at : Contents → ℕ → Naming
+naming_at d zero = begin 0
+naming_at d (suc k) = naming_on (item_at d k) (run (start d.many) (ops_of d) (suc k)) (naming_at d k)
+
 -- from the state before the item, as its move is taken on it, to the one after it
-abbrev pub entry_on : ℕ → Option Operation → Option State → Option State → CountedText
-entry_on offset (Some o) (Some s) (Some t) = counted_text offset t.heap (event_of (row_of o) (before_of (fresh s)) t)
-entry_on offset (Some o) (Some s) None = no_entry
-entry_on offset (Some o) None t = no_entry
-entry_on offset None s t = no_entry
+abbrev pub entry_on : ℕ → Naming → Option Operation → Option State → Option State → CountedText
+entry_on offset m (Some o) (Some s) (Some t) = counted_text offset m t.heap (event_of (row_of o) (before_of (fresh s)) t)
+entry_on offset m (Some o) (Some s) None = no_entry
+entry_on offset m (Some o) None t = no_entry
+entry_on offset m None s t = no_entry
 
 -- what item k comes to
 unfoldable pub entry_at : Contents → ℕ → CountedText
-entry_at d k = entry_on (offset_of d k) (item_at d k) (run (start d.many) (ops_of d) k) (run (start d.many) (ops_of d) (suc k))
+entry_at d k = entry_on (offset_of d k) (naming_at d k) (item_at d k) (run (start d.many) (ops_of d) k) (run (start d.many) (ops_of d) (suc k))
 
 -- what the first n items come to
 unfoldable pub entries : Contents → ℕ → CountedText
@@ -54,7 +71,38 @@ entries d zero = no_entry
 entries d (suc k) =
     record { text = (entries d k).text ⧺ (entry_at d k).text; imports = (entries d k).imports + (entry_at d k).imports; calls = (entries d k).calls + (entry_at d k).calls }
 
--- ---- the text of a document
+-- ---- a frame that goes on behind STOP
+
+-- how many bytes of a frame are left before item k
+abbrev pub left_on : Option Operation → ℕ → ℕ
+left_on (Some o) left = left_behind left o
+left_on None left = left
+
+abbrev pub left_at : Contents → ℕ → ℕ
+left_at d zero = 0
+left_at d (suc k) = left_on (item_at d k) (left_at d k)
+
+-- of several pickles, an item is STOP and leaves a frame unfinished
+abbrev pub is_inside : Bool → Option Operation → ℕ → Bool
+is_inside many (Some o) left = many && (is_stop o.opcode && nat_lt 0 (left_behind left o))
+is_inside many None left = false
+
+abbrev pub or_here : Option ℕ → Bool → ℕ → Option ℕ
+or_here (Some j) here k = Some j
+or_here None true k = Some k
+or_here None false k = None
+
+-- the first such item of the first n
+unfoldable pub first_inside : Contents → ℕ → Option ℕ
+first_inside d zero = None
+first_inside d (suc k) = or_here (first_inside d k) (is_inside d.many (item_at d k) (left_at d k)) k
+
+-- ---- where the lines end
+
+-- how many items come before the end, and how it ends
+pub record CallsEnd : Type 0 where
+  pub place : ℕ
+  pub ending : Ending
 
 -- how the reading ends after all items
 abbrev pub closing_of : Contents → Finish → Closing
@@ -72,17 +120,33 @@ kept_by d closing.Stopped = length d.tail
 kept_by d (closing.Refused k r) = 0
 kept_by d (closing.Fault f offset) = 0
 
+abbrev pub closed : Contents → Closing → Ending
+closed d c = ending.Closed (kept_by d c) c
+
+-- k being the greatest place that is reached, with this state
+abbrev pub end_to : Contents → ℕ → Option State → CallsEnd
+end_to d k (Some s) = record { place = k; ending = closed d (closing_to d k (refused_on (item_at d k) s)) }
+end_to d k None = record { place = k; ending = closed d (closing_of d (finish_of d)) }
+
+-- a frame goes on behind item j, or no STOP up to there leaves one unfinished
+abbrev pub end_from : Contents → ℕ → Option ℕ → CallsEnd
+end_from d k (Some j) = record { place = suc j; ending = ending.Unsure (offset_of d j) }
+end_from d k None = end_to d k (run (start d.many) (ops_of d) k)
+
+abbrev pub end_by : Contents → ℕ → CallsEnd
+end_by d k = end_from d k (first_inside d k)
+
+unfoldable pub calls_end : Contents → CallsEnd
+calls_end d = end_by d (reached (start d.many) (ops_of d) (length (ops_of d)))
+
+-- ---- the text of a document
+
 -- what the items come to, and the last lines
-abbrev pub with_end : Contents → CountedText → Closing → Output
-with_end d e c = record { text = e.text ⧺ calls_end_text e.imports e.calls (kept_by d c) c; status = closing_status c }
+abbrev pub with_end : Contents → CountedText → Ending → Output
+with_end d e x = record { text = e.text ⧺ calls_end_text (document_bytes d) e.imports e.calls x; status = ending_status x }
 
--- k being the greatest place that is reached
-abbrev pub calls_to : Contents → ℕ → Option State → Output
-calls_to d k (Some s) = with_end d (entries d k) (closing_to d k (refused_on (item_at d k) s))
-calls_to d k None = record { text = []; status = 0 }
-
-abbrev pub calls_with : Contents → ℕ → Output
-calls_with d k = calls_to d k (run (start d.many) (ops_of d) k)
+abbrev pub calls_to : Contents → CallsEnd → Output
+calls_to d e = with_end d (entries d e.place) e.ending
 
 unfoldable pub calls : Contents → Output
-calls d = calls_with d (reached (start d.many) (ops_of d) (length (ops_of d)))
+calls d = calls_to d (calls_end d)

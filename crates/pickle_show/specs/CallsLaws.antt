@@ -1,15 +1,21 @@
 -- What the lines promise whoever reads them.
-use Rattle.std.specs.Prelude.{◌≡◌, ◌≢◌, ◌⊎◌, ℕ, suc, ◌<◌, ◌^◌, Bool, true, List, [], length, slice_get, Some, None}
+use Rattle.std.specs.Prelude.{◌≡◌, ◌≢◌, ◌⊎◌, ℕ, suc, ◌<◌, ◌^◌, Bool, true, false, List, [], length, slice_get, Some, None}
 use Rattle.pickle_ops.specs.Spelling.{Operation}
 use Rattle.pickle_ops.specs.declared.opcode.Opcode.TheVariants as op
 use Rattle.pickle_doc.specs.Document.{Contents, ReadsAs, AreBytes}
 use Rattle.pickle_doc.specs.Place.{ops_of, item_at}
 use Rattle.pickle_ops.specs.Kind.{is_opaque}
 use Rattle.pickle_ops.specs.Object.{Object}
+use Rattle.pickle_ops.specs.declared.row.Row.{Row}
+use Rattle.pickle_ops.specs.declared.row.Row.TheVariants as row
+use Rattle.pickle_ops.specs.declared.row.Filling.{Filling}
+use Rattle.pickle_ops.specs.declared.row.Filling.TheVariants as filling
+use Rattle.pickle_ops.specs.Row.{row_of}
 use Rattle.pickle_machine.specs.State.{State, start}
 use Rattle.pickle_machine.specs.Run.{run}
+use Rattle.pickle_machine.specs.Loader.{loose_at}
 use Rattle.pickle_show.specs.Output.{Output}
-use Rattle.pickle_show.specs.Event.{is_view}
+use Rattle.pickle_show.specs.Event.{is_view, top_of}
 use Rattle.pickle_show.specs.Calls.{calls, entry_at}
 
 -- ---- one text
@@ -35,7 +41,7 @@ abbrev pub NoLineNoReach : Type 0
 NoLineNoReach = (d : Contents) (k : ℕ) (s t : State) → IsStep d k s t → (entry_at d k).text ≡ []
     → (id : ℕ) (o : Object) → slice_get t.heap id ≡ Some o → is_opaque o.kind ≡ true → slice_get s.heap id ≡ Some o
 
--- ---- no reach, no line
+-- ---- exactly which items have a line
 
 -- an opaque object was made, or a view of one that is no buffer
 pub record Makes (s t : State) : Type 0 where
@@ -55,7 +61,30 @@ pub record Changes (s t : State) : Type 0 where
   pub opaque : is_opaque old.kind ≡ true
   pub more : length old.changes < length new.changes
 
--- there is a line only where an opaque object, or a view of one, is made, where an opaque object gets changes, or at BUILD
-abbrev pub LinesReach : Type 0
-LinesReach = (d : Contents) (k : ℕ) (s t : State) → IsStep d k s t → (entry_at d k).text ≢ []
-    → Makes s t ⊎ (Changes s t ⊎ ((o : Operation) × (item_at d k ≡ Some o) × (o.opcode ≡ op.Build)))
+-- what appends or adds
+abbrev pub adds : Filling → Bool
+adds filling.Append = true
+adds filling.Add = true
+adds _ = false
+
+abbrev pub row_adds : Row → Bool
+row_adds (row.Change f) = adds f
+row_adds (row.CutChange f) = adds f
+row_adds _ = false
+
+-- an item appends or adds, be it nothing, to an opaque object or to a view of one, which may be that object itself
+abbrev pub Adds : Contents → ℕ → State → Type 0
+Adds d k t = (o : Operation) × (item_at d k ≡ Some o) × (row_adds (row_of o) ≡ true) × (loose_at t.heap (top_of t) ≡ true)
+
+-- an item sets a state
+abbrev pub Builds : Contents → ℕ → Type 0
+Builds d k = (o : Operation) × (item_at d k ≡ Some o) × (o.opcode ≡ op.Build)
+
+-- an opaque object, or a view of one, is made, an opaque object gets changes, something or nothing is appended or added to one or to a
+-- view of one, or a state is set
+abbrev pub IsShown : Contents → ℕ → State → State → Type 0
+IsShown d k s t = Makes s t ⊎ (Changes s t ⊎ (Adds d k t ⊎ Builds d k))
+
+-- an accepted item has a line exactly where it is shown
+abbrev pub LineExactly : Type 0
+LineExactly = (d : Contents) (k : ℕ) (s t : State) → IsStep d k s t → ((entry_at d k).text ≢ [] → IsShown d k s t) × (IsShown d k s t → (entry_at d k).text ≢ [])

@@ -12,6 +12,7 @@ use Rattle.pickle_ops.specs.declared.row.Filling.TheVariants as filling
 use Rattle.pickle_ops.specs.Object.{Object}
 use Rattle.pickle_ops.specs.Kind.{is_opaque}
 use Rattle.pickle_machine.specs.State.{State, stack_of, stack_size}
+use Rattle.pickle_machine.specs.Loader.{loose_at}
 use Rattle.pickle_show.specs.declared.event.Event.{Event}
 use Rattle.pickle_show.specs.declared.event.Event.TheVariants as event
 use Rattle.pickle_show.specs.declared.event.Before.{Before}
@@ -72,11 +73,18 @@ abbrev pub filled_count : Filling → ℕ → ℕ
 filled_count filling.SetItem n = n / 2
 filled_count _ n = n
 
--- n items, pairs or members went into the top, where that is opaque
-abbrev pub into : Filling → ℕ → State → Option Event
-into f n t = if nat_lt 0 n && object_is is_opaque t.heap (top_of t) then Some (event.Filled f n (top_of t)) else None
+-- whether that many are told that go into the object of this number: whoever appends or adds, be it nothing, asks the object for its
+-- method, and a view of an opaque object may be that object itself; whoever sets nothing does nothing
+abbrev pub touches : Filling → ℕ → List Object → ℕ → Bool
+touches filling.Append n heap id = loose_at heap id
+touches filling.Add n heap id = loose_at heap id
+touches _ n heap id = nat_lt 0 n && object_is is_opaque heap id
 
--- objects were taken and went into the one that is the top after the step; a state is always shown
+-- n items, pairs or members went into the top, where that is told
+abbrev pub into : Filling → ℕ → State → Option Event
+into f n t = if touches f n t.heap (top_of t) then Some (event.Filled f n (top_of t)) else None
+
+-- objects were taken, if any, and went into the one that is the top after the step; a state is always shown
 abbrev pub filled_event : Filling → Before → State → Option Event
 filled_event filling.Build b t = Some (event.State b.top (top_of t))
 filled_event f b t = into f (filled_count f (taken_count b t)) t

@@ -1,10 +1,14 @@
 -- The definitions that contracts cite.
 pub mod Event
+pub mod Naming
 pub mod Brief
+pub mod Begins
 pub mod CallsLine
 pub mod Calls
+pub mod Ran
 pub mod CallsWritten
 pub mod CallsLaws
+pub mod LineLaws
 pub mod ListingColumn
 pub mod Line
 pub mod Listing

@@ -1,13 +1,18 @@
 //! Objects in brief.
 
-ghost use Rattle.pickle_io.specs.Text.{◌⧺◌};
+ghost use Rattle.std.specs.Prelude.{◌≡◌, ◌≤◌, length};
+ghost use Rattle.pickle_io.specs.Text.{◌⧺◌, quoted};
+ghost use Rattle.pickle_names.specs.Value.{decode};
+ghost use Rattle.pickle_names.specs.Reading.{IsReading};
 ghost use Rattle.pickle_io.specs.Device.{Writes, each};
-ghost use Rattle.pickle_show.specs.Brief.{over_text, cut_quoted, cut_after, cut_long, kind_brief, brief_text, next_brief, comma_list, more_text, briefs_text, kind_value, value_text};
+ghost use Rattle.pickle_show.specs.Brief.{over_text, cut_quoted, cut_after, cut_text, cut_text_after, cut_long, kind_brief, brief_text, next_brief, comma_list, more_text, briefs_text, kind_value, value_text};
 
 use crate::front::front;
 use crate::kind::write_kind;
-use crate::name::write_part_names_after;
+use crate::name::{inner, write_global_after, write_stack_after};
+use crate::naming::Naming;
 use crate::words::{write_id, write_with_number};
+use pickle_names::{Coding, Reading, read, write_value as write_text_value};
 use pickle_ops::{Failed, Kind, ObjId, Object, Page, write_all, write_long, write_quoted};
 
 /// How many bytes of a payload are shown. A name is shown whole, since names are what is looked for.
@@ -46,6 +51,50 @@ fn write_cut_after<S: Page>(keyword: &[u8], text: &[u8], sink: &mut S) -> Result
     write_cut(text, sink)
 }
 
+/// How many characters of a text are shown.
+const MOST_CHARACTERS: usize = 64;
+
+/// Writes the first characters of a text by their value, and how many more bytes there are.
+#[tactic(auto, using(pickle_io::proofs::Devices::text_steps, crate::proofs::Cutting::left_over))]
+fn write_cut_value<S: Page>(
+    reading: Reading,
+    coding: Coding,
+    text: &[u8],
+    sink: &mut S,
+) -> Result<(), Failed>
+    requires { IsReading coding 64 text.now reading }
+    ensures { Writes (S.told sink.old) (S.told sink.new) result (quoted (decode coding 64 text.now).value ⧺ over_text (length (decode coding 64 text.now).rest)) }
+{
+    write_text_value(reading, coding, MOST_CHARACTERS, text, sink)?;
+    write_over(reading.left, sink)
+}
+
+/// Writes the first characters of a text by their value, or where one of them cannot be read, the first bytes.
+fn write_cut_text<S: Page>(coding: Coding, text: &[u8], sink: &mut S) -> Result<(), Failed>
+    ensures { Writes (S.told sink.old) (S.told sink.new) result (cut_text coding text.now) }
+{
+    let reading = read(coding, MOST_CHARACTERS, text);
+    if reading.good {
+        write_cut_value(reading, coding, text, sink)
+    } else {
+        write_cut_after(b"raw ", text, sink)
+    }
+}
+
+/// Writes a keyword, and the first characters of a text.
+#[tactic(auto, using(pickle_io::proofs::Devices::text_steps), unfolding(crate::specs::Brief::cut_text_after))]
+fn write_cut_text_after<S: Page>(
+    keyword: &[u8],
+    coding: Coding,
+    text: &[u8],
+    sink: &mut S,
+) -> Result<(), Failed>
+    ensures { Writes (S.told sink.old) (S.told sink.new) result (cut_text_after keyword.now coding text.now) }
+{
+    write_all(sink, keyword)?;
+    write_cut_text(coding, text, sink)
+}
+
 /// Writes a long number by its first bytes, and how many more there are.
 #[tactic(auto, using(pickle_io::proofs::Devices::text_steps), unfolding(crate::specs::Brief::cut_long))]
 fn write_cut_long<S: Page>(bytes: &[u8], sink: &mut S) -> Result<(), Failed>
@@ -59,13 +108,14 @@ fn write_cut_long<S: Page>(bytes: &[u8], sink: &mut S) -> Result<(), Failed>
 /// Writes an object of this kind with these parts in brief.
 #[tactic(auto, unfolding(crate::specs::Brief::kind_brief))]
 fn write_kind_brief<S: Page>(
+    naming: Naming,
     heap: &[Object],
     id: ObjId,
     kind: &Kind,
     parts: &[ObjId],
     sink: &mut S,
 ) -> Result<(), Failed>
-    ensures { Writes (S.told sink.old) (S.told sink.new) result (kind_brief heap.now id kind.now parts.now) }
+    ensures { Writes (S.told sink.old) (S.told sink.new) result (kind_brief naming heap.now id kind.now parts.now) }
 {
     match kind {
         Kind::None => write_kind(kind, sink),
@@ -77,14 +127,32 @@ fn write_kind_brief<S: Page>(
         Kind::LongLine(text) => write_cut_after(b"long-line ", text.as_slice(), sink),
         Kind::FloatLine(text) => write_cut_after(b"float-line ", text.as_slice(), sink),
         Kind::Float(_) => write_kind(kind, sink),
-        Kind::LegacyString(text) => write_cut_after(b"string ", text.as_slice(), sink),
-        Kind::LegacyLine(text) => write_cut_after(b"string-line ", text.as_slice(), sink),
-        Kind::Text(text) => write_cut(text.as_slice(), sink),
-        Kind::TextLine(text) => write_cut(text.as_slice(), sink),
+        Kind::LegacyString(text) => {
+            write_cut_text_after(b"string ", Coding::Ascii, text.as_slice(), sink)
+        }
+        Kind::LegacyLine(text) => {
+            write_cut_text_after(
+                b"string ",
+                Coding::StringEscape,
+                inner(text.as_slice()),
+                sink,
+            )
+        }
+        Kind::Text(text) => write_cut_text(Coding::AnyUtf8, text.as_slice(), sink),
+        Kind::TextLine(text) => write_cut_text(Coding::RawEscape, text.as_slice(), sink),
         Kind::Bytes(bytes) => write_cut_after(b"bytes ", bytes.as_slice(), sink),
         Kind::ByteArray(bytes) => write_cut_after(b"bytearray ", bytes.as_slice(), sink),
-        Kind::Global(_) => write_kind(kind, sink),
-        Kind::StackGlobal => write_part_names_after(b"global ", heap, parts, sink),
+        Kind::Global(names) => {
+            write_global_after(
+                b"global ",
+                naming,
+                Some(id),
+                names.first(),
+                names.second(),
+                sink,
+            )
+        }
+        Kind::StackGlobal => write_stack_after(b"global ", naming, Some(id), heap, parts, sink),
         Kind::Ext(_) => write_kind(kind, sink),
         _ => write_id(u64::from(id), sink),
     }
@@ -92,31 +160,46 @@ fn write_kind_brief<S: Page>(
 
 /// Writes the object of this number in brief.
 #[tactic(auto, unfolding(crate::specs::Brief::brief_text))]
-fn write_brief<S: Page>(heap: &[Object], id: ObjId, sink: &mut S) -> Result<(), Failed>
-    ensures { Writes (S.told sink.old) (S.told sink.new) result (brief_text heap.now id) }
+fn write_brief<S: Page>(
+    naming: Naming,
+    heap: &[Object],
+    id: ObjId,
+    sink: &mut S,
+) -> Result<(), Failed>
+    ensures { Writes (S.told sink.old) (S.told sink.new) result (brief_text naming heap.now id) }
 {
     match heap.get(id as usize) {
-        Some(object) => write_kind_brief(heap, id, object.kind(), object.parts(), sink),
+        Some(object) => write_kind_brief(naming, heap, id, object.kind(), object.parts(), sink),
         None => write_id(u64::from(id), sink),
     }
 }
 
 /// Writes one object more in brief, after a comma.
 #[tactic(auto, using(pickle_io::proofs::Devices::text_steps), unfolding(crate::specs::Brief::next_brief))]
-fn write_next<S: Page>(heap: &[Object], id: ObjId, sink: &mut S) -> Result<(), Failed>
-    ensures { Writes (S.told sink.old) (S.told sink.new) result (next_brief heap.now id) }
+fn write_next<S: Page>(
+    naming: Naming,
+    heap: &[Object],
+    id: ObjId,
+    sink: &mut S,
+) -> Result<(), Failed>
+    ensures { Writes (S.told sink.old) (S.told sink.new) result (next_brief naming heap.now id) }
 {
     write_all(sink, b", ")?;
-    write_brief(heap, id, sink)
+    write_brief(naming, heap, id, sink)
 }
 
 /// Writes objects in brief, each after a comma.
 #[tactic(auto, using(pickle_io::proofs::Devices::each_steps))]
-fn write_all_next<S: Page>(heap: &[Object], ids: &[ObjId], sink: &mut S) -> Result<(), Failed>
-    ensures { Writes (S.told sink.old) (S.told sink.new) result (each (next_brief heap.now) ids.now) }
+fn write_all_next<S: Page>(
+    naming: Naming,
+    heap: &[Object],
+    ids: &[ObjId],
+    sink: &mut S,
+) -> Result<(), Failed>
+    ensures { Writes (S.told sink.old) (S.told sink.new) result (each (next_brief naming heap.now) ids.now) }
 {
     for id in ids {
-        write_next(heap, *id, sink)?;
+        write_next(naming, heap, *id, sink)?;
     }
     Ok(())
 }
@@ -124,25 +207,31 @@ fn write_all_next<S: Page>(heap: &[Object], ids: &[ObjId], sink: &mut S) -> Resu
 /// Writes an object in brief, and others after it.
 #[tactic(auto, using(pickle_io::proofs::Devices::text_steps))]
 fn write_some<S: Page>(
+    naming: Naming,
     heap: &[Object],
     first: ObjId,
     rest: &[ObjId],
     sink: &mut S,
 ) -> Result<(), Failed>
-    ensures { Writes (S.told sink.old) (S.told sink.new) result (brief_text heap.now first ⧺ each (next_brief heap.now) rest.now) }
+    ensures { Writes (S.told sink.old) (S.told sink.new) result (brief_text naming heap.now first ⧺ each (next_brief naming heap.now) rest.now) }
 {
-    write_brief(heap, first, sink)?;
-    write_all_next(heap, rest, sink)
+    write_brief(naming, heap, first, sink)?;
+    write_all_next(naming, heap, rest, sink)
 }
 
 /// Writes objects in brief with commas between them.
 #[tactic(auto, using(pickle_io::proofs::Devices::text_steps))]
-fn write_joined<S: Page>(heap: &[Object], ids: &[ObjId], sink: &mut S) -> Result<(), Failed>
-    ensures { Writes (S.told sink.old) (S.told sink.new) result (comma_list heap.now ids.now) }
+fn write_joined<S: Page>(
+    naming: Naming,
+    heap: &[Object],
+    ids: &[ObjId],
+    sink: &mut S,
+) -> Result<(), Failed>
+    ensures { Writes (S.told sink.old) (S.told sink.new) result (comma_list naming heap.now ids.now) }
 {
     match ids.split_first() {
         None => Ok(()),
-        Some((first, rest)) => write_some(heap, *first, rest, sink),
+        Some((first, rest)) => write_some(naming, heap, *first, rest, sink),
     }
 }
 
@@ -160,11 +249,16 @@ fn write_more<S: Page>(count: usize, sink: &mut S) -> Result<(), Failed>
 
 /// Writes the first objects in brackets, and how many more there are.
 #[tactic(auto, using(pickle_io::proofs::Devices::text_steps), unfolding(crate::specs::Brief::briefs_text))]
-pub fn write_briefs<S: Page>(heap: &[Object], ids: &[ObjId], sink: &mut S) -> Result<(), Failed>
-    ensures { Writes (S.told sink.old) (S.told sink.new) result (briefs_text heap.now ids.now) }
+pub fn write_briefs<S: Page>(
+    naming: Naming,
+    heap: &[Object],
+    ids: &[ObjId],
+    sink: &mut S,
+) -> Result<(), Failed>
+    ensures { Writes (S.told sink.old) (S.told sink.new) result (briefs_text naming heap.now ids.now) }
 {
     write_all(sink, b"(")?;
-    write_joined(heap, front(ids, MOST_OBJECTS), sink)?;
+    write_joined(naming, heap, front(ids, MOST_OBJECTS), sink)?;
     write_more(ids.len().saturating_sub(MOST_OBJECTS), sink)?;
     write_all(sink, b")")
 }
@@ -172,27 +266,33 @@ pub fn write_briefs<S: Page>(heap: &[Object], ids: &[ObjId], sink: &mut S) -> Re
 /// Writes an object of this kind with these parts as a value.
 #[tactic(auto, unfolding(crate::specs::Brief::kind_value))]
 fn write_kind_value<S: Page>(
+    naming: Naming,
     heap: &[Object],
     id: ObjId,
     kind: &Kind,
     parts: &[ObjId],
     sink: &mut S,
 ) -> Result<(), Failed>
-    ensures { Writes (S.told sink.old) (S.told sink.new) result (kind_value heap.now id kind.now parts.now) }
+    ensures { Writes (S.told sink.old) (S.told sink.new) result (kind_value naming heap.now id kind.now parts.now) }
 {
     match kind {
-        Kind::Tuple => write_briefs(heap, parts, sink),
-        _ => write_kind_brief(heap, id, kind, parts, sink),
+        Kind::Tuple => write_briefs(naming, heap, parts, sink),
+        _ => write_kind_brief(naming, heap, id, kind, parts, sink),
     }
 }
 
 /// Writes the object of this number as a value: the parts of a tuple, or what it is in brief.
 #[tactic(auto, unfolding(crate::specs::Brief::value_text))]
-pub fn write_value<S: Page>(heap: &[Object], id: ObjId, sink: &mut S) -> Result<(), Failed>
-    ensures { Writes (S.told sink.old) (S.told sink.new) result (value_text heap.now id) }
+pub fn write_value<S: Page>(
+    naming: Naming,
+    heap: &[Object],
+    id: ObjId,
+    sink: &mut S,
+) -> Result<(), Failed>
+    ensures { Writes (S.told sink.old) (S.told sink.new) result (value_text naming heap.now id) }
 {
     match heap.get(id as usize) {
-        Some(object) => write_kind_value(heap, id, object.kind(), object.parts(), sink),
+        Some(object) => write_kind_value(naming, heap, id, object.kind(), object.parts(), sink),
         None => write_id(u64::from(id), sink),
     }
 }

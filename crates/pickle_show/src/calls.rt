@@ -1,39 +1,58 @@
 //! What items would import and call, one after another.
 
-ghost use Rattle.std.specs.Prelude.{◌≤◌, length, IfOk, IfErr};
+ghost use Rattle.std.specs.Prelude.{◌≡◌, ◌≤◌, length, IfOk, IfErr};
 ghost use Rattle.pickle_doc.specs.Document.{size_limit};
+ghost use Rattle.pickle_machine.specs.State.{start};
 ghost use Rattle.pickle_show.specs.Source.{GivesDocument};
 ghost use Rattle.pickle_show.specs.CallsWritten.{CompletesCalls, CutsCalls};
+ghost use Rattle.pickle_show.specs.Ran.{IsRun};
 
 use crate::calls_line::write_line;
-use crate::end::write_end;
+use crate::course::Course;
+use crate::end::{Ending, write_end};
 use crate::event::{Before, event_of};
+use crate::naming::leaves_frame;
 use crate::report::{Closing, closing_at, step_over};
 use crate::stop::TextStop;
-use crate::totals::Totals;
 use pickle_doc::{ItemSource, Items, NextRef, ends_reading, is_stop};
 use pickle_machine::{Machine, Refusal};
 use pickle_ops::{Page, Row};
 use std::alloc::Global;
 
-/// Writes what the items that a source gives from the first on would import and call, as several pickles or as one, and answers the
-/// status: 1 where an item is refused or the bytes have a fault, else 0. A machine of its own runs the items; each line is written
-/// when its item was stepped, and no item, no step and no line is kept. The source is to give a document that is not too large.
+/// How far the items of a source were run, and how that ended.
+#[derive(Clone, Copy)]
+pub struct Ran {
+    /// How many imports and calls the lines are, and how names are read behind them.
+    pub course: Course,
+    /// How it ended.
+    pub ending: Ending,
+    /// The offset behind the last item that was run, in bytes.
+    pub offset: u64,
+    /// How many items were run.
+    pub place: usize,
+}
+
+/// Writes the lines of the items that a source gives from the first on, as several pickles or as one, and not the last lines. The machine,
+/// which has done nothing yet, runs the items; each line is written when its item was stepped, and no item, no step and no line is kept.
+/// The run ends at the end of the items, at an item that is refused, or where of several pickles STOP leaves a frame unfinished, since
+/// loaders disagree about what is behind it. The machine then stands behind the last item that was run. The source is to give a document
+/// that is not too large.
 ///
 /// `Memory` (M) where memory runs out, `Failed` where the sink fails; what was written then is a beginning of the text.
-pub fn calls_of_items<'a, I: ItemSource<'a>, S: Page>(
+pub fn run_items<'a, I: ItemSource<'a>, S: Page>(
     alloc: Global,
     many: bool,
     source: I,
+    machine: &mut Machine,
     sink: &mut S,
-) -> Result<u8, TextStop>
-    requires { GivesDocument many (I.unread source) }
-    ensures ok { IfOk result (CompletesCalls many (I.unread source).rest (S.told sink.old) (S.told sink.new)) }
+) -> Result<Ran, TextStop>
+    requires source { GivesDocument many (I.unread source) }
+    requires fresh { machine.old.state ≡ start many }
+    ensures ok { IfOk result (IsRun many (I.unread source).rest (S.told sink.old) (S.told sink.new) machine.new.state) }
     ensures err { IfErr result (CutsCalls many (I.unread source).rest (S.told sink.old) (S.told sink.new)) }
 {
     let mut reader = source;
-    let mut machine = Machine::start(alloc, many);
-    let mut totals = Totals::new();
+    let mut course = Course::new();
     let mut offset = 0;
     let mut place = 0;
     let mut stop = false;
@@ -41,24 +60,50 @@ pub fn calls_of_items<'a, I: ItemSource<'a>, S: Page>(
         match reader.next() {
             NextRef::Tail(fault) => {
                 let closing = closing_at(stop, reader.unread_len(), fault, offset);
-                return write_end(totals, 0, closing, sink);
+                return Ok(Ran {
+                    course,
+                    ending: Ending::Closed(0, closing),
+                    offset,
+                    place,
+                });
             }
             NextRef::Item(op) => {
                 let row = Row::of_ref(&op);
-                let before = Before::of(&machine);
-                if let Err(refusal) = step_over(alloc, &op, place, &mut machine) {
+                let before = Before::of(machine);
+                if let Err(refusal) = step_over(alloc, &op, place, machine) {
                     if refusal == Refusal::Memory {
                         return Err(TextStop::Memory);
                     }
-                    return write_end(totals, 0, Closing::Refused(place, refusal), sink);
+                    let ending = Ending::Closed(0, Closing::Refused(place, refusal));
+                    return Ok(Ran {
+                        course,
+                        ending,
+                        offset,
+                        place,
+                    });
                 }
-                let event = event_of(row, before, &machine);
-                write_line(offset, machine.heap(), event, sink)?;
-                totals = totals.with(machine.heap(), event);
+                let event = event_of(row, before, machine);
+                write_line(offset, course.naming, machine.heap(), event, sink)?;
+                course = course.over(&op, row, machine.heap(), event);
+                let at = offset;
                 offset += op.size() as u64;
                 place += 1;
                 if ends_reading(many, op.opcode()) {
-                    return write_end(totals, reader.unread_len(), Closing::Stopped, sink);
+                    let ending = Ending::Closed(reader.unread_len(), Closing::Stopped);
+                    return Ok(Ran {
+                        course,
+                        ending,
+                        offset,
+                        place,
+                    });
+                }
+                if leaves_frame(op.opcode(), course.left) {
+                    return Ok(Ran {
+                        course,
+                        ending: Ending::Unsure(at),
+                        offset,
+                        place,
+                    });
                 }
                 stop = is_stop(op.opcode());
             }
@@ -66,8 +111,10 @@ pub fn calls_of_items<'a, I: ItemSource<'a>, S: Page>(
     }
 }
 
-/// Writes what a pickle, or several pickles, would import and call, and answers the status, as `calls_of_items` does. There are to
-/// be no more bytes than the limit.
+/// Writes what a pickle, or several pickles, would import and call: the lines of their items, and the last lines. Answers the status: 0
+/// where the reading ended with the bytes, right behind a STOP, else 1. There are to be no more bytes than the limit.
+///
+/// `Memory` (M) where memory runs out, `Failed` where the sink fails; what was written then is a beginning of the text.
 pub fn calls_of_bytes<S: Page>(
     alloc: Global,
     many: bool,
@@ -78,5 +125,7 @@ pub fn calls_of_bytes<S: Page>(
     ensures ok { IfOk result (CompletesCalls many bytes.now (S.told sink.old) (S.told sink.new)) }
     ensures err { IfErr result (CutsCalls many bytes.now (S.told sink.old) (S.told sink.new)) }
 {
-    calls_of_items(alloc, many, Items::new(bytes), sink)
+    let mut machine = Machine::start(alloc, many);
+    let ran = run_items(alloc, many, Items::new(bytes), &mut machine, sink)?;
+    write_end(bytes, ran.course, ran.ending, sink)
 }

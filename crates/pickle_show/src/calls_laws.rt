@@ -1,6 +1,7 @@
 //! Laws of the definitions. The functions do nothing: what they ensure holds of all documents.
 
-ghost use Rattle.pickle_show.specs.CallsLaws.{OneText, NoLineNoReach, LinesReach};
+ghost use Rattle.pickle_show.specs.CallsLaws.{OneText, NoLineNoReach, LineExactly};
+ghost use Rattle.pickle_show.specs.LineLaws.{QuotesStay};
 
 /// Each byte string has just one text, with just one status.
 pub fn one_text()
@@ -12,7 +13,13 @@ pub fn no_line_no_reach()
     ensures { NoLineNoReach }
 {}
 
-/// There is a line only where such an object, or a view of one, is made, where such a one gets changes, or at BUILD.
-pub fn lines_reach()
-    ensures { LinesReach }
+/// An accepted item has a line exactly where such an object, or a view of one, is made, where such an object gets changes, where something
+/// or nothing is appended or added to such an object or to a view of one, or at BUILD.
+pub fn line_exactly()
+    ensures { LineExactly }
+{}
+
+/// Whatever a name or a text of a pickle is, in quotes it does not end its line.
+pub fn quotes_stay()
+    ensures { QuotesStay }
 {}

@@ -2,6 +2,7 @@
 
 ghost use Rattle.pickle_io.specs.Text.{◌⧺◌};
 ghost use Rattle.std.specs.Prelude.{◌≡◌, drop};
+ghost use Rattle.pickle_names.specs.Value.{whole_text};
 ghost use Rattle.pickle_io.specs.Device.{Writes};
 ghost use Rattle.pickle_show.specs.Brief.{value_text};
 ghost use Rattle.pickle_show.specs.Event.{part};
@@ -9,55 +10,63 @@ ghost use Rattle.pickle_show.specs.CallsLine.{inst_text, call_text, call_with_te
 
 use crate::brief::{write_briefs, write_value};
 use crate::event::{Event, part};
-use crate::name::{write_name, write_part_names_after};
-use crate::number::write_right;
-use crate::words::{
-    write_id, write_with_id, write_with_number, write_with_signed, write_with_text,
-    write_with_texts,
+use crate::name::{
+    inst_pair, write_global_after, write_name, write_names_after, write_stack_after,
 };
+use crate::naming::Naming;
+use crate::number::write_right;
+use crate::words::{write_id, write_with_id, write_with_number, write_with_signed};
+use pickle_names::{Coding, write_text};
 use pickle_ops::{Failed, Filling, Kind, ObjId, Object, Page, write_all};
 
 /// Writes that a member of a module is imported and called.
 #[tactic(auto, using(pickle_io::proofs::Devices::text_steps), unfolding(crate::specs::CallsLine::inst_text))]
 fn write_inst<S: Page>(
+    naming: Naming,
     heap: &[Object],
     first: &[u8],
     second: &[u8],
     parts: &[ObjId],
     sink: &mut S,
 ) -> Result<(), Failed>
-    ensures { Writes (S.told sink.old) (S.told sink.new) result (inst_text heap.now first.now second.now parts.now) }
+    ensures { Writes (S.told sink.old) (S.told sink.new) result (inst_text naming heap.now first.now second.now parts.now) }
 {
-    write_with_texts(b"inst ", first, second, sink)?;
+    write_names_after(b"inst ", naming, None, inst_pair(first, second), sink)?;
     write_all(sink, b" ")?;
-    write_briefs(heap, parts, sink)
+    write_briefs(naming, heap, parts, sink)
 }
 
 /// Writes a call, or a new instance, after a keyword.
 #[tactic(auto, using(pickle_io::proofs::Devices::text_steps), unfolding(crate::specs::CallsLine::call_text))]
 fn write_call<S: Page>(
     keyword: &[u8],
+    naming: Naming,
     heap: &[Object],
     parts: &[ObjId],
     sink: &mut S,
 ) -> Result<(), Failed>
-    ensures { Writes (S.told sink.old) (S.told sink.new) result (call_text keyword.now heap.now parts.now) }
+    ensures { Writes (S.told sink.old) (S.told sink.new) result (call_text naming keyword.now heap.now parts.now) }
 {
     let called = part(0, parts);
     write_all(sink, keyword)?;
-    write_name(heap, called, sink)?;
+    write_name(naming, heap, called, sink)?;
     write_all(sink, b" ")?;
-    write_value(heap, part(1, parts), sink)
+    write_value(naming, heap, part(1, parts), sink)
 }
 
 /// Writes a new instance that is given arguments with names.
 #[tactic(auto, using(pickle_io::proofs::Devices::text_steps), unfolding(crate::specs::CallsLine::call_with_text))]
-fn write_call_with<S: Page>(heap: &[Object], parts: &[ObjId], sink: &mut S) -> Result<(), Failed>
-    ensures { Writes (S.told sink.old) (S.told sink.new) result (call_with_text heap.now parts.now) }
+fn write_call_with<S: Page>(
+    naming: Naming,
+    heap: &[Object],
+    parts: &[ObjId],
+    sink: &mut S,
+) -> Result<(), Failed>
+    ensures { Writes (S.told sink.old) (S.told sink.new) result (call_with_text naming heap.now parts.now) }
 {
-    write_call(b"new ", heap, parts, sink)?;
+    write_call(b"new ", naming, heap, parts, sink)?;
     write_all(sink, b" ")?;
-    write_value(heap, part(2, parts), sink)
+    write_value(naming, heap, part(2, parts), sink)
 }
 
 /// The parts but the first.
@@ -72,50 +81,75 @@ fn after_first(parts: &[ObjId]) -> &[ObjId]
 
 /// Writes a call whose arguments are after the class.
 #[tactic(auto, using(pickle_io::proofs::Devices::text_steps), unfolding(crate::specs::CallsLine::obj_text))]
-fn write_obj<S: Page>(heap: &[Object], parts: &[ObjId], sink: &mut S) -> Result<(), Failed>
-    ensures { Writes (S.told sink.old) (S.told sink.new) result (obj_text heap.now parts.now) }
+fn write_obj<S: Page>(
+    naming: Naming,
+    heap: &[Object],
+    parts: &[ObjId],
+    sink: &mut S,
+) -> Result<(), Failed>
+    ensures { Writes (S.told sink.old) (S.told sink.new) result (obj_text naming heap.now parts.now) }
 {
     write_all(sink, b"call ")?;
-    write_name(heap, part(0, parts), sink)?;
+    write_name(naming, heap, part(0, parts), sink)?;
     write_all(sink, b" ")?;
-    write_briefs(heap, after_first(parts), sink)
+    write_briefs(naming, heap, after_first(parts), sink)
 }
 
 /// Writes a keyword and an object as a value.
 #[tactic(auto, using(pickle_io::proofs::Devices::text_steps))]
 fn write_value_after<S: Page>(
     keyword: &[u8],
+    naming: Naming,
     heap: &[Object],
     id: ObjId,
     sink: &mut S,
 ) -> Result<(), Failed>
-    ensures { Writes (S.told sink.old) (S.told sink.new) result (keyword.now ⧺ value_text heap.now id) }
+    ensures { Writes (S.told sink.old) (S.told sink.new) result (keyword.now ⧺ value_text naming heap.now id) }
 {
     write_all(sink, keyword)?;
-    write_value(heap, id, sink)
+    write_value(naming, heap, id, sink)
+}
+
+/// Writes a keyword and a text of ASCII.
+#[tactic(auto, using(pickle_io::proofs::Devices::text_steps))]
+fn write_ascii_after<S: Page>(keyword: &[u8], text: &[u8], sink: &mut S) -> Result<(), Failed>
+    ensures { Writes (S.told sink.old) (S.told sink.new) result (keyword.now ⧺ whole_text Coding.Ascii text.now) }
+{
+    write_all(sink, keyword)?;
+    write_text(Coding::Ascii, text, sink)
 }
 
 /// Writes what made an object of this kind with these parts.
 #[tactic(auto, using(pickle_io::proofs::Devices::text_steps), unfolding(crate::specs::CallsLine::made_words))]
 fn write_made_words<S: Page>(
+    naming: Naming,
     heap: &[Object],
     kind: &Kind,
     parts: &[ObjId],
     sink: &mut S,
 ) -> Result<(), Failed>
-    ensures { Writes (S.told sink.old) (S.told sink.new) result (made_words heap.now kind.now parts.now) }
+    ensures { Writes (S.told sink.old) (S.told sink.new) result (made_words naming heap.now kind.now parts.now) }
 {
     match kind {
-        Kind::Global(names) => write_with_texts(b"import ", names.first(), names.second(), sink),
-        Kind::StackGlobal => write_part_names_after(b"import ", heap, parts, sink),
+        Kind::Global(names) => {
+            write_global_after(
+                b"import ",
+                naming,
+                None,
+                names.first(),
+                names.second(),
+                sink,
+            )
+        }
+        Kind::StackGlobal => write_stack_after(b"import ", naming, None, heap, parts, sink),
         Kind::Ext(code) => write_with_signed(b"import ext ", *code, sink),
-        Kind::Inst(names) => write_inst(heap, names.first(), names.second(), parts, sink),
-        Kind::Call => write_call(b"call ", heap, parts, sink),
-        Kind::New => write_call(b"new ", heap, parts, sink),
-        Kind::NewEx => write_call_with(heap, parts, sink),
-        Kind::Obj => write_obj(heap, parts, sink),
-        Kind::PersistentLine(text) => write_with_text(b"persistent ", text.as_slice(), sink),
-        Kind::Persistent => write_value_after(b"persistent ", heap, part(0, parts), sink),
+        Kind::Inst(names) => write_inst(naming, heap, names.first(), names.second(), parts, sink),
+        Kind::Call => write_call(b"call ", naming, heap, parts, sink),
+        Kind::New => write_call(b"new ", naming, heap, parts, sink),
+        Kind::NewEx => write_call_with(naming, heap, parts, sink),
+        Kind::Obj => write_obj(naming, heap, parts, sink),
+        Kind::PersistentLine(text) => write_ascii_after(b"persistent ", text.as_slice(), sink),
+        Kind::Persistent => write_value_after(b"persistent ", naming, heap, part(0, parts), sink),
         Kind::Buffer(number) => write_with_number(b"buffer ", *number, sink),
         Kind::ReadOnly => write_with_id(b"readonly ", u64::from(part(0, parts)), sink),
         _ => Ok(()),
@@ -125,25 +159,31 @@ fn write_made_words<S: Page>(
 /// Writes what made an object, and its number.
 #[tactic(auto, using(pickle_io::proofs::Devices::text_steps), unfolding(crate::specs::CallsLine::made_text))]
 fn write_made_object<S: Page>(
+    naming: Naming,
     heap: &[Object],
     id: ObjId,
     object: &Object,
     sink: &mut S,
 ) -> Result<(), Failed>
-    ensures { Writes (S.told sink.old) (S.told sink.new) result (made_text heap.now id object.now) }
+    ensures { Writes (S.told sink.old) (S.told sink.new) result (made_text naming heap.now id object.now) }
 {
-    write_made_words(heap, object.kind(), object.parts(), sink)?;
+    write_made_words(naming, heap, object.kind(), object.parts(), sink)?;
     write_all(sink, b" as ")?;
     write_id(u64::from(id), sink)
 }
 
 /// Writes what made the object of this number.
 #[tactic(auto, using(pickle_io::proofs::Devices::text_steps))]
-fn write_made<S: Page>(heap: &[Object], id: ObjId, sink: &mut S) -> Result<(), Failed>
-    ensures { Writes (S.told sink.old) (S.told sink.new) result (made_at heap.now id) }
+fn write_made<S: Page>(
+    naming: Naming,
+    heap: &[Object],
+    id: ObjId,
+    sink: &mut S,
+) -> Result<(), Failed>
+    ensures { Writes (S.told sink.old) (S.told sink.new) result (made_at naming heap.now id) }
 {
     match heap.get(id as usize) {
-        Some(object) => write_made_object(heap, id, object, sink),
+        Some(object) => write_made_object(naming, heap, id, object, sink),
         None => Ok(()),
     }
 }
@@ -151,14 +191,15 @@ fn write_made<S: Page>(heap: &[Object], id: ObjId, sink: &mut S) -> Result<(), F
 /// Writes that an object becomes the state of another.
 #[tactic(auto, using(pickle_io::proofs::Devices::text_steps), unfolding(crate::specs::CallsLine::state_text))]
 fn write_state<S: Page>(
+    naming: Naming,
     heap: &[Object],
     value: ObjId,
     target: ObjId,
     sink: &mut S,
 ) -> Result<(), Failed>
-    ensures { Writes (S.told sink.old) (S.told sink.new) result (state_text heap.now value target) }
+    ensures { Writes (S.told sink.old) (S.told sink.new) result (state_text naming heap.now value target) }
 {
-    write_value_after(b"state ", heap, value, sink)?;
+    write_value_after(b"state ", naming, heap, value, sink)?;
     write_all(sink, b" to ")?;
     write_id(u64::from(target), sink)
 }
@@ -206,12 +247,17 @@ fn write_filled<S: Page>(
 
 /// Writes an event, by the objects after the step.
 #[tactic(auto, unfolding(crate::specs::CallsLine::event_text))]
-fn write_event<S: Page>(heap: &[Object], event: Event, sink: &mut S) -> Result<(), Failed>
-    ensures { Writes (S.told sink.old) (S.told sink.new) result (event_text heap.now event) }
+fn write_event<S: Page>(
+    naming: Naming,
+    heap: &[Object],
+    event: Event,
+    sink: &mut S,
+) -> Result<(), Failed>
+    ensures { Writes (S.told sink.old) (S.told sink.new) result (event_text naming heap.now event) }
 {
     match event {
-        Event::Made(id) => write_made(heap, id, sink),
-        Event::State(value, target) => write_state(heap, value, target, sink),
+        Event::Made(id) => write_made(naming, heap, id, sink),
+        Event::State(value, target) => write_state(naming, heap, value, target, sink),
         Event::Filled(filling, count, target) => write_filled(filling, count, target, sink),
     }
 }
@@ -220,15 +266,16 @@ fn write_event<S: Page>(heap: &[Object], event: Event, sink: &mut S) -> Result<(
 #[tactic(auto, using(pickle_io::proofs::Devices::text_steps), unfolding(crate::specs::CallsLine::event_line))]
 fn write_event_line<S: Page>(
     offset: u64,
+    naming: Naming,
     heap: &[Object],
     event: Event,
     sink: &mut S,
 ) -> Result<(), Failed>
-    ensures { Writes (S.told sink.old) (S.told sink.new) result (event_line offset heap.now event) }
+    ensures { Writes (S.told sink.old) (S.told sink.new) result (event_line offset naming heap.now event) }
 {
     write_right(offset, sink)?;
     write_all(sink, b": ")?;
-    write_event(heap, event, sink)?;
+    write_event(naming, heap, event, sink)?;
     write_all(sink, b"\n")
 }
 
@@ -236,14 +283,15 @@ fn write_event_line<S: Page>(
 #[tactic(auto, using(pickle_io::proofs::Devices::text_steps))]
 pub fn write_line<S: Page>(
     offset: u64,
+    naming: Naming,
     heap: &[Object],
     event: Option<Event>,
     sink: &mut S,
 ) -> Result<(), Failed>
-    ensures { Writes (S.told sink.old) (S.told sink.new) result (line_of offset heap.now event) }
+    ensures { Writes (S.told sink.old) (S.told sink.new) result (line_of offset naming heap.now event) }
 {
     match event {
-        Some(event) => write_event_line(offset, heap, event, sink),
+        Some(event) => write_event_line(offset, naming, heap, event, sink),
         None => Ok(()),
     }
 }

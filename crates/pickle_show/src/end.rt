@@ -1,55 +1,118 @@
 //! The last lines.
 
 ghost use Rattle.std.specs.Prelude.{◌≡◌, IfOk, IfErr};
+ghost use Rattle.pickle_io.specs.Text.{◌⧺◌};
 ghost use Rattle.pickle_io.specs.Device.{Writes};
-ghost use Rattle.pickle_show.specs.Report.{closing_status};
-ghost use Rattle.pickle_show.specs.CallsLine.{totals_line, calls_end_text};
+ghost use Rattle.pickle_show.specs.Line.{kept_line};
+ghost use Rattle.pickle_show.specs.Report.{closing_line};
+ghost use Rattle.pickle_show.specs.CallsLine.{totals_line, unsure_words, unsure_line, ending_lines, ending_status, calls_end_text};
 
+use crate::begins::write_begins;
+use crate::course::Course;
 use crate::line::write_kept_line;
 use crate::report::{Closing, status_of, write_closing};
 use crate::stop::TextStop;
-use crate::totals::Totals;
 use pickle_ops::{Failed, Page, write_all, write_decimal};
 
-/// Writes how many imports and calls the lines are.
+/// How the lines of a document end.
+#[derive(Clone, Copy)]
+pub enum Ending {
+    /// The run over the items ended so, and STOP left this many bytes behind it.
+    Closed(u64, Closing),
+    /// Of several pickles, the STOP at this offset leaves a frame unfinished.
+    Unsure(u64),
+}
+
+/// Writes how many imports and calls the lines are. `Failed` where the sink fails; a beginning of the line was written then.
 #[tactic(auto, using(pickle_io::proofs::Devices::text_steps), unfolding(crate::specs::CallsLine::totals_line))]
-fn write_totals<S: Page>(totals: Totals, sink: &mut S) -> Result<(), Failed>
-    ensures { Writes (S.told sink.old) (S.told sink.new) result (totals_line totals.imports totals.calls) }
+pub fn write_totals<S: Page>(course: Course, sink: &mut S) -> Result<(), Failed>
+    ensures { Writes (S.told sink.old) (S.told sink.new) result (totals_line course.imports course.calls) }
 {
-    write_decimal(totals.imports, sink)?;
+    write_decimal(course.imports, sink)?;
     write_all(sink, b" imports, ")?;
-    write_decimal(totals.calls, sink)?;
+    write_decimal(course.calls, sink)?;
     write_all(sink, b" calls")?;
     write_all(sink, b"\n")
+}
+
+/// Words of a line.
+#[tactic(auto, unfolding(crate::specs::CallsLine::unsure_words))]
+fn words_of_unsure() -> &'static str
+    ensures { result.now ≡ unsure_words }
+{
+    "unsure: U1 frame goes on behind STOP at "
+}
+
+/// Writes that a frame goes on behind the STOP at this offset.
+#[tactic(auto, using(pickle_io::proofs::Devices::text_steps), unfolding(crate::specs::CallsLine::unsure_line))]
+fn write_unsure_line<S: Page>(offset: u64, sink: &mut S) -> Result<(), Failed>
+    ensures { Writes (S.told sink.old) (S.told sink.new) result (unsure_line offset) }
+{
+    write_all(sink, words_of_unsure().as_bytes())?;
+    write_decimal(offset, sink)?;
+    write_all(sink, b"\n")
+}
+
+/// Writes how many bytes STOP left, if any, and how the run ended.
+#[tactic(auto, using(pickle_io::proofs::Devices::text_steps))]
+fn write_closed<S: Page>(kept: u64, closing: Closing, sink: &mut S) -> Result<(), Failed>
+    ensures { Writes (S.told sink.old) (S.told sink.new) result (kept_line kept ⧺ closing_line closing) }
+{
+    write_kept_line(kept, sink)?;
+    write_closing(closing, sink)
+}
+
+/// Writes how the lines end.
+#[tactic(auto, unfolding(crate::specs::CallsLine::ending_lines))]
+fn write_ending<S: Page>(ending: Ending, sink: &mut S) -> Result<(), Failed>
+    ensures { Writes (S.told sink.old) (S.told sink.new) result (ending_lines ending) }
+{
+    match ending {
+        Ending::Closed(kept, closing) => write_closed(kept, closing, sink),
+        Ending::Unsure(offset) => write_unsure_line(offset, sink),
+    }
+}
+
+/// The status of a text that ends so.
+fn ending_status(ending: Ending) -> u8
+    ensures { result ≡ ending_status ending }
+{
+    match ending {
+        Ending::Closed(0, closing) => status_of(closing),
+        Ending::Closed(_, _) => 1,
+        Ending::Unsure(_) => 1,
+    }
 }
 
 /// Writes the last lines.
 #[tactic(auto, using(pickle_io::proofs::Devices::text_steps), unfolding(crate::specs::CallsLine::calls_end_text))]
 fn write_last_lines<S: Page>(
-    totals: Totals,
-    kept: u64,
-    closing: Closing,
+    bytes: &[u8],
+    course: Course,
+    ending: Ending,
     sink: &mut S,
 ) -> Result<(), Failed>
-    ensures { Writes (S.told sink.old) (S.told sink.new) result (calls_end_text totals.imports totals.calls kept closing) }
+    ensures { Writes (S.told sink.old) (S.told sink.new) result (calls_end_text bytes.now course.imports course.calls ending) }
 {
-    write_totals(totals, sink)?;
-    write_kept_line(kept, sink)?;
-    write_closing(closing, sink)
+    write_begins(bytes, sink)?;
+    write_totals(course, sink)?;
+    write_ending(ending, sink)
 }
 
-/// Writes the last lines: how many imports and calls there are, how many bytes STOP left, and how the reading ended. Answers the
-/// status.
+/// Writes the last lines: what the bytes begin like, if that holds pickles inside, how many imports and calls there are, how many bytes
+/// STOP left, and how the reading ended. Answers the status: 0 where nothing is said of how it ended, else 1.
+///
+/// `Failed` where the sink fails; a beginning of the lines was written then.
 pub fn write_end<S: Page>(
-    totals: Totals,
-    kept: u64,
-    closing: Closing,
+    bytes: &[u8],
+    course: Course,
+    ending: Ending,
     sink: &mut S,
 ) -> Result<u8, TextStop>
-    ensures text { Writes (S.told sink.old) (S.told sink.new) result (calls_end_text totals.imports totals.calls kept closing) }
-    ensures status { IfOk result (λ status. status ≡ closing_status closing) }
+    ensures text { Writes (S.told sink.old) (S.told sink.new) result (calls_end_text bytes.now course.imports course.calls ending) }
+    ensures status { IfOk result (λ status. status ≡ ending_status ending) }
     ensures failed { IfErr result (λ e. e ≡ TextStop.Failed) }
 {
-    write_last_lines(totals, kept, closing, sink)?;
-    Ok(status_of(closing))
+    write_last_lines(bytes, course, ending, sink)?;
+    Ok(ending_status(ending))
 }

@@ -1,8 +1,9 @@
 //! What a step does that whoever reads a pickle is to know.
 
-ghost use Rattle.std.specs.Prelude.{◌≡◌, ◌&&◌, nat_lt};
+ghost use Rattle.std.specs.Prelude.{◌≡◌};
 ghost use Rattle.pickle_ops.specs.Kind.{is_opaque};
-ghost use Rattle.pickle_show.specs.Event.{top_of, part, is_foreign, object_is, is_view, is_shown, made_event, filled_count, into, filled_event, taken_count, event_of};
+ghost use Rattle.pickle_machine.specs.Loader.{views, view_at, loose_at};
+ghost use Rattle.pickle_show.specs.Event.{top_of, part, is_foreign, object_is, is_view, is_shown, made_event, filled_count, touches, into, filled_event, taken_count, event_of};
 
 use pickle_machine::Machine;
 use pickle_ops::{Filling, Kind, ObjId, Object, Row};
@@ -98,6 +99,37 @@ fn is_foreign_at(heap: &[Object], id: ObjId) -> bool
     }
 }
 
+/// Whether an object is a view of one that comes from elsewhere or from a call, be it a buffer.
+fn is_opaque_view(heap: &[Object], object: &Object) -> bool
+    ensures { result ≡ views heap.now object.now.kind object.now.parts }
+{
+    match object.kind() {
+        Kind::ReadOnly => match object.parts().get(0) {
+            Some(id) => is_opaque_at(heap, *id),
+            None => false,
+        },
+        _ => false,
+    }
+}
+
+/// Whether the object of this number is there and is such a view.
+fn is_opaque_view_at(heap: &[Object], id: ObjId) -> bool
+    ensures { result ≡ view_at heap.now id }
+{
+    match heap.get(id as usize) {
+        Some(object) => is_opaque_view(heap, object),
+        None => false,
+    }
+}
+
+/// Whether the object of this number comes from elsewhere or from a call, or is a view of such a one: where that is read only already,
+/// a loader leaves it in the view's place.
+fn is_loose_at(heap: &[Object], id: ObjId) -> bool
+    ensures { result ≡ loose_at heap.now id }
+{
+    is_opaque_at(heap, id) || is_opaque_view_at(heap, id)
+}
+
 /// Whether an object is a view of one that comes from elsewhere or from a call and is no buffer. It is shown, since a
 /// loader would make it, although nothing can be put into it. A buffer comes from the program, and has its line
 /// already.
@@ -150,18 +182,23 @@ fn filled_count(filling: Filling, objects: usize) -> usize
     }
 }
 
-/// Whether at least one went into the top, and that comes from elsewhere or from a call.
-fn fills_opaque(count: usize, machine: &Machine) -> bool
-    ensures { result ≡ (nat_lt 0 count && object_is is_opaque machine.now.state.heap (top_of machine.now.state)) }
+/// Whether so many items, pairs or members are told that go into the object of this number: to append or add, be it nothing, asks the object
+/// for its method, and so does a view that is the object itself; to set nothing does nothing.
+fn touches(filling: Filling, count: usize, heap: &[Object], id: ObjId) -> bool
+    ensures { result ≡ touches filling count heap.now id }
 {
-    count > 0 && is_opaque_at(machine.heap(), top_of(machine))
+    match filling {
+        Filling::Append => is_loose_at(heap, id),
+        Filling::Add => is_loose_at(heap, id),
+        _ => count > 0 && is_opaque_at(heap, id),
+    }
 }
 
-/// The event of a step that put items, pairs or members of this count into the top, if that is opaque.
+/// The event of a step that put items, pairs or members of this count into the top, if they are told.
 fn into(filling: Filling, count: usize, machine: &Machine) -> Option<Event>
     ensures { result ≡ into filling count machine.now.state }
 {
-    if fills_opaque(count, machine) {
+    if touches(filling, count, machine.heap(), top_of(machine)) {
         Some(Event::Filled(filling, count, top_of(machine)))
     } else {
         None
@@ -180,7 +217,7 @@ fn filled_event(filling: Filling, before: Before, machine: &Machine) -> Option<E
 }
 
 /// The event of a step of this row, if any: this was looked at before it, and this is the machine after it.
-pub(crate) fn event_of(row: Row, before: Before, machine: &Machine) -> Option<Event>
+pub fn event_of(row: Row, before: Before, machine: &Machine) -> Option<Event>
     ensures { result ≡ event_of row before machine.now.state }
 {
     match row {

@@ -9,6 +9,7 @@
 //! The texts are this project's own; in them `#n` is object n, by its place in the heap.
 #![tactic(auto)]
 
+mod begins;
 mod blanks;
 mod brief;
 mod calls;
@@ -16,6 +17,7 @@ mod calls_laws;
 mod calls_line;
 mod column;
 mod content;
+mod course;
 mod end;
 mod event;
 mod front;
@@ -26,6 +28,7 @@ mod line;
 mod list;
 mod memo;
 mod name;
+mod naming;
 mod note;
 mod number;
 mod object;
@@ -36,17 +39,24 @@ mod report_line;
 mod show;
 mod stack;
 mod stop;
-mod totals;
 mod words;
 
-pub use calls::{calls_of_bytes, calls_of_items};
-pub use calls_laws::{lines_reach, no_line_no_reach, one_text};
+pub use begins::{CONTAINERS, write_begins};
+pub use calls::{Ran, calls_of_bytes, run_items};
+pub use calls_laws::{line_exactly, no_line_no_reach, one_text, quotes_stay};
+pub use calls_line::write_line;
+pub use course::Course;
+pub use end::{Ending, write_end, write_totals};
+pub use event::{Before, Event, event_of};
 pub use laws::one_report;
 pub use list::{list_bytes, list_items, write_listing};
 pub use memo::write_memo;
+pub use naming::Naming;
 pub use number::write_right;
 pub use object::{write_all_next, write_object, write_objects};
-pub use report::{report_of_bytes, report_of_items, write_document_report};
+pub use report::{
+    Closing, closing_at, report_of_bytes, report_of_items, write_closing, write_document_report,
+};
 pub use report_line::{write_fault_at, write_fault_text, write_item_refusal, write_refusal};
 pub use show::write_show;
 pub use stack::write_stack;

@@ -1,91 +1,438 @@
 //! The names of objects.
 
+ghost use Rattle.std.specs.Prelude.{◌≡◌, ◌&&◌, if◌then◌else◌, None, Some};
+ghost use Rattle.std.specs.Option.{option_map, option_map_or};
 ghost use Rattle.pickle_io.specs.Device.{Writes};
 ghost use Rattle.pickle_io.specs.Text.{◌⧺◌};
-ghost use Rattle.pickle_show.specs.Brief.{kind_part_name, part_name, names_text, part_names_text, kind_name, name_text};
+ghost use Rattle.pickle_names.specs.Renamed.{Import, import_of};
+ghost use Rattle.pickle_show.specs.Brief.{kind_name, name_text};
+ghost use Rattle.pickle_show.specs.Naming.{inner, spelled_of, spelled_at, said_text, pair_text, is_text, said_names, short_of, renamed_by, pair_renamed, import_text, import_for, renamed_text, names_by, names_text, global_pair, inst_pair, stack_pair, spelled_view, pair_view, is_as_said};
 
 use crate::event::part;
 use crate::kind::write_kind;
+use crate::naming::Naming;
 use crate::words::write_id;
+use arrayvec::ArrayVec;
+use pickle_names::{Coding, NewNames, renamed, short_value, write_text};
 use pickle_ops::{Failed, Kind, ObjId, Object, Page, write_all, write_quoted};
 
-/// Writes an object of this kind as the name of a module or of a member: a text in quotes, or its number.
-#[tactic(auto, unfolding(crate::specs::Brief::kind_part_name))]
-fn write_kind_part_name<S: Page>(id: ObjId, kind: &Kind, sink: &mut S) -> Result<(), Failed>
-    ensures { Writes (S.told sink.old) (S.told sink.new) result (kind_part_name id kind.now) }
+/// A text as it is in a pickle.
+#[derive(Clone, Copy)]
+pub struct SpelledText<'a> {
+    /// How its bytes are read.
+    pub coding: Coding,
+    /// Its bytes.
+    pub bytes: &'a [u8],
+}
+
+/// The names of a module and of a member: texts, or else the objects that they are.
+#[derive(Clone, Copy)]
+pub struct NamePair<'a> {
+    /// The module.
+    pub from: Option<SpelledText<'a>>,
+    /// The object that it is.
+    pub from_id: ObjId,
+    /// The member.
+    pub name: Option<SpelledText<'a>>,
+    /// The object that it is.
+    pub name_id: ObjId,
+}
+
+/// What is between the quotes of a line.
+pub(crate) fn inner(line: &[u8]) -> &[u8]
+    ensures { result.now ≡ inner line.now }
 {
-    match kind {
-        Kind::Text(text) => write_quoted(text.as_slice(), sink),
-        Kind::TextLine(text) => write_quoted(text.as_slice(), sink),
-        Kind::LegacyString(text) => write_quoted(text.as_slice(), sink),
-        Kind::LegacyLine(text) => write_quoted(text.as_slice(), sink),
-        _ => write_id(u64::from(id), sink),
+    match line.split_first() {
+        None => line,
+        Some((_, rest)) => &rest[..line.len().saturating_sub(2)],
     }
 }
 
-/// Writes the object of this number as such a name.
-#[tactic(auto, unfolding(crate::specs::Brief::part_name))]
-fn write_part_name<S: Page>(heap: &[Object], id: ObjId, sink: &mut S) -> Result<(), Failed>
-    ensures { Writes (S.told sink.old) (S.told sink.new) result (part_name heap.now id) }
+/// An object of this kind, if it is a text.
+fn spelled_of<'a>(kind: &'a Kind) -> Option<SpelledText<'a>>
+    ensures { option_map spelled_view result ≡ spelled_of kind.now }
+{
+    match kind {
+        Kind::Text(text) => Some(SpelledText {
+            coding: Coding::AnyUtf8,
+            bytes: text.as_slice(),
+        }),
+        Kind::TextLine(text) => Some(SpelledText {
+            coding: Coding::RawEscape,
+            bytes: text.as_slice(),
+        }),
+        Kind::LegacyString(text) => Some(SpelledText {
+            coding: Coding::Ascii,
+            bytes: text.as_slice(),
+        }),
+        Kind::LegacyLine(text) => Some(SpelledText {
+            coding: Coding::StringEscape,
+            bytes: inner(text.as_slice()),
+        }),
+        _ => None,
+    }
+}
+
+/// The object of this number, if it is a text.
+fn spelled_at<'a>(heap: &'a [Object], id: ObjId) -> Option<SpelledText<'a>>
+    ensures { option_map spelled_view result ≡ spelled_at heap.now id }
 {
     match heap.get(id as usize) {
-        Some(object) => write_kind_part_name(id, object.kind(), sink),
+        Some(object) => spelled_of(object.kind()),
+        None => None,
+    }
+}
+
+/// The names of GLOBAL.
+pub fn global_pair<'a>(first: &'a [u8], second: &'a [u8]) -> NamePair<'a>
+    ensures { pair_view result ≡ global_pair first.now second.now }
+{
+    NamePair {
+        from: Some(SpelledText {
+            coding: Coding::Utf8,
+            bytes: first,
+        }),
+        from_id: 0,
+        name: Some(SpelledText {
+            coding: Coding::Utf8,
+            bytes: second,
+        }),
+        name_id: 0,
+    }
+}
+
+/// The names of INST.
+pub fn inst_pair<'a>(first: &'a [u8], second: &'a [u8]) -> NamePair<'a>
+    ensures { pair_view result ≡ inst_pair first.now second.now }
+{
+    NamePair {
+        from: Some(SpelledText {
+            coding: Coding::Ascii,
+            bytes: first,
+        }),
+        from_id: 0,
+        name: Some(SpelledText {
+            coding: Coding::Ascii,
+            bytes: second,
+        }),
+        name_id: 0,
+    }
+}
+
+/// The names of STACK_GLOBAL, which are its parts.
+pub fn stack_pair<'a>(heap: &'a [Object], parts: &[ObjId]) -> NamePair<'a>
+    ensures { pair_view result ≡ stack_pair heap.now parts.now }
+{
+    let from = part(0, parts);
+    let name = part(1, parts);
+    NamePair {
+        from: spelled_at(heap, from),
+        from_id: from,
+        name: spelled_at(heap, name),
+        name_id: name,
+    }
+}
+
+/// Writes a name by its value, or by its number.
+#[tactic(auto, unfolding(crate::specs::Naming::said_text))]
+fn write_said<S: Page>(
+    spelled: Option<SpelledText<'_>>,
+    id: ObjId,
+    sink: &mut S,
+) -> Result<(), Failed>
+    ensures { Writes (S.told sink.old) (S.told sink.new) result (said_text (option_map spelled_view spelled.entry) id) }
+{
+    match spelled {
+        Some(text) => write_text(text.coding, text.bytes, sink),
         None => write_id(u64::from(id), sink),
     }
 }
 
-/// Writes two names in quotes.
-#[tactic(auto, using(pickle_io::proofs::Devices::text_steps), unfolding(crate::specs::Brief::names_text))]
-fn write_names<S: Page>(first: &[u8], second: &[u8], sink: &mut S) -> Result<(), Failed>
-    ensures { Writes (S.told sink.old) (S.told sink.new) result (names_text first.now second.now) }
+/// Writes both names as they are said.
+#[tactic(auto, using(pickle_io::proofs::Devices::text_steps), unfolding(crate::specs::Naming::pair_text))]
+fn write_pair<S: Page>(pair: NamePair<'_>, sink: &mut S) -> Result<(), Failed>
+    ensures { Writes (S.told sink.old) (S.told sink.new) result (pair_text (pair_view pair.entry)) }
 {
-    write_quoted(first, sink)?;
+    write_said(pair.from, pair.from_id, sink)?;
     write_all(sink, b" ")?;
-    write_quoted(second, sink)
+    write_said(pair.name, pair.name_id, sink)
 }
 
-/// Writes the first two parts as the names of a module and of a member.
-#[tactic(auto, using(pickle_io::proofs::Devices::text_steps), unfolding(crate::specs::Brief::part_names_text))]
-pub fn write_part_names<S: Page>(
-    heap: &[Object],
-    parts: &[ObjId],
+/// Whether both names are texts.
+fn are_texts(pair: NamePair<'_>) -> bool
+    ensures { result ≡ (is_text (pair_view pair.entry).from && is_text (pair_view pair.entry).name) }
+{
+    pair.from.is_some() && pair.name.is_some()
+}
+
+/// Writes both names as they are said; where one of them is no text, of what was imported as an object its number.
+fn write_said_names<S: Page>(
+    object: Option<ObjId>,
+    pair: NamePair<'_>,
     sink: &mut S,
 ) -> Result<(), Failed>
-    ensures { Writes (S.told sink.old) (S.told sink.new) result (part_names_text heap.now parts.now) }
+    ensures { Writes (S.told sink.old) (S.told sink.new) result (said_names object (pair_view pair.entry)) }
 {
-    write_part_name(heap, part(0, parts), sink)?;
-    write_all(sink, b" ")?;
-    write_part_name(heap, part(1, parts), sink)
+    match object {
+        None => write_pair(pair, sink),
+        Some(id) => {
+            if are_texts(pair) {
+                write_pair(pair, sink)
+            } else {
+                write_id(u64::from(id), sink)
+            }
+        }
+    }
 }
 
-/// Writes the same after a keyword.
+/// The value of a name, if it is a short text.
+fn short_of(spelled: Option<SpelledText<'_>>) -> Option<ArrayVec<u8, 32>>
+    ensures { option_map (λ v. v.items) result ≡ short_of (option_map spelled_view spelled.entry) }
+{
+    match spelled {
+        Some(text) => short_value(text.coding, text.bytes),
+        None => None,
+    }
+}
+
+/// Writes what is imported.
+#[tactic(auto, using(pickle_io::proofs::Devices::text_steps), unfolding(crate::specs::Naming::import_text))]
+fn write_import<S: Page>(new: NewNames<'_>, sink: &mut S) -> Result<(), Failed>
+    ensures { Writes (S.told sink.old) (S.told sink.new) result (import_text (import_of new.entry)) }
+{
+    write_quoted(new.from, sink)?;
+    write_all(sink, b" ")?;
+    write_quoted(new.name, sink)
+}
+
+/// Writes what is imported, and for which names.
+#[tactic(auto, using(pickle_io::proofs::Devices::text_steps), unfolding(crate::specs::Naming::import_for))]
+fn write_import_for<S: Page>(
+    new: NewNames<'_>,
+    pair: NamePair<'_>,
+    sink: &mut S,
+) -> Result<(), Failed>
+    ensures { Writes (S.told sink.old) (S.told sink.new) result (import_for (import_of new.entry) (pair_view pair.entry)) }
+{
+    write_import(new, sink)?;
+    write_all(sink, b" for ")?;
+    write_pair(pair, sink)
+}
+
+/// Writes what was imported as an object of that number: what it is, or what its names say.
+fn write_known<S: Page>(
+    old: bool,
+    id: ObjId,
+    new: NewNames<'_>,
+    pair: NamePair<'_>,
+    sink: &mut S,
+) -> Result<(), Failed>
+    ensures { Writes (S.told sink.old) (S.told sink.new) result (if old then import_text (import_of new.entry) else said_names (Some id) (pair_view pair.entry)) }
+{
+    if old {
+        write_import(new, sink)
+    } else {
+        write_said_names(Some(id), pair, sink)
+    }
+}
+
+/// Writes what is imported now: what it is and for which names, or what these say.
+fn write_now<S: Page>(
+    old: bool,
+    new: NewNames<'_>,
+    pair: NamePair<'_>,
+    sink: &mut S,
+) -> Result<(), Failed>
+    ensures { Writes (S.told sink.old) (S.told sink.new) result (if old then import_for (import_of new.entry) (pair_view pair.entry) else said_names None (pair_view pair.entry)) }
+{
+    if old {
+        write_import_for(new, pair, sink)
+    } else {
+        write_pair(pair, sink)
+    }
+}
+
+/// Writes names that have a row.
+fn write_renamed<S: Page>(
+    naming: Naming,
+    object: Option<ObjId>,
+    new: NewNames<'_>,
+    pair: NamePair<'_>,
+    sink: &mut S,
+) -> Result<(), Failed>
+    ensures { Writes (S.told sink.old) (S.told sink.new) result (renamed_text naming object (import_of new.entry) (pair_view pair.entry)) }
+{
+    match object {
+        None => write_now(naming.old, new, pair, sink),
+        Some(id) => {
+            if naming.since <= id {
+                write_known(naming.old, id, new, pair, sink)
+            } else {
+                write_id(u64::from(id), sink)
+            }
+        }
+    }
+}
+
+/// Writes names that may have a row.
+fn write_names_by<S: Page>(
+    naming: Naming,
+    object: Option<ObjId>,
+    new: Option<NewNames<'_>>,
+    pair: NamePair<'_>,
+    sink: &mut S,
+) -> Result<(), Failed>
+    ensures { Writes (S.told sink.old) (S.told sink.new) result (names_by naming object (option_map import_of new.entry) (pair_view pair.entry)) }
+{
+    match new {
+        Some(new) => write_renamed(naming, object, new, pair, sink),
+        None => write_said_names(object, pair, sink),
+    }
+}
+
+/// Writes names of which the module has this value.
+fn write_names_of<S: Page>(
+    naming: Naming,
+    object: Option<ObjId>,
+    from: &[u8],
+    pair: NamePair<'_>,
+    sink: &mut S,
+) -> Result<(), Failed>
+    ensures { Writes (S.told sink.old) (S.told sink.new) result (names_by naming object (renamed_by (Some from.now) (short_of (option_map spelled_view pair.entry.name))) (pair_view pair.entry)) }
+{
+    match short_of(pair.name) {
+        Some(name) => { write_names_by(naming, object, renamed(from, name.as_slice()), pair, sink) }
+        None => write_said_names(object, pair, sink),
+    }
+}
+
+/// Writes names by their rows, if they have one.
+#[tactic(auto, unfolding(crate::specs::Naming::names_text, crate::specs::Naming::pair_renamed))]
+fn write_names_slowly<S: Page>(
+    naming: Naming,
+    object: Option<ObjId>,
+    pair: NamePair<'_>,
+    sink: &mut S,
+) -> Result<(), Failed>
+    ensures { Writes (S.told sink.old) (S.told sink.new) result (names_text naming object (pair_view pair.entry)) }
+{
+    match short_of(pair.from) {
+        Some(from) => write_names_of(naming, object, from.as_slice(), pair, sink),
+        None => write_said_names(object, pair, sink),
+    }
+}
+
+/// Whether names are what they say, whatever rows there are.
+fn is_as_said(naming: Naming, object: Option<ObjId>) -> bool
+    ensures { result ≡ is_as_said naming object }
+{
+    match object {
+        None => !naming.old,
+        Some(id) => !naming.old && naming.since <= id,
+    }
+}
+
+/// Writes the names of what is imported now, or was as this object.
+#[tactic(auto, using(crate::proofs::Namings::as_said))]
+fn write_names<S: Page>(
+    naming: Naming,
+    object: Option<ObjId>,
+    pair: NamePair<'_>,
+    sink: &mut S,
+) -> Result<(), Failed>
+    ensures { Writes (S.told sink.old) (S.told sink.new) result (names_text naming object (pair_view pair.entry)) }
+{
+    if is_as_said(naming, object) {
+        write_said_names(object, pair, sink)
+    } else {
+        write_names_slowly(naming, object, pair, sink)
+    }
+}
+
+/// Writes such names after a keyword.
 #[tactic(auto, using(pickle_io::proofs::Devices::text_steps))]
-pub fn write_part_names_after<S: Page>(
+pub fn write_names_after<S: Page>(
     keyword: &[u8],
-    heap: &[Object],
-    parts: &[ObjId],
+    naming: Naming,
+    object: Option<ObjId>,
+    pair: NamePair<'_>,
     sink: &mut S,
 ) -> Result<(), Failed>
-    ensures { Writes (S.told sink.old) (S.told sink.new) result (keyword.now ⧺ part_names_text heap.now parts.now) }
+    ensures { Writes (S.told sink.old) (S.told sink.new) result (keyword.now ⧺ names_text naming object (pair_view pair.entry)) }
 {
     write_all(sink, keyword)?;
-    write_part_names(heap, parts, sink)
+    write_names(naming, object, pair, sink)
+}
+
+/// Writes the names of GLOBAL after a keyword.
+pub fn write_global_after<S: Page>(
+    keyword: &[u8],
+    naming: Naming,
+    object: Option<ObjId>,
+    first: &[u8],
+    second: &[u8],
+    sink: &mut S,
+) -> Result<(), Failed>
+    ensures { Writes (S.told sink.old) (S.told sink.new) result (keyword.now ⧺ names_text naming object (global_pair first.now second.now)) }
+{
+    write_names_after(keyword, naming, object, global_pair(first, second), sink)
+}
+
+/// Writes the names of STACK_GLOBAL after a keyword.
+pub fn write_stack_after<S: Page>(
+    keyword: &[u8],
+    naming: Naming,
+    object: Option<ObjId>,
+    heap: &[Object],
+    parts: &[ObjId],
+    sink: &mut S,
+) -> Result<(), Failed>
+    ensures { Writes (S.told sink.old) (S.told sink.new) result (keyword.now ⧺ names_text naming object (stack_pair heap.now parts.now)) }
+{
+    write_names_after(keyword, naming, object, stack_pair(heap, parts), sink)
+}
+
+/// Writes the names of GLOBAL.
+fn write_global<S: Page>(
+    naming: Naming,
+    id: ObjId,
+    first: &[u8],
+    second: &[u8],
+    sink: &mut S,
+) -> Result<(), Failed>
+    ensures { Writes (S.told sink.old) (S.told sink.new) result (names_text naming (Some id) (global_pair first.now second.now)) }
+{
+    write_names(naming, Some(id), global_pair(first, second), sink)
+}
+
+/// Writes the names of STACK_GLOBAL.
+fn write_stack<S: Page>(
+    naming: Naming,
+    id: ObjId,
+    heap: &[Object],
+    parts: &[ObjId],
+    sink: &mut S,
+) -> Result<(), Failed>
+    ensures { Writes (S.told sink.old) (S.told sink.new) result (names_text naming (Some id) (stack_pair heap.now parts.now)) }
+{
+    write_names(naming, Some(id), stack_pair(heap, parts), sink)
 }
 
 /// Writes the name of an object of this kind with these parts.
 #[tactic(auto, unfolding(crate::specs::Brief::kind_name))]
 fn write_kind_name<S: Page>(
+    naming: Naming,
     heap: &[Object],
     id: ObjId,
     kind: &Kind,
     parts: &[ObjId],
     sink: &mut S,
 ) -> Result<(), Failed>
-    ensures { Writes (S.told sink.old) (S.told sink.new) result (kind_name heap.now id kind.now parts.now) }
+    ensures { Writes (S.told sink.old) (S.told sink.new) result (kind_name naming heap.now id kind.now parts.now) }
 {
     match kind {
-        Kind::Global(names) => write_names(names.first(), names.second(), sink),
-        Kind::StackGlobal => write_part_names(heap, parts, sink),
+        Kind::Global(names) => write_global(naming, id, names.first(), names.second(), sink),
+        Kind::StackGlobal => write_stack(naming, id, heap, parts, sink),
         Kind::Ext(_) => write_kind(kind, sink),
         _ => write_id(u64::from(id), sink),
     }
@@ -93,11 +440,16 @@ fn write_kind_name<S: Page>(
 
 /// Writes the name of the object of this number.
 #[tactic(auto, unfolding(crate::specs::Brief::name_text))]
-pub fn write_name<S: Page>(heap: &[Object], id: ObjId, sink: &mut S) -> Result<(), Failed>
-    ensures { Writes (S.told sink.old) (S.told sink.new) result (name_text heap.now id) }
+pub fn write_name<S: Page>(
+    naming: Naming,
+    heap: &[Object],
+    id: ObjId,
+    sink: &mut S,
+) -> Result<(), Failed>
+    ensures { Writes (S.told sink.old) (S.told sink.new) result (name_text naming heap.now id) }
 {
     match heap.get(id as usize) {
-        Some(object) => write_kind_name(heap, id, object.kind(), object.parts(), sink),
+        Some(object) => write_kind_name(naming, heap, id, object.kind(), object.parts(), sink),
         None => write_id(u64::from(id), sink),
     }
 }

@@ -1,6 +1,6 @@
 -- What clap's matches name.
-use Rattle.std.proofs.Common.{◌≡◌, true, ℕ, ◌<◌, ◌≤◌, ◌^◌, List, [], Option, Some, None, Result, Ok, Err, refl, sym, ap, subst, ◌∙◌, arith, codes}
-use Rattle.std.specs.Prelude.{IfSome, IfErr, IsErrAnd, option_map}
+use Rattle.std.proofs.Common.{◌≡◌, true, ℕ, ◌<◌, ◌≤◌, ◌^◌, List, [], ◌∷◌, Option, Some, None, Result, Ok, Err, refl, sym, ap, subst, ◌∙◌, arith, codes}
+use Rattle.std.specs.Prelude.{Bool, IsTrue, false, IfSome, IfErr, IsErrAnd, option_map}
 use Rattle.std.specs.Str.Parse.{IsNumeral, digits_value, without_leading_plus}
 use Rattle.clap.specs.Words.{App, Row, Text, TriesOne, first_of, kind_of, takes}
 use Rattle.clap.specs.declared.error.Error.{Error}
@@ -9,7 +9,8 @@ use Rattle.picklestep.specs.declared.task.Task.{Task}
 use Rattle.picklestep.specs.declared.task.Task.TheVariants as task
 use Rattle.picklestep.specs.declared.task.Usage.{Usage}
 use Rattle.picklestep.specs.declared.task.Usage.TheVariants as usage
-use Rattle.picklestep.specs.CommandLine.{Matches, IsMemory, IsNamed, IsWindow, most_records}
+use Rattle.pickle_further.specs.declared.way.Pickles.{Pickles}
+use Rattle.picklestep.specs.CommandLine.{Matches, GivesReading, HasReading, IsMemory, IsNamed, IsWindow, most_records}
 
 -- ---- a subcommand
 
@@ -40,7 +41,7 @@ no_file matches name rows found want file p n q f =
 pub no_task : (matches : Matches) (name : Text) (rows : List Row) (t : Task) → matches ≡ Some (name, rows) → None ≡ first_of (codes "FILE") rows → IsNamed matches t → ⊥
 no_task matches name rows (task.List input) p n u = no_file matches name rows u.rows _ _ p n u.used u.file_is
 no_task matches name rows (task.Objects input) p n u = no_file matches name rows u.rows _ _ p n u.used u.file_is
-no_task matches name rows (task.Calls input) p n u = no_file matches name rows u.rows _ _ p n u.used u.file_is
+no_task matches name rows (task.Calls input pickles) p n u = no_file matches name rows u.0.rows _ _ p n u.0.used u.0.file_is
 no_task matches name rows (task.Debug input options) p n u = no_file matches name rows u.0.rows _ _ p n u.0.used u.0.file_is
 
 -- ---- a window
@@ -86,6 +87,40 @@ no_number o t None e not h = window_at o t None e h
 no_number o t (Some m) e not h =
     let c = window_at o t (Some m) e h in
     not (c.numeral, omega (arith, c.value, c.most))
+
+-- ---- the pickles that are told of
+
+same_answer : (a b : Bool) {A : Type 0} → (IsTrue a → A) → (A → IsTrue a) → (IsTrue b → A) → (A → IsTrue b) → a ≡ b
+same_answer true true f g h k = refl
+same_answer false false f g h k = refl
+same_answer true false f g h k = let bad : false ≡ true = k (f refl) in absurd cc
+same_answer false true f g h k = let bad : false ≡ true = g (h refl) in absurd cc
+
+pub reads : (first : Bool) (memo : Option Text) (rows : List Row) (r : Option Pickles) → (IsTrue first → first_of (codes "first") rows ≡ Some (codes "true"))
+    → (first_of (codes "first") rows ≡ Some (codes "true") → IsTrue first) → memo ≡ first_of (codes "memo") rows → IfSome r (GivesReading first memo) → IfSome r (HasReading rows)
+reads first memo rows None is is_not e g = tt
+reads first memo rows (Some p) is is_not e g = record { first = first; first_is = is; all_is = is_not; gives = subst (λ m. GivesReading first m p) e g }
+
+pub reads_none : (first : Bool) (memo : Option Text) (rows : List Row) (p : Pickles) → (IsTrue first → first_of (codes "first") rows ≡ Some (codes "true"))
+    → (first_of (codes "first") rows ≡ Some (codes "true") → IsTrue first) → memo ≡ first_of (codes "memo") rows → ((q : Pickles) → GivesReading first memo q → ⊥)
+    → HasReading rows p → ⊥
+reads_none first memo rows p is is_not e out h =
+    let same : h.first ≡ first = same_answer h.first first h.first_is h.all_is is is_not in
+    out p (subst (λ m. GivesReading first m p) (sym e) (subst (λ b. GivesReading b (first_of (codes "memo") rows) p) same h.gives))
+
+-- the first letter of the subcommand
+letter : Matches → ℕ
+letter None = 0
+letter (Some ([], rows)) = 0
+letter (Some (c ∷ more, rows)) = c
+
+-- without a reading there is no task of `calls`
+pub no_reading : (matches : Matches) (rows : List Row) (t : Task) → matches ≡ Some (codes "calls", rows) → ((p : Pickles) → HasReading rows p → ⊥) → IsNamed matches t → ⊥
+unfolding letter
+no_reading matches rows (task.List input) e out u = let bad : 99 ≡ 108 = ap letter (sym e ∙ u.used) in omega (arith, bad)
+no_reading matches rows (task.Objects input) e out u = let bad : 99 ≡ 111 = ap letter (sym e ∙ u.used) in omega (arith, bad)
+no_reading matches rows (task.Calls input pickles) e out u = out pickles (subst (λ r. HasReading r pickles) (sym (not_used matches _ _ rows u.0.rows e u.0.used)) u.1)
+no_reading matches rows (task.Debug input options) e out u = let bad : 99 ≡ 100 = ap letter (sym e ∙ u.0.used) in omega (arith, bad)
 
 -- ---- a refusal
 

@@ -1,11 +1,13 @@
 -- The command line, as clap's words say it, and the task that clap's matches of the words name.
-use Rattle.std.specs.Prelude.{◌≡◌, ◌≤◌, IsTrue, ℕ, List, Option, None, Some, IfSome, option_map, true, pos, codes, ⊤}
+use Rattle.std.specs.Prelude.{◌≡◌, ◌≤◌, Bool, IsTrue, ℕ, List, Option, None, Some, IfSome, option_map, true, false, pos, codes, ⊤}
 use Rattle.std.specs.String.{string_bytes}
 use Rattle.std.specs.Str.Parse.{IsNumeral, digits_value, without_leading_plus}
 use Rattle.clap.specs.Words.{App, Row, Rule, Text, first_of, one_of, kind_of, new_app, new_rule, with_rule, with_subcommand}
 use Rattle.clap.specs.declared.builder.action.ArgAction.TheVariants.{Set, SetTrue}
 use Rattle.clap.specs.declared.builder.value_parser.ValueParser.TheVariants as parser
 use Rattle.clap.specs.declared.error.kind.ErrorKind.TheVariants as kind
+use Rattle.pickle_further.specs.declared.way.Pickles.{Pickles}
+use Rattle.pickle_further.specs.declared.way.Pickles.TheVariants as pickles
 use Rattle.picklestep.specs.declared.task.Task.{Task}
 use Rattle.picklestep.specs.declared.task.Task.TheVariants as task
 use Rattle.picklestep.specs.declared.task.GivenFile.{GivenFile}
@@ -31,9 +33,18 @@ save_rule = record (new_rule (codes "save")) { long = Some (codes "save"); value
 abbrev pub many_rule : Rule
 many_rule = record (new_rule (codes "many")) { long = Some (codes "many"); action = Some SetTrue }
 
+abbrev pub first_rule : Rule
+first_rule = record (new_rule (codes "first")) { long = Some (codes "first"); action = Some SetTrue }
+
+abbrev pub memo_rule : Rule
+memo_rule = record (new_rule (codes "memo")) { long = Some (codes "memo"); value_names = 1; action = Some Set }
+
 -- a subcommand that is done on one file, as one pickle or as several
 abbrev pub on_file : Text → App
 on_file name = with_rule (with_rule (new_app name) file_rule) many_rule
+
+abbrev pub calls_app : App
+calls_app = with_rule (with_rule (on_file (codes "calls")) first_rule) memo_rule
 
 abbrev pub debug_app : App
 debug_app = with_rule (with_rule (on_file (codes "debug")) window_rule) save_rule
@@ -43,7 +54,7 @@ wants_subcommand a = record a { top = record a.top { subcommand_required = true 
 
 abbrev pub program : App
 program =
-    with_subcommand (with_subcommand (with_subcommand (with_subcommand (wants_subcommand (new_app (codes "picklestep"))) (on_file (codes "list")).top) (on_file (codes "objects")).top) (on_file (codes "calls")).top) debug_app.top
+    with_subcommand (with_subcommand (with_subcommand (with_subcommand (wants_subcommand (new_app (codes "picklestep"))) (on_file (codes "list")).top) (on_file (codes "objects")).top) calls_app.top) debug_app.top
 
 -- ---- the task that matches name
 
@@ -72,6 +83,19 @@ pub record IsUsed (name : Text) (matches : Matches) (input : GivenFile) : Type 0
   pub many_is : IsTrue input.many → first_of (codes "many") rows ≡ Some (codes "true")
   pub one_is : first_of (codes "many") rows ≡ Some (codes "true") → IsTrue input.many
 
+-- the pickles that are told of: all, the first, or all with the memo kept
+abbrev pub GivesReading : Bool → Option Text → Pickles → Type 0
+GivesReading first memo pickles.First = IsTrue first × (memo ≡ None)
+GivesReading first memo pickles.All = (first ≡ false) × (memo ≡ None)
+GivesReading first memo pickles.OneMemo = (first ≡ false) × (memo ≡ Some (codes "kept"))
+
+-- with `--first` or not, and with `--memo` and its word or not
+pub record HasReading (rows : List Row) (p : Pickles) : Type 0 where
+  pub first : Bool
+  pub first_is : IsTrue first → first_of (codes "first") rows ≡ Some (codes "true")
+  pub all_is : first_of (codes "first") rows ≡ Some (codes "true") → IsTrue first
+  pub gives : GivesReading first (first_of (codes "memo") rows) p
+
 pub record HasOptions (rows : List Row) (options : Options) : Type 0 where
   pub save_is : first_of (codes "save") rows ≡ option_map string_bytes options.save
   pub window_is : IsWindow (one_of (codes "window") rows) options.window
@@ -79,14 +103,14 @@ pub record HasOptions (rows : List Row) (options : Options) : Type 0 where
 abbrev pub IsNamed : Matches → Task → Type 0
 IsNamed matches (task.List input) = IsUsed (codes "list") matches input
 IsNamed matches (task.Objects input) = IsUsed (codes "objects") matches input
-IsNamed matches (task.Calls input) = IsUsed (codes "calls") matches input
+IsNamed matches (task.Calls input pickles) = (u : IsUsed (codes "calls") matches input) × HasReading u.rows pickles
 IsNamed matches (task.Debug input options) = (u : IsUsed (codes "debug") matches input) × HasOptions u.rows options
 
 -- a number of step records is within the bounds
 abbrev pub IsBounded : Task → Type 0
 IsBounded (task.List input) = ⊤
 IsBounded (task.Objects input) = ⊤
-IsBounded (task.Calls input) = ⊤
+IsBounded (task.Calls input pickles) = ⊤
 IsBounded (task.Debug input options) = IfSome options.window (λ n. (1 ≤ n) × (n ≤ most_records))
 
 -- the words are refused where memory runs out

@@ -2,7 +2,7 @@
 
 ghost use Rattle.std.specs.Prelude.{◌≡◌, IfOk, false};
 ghost use Rattle.clap.specs.Words.{rule_of, app_of};
-ghost use Rattle.picklestep.specs.CommandLine.{file_rule, many_rule, window_rule, save_rule, on_file, debug_app, program};
+ghost use Rattle.picklestep.specs.CommandLine.{file_rule, many_rule, first_rule, memo_rule, window_rule, save_rule, on_file, calls_app, debug_app, program};
 
 use clap::{Arg, ArgAction, Command};
 use std::alloc::{AllocError, Global};
@@ -30,6 +30,29 @@ fn many_argument<'a>(alloc: Global) -> Arg<'a>
         .long("many")
         .help("read FILE as pickles that follow one another: go on after each STOP")
         .action(ArgAction::SetTrue)
+}
+
+/// Whether only the first pickle is told of.
+fn first_argument<'a>(alloc: Global) -> Arg<'a>
+    ensures rule { rule_of result ≡ first_rule }
+    ensures local { result.global ≡ false }
+{
+    Arg::new(alloc, "first")
+        .long("first")
+        .help("tell of the first pickle alone, up to its STOP")
+        .action(ArgAction::SetTrue)
+}
+
+/// Whose memo is kept from one pickle to the next.
+fn memo_argument<'a>(alloc: Global) -> Arg<'a>
+    ensures rule { rule_of result ≡ memo_rule }
+    ensures local { result.global ≡ false }
+{
+    Arg::new(alloc, "memo")
+        .long("memo")
+        .value_name("kept")
+        .help("read FILE as one unpickler does that loads again and again and keeps its memo")
+        .action(ArgAction::Set)
 }
 
 /// How many step records a conversation keeps.
@@ -69,6 +92,19 @@ fn on_file<'a>(alloc: Global, name: &'a str, about: &'a str) -> Result<Command<'
         .arg(many_argument(alloc))
 }
 
+/// The command that tells what a file would import and call.
+fn calls_command<'a>(alloc: Global) -> Result<Command<'a>, AllocError>
+    ensures { IfOk result (λ c. app_of c ≡ calls_app) }
+{
+    on_file(
+        alloc,
+        "calls",
+        "Tells what the pickles of FILE would import and call, a line for each opcode that does so",
+    )?
+    .arg(first_argument(alloc))?
+    .arg(memo_argument(alloc))
+}
+
 /// The command that talks about a file.
 fn debug_command<'a>(alloc: Global) -> Result<Command<'a>, AllocError>
     ensures { IfOk result (λ c. app_of c ≡ debug_app) }
@@ -96,11 +132,7 @@ pub fn command_line<'a>(alloc: Global) -> Result<Command<'a>, AllocError>
         "objects",
         "Tells the objects that the opcodes of FILE make, and which of them is the result",
     )?;
-    let calling = on_file(
-        alloc,
-        "calls",
-        "Tells what FILE would import and call, a line for each opcode that does so",
-    )?;
+    let calling = calls_command(alloc)?;
     let debugging = debug_command(alloc)?;
     Command::new(alloc, "picklestep")
         .about("Shows what a Python pickle would import, call and build, and runs nothing of it")

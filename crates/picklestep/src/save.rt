@@ -1,8 +1,9 @@
 //! How a document is saved so that no file is lost: into a new file, which takes the name of the old one when all of it is stored.
 
 use crate::file::stop_for;
+use crate::store::{Store, write_document};
 use pickle_doc::Document;
-use pickle_ops::{Buffered, Sink, ToWrite};
+use pickle_ops::{Buffered, ToWrite};
 use pickle_script::Stop;
 use std::fs;
 use std::fs::{File, Metadata, OpenOptions};
@@ -108,9 +109,8 @@ fn has_name(rt: &HostRuntime, about: &Metadata, target: &PathBuf) -> bool {
 
 /// Writes the bytes of a document to a file.
 fn write_to(rt: &HostRuntime, document: &Document, file: &File) -> Result<(), Stop> {
-    let mut sink = Buffered::new(rt.alloc(), ToWrite::new(file))?;
-    document.write_bytes(&mut sink)?;
-    Ok(sink.flush()?)
+    let mut page = Buffered::new(rt.alloc(), ToWrite::new(file))?;
+    write_document(document, &mut page)
 }
 
 /// Fills a new file and gives it its name.
@@ -174,5 +174,25 @@ pub fn save_document(rt: &HostRuntime, document: &Document, path: &str) -> Resul
             replace(rt, document, &target_of(rt, path)?, None)
         }
         Err(error) => Err(stop_for(&error, Stop::Write)),
+    }
+}
+
+/// The file of a path, as a store. It does not report what it has taken.
+#[derive(Drop)]
+pub struct SavePath<'a> {
+    /// What runs the program.
+    pub rt: &'a HostRuntime,
+    /// The path.
+    pub path: &'a str,
+}
+
+impl Store for SavePath<'_> {
+    ghost use Rattle.std.specs.Prelude.{None};
+    ghost use Rattle.pickle_io.specs.Device.{Told};
+
+    ghost took = { λ _. record { taken = None; failures = 0 } };
+
+    fn save(&mut self, document: &Document) -> Result<(), Stop> {
+        save_document(self.rt, document, self.path)
     }
 }

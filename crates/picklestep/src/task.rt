@@ -3,12 +3,16 @@
 ghost use Rattle.std.specs.Prelude.{◌≡◌, ◌≤◌, IsTrue, ℕ, Option, Some, None, Ok, IfOk, IfErr, IfSome, map, option_map, true, codes};
 ghost use Rattle.std.specs.String.{string_bytes};
 ghost use Rattle.clap.specs.Words.{found_of, first_of, one_of, rows_of, subcommand_of, subcommand_rows_of, takes};
-ghost use Rattle.picklestep.specs.CommandLine.{program, most_records, HasOptions, IsWindow, IsNamed, IsBounded, IsMemory};
+ghost use Rattle.picklestep.specs.CommandLine.{program, most_records, GivesReading, HasReading, HasOptions, IsWindow, IsNamed, IsBounded, IsMemory};
 
 use crate::command_line::{MOST_RECORDS, command_line};
 use clap::error::ErrorKind;
 use clap::{ArgMatches, Error};
+use pickle_script::Pickles;
 use std::alloc::{AllocError, Global};
+
+/// What is said of options that name no pickles to tell of: other words that are no task clap refuses.
+const NO_READING: &str = "'--memo' takes the word 'kept', and does not go with '--first'";
 
 /// What a task is done on.
 #[derive(Drop, Debug, PartialEq, Eq)]
@@ -26,8 +30,8 @@ pub enum Task {
     List(GivenFile),
     /// Print one line per object, in creation order.
     Objects(GivenFile),
-    /// Print what the opcodes would import and call.
-    Calls(GivenFile),
+    /// Print what these pickles would import and call. Whether the file is read as several pickles changes nothing.
+    Calls(GivenFile, Pickles),
     /// Read commands from standard input and answer each.
     Debug(GivenFile, Options),
 }
@@ -117,15 +121,47 @@ fn options_of(alloc: Global, found: &ArgMatches<'_>) -> Result<Option<Options>, 
     }
 }
 
-/// Whether the file is read as several pickles.
-fn is_many(found: &ArgMatches<'_>) -> bool
-    ensures yes { IsTrue result → first_of (codes "many") (rows_of (found_of found.now)) ≡ Some (codes "true") }
-    ensures no { first_of (codes "many") (rows_of (found_of found.now)) ≡ Some (codes "true") → IsTrue result }
+/// Whether an option without a value was given.
+fn is_given(found: &ArgMatches<'_>, name: &str) -> bool
+    ensures yes { IsTrue result → first_of name.now (rows_of (found_of found.now)) ≡ Some (codes "true") }
+    ensures no { first_of name.now (rows_of (found_of found.now)) ≡ Some (codes "true") → IsTrue result }
 {
-    let Some(text) = found.get_str("many") else {
+    let Some(text) = found.get_str(name) else {
         return false;
     };
     if text == "true" { true } else { false }
+}
+
+/// The pickles that are told of: all, unless it is the first alone or the memo is kept; no answer for both of these, or for another
+/// word of the memo.
+fn reading_of(first: bool, memo: Option<&str>) -> Option<Pickles>
+    ensures some { IfSome result (GivesReading first (option_map (λ t. t.now) memo.entry)) }
+    ensures none { result ≡ None → (pickles : Pickles) → GivesReading first (option_map (λ t. t.now) memo.entry) pickles → ⊥ }
+{
+    let Some(word) = memo else {
+        return if first {
+            Some(Pickles::First)
+        } else {
+            Some(Pickles::All)
+        };
+    };
+    if first {
+        return None;
+    }
+    if word == "kept" {
+        Some(Pickles::OneMemo)
+    } else {
+        None
+    }
+}
+
+/// The pickles that are told of; no answer where the options name none.
+fn pickles_of(found: &ArgMatches<'_>) -> Option<Pickles>
+    ensures some { IfSome result (HasReading (rows_of (found_of found.now))) }
+    ensures none { result ≡ None → (pickles : Pickles) → HasReading (rows_of (found_of found.now)) pickles → ⊥ }
+{
+    let first = is_given(found, "first");
+    reading_of(first, found.get_str("memo"))
 }
 
 /// The task that matches name, if they name one.
@@ -139,7 +175,7 @@ fn named(alloc: Global, matches: &ArgMatches<'_>) -> Result<Option<Task>, AllocE
     let Some(file) = found.get_str("FILE") else {
         return Ok(None);
     };
-    let many = is_many(found);
+    let many = is_given(found, "many");
     if name == "list" {
         let file = String::from_str(alloc, file)?;
         Ok(Some(Task::List(GivenFile { file, many })))
@@ -147,8 +183,11 @@ fn named(alloc: Global, matches: &ArgMatches<'_>) -> Result<Option<Task>, AllocE
         let file = String::from_str(alloc, file)?;
         Ok(Some(Task::Objects(GivenFile { file, many })))
     } else if name == "calls" {
+        let Some(pickles) = pickles_of(found) else {
+            return Ok(None);
+        };
         let file = String::from_str(alloc, file)?;
-        Ok(Some(Task::Calls(GivenFile { file, many })))
+        Ok(Some(Task::Calls(GivenFile { file, many }, pickles)))
     } else if name == "debug" {
         let Some(options) = options_of(alloc, found)? else {
             return Ok(None);
@@ -176,6 +215,6 @@ pub fn task_of(alloc: Global, words: &[&str]) -> Result<Task, Usage>
     let matches = command.try_get_matches_from_mut(words)?;
     match named(alloc, &matches)? {
         Some(task) => Ok(task),
-        None => Err(Usage::Words(command.error(ErrorKind::InvalidSubcommand, "this is no task")?)),
+        None => Err(Usage::Words(command.error(ErrorKind::InvalidValue, NO_READING)?)),
     }
 }

@@ -1,18 +1,17 @@
 //! What pickles would import and call, over memory and over a sink that fails. Rows for each line are in equipment/calls.txt.
 
 use crate::listings::Failing;
-use pickle_ops::Page;
-use pickle_script::{Stop, calls, calls_many};
+use pickle_script::{Pickles, Stop, calls};
 use std::alloc::Global;
 use std::test::Fail;
 use test_equipment::{insist_on_paper, page_over, paper, taken, written_out};
 
-/// Bytes that are read as several pickles or as one, what they would import and call, and the status.
-type Row = (bool, &'static [u8], &'static str, u8);
+/// Which pickles of bytes are told of, the bytes, what they would import and call, and the status.
+type Row = (Pickles, &'static [u8], &'static str, u8);
 
 /// A call with one argument.
 const SHELL: Row = (
-    false,
+    Pickles::First,
     b"cposix\nsystem\n(X\x02\x00\x00\x00idtR.",
     "    0: import 'posix' 'system' as #0\n   23: call 'posix' 'system' ('id') as #3\n1 imports, 1 calls\n",
     0,
@@ -20,7 +19,7 @@ const SHELL: Row = (
 
 /// All that is put into an opaque object, a payload that is cut, and an item that is refused.
 const FILLED: Row = (
-    false,
+    Pickles::First,
     b"(im\nn\n(VaaaaaaaaaabbbbbbbbbbccccccccccddddddddddeeeeeeeeeeffffffffffGGGGGGGG\nNtbNa(NNu(N\x900R",
     "    1: inst 'm' 'n' () as #0\n   79: state ('aaaaaaaaaabbbbbbbbbbccccccccccddddddddddeeeeeeeeeeffffffffffGGGG'+4, none) to #0\n   81: append 1 to #0\n   85: set 1 in #0\n   88: add 1 to #0\n1 imports, 5 calls\nrefused: item 17: S2 stack underflow\n",
     1,
@@ -28,25 +27,16 @@ const FILLED: Row = (
 
 /// Two pickles.
 const TWO: Row = (
-    true,
+    Pickles::All,
     b"cm\nn\n)R.\x8c\x01m\x8c\x01n\x93\x97\x86Q.",
     "    0: import 'm' 'n' as #0\n    6: call 'm' 'n' () as #2\n   14: import 'm' 'n' as #5\n   15: buffer 0 as #6\n   17: persistent (global 'm' 'n', #6) as #8\n2 imports, 1 calls\n",
     0,
 );
 
-/// What the input would import and call, by its mode.
-fn write<S: Page>(alloc: Global, many: bool, bytes: &[u8], sink: &mut S) -> Result<u8, Stop> {
-    if many {
-        calls_many(alloc, bytes, sink)
-    } else {
-        calls(alloc, bytes, sink)
-    }
-}
-
 /// What was written, and the status.
-fn told(alloc: Global, many: bool, bytes: &[u8]) -> Result<(Vec<u8>, u8), Stop> {
+fn told(alloc: Global, pickles: Pickles, bytes: &[u8]) -> Result<(Vec<u8>, u8), Stop> {
     let mut sink = paper(alloc)?;
-    let status = write(alloc, many, bytes, &mut sink)?;
+    let status = calls(alloc, pickles, bytes, &mut sink)?;
     Ok((taken(sink)?, status))
 }
 
@@ -63,8 +53,8 @@ fn nested(rt: HostRuntime) -> Result<(), Fail> {
     bytes.extend_from_slice(b"N.")?;
     let text =
         "    0: import 'm' 'n' as #0\n20006: call 'm' 'n' (#20000) as #20002\n1 imports, 1 calls\n";
-    for many in [false, true] {
-        let found = told(rt.alloc(), many, bytes.as_slice())?;
+    for pickles in [Pickles::First, Pickles::All, Pickles::OneMemo] {
+        let found = told(rt.alloc(), pickles, bytes.as_slice())?;
         assert_eq!(rt; found.0.as_slice(), text.as_bytes());
         assert_eq!(rt; found.1, 0);
     }
@@ -75,9 +65,9 @@ fn nested(rt: HostRuntime) -> Result<(), Fail> {
 /// sink's own growth was refused; what was written is a beginning, and asked again it succeeds.
 #[test]
 fn refused_memory(rt: HostRuntime) -> Result<(), Fail> {
-    for (many, bytes, text, status) in [SHELL, FILLED, TWO] {
+    for (pickles, bytes, text, status) in [SHELL, FILLED, TWO] {
         let mut sink = insist_on_paper(rt.alloc())?;
-        let answer = write(rt.alloc(), many, bytes, &mut sink);
+        let answer = calls(rt.alloc(), pickles, bytes, &mut sink);
         let answer = written_out(&mut sink, answer);
         let written = sink.into_inner().into_inner();
         assert!(rt; text.as_bytes().starts_with(written.as_slice()));
@@ -88,7 +78,7 @@ fn refused_memory(rt: HostRuntime) -> Result<(), Fail> {
             }
             Err(stop) => {
                 assert!(rt; stop == Stop::Memory || stop == Stop::Write);
-                let found = told(rt.alloc(), many, bytes)?;
+                let found = told(rt.alloc(), pickles, bytes)?;
                 assert_eq!(rt; found.0.as_slice(), text.as_bytes());
                 assert_eq!(rt; found.1, status);
             }
@@ -100,10 +90,10 @@ fn refused_memory(rt: HostRuntime) -> Result<(), Fail> {
 /// A sink is not called again after it has failed.
 #[test]
 fn failing_sink(rt: HostRuntime) -> Result<(), Fail> {
-    for (many, bytes, text, status) in [SHELL, FILLED, TWO] {
+    for (pickles, bytes, text, status) in [SHELL, FILLED, TWO] {
         for fails_at in 0..text.len() as u64 + 1 {
             let mut sink = page_over(rt.alloc(), Failing::new(fails_at))?;
-            let answer = write(rt.alloc(), many, bytes, &mut sink);
+            let answer = calls(rt.alloc(), pickles, bytes, &mut sink);
             let answer = written_out(&mut sink, answer);
             let whole = fails_at == text.len() as u64;
             assert_eq!(rt; answer, if whole { Ok(status) } else { Err(Stop::Write) });

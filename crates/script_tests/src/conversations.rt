@@ -108,8 +108,8 @@ const ROWS: [(&[u8], &str, &str, u8); 27] = [
     ),
     (
         b"N.",
-        "STEP\n\x0bstep\nstep\x0c\nst\x00ep\nfly 1\ngoto1\n",
-        "refused: X1 unknown word\nrefused: X1 unknown word\nrefused: X1 unknown word\nrefused: X1 unknown word\nrefused: X1 unknown word\nrefused: X1 unknown word\n",
+        "goto\x0b1\ngoto 1\x0c\nSTEP\n\x0bstep\nstep\x0c\nst\x00ep\nfly 1\ngoto1\n",
+        "refused: X1 unknown word\nrefused: X3 bad number\nrefused: X1 unknown word\nrefused: X1 unknown word\nrefused: X1 unknown word\nrefused: X1 unknown word\nrefused: X1 unknown word\nrefused: X1 unknown word\n",
         1,
     ),
     (b"N.", "\n \t\r\n\nstack\n \r\t", "stack\n", 0),

@@ -10,6 +10,8 @@ mod conversations;
 #[cfg(test)]
 mod listings;
 #[cfg(test)]
+mod replies;
+#[cfg(test)]
 mod scripts;
 #[cfg(test)]
 mod several;

@@ -1,13 +1,11 @@
-//! Tests of sessions and of their lines. `session`: worked commands with every reader compared, ways from every place to every
-//! place, and what is left where memory is refused, by what the session shows. `text`: lines and their answers, in scripts over
-//! memory that are given line by line. The program, `runs`: random commands to sessions over files. Test equipment.
+//! Tests of sessions. `session`: worked commands with every reader compared, ways from every place to every place, and what is
+//! left where memory is refused, by what the session shows. The program, `runs`: random commands to sessions over files. Test
+//! equipment.
 #![tactic(auto)]
 
 mod runs;
 #[cfg(test)]
 mod session;
-#[cfg(test)]
-mod text;
 
 use crate::runs::try_files;
 use std::process::ExitCode;

@@ -10,7 +10,7 @@ from __future__ import annotations
 import pickletools
 from ast import literal_eval
 from functools import lru_cache
-from typing import Callable, Dict, Iterable, List, Optional, Set, Tuple
+from typing import Callable, Dict, Iterable, List, Optional, Sequence, Set, Tuple
 
 from ..listed import offset_of
 from ..texts import opcode_of
@@ -218,19 +218,26 @@ class Builder:
     def _on_additems(self, line: str) -> None:
         self._fill(line, self._cut(), 'add')
 
-    def _fill(self, line: str, items: List[Entry], method: str) -> None:
-        target = self.stack[-1]
+    def _extend_literal(self, items: List[Entry], keys: Sequence[Entry]) -> Optional[Node]:
+        """Puts items into the container on top of the stack, while its literal goes on. Answers the container where a statement has to do it."""
         if not items:
-            return
+            return None
+        target = self.stack[-1]
         assert isinstance(target, Node)
         nodes = self._take_all(items)
-        if not target.is_taken:
-            target.items += items
-            target.inner += nodes
-            if target.kind == 'set' and not is_pure(nodes):
-                self._name_now(target)
+        if target.is_taken:
+            target.uses += 1
+            return target
+        target.items += items
+        target.inner += nodes
+        if nodes and target.kind != 'list' and not is_pure(keys):
+            self._name_now(target)
+        return None
+
+    def _fill(self, line: str, items: List[Entry], method: str) -> None:
+        target = self._extend_literal(items, items)
+        if target is None:
             return
-        target.uses += 1
         is_each = len(items) == 1 or (target.is_opaque and method == 'add')
         form = f'{{}}.{method}({{}})' if is_each else '{}.update({})' if method == 'add' else '{}.extend({})'
         if target.is_opaque and not is_each:
@@ -245,19 +252,9 @@ class Builder:
         self._set(line, self._cut())
 
     def _set(self, line: str, items: List[Entry]) -> None:
-        target = self.stack[-1]
-        if not items:
-            return
-        assert isinstance(target, Node)
-        nodes = self._take_all(items)
-        if not target.is_taken:
-            target.items += items
-            target.inner += nodes
-            if nodes and not is_pure(items[::2]):
-                self._name_now(target)
-            return
-        target.uses += 1
-        self.events.append(Paired(target, items, offset_of(line) if target.is_opaque else None))
+        target = self._extend_literal(items, items[::2])
+        if target is not None:
+            self.events.append(Paired(target, items, offset_of(line) if target.is_opaque else None))
 
     # --- What reaches out ---
 

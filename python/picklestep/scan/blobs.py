@@ -2,8 +2,8 @@
 
 from __future__ import annotations
 
+import mmap
 import os
-import resource
 import tempfile
 import time
 from bisect import bisect_right
@@ -44,7 +44,7 @@ class PartMet(LimitMet):
 
 # This much of the memory is left to the interpreter itself.
 _OWN_MEMORY = 96 << 20
-_PAGE = resource.getpagesize()
+_PAGE = mmap.PAGESIZE
 
 # After so many opcodes the time is looked at.
 STEPS = 1 << 12
@@ -152,6 +152,10 @@ def _own_size() -> int:
 
 def _processor_time() -> float:
     """Seconds that this process and the programs that it waited for have taken."""
+    try:
+        import resource
+    except ImportError:  # (Windows has none)
+        return time.process_time()
     children = resource.getrusage(resource.RUSAGE_CHILDREN)
     return time.process_time() + children.ru_utime + children.ru_stime
 

@@ -29,6 +29,7 @@ from .canonical.kinds import UNREAD, asked_form, kinds_of, without_ending
 from .canonical.layouts import Layout, alone, another_import, layout_of, of_torch_tar
 from .canonical.pickles import read_pickle
 from .canonical.wide import may_lead_on, reach_of
+from .other_forms import ending, forms_of
 from .packed import METHODS, Unpacking
 from .reading import asks_program, held, offset_of_item, why_unread
 from .results import Note, Pickle, Place, Result
@@ -69,10 +70,11 @@ class Looker:
 
     def __init__(self, options: Options) -> None:
         self.options = options
-        self.budget = Budget(options.limits)
+        self.budget = self._of_file = Budget(options.limits)
         self.pickles: List[Pickle] = []
         self.notes: List[Note] = []
         self.others = 0
+        self.forms: Counter[str] = Counter()
         self.plain = 0
         self.at: Place = ()
         self.name = ''
@@ -80,6 +82,12 @@ class Looker:
     def note(self, where: Place, text: str, missed: bool = False) -> None:
         """Keeps something to know about a place."""
         self.notes.append(Note(where, text, missed))
+
+    def _count_other(self, where: Place, form: str = '') -> None:
+        """Counts what is no pickle, with its ending or the form given. (A value of a store, which has a budget of its own, has neither.)"""
+        self.others += 1
+        if self.budget is self._of_file:
+            self.forms[form or ending(where[-1] if where else self.name)] += 1
 
     def _tell(self, where: Place, kind: str, reason: NotCanonical) -> None:
         """Says that something is not in the form that its usual writers write."""
@@ -135,7 +143,7 @@ class Looker:
         if is_pickle and self._is_read(blob, head, where, names):
             stores.look_behind(self, blob, where, depth)
         elif not stores.look_further(self, blob, where, depth):
-            self.others += 1
+            self._count_other(where)
 
     def _leads_somewhere(self, blob: Blob) -> bool:
         """Whether a loader of pickles comes to an import, to a call or to a STOP in these bytes."""
@@ -149,7 +157,7 @@ class Looker:
         kinds = _all_kinds(blob, head, tries=False)
         reach, _ = reach_of(blob, self.budget, extends=False)
         if not kinds and reach is None:
-            self.others += 1
+            self._count_other(where, 'numbers')
             return
         found = f'begin as {" or ".join(kinds)}' if reach is None else f'lead a loader of pickles to {reach.what} at {reach.offset}'
         self.note(where, f'raw numbers that {found}: they are looked at as that', missed=True)
@@ -233,7 +241,7 @@ class Looker:
         `spans` gets the ranges in which a member is stored that may be a zip archive.
         """
         if kind.startswith(UNREAD):
-            self.others += 1
+            self._count_other(where, kind[len(UNREAD):])
             self.note(where, f'{kind[len(UNREAD):]}: this kind of container is not opened', missed=True)
         elif depth >= self.options.limits.depth:
             self.note(where, f'{kind}: containers are opened to a depth of {self.options.limits.depth}: this one is not', missed=True)
@@ -568,7 +576,7 @@ class Looker:
             again = Unpacking(unpacking.packed, unpacking.start, unpacking.offset, unpacking.several)
             self._look_at_held(self._counted(again, _Unpacked()), where, names, depth, holder)
         else:
-            self.others += 1
+            self._count_other(where)
 
     def _look_at_held(self, pieces: Iterator[bytes], where: Place, names: Tuple[str, ...], depth: int, holder: '_Unpacked') -> None:
         """Looks at unpacked bytes. Where they are more than may be held, the first of them."""
@@ -712,7 +720,7 @@ def _gone_through(looker: Looker, blob: Blob, start: Result) -> Result:
     except OSError as failure:
         error = failure.strerror or str(failure)
     return replace(start, pickles=tuple(looker.pickles), others=looker.others, notes=tuple(looker.notes), error=error,
-                   plain=looker.plain)
+                   plain=looker.plain, forms=forms_of(looker.others, looker.forms))
 
 
 def look(path: str, options: Options = Options()) -> Result:
@@ -725,7 +733,7 @@ def look_at_bytes(name: str, content: bytes, options: Options = Options()) -> Re
     """All that is found in the content of a file that somebody else read, such as Spark.
 
     >>> look_at_bytes('a.pkl', b'cposix\\nsystem\\n.').pickles[0].imports
-    (Import(name='posix.system', count=1, offset=0),)
+    (Import(name='posix.system', count=1, offset=0, part=''),)
     """
     looker = Looker(options)
     return _whatever_happens(looker, name, lambda: _gone_through(looker, BytesBlob(content), Result(name, len(content))))

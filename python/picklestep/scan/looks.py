@@ -63,13 +63,18 @@ def end_text(end: End) -> str:
 
 def import_text(found: Import, why: Optional[str]) -> str:
     """An import, and why it is marked if it is."""
-    return f'import {shown(found.name)} {times(found.count)}, first at {found.offset}{": " + why if why else ""}'
+    return f'import {shown(found.name)} {times(found.count)}, first at {found.offset}{_in_part(found.part)}{": " + why if why else ""}'
 
 
 def call_text(done: Call) -> str:
     """What a pickle does with one thing, with the program's line for the first time."""
     what = f'{done.what} {shown(done.name)}' if done.name else _WITHOUT_NAME.get(done.what, done.what)
-    return f'{what} {times(done.count)}, first at {done.offset}: {shown(done.text)}'
+    return f'{what} {times(done.count)}, first at {done.offset}{_in_part(done.part)}: {shown(done.text)}'
+
+
+def _in_part(part: str) -> str:
+    """The part where something stands, behind its offset."""
+    return f' ({part})' if part else ''
 
 
 def calls_of(pickle: Pickle, name: str) -> List[Call]:
@@ -134,7 +139,7 @@ class Judge:
         """All that asks for a closer look in one pickle. A marked import brings its calls; the last one those of what has no name, too."""
         marked = [(found, mark) for found in pickle.imports for mark in (self.mark(found.name),) if mark is not None]
         for found, (rule, why) in marked:
-            calls = calls_of(pickle, found.name)
+            calls = [done for done in calls_of(pickle, found.name) if done.part == found.part or not found.part]
             if found is marked[-1][0]:
                 calls += [done for done in pickle.calls if not done.name and done.what in _OF_OBJECTS]
             yield Look(pickle.where, rule, import_text(found, why), found.name, found.offset, tuple(map(call_text, calls)))

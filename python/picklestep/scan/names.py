@@ -2,23 +2,10 @@
 
 from __future__ import annotations
 
-import _compat_pickle
 import re
 from typing import Dict, FrozenSet, Iterable, List, Optional, Pattern, Tuple
 
-__all__ = ['Names', 'as_imported']
-
-
-def as_imported(name: str) -> str:
-    """A name as Python 3 imports it from a pickle of protocol 2 or below.
-
-    >>> as_imported('__builtin__.set'), as_imported('os.system')
-    ('builtins.set', 'os.system')
-    """
-    module, _, attribute = name.rpartition('.')
-    if (module, attribute) in _compat_pickle.NAME_MAPPING:
-        return '.'.join(_compat_pickle.NAME_MAPPING[module, attribute])
-    return f'{_compat_pickle.IMPORT_MAPPING[module]}.{attribute}' if module in _compat_pickle.IMPORT_MAPPING else name
+__all__ = ['Names']
 
 
 class Names:
@@ -61,7 +48,7 @@ class Names:
     def note(self, name: str) -> Optional[str]:
         """The note of the line that has this name; None where no line has it. A whole name goes before a pattern."""
         if name not in self._found:
-            self._found[name] = self._look_up(as_imported(name))
+            self._found[name] = self._look_up(name)
         return self._found[name]
 
     def allows_done(self, what: str, name: str) -> bool:
@@ -70,7 +57,7 @@ class Names:
         What a pickle does with objects that it made has no name, and is allowed.
         """
         word = _WORDS.get(what)
-        return word is None or self.note(name) is None or word in self._words_of(as_imported(name))
+        return word is None or self.note(name) is None or word in self._words_of(name)
 
     # --- How a name is found ---
 

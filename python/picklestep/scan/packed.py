@@ -5,11 +5,12 @@ from __future__ import annotations
 import bz2
 import lzma
 import zlib
-from typing import Callable, Dict, Iterator, Optional, Union
+from importlib import import_module
+from typing import Any, Callable, Dict, Iterator, Optional, Union
 
 from .blobs import Blob
 
-__all__ = ['METHODS', 'Unpacking', 'raw_deflate', 'raw_lzma']
+__all__ = ['METHODS', 'Unpacking', 'opens_zstd', 'raw_deflate', 'raw_lzma']
 
 # Unpacked bytes of a step: a bomb is noticed before it fills the memory.
 STEP = 1 << 18
@@ -43,7 +44,71 @@ class _Inflate:
         return self.inner.unused_data
 
 
-Decompressor = Union[_Inflate, bz2.BZ2Decompressor, lzma.LZMADecompressor]
+# The window that a zstd stream may ask for, as the program `zstd` has it.
+_ZSTD_WINDOW_LOG = 27
+
+# A block of four bytes may unpack to 128 KiB, so little is handed over at once.
+_ZSTD_PIECE = 128
+
+
+def _zstd_module() -> Any:
+    """The module that unpacks zstd: Python's own (3.14), or the package `zstandard`. None where neither is installed."""
+    for name in ('compression.zstd', 'zstandard'):
+        try:
+            return import_module(name)
+        except ImportError:
+            continue
+    return None
+
+
+def opens_zstd() -> bool:
+    """Whether something that unpacks zstd is installed."""
+    return _zstd_module() is not None
+
+
+class _Zstd:
+    """The decompressor of either module with the calls that those of bz2 and lzma have."""
+
+    def __init__(self) -> None:
+        module = _zstd_module()
+        self._error = module.ZstdError
+        self._is_own = hasattr(module, 'DecompressionParameter')
+        if self._is_own:
+            self._inner = module.ZstdDecompressor(options={module.DecompressionParameter.window_log_max: _ZSTD_WINDOW_LOG})
+        else:
+            self._inner = module.ZstdDecompressor(max_window_size=1 << _ZSTD_WINDOW_LOG).decompressobj()
+        self._held, self._at = b'', 0
+
+    def decompress(self, piece: bytes, most: int) -> bytes:
+        """Raises ValueError where the stream is damaged."""
+        try:
+            return bytes(self._inner.decompress(piece, most)) if self._is_own else self._decompress(piece, most)
+        except self._error as error:
+            raise ValueError(str(error)) from None
+
+    def _decompress(self, piece: bytes, most: int) -> bytes:
+        if piece:
+            self._held, self._at = self._held[self._at:] + piece, 0
+        made = bytearray()
+        while self._at < len(self._held) and not self._inner.eof and len(made) < most:
+            made += self._inner.decompress(self._held[self._at:self._at + _ZSTD_PIECE])
+            self._at += _ZSTD_PIECE
+        return bytes(made)
+
+    @property
+    def eof(self) -> bool:
+        return bool(self._inner.eof)
+
+    @property
+    def needs_input(self) -> bool:
+        return bool(self._inner.needs_input) if self._is_own else self._at >= len(self._held)
+
+    @property
+    def unused_data(self) -> bytes:
+        return bytes(self._inner.unused_data) + (b'' if self._is_own else self._held[self._at:])
+
+
+Decompressor = Union[_Inflate, _Zstd, bz2.BZ2Decompressor, lzma.LZMADecompressor]
 
 
 def raw_deflate() -> Decompressor:
@@ -64,7 +129,7 @@ def raw_lzma(properties: bytes) -> Decompressor:
 METHODS: Dict[str, Callable[[], Decompressor]] = {
     'gzip': lambda: _Inflate(31), 'zlib': lambda: _Inflate(15), 'bz2': bz2.BZ2Decompressor,
     'xz': lambda: lzma.LZMADecompressor(lzma.FORMAT_XZ, LZMA_MEMORY),
-    'lzma': lambda: lzma.LZMADecompressor(lzma.FORMAT_ALONE, LZMA_MEMORY),
+    'lzma': lambda: lzma.LZMADecompressor(lzma.FORMAT_ALONE, LZMA_MEMORY), 'zstd': _Zstd,
 }
 
 

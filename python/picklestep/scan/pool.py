@@ -6,19 +6,21 @@ library's executors end as a whole when one of their processes dies, as it may b
 
 from __future__ import annotations
 
-import multiprocessing
 import os
 import signal
+import subprocess
+import sys
 from collections import deque
 from itertools import islice
-from multiprocessing.connection import Connection, wait
+from multiprocessing.connection import Connection, Pipe, wait
+from pathlib import Path
 from typing import Deque, Dict, Generator, Iterable, Optional, Tuple, Union
 
 from .looking import Options
 from .results import Result
 from .stores.server import Task, work_on
 
-__all__ = ['look_at_all']
+__all__ = ['look_at_all', 'work']
 
 _Task = Tuple[Union[str, Task], int]
 
@@ -33,11 +35,16 @@ def look_at_all(paths: Iterable[Union[str, Task]], options: Options, jobs: int) 
     return _Pool(paths, options, jobs).results()
 
 
-def _work(link: Connection, options: Options) -> None:
-    """What a worker does: it looks at each path that it is given, until there is none."""
+# What a worker runs, in an interpreter that does not search the current folder.
+_WORKER = Path(__file__).resolve().parent / 'worker.py'
+
+
+def work(link: Connection) -> None:
+    """What a worker does: it gets the options, and looks at each path that it is given, until there is none."""
     # A group of its own: Ctrl-C goes to the parent alone, which ends this process and all that it started.
     os.setpgid(0, 0)
     try:
+        options = link.recv()
         while True:
             link.send(work_on(link.recv(), options))
     except (EOFError, OSError):
@@ -48,12 +55,17 @@ class _Worker:
     """A process, the path that it looks at, and which try that is."""
 
     def __init__(self, options: Options) -> None:
-        context = multiprocessing.get_context('spawn')
-        self.link, far = context.Pipe()
-        self.process = context.Process(target=_work, args=(far, options), daemon=True)
-        self.process.start()
-        far.close()
+        self.link, far = Pipe()
+        places = [path for path in sys.path if path]
+        flags = ['-I', '-B'] if sys.dont_write_bytecode else ['-I']
+        with far:
+            self.process = subprocess.Popen([sys.executable, *flags, str(_WORKER), str(far.fileno()), *places], stdin=subprocess.DEVNULL,
+                                            pass_fds=[far.fileno()])
         self.task: Optional[_Task] = None
+        try:
+            self.link.send(options)
+        except OSError:
+            pass  # it is dead already, which is noticed when its answer is read
 
     def give(self, task: _Task) -> None:
         """Hands over a path. A process that is dead already is noticed when its answer is read."""
@@ -66,13 +78,13 @@ class _Worker:
     def end(self) -> None:
         """Ends the process and the programs that it started."""
         self.link.close()
-        if self.process.pid is not None:
+        if self.process.poll() is None:
             for ends in (os.killpg, os.kill):
                 try:
                     ends(self.process.pid, signal.SIGKILL)
                 except OSError:
                     pass
-        self.process.join()
+        self.process.wait()
 
 
 class _Pool:

@@ -13,7 +13,7 @@ from ..errors import OutOfMemory, PicklestepError, ProgramError, TimedOut
 from ..program import Process
 from ..records import End, Extension, Global, Name, Ref
 from ..session import Session
-from ..texts import QUOTED, reach_of
+from ..texts import HEADING, REACHED, reach_of
 from .begins import is_dotted
 from .blobs import Blob, Budget, FileBlob, spooled
 from .results import Call, Import, Pickle, Place
@@ -25,9 +25,6 @@ _IMPORTS = ('import', 'inst')
 
 # These lines name what they import or call.
 _WITH_NAME = ('import', 'inst', 'call', 'new')
-
-# A line of the program, and the name in it where its first part is in quotes.
-_LINE = re.compile(rf"(?m)^ *([0-9]+): ((\w+)(?: ({QUOTED} (?:{QUOTED}|#[0-9]+)))?.*)$")
 
 # These lines say that something is given a state or filled. What that is stands at their end, and so does what an import gives.
 _CHANGES = ('state', 'append', 'set', 'add')
@@ -57,7 +54,8 @@ class Enough(Exception):
 
 
 class Summary:
-    """What the program says of some bytes, summed up by name while it comes.
+    """What the program says of some bytes, summed up by name while it comes. What only some loaders reach counts as well, and is kept
+    with the heading under which it stands.
 
     `is_sure` says that they import something that can be there, or call something. `trouble` says why the answer is not whole, if it is
     not.
@@ -70,12 +68,14 @@ class Summary:
         self.trouble: Optional[str] = None
         self._budget = budget
         self._offset_of = offset_of
-        self._found: Dict[Tuple[str, str], _Found] = {}
+        self._found: Dict[Tuple[str, str, str], _Found] = {}
         self._names: Dict[str, Optional[Name]] = {}
         self._imported: Dict[str, str] = {}
         self._lines: Optional[List[str]] = [] if keep_lines else None
         self._count = 0
         self._kept = 0
+        self._part = ''
+        self._leads_nowhere = False
 
     @property
     def is_empty(self) -> bool:
@@ -88,11 +88,34 @@ class Summary:
         for piece in pieces:
             whole, newline, rest = (rest + piece).rpartition(b'\n')
             text = (whole + newline).decode('ascii')
-            for match in _LINE.finditer(text):
-                self._line(match)
-            tail = (tail + text)[-_CLOSING:]
+            at = 0
+            for heading in HEADING.finditer(text):
+                tail = self._take_lines(text, at, heading.start(), tail)
+                self._begin_part(heading[1], tail)
+                at = heading.end()
+            tail = self._take_lines(text, at, len(text), tail)
         if rest or not tail:
             raise ProgramError('the program gave no whole answer')
+        if not self._part:
+            self._take_end(tail)
+
+    def _take_lines(self, text: str, start: int, end: int, tail: str) -> str:
+        """Counts lines, and answers the last ones."""
+        for match in REACHED.finditer(text, start, end):
+            self._line(match)
+        return (tail + text[start:end])[-_CLOSING:]
+
+    def _begin_part(self, heading: str, tail: str) -> None:
+        """Goes on with what is under a heading."""
+        if not self._part:
+            self._take_end(tail)
+            self._leads_nowhere = False
+        self._part = heading
+        if self._lines is not None:
+            self._lines.append(f'{heading}:')
+
+    def _take_end(self, tail: str) -> None:
+        """Keeps how the strict reading ended."""
         self.end = Calls(tail).end
         if self._offset_of is not None and self.end.offset is not None:
             offset = self._offset_of(self.end.offset)
@@ -108,16 +131,16 @@ class Summary:
         offset, text, what, quoted = match.groups()
         name = self._imported.get(_number_of(text), '') if what in _CHANGES else quoted or ''
         has_other_name = quoted is None and what in _WITH_NAME  # one that is no text: a number, or an object of the pickle
-        found = None if has_other_name else self._found.get((what, name))
+        found = None if has_other_name else self._found.get((what, name, self._part))
         if found is None:
             known = self._name(match[0], what, quoted)
             shown = name if what in _CHANGES else shown_name(known)
-            key = (what, name or shown)
+            key = (what, name or shown, self._part)
             if key not in self._found:
                 self._keep(text)
-                self._found[key] = _Found(what, shown, self._place(offset), text)
+                self._found[key] = _Found(what, shown, self._place(offset), text, self._part)
             found = self._found[key]
-            self.is_sure = self.is_sure or (_can_be_there(known) if what == 'import' else what not in _WEAK)
+            self.is_sure = self.is_sure or self._shows_pickle(what, known)
         found.count += 1
         if what == 'import':
             self._imported[_number_of(text)] = found.name
@@ -125,6 +148,13 @@ class Summary:
             line = match[0] if self._offset_of is None else f'{self._place(offset):>5}: {text}'
             self._keep(line)
             self._lines.append(line)
+
+    def _shows_pickle(self, what: str, name: Optional[Name]) -> bool:
+        """Whether a line shows that the bytes are a pickle. Loaders that go on raise at an import that cannot be there."""
+        if what == 'import':
+            self._leads_nowhere = self._leads_nowhere or self._part != '' and not _can_be_there(name)
+            return _can_be_there(name) and not self._leads_nowhere
+        return what not in _WEAK and not self._leads_nowhere
 
     def _place(self, offset: str) -> int:
         return int(offset) if self._offset_of is None else self._offset_of(int(offset))
@@ -146,26 +176,29 @@ class Summary:
 
     def pickle(self, where: Place, size: int) -> Pickle:
         """What was found, by names, in the order in which they come first."""
-        imports: Dict[str, Import] = {}
-        done: Dict[Tuple[str, str], Call] = {}
+        imports: Dict[Tuple[str, str], Import] = {}
+        done: Dict[Tuple[str, str, str], Call] = {}
         for found in self._found.values():
+            name, part = found.name, found.part
             if found.what in _IMPORTS:
-                before = imports.get(found.name, Import(found.name, 0, found.offset))
-                imports[found.name] = replace(before, count=before.count + found.count)
+                before = imports.get((name, part), Import(name, 0, found.offset, part))
+                imports[name, part] = replace(before, count=before.count + found.count)
             if found.what != 'import':
-                first = done.get((found.what, found.name), Call(found.what, found.name, 0, found.offset, found.text))
-                done[found.what, found.name] = replace(first, count=first.count + found.count)
+                key = (found.what, name, part)
+                first = done.get(key, Call(found.what, name, 0, found.offset, found.text, part))
+                done[key] = replace(first, count=first.count + found.count)
         return Pickle(where, size, tuple(imports.values()), tuple(done.values()), self.end, tuple(self._lines or ()))
 
 
 @dataclass
 class _Found:
-    """Lines of one kind about one name: how many, and the offset and the text of the first."""
+    """Lines of one kind about one name, in one part: how many, and the offset and the text of the first."""
 
     what: str
     name: str
     offset: int
     text: str
+    part: str = ''
     count: int = 0
 
 
@@ -201,7 +234,7 @@ def asks_program(path: str, size: int, budget: Budget, keep_lines: bool = False,
     budget.spend()
     may_take, seconds = budget.memory(), budget.limits.seconds
     try:
-        process = Process(['calls', path, '--many'], memory=may_take if size * _MEMORY_OF_A_BYTE > may_take else None)
+        process = Process(['calls', path], memory=may_take if size * _MEMORY_OF_A_BYTE > may_take else None)
         process.limit_seconds(budget.seconds)
         with closing(process.blocks(max(0.5, budget.seconds) * WAITING)) as pieces:
             summary.take(pieces)
@@ -241,6 +274,8 @@ def shown_name(name: Optional[Name]) -> str:
 
     >>> shown_name(Global(b'os', b'system')), shown_name(Global(b'os ', b'x')), shown_name(Global(b'os', Ref(5)))
     ('os.system', "'os ' 'x'", "'os' #5")
+    >>> shown_name(Global(b'\\xff', b'x', ('module',)))
+    "raw '\\\\xff' 'x'"
     """
     if isinstance(name, Extension):
         return f'ext {name.code}'
@@ -248,7 +283,8 @@ def shown_name(name: Optional[Name]) -> str:
         return ''
     if isinstance(name.module, bytes) and isinstance(name.name, bytes) and is_dotted(name.module) and is_dotted(name.name):
         return f'{name.module.decode()}.{name.name.decode()}'
-    return f'{_part(name.module)} {_part(name.name)}'
+    module, attribute = (f'{"raw " if which in name.raw else ""}{_part(part)}' for which, part in (('module', name.module), ('name', name.name)))
+    return f'{module} {attribute}'
 
 
 def why_unread(head: bytes, pickle: Pickle) -> Optional[str]:

@@ -7,6 +7,7 @@ from collections import Counter
 from typing import Dict, Iterator, List, TextIO
 
 from .looks import Judge, Look, call_text, end_text, import_text
+from .other_forms import told_forms
 from .results import Pickle, Result, to_json
 from .wording import count_of, place_of, shown, times
 
@@ -23,6 +24,7 @@ class Report:
         self.brief = brief
         self.asks = False
         self.counts: Counter[str] = Counter()
+        self.forms: Counter[str] = Counter()
         self.imports: Counter[str] = Counter()
         self.pickles_with: Counter[str] = Counter()
         self.first_with: Dict[str, str] = {}
@@ -61,6 +63,7 @@ class Report:
             self.servers[result.path] = self.servers.get(result.path, False) or bool(result.pickles or result.plain)
         counts['skipped'] += result.left is not None
         counts['others'] += result.others
+        self.forms.update(dict(result.forms))
         counts['pickles'] += len(result.pickles) + result.plain
         counts['files with pickles'] += bool(result.pickles or result.plain) and not result.keys
         rules = Counter(look.rule for look in looks)
@@ -106,12 +109,12 @@ class Report:
         """The imports of a pickle, those that are marked with their calls next to them; then all other calls."""
         yield f'  {place_of(result.path, pickle.where)}: {pickle.size} bytes'
         all_looks = list(self.judge.looks_in(pickle))
-        looks = {look.name: look for look in all_looks if look.name and look.rule != 'not-allowed-done'}
+        looks = {(look.name, look.offset): look for look in all_looks if look.name and look.rule != 'not-allowed-done'}
         told = {call for look in looks.values() for call in look.calls}
         done = {look.text for look in all_looks if look.rule == 'not-allowed-done'}
         for found in pickle.imports:
-            if found.name in looks:
-                yield from (f'!     {line}' for line in looks[found.name].lines)
+            if (found.name, found.offset) in looks:
+                yield from (f'!     {line}' for line in looks[found.name, found.offset].lines)
             else:
                 yield f'      {import_text(found, None)}'
         yield from (f'{"!" if text in done else " "}     {text}' for text in map(call_text, pickle.calls) if text not in told)
@@ -127,8 +130,9 @@ class Report:
         if self.servers:
             told.append(f'{count_of(len(self.servers), "server")} with {count_of(counts["keys"], "key")}')
         told.append(f'{count_of(counts["pickles"], "pickle")} in {counts["files with pickles"] + sum(self.servers.values())} of them')
-        for key, *words in (('others', 'file or member is not a pickle', 'files or members are not pickles'),
-                            ('not-read', 'pickle not read to a STOP', 'pickles not read to a STOP'),
+        if counts['others']:
+            told.append(f'{count_of(counts["others"], "file or member", "files or members")} of other forms: {told_forms(self.forms.items())}')
+        for key, *words in (('not-read', 'pickle not read to a STOP', 'pickles not read to a STOP'),
                             ('not-looked-at', 'file not looked at whole', 'files not looked at whole'),
                             ('cannot-be-read', 'file that cannot be read', 'files that cannot be read'), ('skipped', 'skipped', 'skipped'),
                             ('not-allowed', 'import not allowed', 'imports not allowed'), ('denied', 'import denied', 'imports denied'),

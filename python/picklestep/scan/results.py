@@ -3,7 +3,7 @@
 from __future__ import annotations
 
 from dataclasses import dataclass
-from typing import Any, Dict, Optional, Tuple
+from typing import Any, Dict, Optional, Tuple, Union
 
 from ..records import End
 
@@ -15,11 +15,15 @@ Place = Tuple[str, ...]
 
 @dataclass(frozen=True)
 class Import:
-    """A name that a pickle imports, how often, and at which offset first."""
+    """A name that a pickle imports, how often, and at which offset first.
+
+    `part` is the heading of the part where this stands: what loaders may reach behind the end of the strict reading. It is '' before that.
+    """
 
     name: str
     count: int
     offset: int
+    part: str = ''
 
 
 @dataclass(frozen=True)
@@ -27,7 +31,7 @@ class Call:
     """What a pickle does with one thing: how often, at which offset first, and the program's line for that first time.
 
     `what` is the line's first word ('call', 'new', 'state', 'persistent', ..). `name` is what is called, or '' where that is an object
-    that the pickle itself made.
+    that the pickle itself made. `part` is as in `Import`.
     """
 
     what: str
@@ -35,6 +39,7 @@ class Call:
     count: int
     offset: int
     text: str
+    part: str = ''
 
 
 @dataclass(frozen=True)
@@ -66,7 +71,7 @@ class Result:
     `size`, `modified` and `changed` (nanoseconds; the last change of the content, and of the inode, which nobody can choose) show `--resume`
     whether the file is still the one that was looked at. `keys` is how many keys of a server this is about (several results may be of one
     server), and 0 where it is about a file. `plain` counts pickles that are values of a store, import and call nothing, and end with STOP:
-    there may be millions, so they are not in `pickles`.
+    there may be millions, so they are not in `pickles`. `forms` says of what is no pickle how many have which ending.
     """
 
     path: str
@@ -80,6 +85,7 @@ class Result:
     changed: int = 0
     keys: int = 0
     plain: int = 0
+    forms: Tuple[Tuple[str, int], ...] = ()
 
     def _repr_html_(self) -> str:
         """The report about the file, for notebooks."""
@@ -90,15 +96,20 @@ class Result:
 def to_json(result: Result) -> Dict[str, Any]:
     """The object that stands for a result in a line of JSON."""
     return {'path': result.path, 'size': result.size, 'modified': result.modified, 'changed': result.changed,
-            'pickles': [_pickle_object(pickle) for pickle in result.pickles], 'others': result.others,
-            'notes': [dict(vars(note)) for note in result.notes], 'error': result.error, 'left': result.left,
+            'pickles': [_pickle_object(pickle) for pickle in result.pickles], 'not_pickles': result.others, 'forms': dict(result.forms),
+            'notes': [dict(vars(note)) for note in result.notes], 'error': result.error, 'skipped': result.left,
             **{name: count for name, count in (('keys', result.keys), ('plain', result.plain)) if count}}
+
+
+def _told(each: Union[Import, Call]) -> Dict[str, Any]:
+    """The object that stands for an import or a call: without a part where it stands before all headings."""
+    return {name: value for name, value in vars(each).items() if value or name != 'part'}
 
 
 def _pickle_object(pickle: Pickle) -> Dict[str, Any]:
     end = pickle.end
-    made = {'where': pickle.where, 'size': pickle.size, 'imports': [dict(vars(each)) for each in pickle.imports],
-            'calls': [dict(vars(each)) for each in pickle.calls],
+    made = {'where': pickle.where, 'size': pickle.size, 'imports': [_told(each) for each in pickle.imports],
+            'calls': [_told(each) for each in pickle.calls],
             'end': {'how': end.how, 'code': end.code, 'text': end.text, 'offset': end.offset, 'item': end.item}}
     return {**made, 'lines': pickle.lines} if pickle.lines else made
 
@@ -106,15 +117,14 @@ def _pickle_object(pickle: Pickle) -> Dict[str, Any]:
 def from_json(made: Dict[str, Any]) -> Result:
     """The result that such an object stands for."""
     return Result(
-        made['path'], made['size'], made['modified'], tuple(_pickle(pickle) for pickle in made['pickles']), made['others'],
-        tuple(Note(tuple(note['where']), note['text'], note['missed']) for note in made['notes']), made['error'], made['left'],
-        made['changed'], made.get('keys', 0), made.get('plain', 0),
+        made['path'], made['size'], made['modified'], tuple(_pickle(pickle) for pickle in made['pickles']), made['not_pickles'],
+        tuple(Note(tuple(note['where']), note['text'], note['missed']) for note in made['notes']), made['error'], made['skipped'],
+        made['changed'], made.get('keys', 0), made.get('plain', 0), tuple(made['forms'].items()),
     )
 
 
 def _pickle(made: Dict[str, Any]) -> Pickle:
     return Pickle(
-        tuple(made['where']), made['size'], tuple(Import(each['name'], each['count'], each['offset']) for each in made['imports']),
-        tuple(Call(each['what'], each['name'], each['count'], each['offset'], each['text']) for each in made['calls']),
+        tuple(made['where']), made['size'], tuple(Import(**each) for each in made['imports']), tuple(Call(**each) for each in made['calls']),
         End(**made['end']), tuple(made.get('lines', ())),
     )

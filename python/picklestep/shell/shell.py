@@ -4,6 +4,7 @@ from __future__ import annotations
 
 import re
 import shlex
+from itertools import islice
 from typing import Callable, Dict, List, Optional, Tuple
 
 from ..comparing import compare, shown_value
@@ -284,7 +285,12 @@ class Shell:
         rows = [f'{offsets[at]:>7}: {answer[at].text}' for at in range(first, min(len(offsets), first + _MOST_LINES))]
         if first + _MOST_LINES < len(offsets):
             rows.append(f'.. {len(offsets) - first - _MOST_LINES} more: calls {first + _MOST_LINES + 1}')
-        return '\n'.join([*rows, f'{answer.imports} imports, {answer.calls} calls, {answer.end.text}'])
+        rows.append(f'{answer.imports} imports, {answer.calls} calls, {answer.end.text}')
+        for part in answer.parts:
+            rows.append(f'{part.heading}:')
+            rows += [f'{reach.offset:>7}: {reach.text}' for reach in islice(part, _MOST_LINES)]
+            rows.append(f'{part.imports} imports, {part.calls} calls, it ends: {part.end.text}')
+        return '\n'.join(rows)
 
     def _do_find(self, text: str) -> str:
         here = self._now()[0]

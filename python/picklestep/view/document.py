@@ -43,9 +43,14 @@ class Reaches:
         self.answer = answer
         self.offsets = array('Q')
         self.kinds: List[str] = []
-        for match in _REACH.finditer(answer.text):
+        for match in answer.matches():
             self.offsets.append(int(match[1]))
-            self.kinds.append(match[2])
+            self.kinds.append(match[3])
+
+    @property
+    def behind(self) -> List[str]:
+        """A line for each part: what loaders may reach where this reading has ended."""
+        return [f'{part.heading}: {part.imports} imports, {part.calls} calls (picklestep calls shows them)' for part in self.answer.parts]
 
     def kind_at(self, offset: int) -> str:
         """How the line at an offset is coloured: 'call', 'import', 'other' or ''."""
@@ -72,7 +77,6 @@ class Reaches:
         return None
 
 
-_REACH = re.compile(r'^ *([0-9]+): ([a-z]+)', re.MULTILINE)
 _IMPORTS_COUNT = _IMPORTS.__contains__
 _CALLS_COUNT = _CALLS.__contains__
 
@@ -120,7 +124,9 @@ class Document:
         if len(self.lines) < self.session.where().places:
             add_items(self.lines, given, self._options)
         self._final = read_objects(given, self._options)
-        self.reaches = Reaches(Calls(run_program(['calls', given.path, *self._options], given.files).decode('ascii')))
+        first = [] if self._options else ['--first']
+        self.reaches = Reaches(Calls(run_program(['calls', given.path, *first], given.files).decode('ascii')))
+        self.lines.closing += self.reaches.behind
         here = self.session.where().place
         self._makers = makers_of(self.lines, self._final, self._makes_object)
         self.session.goto(here)

@@ -62,6 +62,12 @@ def _calls(document: Document) -> Iterator[str]:
         kind = document.reaches.kind_at(reach.offset)
         yield f'<tr class="{kind}"><td class="n"><a href="#at{reach.offset}">{reach.offset}</a></td><td>{escape(reach.text)}</td></tr>\n'
     yield '</tbody></table></div></section>\n'
+    for part in answer.parts:
+        shown = min(len(part), MOST)
+        yield _section('behind', escape(f'{part.heading}:'), shown, len(part), ('Offset', 'What'))
+        for reach in islice(part, shown):
+            yield f'<tr class="call"><td class="n">{reach.offset}</td><td>{escape(reach.text)}</td></tr>\n'
+        yield '</tbody></table></div></section>\n'
 
 
 def write_report(document: Document, file: IO[str]) -> Tuple[int, int]:

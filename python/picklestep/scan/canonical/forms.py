@@ -11,7 +11,7 @@ __all__ = ['Form', 'Member', 'NotCanonical', 'WRITERS', 'require', 'wrong']
 WRITERS: Dict[str, str] = {
     'zip': 'torch, zipfile, Info-ZIP and 7-Zip write', 'tar': 'tarfile, GNU tar and bsdtar write', 'npy': 'numpy.save writes',
     'gzip': 'gzip and Python write', 'bz2': 'bzip2 and Python write', 'xz': 'xz and Python write', 'lzma': 'xz and Python write',
-    'zlib': 'zlib.compress writes', 'zfile': 'joblib before 0.10 writes', 'pickle': 'picklers write', 'torch': 'torch.save writes',
+    'zlib': 'zlib.compress writes', 'zstd': 'zstd and pandas write', 'zfile': 'joblib before 0.10 writes', 'pickle': 'picklers write', 'torch': 'torch.save writes',
     'torch-legacy': 'torch.save before 1.6 writes', 'torch-tar': 'torch.save before 0.1.12 writes',
 }
 

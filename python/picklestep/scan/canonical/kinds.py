@@ -7,6 +7,7 @@ from typing import List, Optional
 
 from ..begins import HEAD, kind_of, unread_kind_of
 from ..blobs import Blob
+from ..packed import opens_zstd
 from ..tars import BLOCK
 from .streams import also_unpacks
 from .tars import looks_like_header
@@ -21,7 +22,7 @@ _ASKED = {'gz': 'gzip', 'gzip': 'gzip', 'tgz': 'gzip', 'bz2': 'bz2', 'tbz2': 'bz
           'npz': 'zip', 'whl': 'zip', 'keras': 'zip', 'tar': 'tar', 'npy': 'npy'}
 # People name what torch.save writes so.
 _NOT_TAR = re.compile(r'.*\.(pth|pt|ckpt|bin)\.tar', re.IGNORECASE | re.DOTALL)
-_PACKED_ENDING = re.compile(r'\.(gz|gzip|bz2|xz|lzma|z|zlib|tgz|tbz2|txz)$', re.IGNORECASE)
+_PACKED_ENDING = re.compile(r'\.(gz|gzip|bz2|xz|lzma|z|zlib|zst|tgz|tbz2|txz)$', re.IGNORECASE)
 
 
 def kinds_of(blob: Blob, head: bytes, tries: bool = True) -> List[str]:
@@ -36,7 +37,9 @@ def kinds_of(blob: Blob, head: bytes, tries: bool = True) -> List[str]:
     if head[257:262] == b'ustar' or looks_like_header(head[:BLOCK]):
         kinds.append('tar')
     unread = unread_kind_of(head)
-    if unread is not None:
+    if unread == 'zstd' and opens_zstd():
+        kinds.append('zstd')
+    elif unread is not None:
         kinds.append(UNREAD + unread)
     stream = also_unpacks(blob, head[:HEAD], tries)
     if stream is not None:

@@ -1,6 +1,6 @@
 """Compressed files in the form that their usual writers write: one stream that fills the file, with nothing before or behind it.
 
-Sources: RFC 1952 (gzip), RFC 1950 (zlib), xz-file-format.txt and lzma-file-format.txt of XZ Utils, joblib/numpy_pickle_compat.py (ZF), and
+Sources: RFC 1952 (gzip), RFC 1950 (zlib), RFC 8878 (zstd), xz-file-format.txt and lzma-file-format.txt of XZ Utils, joblib/numpy_pickle_compat.py (ZF), and
 what Python, gzip, pigz, bzip2 and xz write.
 """
 
@@ -87,11 +87,18 @@ def _zlib(packed: Blob) -> None:
     require(packed.read(0, 2) in (b'\x78\x01', b'\x78\x5e', b'\x78\x9c', b'\x78\xda'), 'a header that zlib.compress does not write', 0)
 
 
+def _zstd(packed: Blob) -> None:
+    head = packed.read(0, 5)
+    require(len(head) == 5 and head[:4] == b'\x28\xb5\x2f\xfd', 'no header of zstd')
+    require(not head[4] & 0b11011, 'a dictionary, or a bit that no writer sets', 4)
+
+
 def _zfile(packed: Blob) -> None:
     require(_ZFILE.fullmatch(packed.read(0, _ZFILE_HEADER)) is not None, 'no header of joblib before 0.10')
 
 
-_BEGINS: Dict[str, Callable[[Blob], None]] = {'gzip': _gzip, 'bz2': _bz2, 'xz': _xz, 'lzma': _lzma, 'zlib': _zlib, 'zfile': _zfile}
+_BEGINS: Dict[str, Callable[[Blob], None]] = {'gzip': _gzip, 'bz2': _bz2, 'xz': _xz, 'lzma': _lzma, 'zlib': _zlib, 'zfile': _zfile,
+                                              'zstd': _zstd}
 
 
 # --- What other readers would take ---

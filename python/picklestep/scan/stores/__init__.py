@@ -12,7 +12,7 @@ from ..results import Place
 from .dbm_files import gnu_kind, has_index, is_berkeley_hash, look_at_berkeley, look_at_dumb, look_at_gnu
 from .django_cache import end_of_expiry, look_at_django_cache
 from .framed import framing_of
-from .hdf5 import is_hdf5, look_at_hdf5
+from .hdf5 import begins_late, is_hdf5, look_at_hdf5
 from .sqlite import BEGIN, look_at_sqlite
 from .values import Values
 
@@ -59,8 +59,11 @@ def look_further(looker: 'Looker', blob: Blob, where: Place, depth: int) -> bool
     """Looks at bytes that are no container and no pickle: records with a length before each, and, if `everywhere` is set, whatever a value
     of a store may be, and each offset. Answers whether it looked.
     """
+    if begins_late(blob):
+        look_at_hdf5(looker, blob, where, depth)
+        return True
     has_records = framing_of(blob) is not None
-    if not has_records and not looker.options.everywhere:
+    if not has_records and not looker.options.everywhere and not _may_be_dumb(where):
         return False
     values = Values(looker)
     values.begin(where, blob.size)
@@ -73,9 +76,14 @@ def look_further(looker: 'Looker', blob: Blob, where: Place, depth: int) -> bool
     return True
 
 
+def _may_be_dumb(where: Place) -> bool:
+    """Whether a member of an archive may be the file of `dbm.dumb` that has the values. Its index, another member, is not asked."""
+    return bool(where) and where[-1].lower().endswith('.dat')
+
+
 def look_behind(looker: 'Looker', blob: Blob, where: Place, depth: int) -> None:
-    """Looks, if `everywhere` is set, at what is behind a pickle that was not read to the end of its bytes."""
-    if not looker.options.everywhere or not looker.pickles or looker.pickles[-1].end.is_stopped:
+    """Looks, if `everywhere` is set or these may be values of `dbm.dumb`, at what is behind a pickle that was not read to the end of its bytes."""
+    if not (looker.options.everywhere or _may_be_dumb(where)) or not looker.pickles or looker.pickles[-1].end.is_stopped:
         return
     values = Values(looker)
     values.begin(where, blob.size)

@@ -7,7 +7,6 @@ to end. Where that line is not there, the pickle is asked about alone, so none c
 
 from __future__ import annotations
 
-import re
 import secrets
 from contextlib import closing
 from dataclasses import replace
@@ -15,7 +14,7 @@ from typing import Iterator, List, Sequence
 
 from ...errors import PicklestepError
 from ...program import Process
-from ...texts import QUOTED
+from ...texts import HEADING, OFFSET, QUOTED_OR_NUMBER
 from ..blobs import Budget, Limits, spooled
 from ..reading import WAITING, Enough, Summary, asks_program, offset_of_item
 
@@ -31,8 +30,6 @@ _MOST_ANSWER = 32 << 20
 # A process takes so much address space for each byte at most.
 _MEMORY_OF_A_BYTE = 4096
 
-_LINE = re.compile(r'(?m)^ *([0-9]+): (.*)$')
-_NUMBER = re.compile(rf'{QUOTED}|#([0-9]+)')
 # Lines with numbers that go on from pickle to pickle in another way than those of objects.
 _COUNTED = ('buffer', 'readonly')
 
@@ -70,7 +67,7 @@ def _together(contents: Sequence[bytes], budget: Budget, keep_lines: bool) -> Li
     text = bytearray()
     with copy.file:
         try:
-            process = Process(['calls', copy.path(), '--many'], memory=may_take if copy.size * _MEMORY_OF_A_BYTE > may_take else None)
+            process = Process(['calls', copy.path()], memory=may_take if copy.size * _MEMORY_OF_A_BYTE > may_take else None)
             process.limit_seconds(budget.seconds)
             with closing(process.blocks(max(0.5, budget.seconds) * WAITING)) as pieces:
                 for piece in pieces:
@@ -79,14 +76,15 @@ def _together(contents: Sequence[bytes], budget: Budget, keep_lines: bool) -> Li
                         return []
         except PicklestepError:
             return []
-    told = text.decode('ascii', 'replace')
+    # (Behind a heading a marker does not show how the pickle before it ended.)
+    told = HEADING.split(text.decode('ascii', 'replace'), 1)[0]
     sizes = [len(content) for content in contents]
     return list(_taken_apart(told, sizes, f"import 'picklestep' '{name}' as #", len(marker), budget, keep_lines))
 
 
 def _taken_apart(told: str, sizes: Sequence[int], marker: str, width: int, budget: Budget, keep_lines: bool) -> Iterator[Summary]:
     """The answer about each of several pickles, as far as each is followed by its marker."""
-    lines = _LINE.finditer(told)
+    lines = OFFSET.finditer(told)
     start = objects = 0
     for size in sizes:
         own: List[str] = []
@@ -113,7 +111,7 @@ _NOTHING.take(iter([b'0 imports, 0 calls\n']))
 
 def _lowered(text: str, objects: int) -> str:
     """A line with the numbers that its objects have where the pickle is alone."""
-    return _NUMBER.sub(lambda match: match[0] if match[1] is None else f'#{int(match[1]) - objects}', text) if objects else text
+    return QUOTED_OR_NUMBER.sub(lambda match: match[0] if match[1] is None else f'#{int(match[1]) - objects}', text) if objects else text
 
 
 def _summary(lines: List[str], budget: Budget, keep_lines: bool) -> Summary:

@@ -1,13 +1,18 @@
 """The files of Django's cache (`FileBasedCache`): a pickle with the time at which it ends, then a pickle in zlib.
 
+The first pickle holds a plain number or None, and nothing else; the second begins as `zlib.compress` begins, with a byte that is no opcode. So
+no loader of pickles goes on where these bytes are taken for a cache file. All else is read as pickles.
+
 cachelib (Flask) writes the time as a pickle too, or as four bytes, and then the value as a pickle. These are read without help.
 """
 
 from __future__ import annotations
 
+import pickletools
+import zlib
 from typing import TYPE_CHECKING, Optional
 
-from ..begins import kind_of
+from ..begins import HEAD
 from ..blobs import Blob
 from ..results import Place
 from .values import Values
@@ -20,22 +25,50 @@ __all__ = ['end_of_expiry', 'look_at_django_cache']
 
 _MOST_OF_EXPIRY = 128
 
+# What is before a number, what it is made by, and what is behind it.
+_BEFORE, _BEHIND = ('PROTO', 'FRAME'), ('PUT', 'BINPUT', 'MEMOIZE', 'STOP')
+_NUMBERS = ('NONE', 'INT', 'BININT', 'BININT1', 'BININT2', 'LONG', 'LONG1', 'FLOAT', 'BINFLOAT')
+
+# `zlib.compress` writes this first.
+_ZLIB = 0x78
+
 
 def end_of_expiry(head: bytes) -> Optional[int]:
-    """Where the first pickle ends, if it is short and zlib begins behind it.
+    """Where the first pickle ends, if it is a plain number and what is behind it unpacks.
 
-    >>> end_of_expiry(b'\\x80\\x04K\\x05.\\x78\\x9c\\x03\\x00'), end_of_expiry(b'\\x80\\x04K\\x05.')
-    (5, None)
+    >>> end_of_expiry(b'\\x80\\x04K\\x05.' + zlib.compress(b'N.')), end_of_expiry(b'\\x80\\x04K\\x05.'), end_of_expiry(b'N.(S')
+    (5, None, None)
     """
-    if head[:1] != b'\x80' and head[:1] not in (b'F', b'I', b'N', b'G', b'J', b'K'):
+    if head[:1] != b'\x80' and head[:1] not in (b'F', b'I', b'N', b'G', b'J', b'K', b'M', b'L'):
         return None
     way = walk(head[:_MOST_OF_EXPIRY], 0)
-    return way.end if way.stops and kind_of(head[way.end:way.end + 16]) == 'zlib' else None
+    if not way.stops or head[way.end:way.end + 1] != bytes([_ZLIB]):
+        return None
+    return way.end if _is_number(head[:way.end]) and _unpacks(head[way.end:]) else None
+
+
+def _is_number(pickle: bytes) -> bool:
+    """Whether a pickle holds a plain number or None and nothing else."""
+    try:
+        names = [opcode.name for opcode, _, _ in pickletools.genops(pickle)]
+    except ValueError:
+        return False
+    rest = [name for name in names if name not in _BEFORE]
+    return len(rest) > 1 and rest[0] in _NUMBERS and all(name in _BEHIND for name in rest[1:])
+
+
+def _unpacks(packed: bytes) -> bool:
+    """Whether a stream of zlib begins here, of which a first part unpacks."""
+    stream = zlib.decompressobj()
+    try:
+        return bool(stream.decompress(packed, 1)) or stream.eof
+    except zlib.error:
+        return False
 
 
 def look_at_django_cache(looker: 'Looker', blob: Blob, where: Place, depth: int) -> None:
     """Looks at the time and at the value."""
-    end = end_of_expiry(blob.read(0, _MOST_OF_EXPIRY + 16))
+    end = end_of_expiry(blob.read(0, HEAD))
     assert end is not None
     values = Values(looker)
     values.add(blob.read(0, end), where + ('(expiry)',), depth + 1)

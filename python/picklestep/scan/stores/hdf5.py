@@ -6,6 +6,7 @@ What a file names outside of itself (links to other files, data in other files, 
 from __future__ import annotations
 
 import io
+from contextlib import contextmanager
 from importlib import import_module
 from typing import TYPE_CHECKING, Any, Iterator, List, Set, Tuple
 
@@ -16,12 +17,15 @@ from .values import Values
 if TYPE_CHECKING:
     from ..looking import Looker
 
-__all__ = ['is_hdf5', 'look_at_hdf5']
+__all__ = ['begins_late', 'is_hdf5', 'look_at_hdf5']
 
 _BEGIN = b'\x89HDF\r\n\x1a\n'
 
 # What the author put before the file may have such a size.
 _BEFORE = (0, 512, 1024, 2048, 4096, 8192)
+
+# What the library raises where a file is damaged, or asks for too much.
+_TROUBLE = (OSError, RuntimeError, KeyError, ValueError, TypeError, MemoryError)
 
 # Items of a dataset that are read at once.
 _ITEMS = 4_096
@@ -30,6 +34,16 @@ _ITEMS = 4_096
 def is_hdf5(head: bytes) -> bool:
     """Whether bytes begin an HDF5 file, perhaps behind a block of its author."""
     return any(head.startswith(_BEGIN, at) for at in _BEFORE)
+
+
+def begins_late(blob: Blob) -> bool:
+    """Whether an HDF5 file begins behind the first bytes of these. A reader tries 512, 1024, and so on, each twice as far as the one before."""
+    at = 2 * _BEFORE[-1]
+    while at < blob.size:
+        if blob.read(at, len(_BEGIN)) == _BEGIN:
+            return True
+        at *= 2
+    return False
 
 
 def look_at_hdf5(looker: 'Looker', blob: Blob, where: Place, depth: int) -> None:
@@ -43,20 +57,43 @@ def look_at_hdf5(looker: 'Looker', blob: Blob, where: Place, depth: int) -> None
     values = Values(looker)
     trouble: List[str] = []
     try:
-        with h5py.File(_Reader(blob), 'r') as file:
+        with _bounded(looker.budget.memory()), h5py.File(_Reader(blob), 'r') as file:
             for name, item in _objects(h5py, file, values, where):
                 try:
                     _look_at_object(h5py, values, item, where + (name,), depth)
-                except (OSError, RuntimeError, KeyError, ValueError, TypeError) as error:
-                    trouble.append(f'{name}: {error}')
-    except (OSError, RuntimeError, KeyError, ValueError, TypeError) as error:
-        trouble.append(str(error))
+                except _TROUBLE as error:
+                    trouble.append(f'{name}: {_words(error)}')
+    except _TROUBLE as error:
+        trouble.append(_words(error))
     for text in trouble:
         looker.note(where, f'hdf5: {text}: its bytes are searched', missed=True)
     if trouble:
         values.begin(where, blob.size)
         values.look_everywhere(blob, where)
     values.flush()
+
+
+@contextmanager
+def _bounded(most: int) -> Iterator[None]:
+    """Lets this process take so many bytes more and no others, since a file of a kilobyte may ask the library for gigabytes."""
+    try:
+        import resource
+    except ImportError:  # (Windows has none)
+        yield
+        return
+    soft, hard = resource.getrlimit(resource.RLIMIT_DATA)
+    with open('/proc/self/statm', encoding='ascii') as sizes:
+        used = int(sizes.read().split()[5]) * resource.getpagesize()
+    limits = [limit for limit in (used + most, soft, hard) if limit != resource.RLIM_INFINITY]
+    resource.setrlimit(resource.RLIMIT_DATA, (min(limits), hard))
+    try:
+        yield
+    finally:
+        resource.setrlimit(resource.RLIMIT_DATA, (soft, hard))
+
+
+def _words(error: BaseException) -> str:
+    return 'it takes more memory than it may' if isinstance(error, MemoryError) else str(error)
 
 
 class _Reader(io.RawIOBase):

@@ -1,7 +1,7 @@
 use Rattle.std.proofs.Common.{◌≡◌, ◌∙◌, ap, ap₂, rules, codes}
 use Rattle.std.proofs.lemmas.Result.{IfOk-weaker}
 use Rattle.clap.specs.Words.{App, app_of, new_app, with_subcommand}
-use Rattle.picklestep.specs.CommandLine.{on_file, debug_app, wants_subcommand}
+use Rattle.picklestep.specs.CommandLine.{on_file, calls_app, debug_app, wants_subcommand}
 use Rattle.picklestep.proofs.Plain.{third}
 use Rattle.picklestep.proofs.command_line.command_line.Goals as goal
 
@@ -9,7 +9,7 @@ pub returns : goal.returns
 returns c =
     let listing : app_of c.in_ok-listing.listing ≡ on_file (codes "list") = c.in_ok-listing.ensures in
     let reporting : app_of c.in_ok-reporting.reporting ≡ on_file (codes "objects") = c.in_ok-reporting.ensures in
-    let calling : app_of c.in_ok-calling.calling ≡ on_file (codes "calls") = c.in_ok-calling.ensures in
+    let calling : app_of c.in_ok-calling.calling ≡ calls_app = c.in_ok-calling.ensures in
     let debugging : app_of c.in_ok-debugging.debugging ≡ debug_app = c.in_ok-debugging.ensures in
     let start : app_of c.subcommand_required.result ≡ wants_subcommand (new_app (codes "picklestep")) = search rules in
     let one = c.in_ok-subcommand.ensures.shape (third _ _ _ _ (ap (λ (a : App). a.top.is_plain) listing)) ∙ ap₂ with_subcommand start (ap (λ (a : App). a.top) listing) in

@@ -1,7 +1,7 @@
-use Rattle.std.proofs.Common.{rules, ◌≡◌, sym, ◌∙◌, ap, Some, codes}
+use Rattle.std.proofs.Common.{rules, ◌≡◌, refl, sym, ◌∙◌, ap, Some, codes}
 use Rattle.clap.proofs.WalkLemmas.{first_value-rows}
 use Rattle.clap.specs.Words.{Text, found_of, rows_of}
-use Rattle.picklestep.proofs.Named.{used_is, no_task}
+use Rattle.picklestep.proofs.Named.{used_is, no_task, no_reading}
 use Rattle.picklestep.proofs.task.named.Goals as goal
 
 pub returns-in_default-get_str-clause-none : goal.returns-in_default-get_str-clause-none
@@ -15,8 +15,8 @@ returns-in_ok-file-clause-some c =
       rows = rows_of (found_of c.in-Some.found.now);
       used = used_is _ _ _ _ _ c.in-Some.ensures.name c.in-Some.ensures.rows ∙ ap (λ (n : Text). Some (n, rows_of (found_of c.in-Some.found.now))) name;
       file_is = sym (first_value-rows (found_of c.in-Some.found.now) (codes "FILE")) ∙ sym c.in-Some-get_str.ensures ∙ ap Some (sym c.in_ok-file.ensures.ok);
-      many_is = c.is_many-many.ensures.yes;
-      one_is = c.is_many-many.ensures.no;
+      many_is = c.is_given-many.ensures.yes;
+      one_is = c.is_given-many.ensures.no;
     }
 
 pub returns-in_ok-file-2-clause-some : goal.returns-in_ok-file-2-clause-some
@@ -26,20 +26,28 @@ returns-in_ok-file-2-clause-some c =
       rows = rows_of (found_of c.in-Some.found.now);
       used = used_is _ _ _ _ _ c.in-Some.ensures.name c.in-Some.ensures.rows ∙ ap (λ (n : Text). Some (n, rows_of (found_of c.in-Some.found.now))) name;
       file_is = sym (first_value-rows (found_of c.in-Some.found.now) (codes "FILE")) ∙ sym c.in-Some-get_str.ensures ∙ ap Some (sym c.in_ok-file-2.ensures.ok);
-      many_is = c.is_many-many.ensures.yes;
-      one_is = c.is_many-many.ensures.no;
+      many_is = c.is_given-many.ensures.yes;
+      one_is = c.is_given-many.ensures.no;
     }
+
+pub returns-in_default-pickles_of-clause-none : goal.returns-in_default-pickles_of-clause-none
+returns-in_default-pickles_of-clause-none c =
+    let name : c.in-Some.name.now ≡ codes "calls" = search rules in
+    let rows = rows_of (found_of c.in-Some.found.now) in
+    λ is task. no_reading _ rows task (used_is _ _ _ _ _ c.in-Some.ensures.name c.in-Some.ensures.rows ∙ ap (λ (n : Text). Some (n, rows)) name) (c.in_default-pickles_of.ensures.none refl)
 
 pub returns-in_ok-file-3-clause-some : goal.returns-in_ok-file-3-clause-some
 returns-in_ok-file-3-clause-some c =
-    let name : c.in-Some.name.now ≡ codes "calls" = search rules in
-    record {
-      rows = rows_of (found_of c.in-Some.found.now);
-      used = used_is _ _ _ _ _ c.in-Some.ensures.name c.in-Some.ensures.rows ∙ ap (λ (n : Text). Some (n, rows_of (found_of c.in-Some.found.now))) name;
-      file_is = sym (first_value-rows (found_of c.in-Some.found.now) (codes "FILE")) ∙ sym c.in-Some-get_str.ensures ∙ ap Some (sym c.in_ok-file-3.ensures.ok);
-      many_is = c.is_many-many.ensures.yes;
-      one_is = c.is_many-many.ensures.no;
-    }
+    let name : c.in-Some.name.now ≡ codes "calls" = search rules in (
+      record {
+        rows = rows_of (found_of c.in-Some.found.now);
+        used = used_is _ _ _ _ _ c.in-Some.ensures.name c.in-Some.ensures.rows ∙ ap (λ (n : Text). Some (n, rows_of (found_of c.in-Some.found.now))) name;
+        file_is = sym (first_value-rows (found_of c.in-Some.found.now) (codes "FILE")) ∙ sym c.in-Some-get_str.ensures ∙ ap Some (sym c.in_ok-file-3.ensures.ok);
+        many_is = c.is_given-many.ensures.yes;
+        one_is = c.is_given-many.ensures.no;
+      },
+      search rules,
+    )
 
 pub returns-in_ok-file-4-clause-some : goal.returns-in_ok-file-4-clause-some
 returns-in_ok-file-4-clause-some c =
@@ -48,8 +56,8 @@ returns-in_ok-file-4-clause-some c =
         rows = rows_of (found_of c.in-Some.found.now);
         used = used_is _ _ _ _ _ c.in-Some.ensures.name c.in-Some.ensures.rows ∙ ap (λ (n : Text). Some (n, rows_of (found_of c.in-Some.found.now))) name;
         file_is = sym (first_value-rows (found_of c.in-Some.found.now) (codes "FILE")) ∙ sym c.in-Some-get_str.ensures ∙ ap Some (sym c.in_ok-file-4.ensures.ok);
-        many_is = c.is_many-many.ensures.yes;
-        one_is = c.is_many-many.ensures.no;
+        many_is = c.is_given-many.ensures.yes;
+        one_is = c.is_given-many.ensures.no;
       },
       search rules,
     )

@@ -1,0 +1,94 @@
+-- The text of a document, with what is behind its end.
+use Rattle.std.proofs.Common.{◌≡◌, ℕ, ◌≤◌, Bool, true, false, List, [], ◌++◌, length, drop, Option, Some, None, Ok, refl, sym, ap, subst, ◌∙◌}
+use Rattle.std.specs.Prelude.{Result, Err, IfOk, IfErr, if◌then◌else◌}
+use Rattle.pickle_io.specs.Text.{◌⧺◌}
+use Rattle.pickle_io.specs.Device.{Told, Wrote, Broke, Writes}
+use Rattle.pickle_io.proofs.Devices.{Wrote-none, Wrote-trans, Broke-after, Broke-more}
+use Rattle.pickle_doc.specs.Document.{Contents, ReadsAs, document_bytes}
+use Rattle.pickle_doc.specs.Place.{ops_of, offset_of}
+use Rattle.pickle_machine.specs.State.{State, start}
+use Rattle.pickle_machine.specs.Run.{run}
+use Rattle.pickle_show.specs.declared.stop.TextStop.{TextStop}
+use Rattle.pickle_show.specs.declared.stop.TextStop.TheVariants as stop
+use Rattle.pickle_show.specs.declared.calls.Ran.{Ran}
+use Rattle.pickle_show.specs.declared.naming.Naming.{Naming}
+use Rattle.pickle_show.specs.CallsLine.{calls_end_text, ending_status}
+use Rattle.pickle_show.specs.CallsWritten.{CutsCalls}
+use Rattle.pickle_show.specs.Calls.{CallsEnd, calls, calls_end, entries}
+use Rattle.pickle_show.specs.Ran.{IsRun}
+use Rattle.pickle_show.proofs.Walking.{run_whole, run_answers}
+use Rattle.pickle_further.specs.declared.way.Pickles.{Pickles}
+use Rattle.pickle_further.specs.declared.way.Pickles.TheVariants as pickles
+use Rattle.pickle_further.specs.Going.{Standing}
+use Rattle.pickle_further.specs.Parts.{are_many, ignoring, standing_at, behind_at, text_from, is_open, lost_text, parts_to, parts}
+use Rattle.pickle_further.specs.CallsText.{CutsText, PutsText, document_calls, CompletesDocument, CutsDocument, CompletesText, CutsCallsText}
+use Rattle.pickle_further.specs.Inside.{standing}
+use Rattle.pickle_further.proofs.Pieces.{cut_after, cut_before}
+
+abbrev pub standing_of : List ℕ → State → Ran → Standing
+standing_of bytes s r = standing s (drop r.offset bytes) (record { offset = r.offset; place = r.place; left = 0 }) r.course.naming
+
+pub parts_are : (p : Pickles) (bytes : List ℕ) (a b : Told) (s : State) (r : Ran) → (w : IsRun (are_many p) bytes a b s r)
+    → parts p w.d ≡ (if is_open r.ending then text_from (ignoring p) (standing_of bytes s r) ++ lost_text p bytes else [])
+unfolding parts ◌⧺◌
+parts_are p bytes a b s r w =
+    let ends : parts p w.d ≡ parts_to p w.d (record { place = r.place; ending = r.ending }) = ap (parts_to p w.d) w.ends in
+    ends ∙ rw (w.reached, w.offset, w.naming, sym w.reads.whole) refl
+
+pub parts_open : (p : Pickles) (bytes : List ℕ) (a b : Told) (s : State) (r : Ran) → (w : IsRun (are_many p) bytes a b s r) → is_open r.ending ≡ true
+    → parts p w.d ≡ text_from (ignoring p) (standing_of bytes s r) ++ lost_text p bytes
+parts_open p bytes a b s r w is = parts_are p bytes a b s r w ∙ rw is refl
+
+pub parts_closed : (p : Pickles) (bytes : List ℕ) (a b : Told) (s : State) (r : Ran) → (w : IsRun (are_many p) bytes a b s r) → is_open r.ending ≡ false → parts p w.d ≡ []
+parts_closed p bytes a b s r w is = parts_are p bytes a b s r w ∙ rw is refl
+
+-- ---- the whole
+
+all_of : (p : Pickles) (bytes : List ℕ) (a b : Told) (s : State) (r : Ran) → (w : IsRun (are_many p) bytes a b s r)
+    → (document_calls p w.d).text ≡ ((entries w.d r.place).text ++ calls_end_text bytes r.course.imports r.course.calls r.ending) ++ parts p w.d
+unfolding ◌⧺◌
+all_of p bytes a b s r w = ap (λ (t : List ℕ). t ++ parts p w.d) (run_whole bytes a b s r w)
+
+pub first_cut : (p : Pickles) (bytes : List ℕ) (a b : Told) (e : TextStop) → CutsCalls (are_many p) bytes a b e → CutsDocument p bytes a b e
+unfolding ◌⧺◌
+first_cut p bytes a b stop.Failed w = (w.0, w.1, cut_before a b (calls w.0).text (parts p w.0) stop.Failed w.2)
+first_cut p bytes a b stop.Memory w = (w.0, w.1, cut_before a b (calls w.0).text (parts p w.0) stop.Memory w.2)
+
+pub end_cut : (p : Pickles) (bytes : List ℕ) (a b c : Told) (s : State) (r : Ran) → IsRun (are_many p) bytes a b s r
+    → Broke b c (calls_end_text bytes r.course.imports r.course.calls r.ending) → CutsDocument p bytes a c stop.Failed
+end_cut p bytes a b c s r w q =
+    let t : List ℕ = (entries w.d r.place).text in
+    let end : List ℕ = calls_end_text bytes r.course.imports r.course.calls r.ending in
+    (w.d, w.reads, rw (all_of p bytes a b s r w) (Broke-more a c (t ++ end) (parts p w.d) (Broke-after a b c t end w.written q)))
+
+pub parts_cut : (p : Pickles) (bytes : List ℕ) (a b c e : Told) (s : State) (r : Ran) (x : TextStop) → (w : IsRun (are_many p) bytes a b s r)
+    → Wrote b c (calls_end_text bytes r.course.imports r.course.calls r.ending) → CutsText c e (parts p w.d) x → CutsDocument p bytes a e x
+parts_cut p bytes a b c e s r x w q k =
+    let t : List ℕ = (entries w.d r.place).text in
+    let end : List ℕ = calls_end_text bytes r.course.imports r.course.calls r.ending in
+    (w.d, w.reads, rw (all_of p bytes a b s r w) (cut_after a c e (t ++ end) (parts p w.d) x (Wrote-trans a b c t end w.written q) k))
+
+pub all_written : (p : Pickles) (bytes : List ℕ) (a b c e : Told) (s : State) (r : Ran) (status : ℕ) → (w : IsRun (are_many p) bytes a b s r)
+    → Wrote b c (calls_end_text bytes r.course.imports r.course.calls r.ending) → status ≡ ending_status r.ending → Wrote c e (parts p w.d) → CompletesDocument p bytes a e status
+all_written p bytes a b c e s r status w q is k =
+    let t : List ℕ = (entries w.d r.place).text in
+    let end : List ℕ = calls_end_text bytes r.course.imports r.course.calls r.ending in
+    (w.d, w.reads, rw (all_of p bytes a b s r w) (Wrote-trans a c e (t ++ end) (parts p w.d) (Wrote-trans a b c t end w.written q) k), is ∙ sym (run_answers bytes a b s r w))
+
+-- ---- of bytes
+
+pub first_ok : (bytes : List ℕ) (a b : Told) (r : Result ℕ TextStop) → IfOk r (CompletesDocument pickles.First bytes a b) → IfOk r (CompletesText pickles.First bytes a b)
+first_ok bytes a b (Ok x) h = (document_calls pickles.First h.0, (h.0, h.1, refl), h.2, h.3)
+first_ok bytes a b (Err x) h = tt
+
+pub first_err : (bytes : List ℕ) (a b : Told) (r : Result ℕ TextStop) → IfErr r (CutsDocument pickles.First bytes a b) → IfErr r (CutsCallsText pickles.First bytes a b)
+first_err bytes a b (Ok x) h = tt
+first_err bytes a b (Err x) h = (document_calls pickles.First h.0, (h.0, h.1, refl), h.2)
+
+pub all_ok : (bytes : List ℕ) (a b : Told) (r : Result ℕ TextStop) → IfOk r (CompletesDocument pickles.All bytes a b) → IfOk r (CompletesText pickles.All bytes a b)
+all_ok bytes a b (Ok x) h = (document_calls pickles.All h.0, (h.0, h.1, refl), h.2, h.3)
+all_ok bytes a b (Err x) h = tt
+
+pub all_err : (bytes : List ℕ) (a b : Told) (r : Result ℕ TextStop) → IfErr r (CutsDocument pickles.All bytes a b) → IfErr r (CutsCallsText pickles.All bytes a b)
+all_err bytes a b (Ok x) h = tt
+all_err bytes a b (Err x) h = (document_calls pickles.All h.0, (h.0, h.1, refl), h.2)

@@ -1,0 +1,61 @@
+-- The text of bytes that one unpickler reads on and on.
+use Rattle.std.proofs.Common.{◌≡◌, ℕ, suc, List, ◌++◌, length, refl, sym, ap, ◌∙◌}
+use Rattle.pickle_io.specs.Text.{◌⧺◌}
+use Rattle.pickle_io.specs.Device.{Told, Wrote, Broke}
+use Rattle.pickle_io.proofs.Devices.{Wrote-trans, Broke-after}
+use Rattle.pickle_machine.specs.State.{State}
+use Rattle.pickle_show.specs.declared.end.Ending.TheVariants as ending
+use Rattle.pickle_show.specs.declared.stop.TextStop.{TextStop}
+use Rattle.pickle_show.specs.declared.stop.TextStop.TheVariants as stop
+use Rattle.pickle_show.specs.CallsLine.{calls_end_text, ending_status}
+use Rattle.pickle_further.specs.declared.way.Pickles.TheVariants as pickles
+use Rattle.pickle_further.specs.declared.way.Way.{Way}
+use Rattle.pickle_further.specs.declared.going.Gone.{Gone}
+use Rattle.pickle_further.specs.declared.engine.TaleEnd.{TaleEnd}
+use Rattle.pickle_further.specs.Going.{Standing, going, Tale}
+use Rattle.pickle_further.specs.Parts.{ignoring, standing_first}
+use Rattle.pickle_further.specs.CallsText.{tale_calls, kept_calls, CutsText, CompletesText, CutsCallsText}
+use Rattle.pickle_further.specs.Inside.{standing, Goes, tale_here, IsTold}
+use Rattle.pickle_further.proofs.Pieces.{cut_before}
+use Rattle.pickle_further.proofs.Tales.{next_tale}
+
+abbrev way : Way
+way = ignoring pickles.OneMemo
+
+abbrev first : List ℕ → Standing
+first bytes = standing_first pickles.OneMemo bytes
+
+-- what the first item came to
+abbrev pub told : List ℕ → Gone → State → Tale
+told bytes gone t = tale_here (length bytes) way (standing t bytes (first bytes).at (first bytes).naming) gone
+
+kept_is : (bytes : List ℕ) (gone : Gone) (t : State) → Goes (going way (first bytes)) gone t → kept_calls bytes ≡ tale_calls bytes (told bytes gone t)
+unfolding kept_calls
+kept_is bytes gone t g = ap (tale_calls bytes) (next_tale (length bytes) way (first bytes) gone t g)
+
+kept_text : (bytes : List ℕ) (gone : Gone) (t : State) (a b : Told) (e : TaleEnd) → Goes (going way (first bytes)) gone t → IsTold a b (told bytes gone t) e
+    → (kept_calls bytes).text ≡ (told bytes gone t).lines.text ++ calls_end_text bytes e.course.imports e.course.calls (ending.Closed 0 e.closing)
+unfolding ◌⧺◌
+kept_text bytes gone t a b e g w = rw (kept_is bytes gone t g, w.imports, w.calls, w.closing) refl
+
+-- the first lines, cut short
+pub kept_cut : (bytes : List ℕ) (gone : Gone) (t : State) (a b : Told) (x : TextStop) → Goes (going way (first bytes)) gone t → CutsText a b (told bytes gone t).lines.text x
+    → CutsCallsText pickles.OneMemo bytes a b x
+unfolding ◌⧺◌
+kept_cut bytes gone t a b x g w =
+    let l : Tale = told bytes gone t in
+    let cut : CutsText a b (tale_calls bytes l).text x = cut_before a b l.lines.text (calls_end_text bytes l.lines.imports l.lines.calls (ending.Closed 0 l.closing)) x w in
+    (kept_calls bytes, refl, rw (kept_is bytes gone t g) cut)
+
+-- all lines and a beginning of the last ones
+pub kept_broken : (bytes : List ℕ) (gone : Gone) (t : State) (a b c : Told) (e : TaleEnd) → Goes (going way (first bytes)) gone t → IsTold a b (told bytes gone t) e
+    → Broke b c (calls_end_text bytes e.course.imports e.course.calls (ending.Closed 0 e.closing)) → CutsCallsText pickles.OneMemo bytes a c stop.Failed
+kept_broken bytes gone t a b c e g w q =
+    (kept_calls bytes, refl, rw (kept_text bytes gone t a b e g w) (Broke-after a b c (told bytes gone t).lines.text (calls_end_text bytes e.course.imports e.course.calls (ending.Closed 0 e.closing)) w.written q))
+
+-- all of it
+pub kept_done : (bytes : List ℕ) (gone : Gone) (t : State) (a b c : Told) (e : TaleEnd) (status : ℕ) → Goes (going way (first bytes)) gone t → IsTold a b (told bytes gone t) e
+    → Wrote b c (calls_end_text bytes e.course.imports e.course.calls (ending.Closed 0 e.closing)) → status ≡ ending_status (ending.Closed 0 e.closing) → CompletesText pickles.OneMemo bytes a c status
+kept_done bytes gone t a b c e status g w q is =
+    let all : Wrote a c (kept_calls bytes).text = rw (kept_text bytes gone t a b e g w) (Wrote-trans a b c (told bytes gone t).lines.text (calls_end_text bytes e.course.imports e.course.calls (ending.Closed 0 e.closing)) w.written q) in
+    (kept_calls bytes, refl, all, rw (kept_is bytes gone t g, sym w.closing) is)

@@ -1,0 +1,9 @@
+-- Lemmas that the proofs of several functions cite.
+pub mod Pieces
+pub mod Goings
+pub mod Tales
+pub mod Partly
+pub mod Documents
+pub mod Kept
+pub mod Behind
+pub mod Searches

@@ -1,0 +1,223 @@
+-- The lines of what loaders do.
+use Rattle.std.proofs.Common.{◌≡◌, ◌⊎◌, ℕ, zero, suc, ◌+◌, ◌-◌, ◌*◌, ◌^◌, ◌≤◌, ◌==◌, Bool, true, false, List, [], ◌++◌, length, Option, Some, None, refl, sym, ap, subst, ◌∙◌, append_assoc, arith, rules, inl, inr}
+use Rattle.std.specs.Prelude.{if◌then◌else◌, drop, Result, Ok, Err, IfOk, IfErr, IsErrAnd}
+use Rattle.std.specs.Option.{option_map_or}
+use Rattle.std.proofs.lemmas.List.{length-drop, append-nil}
+use Rattle.pickle_io.specs.Text.{◌⧺◌}
+use Rattle.pickle_io.specs.Device.{Told, Wrote, Broke, WroteAllBut}
+use Rattle.pickle_io.proofs.Devices.{Wrote-none, Wrote-trans, Broke-after, Broke-more}
+use Rattle.pickle_ops.specs.declared.fault.FrontFault.TheVariants as front
+use Rattle.pickle_doc.specs.declared.fault.TailFault.TheVariants as tail
+use Rattle.pickle_machine.specs.State.{State}
+use Rattle.pickle_show.specs.declared.report.Closing.{Closing}
+use Rattle.pickle_show.specs.declared.report.Closing.TheVariants as closing
+use Rattle.pickle_show.specs.declared.course.Course.{Course}
+use Rattle.pickle_show.specs.declared.naming.Naming.{Naming}
+use Rattle.pickle_show.specs.declared.stop.TextStop.{TextStop}
+use Rattle.pickle_show.specs.declared.stop.TextStop.TheVariants as stop
+use Rattle.pickle_show.specs.Naming.{naming_after}
+use Rattle.pickle_show.specs.CallsLine.{line_of, imports_of, calls_of}
+use Rattle.pickle_show.specs.Calls.{CountedText, counted_text}
+use Rattle.pickle_show.proofs.Walking.{few_imports, few_calls}
+use Rattle.pickle_further.specs.declared.way.Way.{Way}
+use Rattle.pickle_further.specs.declared.way.Spot.{Spot}
+use Rattle.pickle_further.specs.declared.going.Gone.{Gone}
+use Rattle.pickle_further.specs.declared.engine.TaleEnd.{TaleEnd}
+use Rattle.pickle_further.specs.Going.{Standing, Going, going, stands_after, spot_after, Tale, tale_over, tale_after, tale_with, tale}
+use Rattle.pickle_further.specs.CallsText.{CutsText}
+use Rattle.pickle_further.specs.Inside.{standing, Goes, here, tale_here, ended, IsTold, InTale}
+
+-- ---- writing
+
+-- nothing is written yet
+pub tale_begins : (a : Told) (t : Tale) (m : Naming) → InTale t a a (record { imports = 0; calls = 0; naming = m; left = 0 }) t
+tale_begins a t m = record { front = []; written = Wrote-none a; lines = refl; imports = omega arith; calls = omega arith; closing = refl }
+
+joined : (front e more : List ℕ) → front ++ (e ++ more) ≡ (front ++ e) ++ more
+joined front e more = sym (append_assoc front e more)
+
+after_line : (front : List ℕ) (e : CountedText) (t : Tale) → front ++ (tale_after e t).lines.text ≡ (front ++ e.text) ++ t.lines.text
+unfolding ◌⧺◌
+after_line front e t = joined front e.text t.lines.text
+
+counts : (whole a b c next : ℕ) → whole ≡ a + (b + c) → next ≡ a + b → whole ≡ next + c
+counts whole a b c next is e = omega (arith, is, e)
+
+-- a line more is written
+pub line_written : (whole : Tale) (a b c : Told) (course next : Course) (e : CountedText) (t : Tale) → InTale whole a b course (tale_after e t) → Wrote b c e.text
+    → next.imports ≡ course.imports + e.imports → next.calls ≡ course.calls + e.calls → InTale whole a c next t
+line_written whole a b c course next e t w q i j = record {
+  front = w.front ++ e.text;
+  written = Wrote-trans a b c w.front e.text w.written q;
+  lines = w.lines ∙ after_line w.front e t;
+  imports = counts whole.lines.imports course.imports e.imports t.lines.imports next.imports w.imports i;
+  calls = counts whole.lines.calls course.calls e.calls t.lines.calls next.calls w.calls j;
+  closing = w.closing;
+}
+
+-- the line is cut short
+pub line_broken : (whole : Tale) (a b c : Told) (course : Course) (e : CountedText) (t : Tale) → InTale whole a b course (tale_after e t) → Broke b c e.text → Broke a c whole.lines.text
+line_broken whole a b c course e t w q =
+    rw (w.lines ∙ after_line w.front e t) (Broke-more a c (w.front ++ e.text) t.lines.text (Broke-after a b c w.front e.text w.written q))
+
+-- it ends
+pub tale_done : (whole : Tale) (a b : Told) (course : Course) (c : Closing) → InTale whole a b course (tale_over c) → IsTold a b whole (record { course = course; closing = c })
+tale_done whole a b course c w = record {
+  written = subst (Wrote a b) (sym (w.lines ∙ append-nil w.front)) w.written;
+  imports = omega (arith, w.imports);
+  calls = omega (arith, w.calls);
+  closing = sym w.closing;
+}
+
+pub memory_stops : (whole : Tale) (a b : Told) (course : Course) (t : Tale) → InTale whole a b course t → CutsText a b whole.lines.text stop.Memory
+memory_stops whole a b course t w = (t.lines.text, record { front = w.front; parts = w.lines; wrote = w.written })
+
+-- ---- items
+
+is_zero : (n : ℕ) → (n == 0) ≡ true → n ≡ 0
+is_zero n e = search rules
+
+inside : (a b : Closing) → Some a ≡ Some b → a ≡ b
+inside a b e = cc
+
+no_some : (c : Closing) → None ≡ Some c → ⊥
+no_some c e = cc
+
+-- it ends after this item
+pub ends_here : (n : ℕ) (w : Way) (p : Standing) (gone : Gone) (c : Closing) → ended gone n p.at.offset ≡ Some c
+    → tale_here n w p gone ≡ tale_after (counted_text p.at.offset p.naming p.state.heap gone.event) (tale_over c)
+unfolding tale
+ends_here n w p gone c e = ap (tale_after (counted_text p.at.offset p.naming p.state.heap gone.event)) (go (n == 0) refl gone.closing e)
+  where
+    go : (b : Bool) → (n == 0) ≡ b → (x : Option Closing) → option_map_or Some x (if b then Some (closing.Fault (tail.Front front.Ended) (p.at.offset + gone.size)) else None) ≡ Some c
+        → option_map_or tale_over x (tale n w (stands_after p (here gone p))) ≡ tale_over c
+    go true is None e = ap (λ (m : ℕ). tale m w (stands_after p (here gone p))) (is_zero n is) ∙ ap tale_over (inside _ c e)
+    go false is None e = absurd (no_some c e)
+    go b is (Some x) e = ap tale_over (inside x c e)
+
+no_none : (c : Closing) → Some c ≡ None → ⊥
+no_none c e = cc
+
+pub record GoesBehind (n : ℕ) (w : Way) (p : Standing) (gone : Gone) : Type 0 where
+  pub before : ℕ
+  pub count : n ≡ suc before
+  pub tale_is : tale_here n w p gone ≡ tale_after (counted_text p.at.offset p.naming p.state.heap gone.event) (tale n w (stands_after p (here gone p)))
+
+-- it does not
+pub goes_behind : (n : ℕ) (w : Way) (p : Standing) (gone : Gone) → ended gone n p.at.offset ≡ None → GoesBehind n w p gone
+goes_behind n w p gone e = go n gone.closing refl e
+  where
+    go : (n : ℕ) (x : Option Closing) → gone.closing ≡ x → option_map_or Some x (if n == 0 then Some (closing.Fault (tail.Front front.Ended) (p.at.offset + gone.size)) else None) ≡ None
+        → GoesBehind n w p gone
+    go zero None is e = absurd (no_none _ e)
+    go (suc m) None is e = record { before = m; count = refl; tale_is = rw is refl }
+    go n (Some x) is e = absurd (no_none x e)
+
+-- what the next item comes to, by the state after it
+pub next_tale : (n : ℕ) (w : Way) (p : Standing) (gone : Gone) (t : State) → Goes (going w p) gone t
+    → tale (suc n) w p ≡ tale_here n w (standing t p.rest p.at p.naming) gone
+unfolding tale
+next_tale n w p gone t g = elim g.state [
+  | inl same ↦ rw (same, g.is) refl
+  | inr over ↦
+      let silent : (going w p).gone.event ≡ None = sym (ap (λ (x : Gone). x.event) g.is) ∙ over.silent in
+      let ends : (going w p).gone.closing ≡ Some over.closing.0 = sym (ap (λ (x : Gone). x.closing) g.is) ∙ over.closing.1 in
+      rw (silent, ends, over.silent, over.closing.1) refl
+]
+
+-- ---- the loop
+
+pub record InLoop (w : Way) (whole : Tale) (old now : Told) (s : State) (rest : List ℕ) (at : Spot) (gone : Gone) (course : Course) (left : ℕ) : Type 0 where
+  pub told : InTale whole old now course (tale_here left w (standing s rest at course.naming) gone)
+  pub size : gone.size ≤ length rest
+  pub few : left ≤ 2 ^ 30
+  pub small : length rest ≤ 2 ^ 30
+  pub heap : length s.heap + 2 * left ≤ 2 ^ 32 - 8
+  pub offset_fits : at.offset + length rest ≤ 2 ^ 31
+  pub place_fits : at.place + left ≤ 2 ^ 31
+  pub imports : course.imports + left ≤ 2 ^ 30
+  pub calls : course.calls + left ≤ 2 ^ 30
+
+-- the item behind this one
+abbrev pub behind : State → List ℕ → Spot → Gone → Naming → Standing
+behind s rest at gone m = standing s (drop gone.size rest) (spot_after at gone) m
+
+-- what is told is this item's, and what comes then
+goes_told : (w : Way) (whole : Tale) (a b c : Told) (s t : State) (rest : List ℕ) (at : Spot) (gone next : Gone) (course more : Course) (left m : ℕ)
+    → InTale whole a b course (tale_here left w (standing s rest at course.naming) gone) → Wrote b c (line_of at.offset course.naming s.heap gone.event)
+    → more.imports ≡ course.imports + imports_of s.heap gone.event → more.calls ≡ course.calls + calls_of s.heap gone.event
+    → more.naming ≡ naming_after gone.row (length s.heap) course.naming
+    → left ≡ suc m
+    → tale_here left w (standing s rest at course.naming) gone ≡ tale_after (counted_text at.offset course.naming s.heap gone.event) (tale left w (behind s rest at gone (naming_after gone.row (length s.heap) course.naming)))
+    → Goes (going w (behind s rest at gone more.naming)) next t
+    → InTale whole a c more (tale_here m w (behind t rest at gone more.naming) next)
+goes_told w whole a b c s t rest at gone next course more left m k q i j naming suc_is is g =
+    let p : Standing = behind s rest at gone more.naming in
+    let named : tale left w (behind s rest at gone (naming_after gone.row (length s.heap) course.naming)) ≡ tale left w p = ap (λ (n : Naming). tale left w (behind s rest at gone n)) (sym naming) in
+    let told : tale_here left w (standing s rest at course.naming) gone ≡ tale_after (counted_text at.offset course.naming s.heap gone.event) (tale left w p) =
+    is ∙ ap (tale_after (counted_text at.offset course.naming s.heap gone.event)) named in
+    let here_is : InTale whole a b course (tale_after (counted_text at.offset course.naming s.heap gone.event) (tale left w p)) = subst (InTale whole a b course) told k in
+    let line : InTale whole a c more (tale left w p) = line_written whole a b c course more (counted_text at.offset course.naming s.heap gone.event) (tale left w p) here_is q i j in
+    let then_is : tale left w p ≡ tale_here m w (behind t rest at gone more.naming) next = ap (λ (n : ℕ). tale n w p) suc_is ∙ next_tale m w p next t g in
+    subst (InTale whole a c more) then_is line
+
+pub goes_round : (w : Way) (whole : Tale) (a b c : Told) (s t : State) (rest : List ℕ) (at : Spot) (gone next : Gone) (course more : Course) (left : ℕ)
+    → InLoop w whole a b s rest at gone course left → Wrote b c (line_of at.offset course.naming s.heap gone.event)
+    → more.imports ≡ course.imports + imports_of s.heap gone.event → more.calls ≡ course.calls + calls_of s.heap gone.event
+    → more.naming ≡ naming_after gone.row (length s.heap) course.naming
+    → ended gone left at.offset ≡ None
+    → Goes (going w (behind s rest at gone more.naming)) next t
+    → next.size ≤ length (drop gone.size rest) → length t.heap ≤ length s.heap + 2
+    → InLoop w whole a c t (drop gone.size rest) (spot_after at gone) next more (left - 1)
+goes_round w whole a b c s t rest at gone next course more left k q i j naming none g size heap =
+    let behind = goes_behind left w (standing s rest at course.naming) gone none in
+    let m : ℕ = behind.before in
+    let less : left - 1 ≡ m = omega (arith, behind.count) in
+    let shorter : length (drop gone.size rest) ≡ length rest - gone.size = length-drop gone.size rest in
+    rw less (record {
+      told = goes_told w whole a b c s t rest at gone next course more left m k.told q i j naming behind.count behind.tale_is g;
+      size = size;
+      few = omega (arith, k.few, behind.count);
+      small = omega (arith, k.small, shorter);
+      heap = omega (arith, k.heap, heap, behind.count);
+      offset_fits = omega (arith, k.offset_fits, shorter, k.size);
+      place_fits = omega (arith, k.place_fits, behind.count);
+      imports = omega (arith, k.imports, i, few_imports s.heap gone.event, behind.count);
+      calls = omega (arith, k.calls, j, few_calls s.heap gone.event, behind.count);
+    })
+
+-- the line of an item after which it ends
+pub last_line : (w : Way) (whole : Tale) (a b c : Told) (s : State) (rest : List ℕ) (at : Spot) (gone : Gone) (course more : Course) (left : ℕ) (x : Closing)
+    → InLoop w whole a b s rest at gone course left → Wrote b c (line_of at.offset course.naming s.heap gone.event)
+    → more.imports ≡ course.imports + imports_of s.heap gone.event → more.calls ≡ course.calls + calls_of s.heap gone.event
+    → ended gone left at.offset ≡ Some x → IsTold a c whole (record { course = more; closing = x })
+last_line w whole a b c s rest at gone course more left x k q i j e =
+    tale_done whole a c more x (line_written whole a b c course more (counted_text at.offset course.naming s.heap gone.event) (tale_over x)
+    (subst (InTale whole a b course) (ends_here left w (standing s rest at course.naming) gone x e) k.told) q i j)
+
+-- the line is cut short
+pub item_broken : (w : Way) (whole : Tale) (a b c : Told) (s : State) (rest : List ℕ) (at : Spot) (gone : Gone) (course : Course) (left : ℕ)
+    → InLoop w whole a b s rest at gone course left → Broke b c (line_of at.offset course.naming s.heap gone.event) → Broke a c whole.lines.text
+item_broken w whole a b c s rest at gone course left k q = line_broken whole a b c course (counted_text at.offset course.naming s.heap gone.event) _ k.told q
+
+-- memory runs out behind the line of an item
+pub memory_behind : (w : Way) (whole : Tale) (a b c : Told) (s : State) (rest : List ℕ) (at : Spot) (gone : Gone) (course : Course) (left : ℕ)
+    → InLoop w whole a b s rest at gone course left → Wrote b c (line_of at.offset course.naming s.heap gone.event)
+    → CutsText a c whole.lines.text stop.Memory
+memory_behind w whole a b c s rest at gone course left k q =
+    let e : CountedText = counted_text at.offset course.naming s.heap gone.event in
+    let more : Course = record { imports = course.imports + e.imports; calls = course.calls + e.calls; naming = course.naming; left = course.left } in
+    memory_stops whole a c more _ (line_written whole a b c course more e _ k.told q refl refl)
+
+-- ---- errors
+
+pub cut_failed : {A : Type 0} (text : List ℕ) (a b : Told) (r : Result A TextStop) → IsErrAnd r (λ e. e ≡ stop.Failed) → Broke a b text → IfErr r (CutsText a b text)
+cut_failed text a b (Ok x) h w = absurd h
+cut_failed text a b (Err e) h w = rw h w
+
+pub err_is : {A : Type 0} (P : TextStop → Type 0) (x : TextStop) (r : Result A TextStop) → IsErrAnd r (λ e. e ≡ x) → P x → IfErr r P
+err_is P x (Ok y) h w = absurd h
+err_is P x (Err e) h w = rw h w
+
+pub memory_is : (a b : Told) (text : List ℕ) (x : TextStop) → x ≡ stop.Memory → CutsText a b text stop.Memory → CutsText a b text x
+memory_is a b text x is w = rw is w

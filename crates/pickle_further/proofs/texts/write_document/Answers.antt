@@ -1,0 +1,29 @@
+use Rattle.std.proofs.Common.{refl, arith}
+use Rattle.pickle_show.proofs.Sources.{bytes_give}
+use Rattle.pickle_further.proofs.Tales.{err_is}
+use Rattle.pickle_further.proofs.Documents.{first_cut, end_cut, parts_cut, all_written}
+use Rattle.pickle_further.proofs.texts.write_document.Goals as goal
+
+pub run_items-requires : goal.run_items-requires
+run_items-requires g c κs =
+    ((refl, tt), (rw c.new.ensures (bytes_give _ c.args.bytes.now (λ i. omega (arith, c.type_inv.bytes i)) c.requires), rw c.start-machine.ensures refl))
+
+pub returns-in_err-ran-clause-err : goal.returns-in_err-ran-clause-err
+returns-in_err-ran-clause-err g c =
+    let cut = rw (c.new.ensures, c.are_many-many.ensures) at c.in_err-ran.ensures.err in
+    err_is _ _ _ c.from_residual.ensures.1 (first_cut _ _ _ _ _ cut)
+
+pub returns-in_err-status-clause-err : goal.returns-in_err-status-clause-err
+returns-in_err-status-clause-err g c =
+    let ran = rw (c.new.ensures, c.are_many-many.ensures) at c.in_ok-ran.ensures.ok in
+    err_is _ _ _ c.from_residual-in_err-status.ensures.1 (rw c.in_err-status.ensures.failed (end_cut _ _ _ _ _ _ _ ran c.in_err-status.ensures.text))
+
+pub returns-in_err-write_parts-clause-err : goal.returns-in_err-write_parts-clause-err
+returns-in_err-write_parts-clause-err g c =
+    let ran = rw (c.new.ensures, c.are_many-many.ensures) at c.in_ok-ran.ensures.ok in
+    err_is _ _ _ c.from_residual-in_err-write_parts.ensures.1 (parts_cut _ _ _ _ _ _ _ _ _ ran c.in_ok-status.ensures.text (c.in_err-write_parts.ensures _ _ ran))
+
+pub returns-clause-ok : goal.returns-clause-ok
+returns-clause-ok g c =
+    let ran = rw (c.new.ensures, c.are_many-many.ensures) at c.in_ok-ran.ensures.ok in
+    all_written _ _ _ _ _ _ _ _ _ ran c.in_ok-status.ensures.text c.in_ok-status.ensures.status (c.in_ok-write_parts.ensures _ _ ran)

@@ -1,0 +1,69 @@
+-- The text of what bytes would import and call, with its status, in each reading.
+-- Source: own.
+use Rattle.std.specs.Prelude.{◌≡◌, ℕ, true, false, List, Result, Ok, Err}
+use Rattle.pickle_io.specs.Text.{◌⧺◌}
+use Rattle.pickle_io.specs.Device.{Told, Wrote, Broke, WroteAllBut}
+use Rattle.pickle_doc.specs.Document.{Contents, ReadsAs}
+use Rattle.pickle_show.specs.declared.end.Ending.{Ending}
+use Rattle.pickle_show.specs.declared.end.Ending.TheVariants as ending
+use Rattle.pickle_show.specs.declared.stop.TextStop.{TextStop}
+use Rattle.pickle_show.specs.declared.stop.TextStop.TheVariants as stop
+use Rattle.pickle_show.specs.Output.{Output}
+use Rattle.pickle_show.specs.CallsLine.{calls_end_text, ending_status}
+use Rattle.pickle_show.specs.Calls.{calls}
+use Rattle.pickle_further.specs.declared.way.Pickles.{Pickles}
+use Rattle.pickle_further.specs.declared.way.Pickles.TheVariants as pickles
+use Rattle.pickle_further.specs.Going.{Tale, tale_of}
+use Rattle.pickle_further.specs.Parts.{ignoring, are_many, standing_first, parts}
+
+-- ---- of a document
+
+-- the lines up to the end, and what is behind it; the status is that of the first
+abbrev pub document_calls : Pickles → Contents → Output
+document_calls p d = record { text = (calls d).text ⧺ parts p d; status = (calls d).status }
+
+-- ---- of bytes that one unpickler reads on and on
+
+abbrev pub tale_calls : List ℕ → Tale → Output
+tale_calls bytes t = record {
+  text = t.lines.text ⧺ calls_end_text bytes t.lines.imports t.lines.calls (ending.Closed 0 t.closing);
+  status = ending_status (ending.Closed 0 t.closing);
+}
+
+unfoldable pub kept_calls : List ℕ → Output
+kept_calls bytes = tale_calls bytes (tale_of (ignoring pickles.OneMemo) (standing_first pickles.OneMemo bytes))
+
+-- ---- of bytes
+
+-- this is their text: that of the document that they read as, or with the memo kept that of the bytes
+abbrev pub IsCallsText : Pickles → List ℕ → Output → Type 0
+IsCallsText pickles.OneMemo bytes o = o ≡ kept_calls bytes
+IsCallsText pickles.First bytes o = (d : Contents) × ReadsAs false bytes d × (o ≡ document_calls pickles.First d)
+IsCallsText pickles.All bytes o = (d : Contents) × ReadsAs true bytes d × (o ≡ document_calls pickles.All d)
+
+-- ---- what became of it
+
+-- a text was written, or a beginning of it, and then the sink failed or memory ran out
+abbrev pub CutsText : Told → Told → List ℕ → TextStop → Type 0
+CutsText old new text stop.Failed = Broke old new text
+CutsText old new text stop.Memory = (rest : List ℕ) × WroteAllBut old new text rest
+
+abbrev pub PutsText : {A : Type 0} → Told → Told → List ℕ → Result A TextStop → Type 0
+PutsText old new text (Ok x) = Wrote old new text
+PutsText old new text (Err e) = CutsText old new text e
+
+-- the whole text was written, and this is its status
+abbrev pub CompletesText : Pickles → List ℕ → Told → Told → ℕ → Type 0
+CompletesText p bytes old new status = (o : Output) × IsCallsText p bytes o × Wrote old new o.text × (status ≡ o.status)
+
+-- a beginning of it was written
+abbrev pub CutsCallsText : Pickles → List ℕ → Told → Told → TextStop → Type 0
+CutsCallsText p bytes old new e = (o : Output) × IsCallsText p bytes o × CutsText old new o.text e
+
+-- ---- the same of a document
+
+abbrev pub CompletesDocument : Pickles → List ℕ → Told → Told → ℕ → Type 0
+CompletesDocument p bytes old new status = (d : Contents) × ReadsAs (are_many p) bytes d × Wrote old new (document_calls p d).text × (status ≡ (document_calls p d).status)
+
+abbrev pub CutsDocument : Pickles → List ℕ → Told → Told → TextStop → Type 0
+CutsDocument p bytes old new e = (d : Contents) × ReadsAs (are_many p) bytes d × CutsText old new (document_calls p d).text e

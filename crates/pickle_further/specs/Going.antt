@@ -1,0 +1,165 @@
+-- What loaders do, item by item: one machine, which takes at least what each of them does.
+-- Source: CPython's unpicklers in C and in Python, PyPy's, joblib's and torch's, as `taken` and `loader_move` say.
+use Rattle.std.specs.Prelude.{◌≡◌, ℕ, zero, suc, ◌+◌, ◌<◌, ◌||◌, ◌&&◌, ◌==◌, Bool, true, false, List, [], ◌++◌, length, drop, codes, if◌then◌else◌, Option, Some, None, is_some, Result, Ok, Err}
+use Rattle.std.specs.Option.{option_map_or}
+use Rattle.pickle_io.specs.Text.{◌⧺◌}
+use Rattle.pickle_ops.specs.declared.opcode.Opcode.{Opcode}
+use Rattle.pickle_ops.specs.declared.opcode.Opcode.TheVariants as op
+use Rattle.pickle_ops.specs.declared.fault.FrontFault.{FrontFault}
+use Rattle.pickle_ops.specs.declared.fault.FrontFault.TheVariants as front
+use Rattle.pickle_ops.specs.Spelling.{Operation}
+use Rattle.pickle_ops.specs.declared.row.Row.{Row}
+use Rattle.pickle_ops.specs.declared.row.Row.TheVariants as row
+use Rattle.pickle_doc.specs.declared.fault.TailFault.TheVariants as tail
+use Rattle.pickle_doc.specs.DocUnit.{is_stop}
+use Rattle.pickle_machine.specs.declared.refusal.Refusal.{Refusal}
+use Rattle.pickle_machine.specs.declared.loader.Fill.{Fill}
+use Rattle.pickle_machine.specs.declared.loader.LoaderMove.{LoaderMove}
+use Rattle.pickle_machine.specs.State.{State}
+use Rattle.pickle_machine.specs.Move.{fresh}
+use Rattle.pickle_machine.specs.Loader.{loader_move, move_as, cleared}
+use Rattle.pickle_lenient.specs.declared.taken.Frames.{Frames}
+use Rattle.pickle_lenient.specs.declared.taken.Taken.{Taken}
+use Rattle.pickle_lenient.specs.Stream.{taken}
+use Rattle.pickle_show.specs.declared.report.Closing.{Closing}
+use Rattle.pickle_show.specs.declared.report.Closing.TheVariants as closing
+use Rattle.pickle_show.specs.declared.event.Event.{Event}
+use Rattle.pickle_show.specs.declared.event.Event.TheVariants as event
+use Rattle.pickle_show.specs.declared.naming.Naming.{Naming}
+use Rattle.pickle_show.specs.Naming.{naming_after}
+use Rattle.pickle_show.specs.Event.{before_of, event_of}
+use Rattle.pickle_show.specs.Calls.{CountedText, counted_text}
+use Rattle.pickle_further.specs.declared.way.Pickles.{Pickles}
+use Rattle.pickle_further.specs.declared.way.Pickles.TheVariants as pickles
+use Rattle.pickle_further.specs.declared.way.Way.{Way}
+use Rattle.pickle_further.specs.declared.way.Spot.{Spot}
+use Rattle.pickle_further.specs.declared.going.Gone.{Gone}
+
+-- ---- one item
+
+-- where it stands: the state, the bytes that are not read yet, where their first is, and how names are read
+pub record Standing : Type 0 where
+  pub state : State
+  pub rest : List ℕ
+  pub at : Spot
+  pub naming : Naming
+
+-- what an item comes to, and the state after it
+pub record Going : Type 0 where
+  pub gone : Gone
+  pub state : State
+
+-- it ends before this item
+abbrev pub nothing : Closing → Gone
+nothing c = record { event = None; row = row.Nothing; size = 0; left = 0; lost = false; closing = Some c }
+
+abbrev pub over : State → Closing → Going
+over s c = record { gone = nothing c; state = s }
+
+-- INST that only imports makes what GLOBAL does
+abbrev pub used_op : LoaderMove → Operation → Operation
+used_op m o = record { opcode = if m.imports then op.Global else o.opcode; arg = o.arg }
+
+abbrev pub then_as : LoaderMove → Operation → ℕ → Result State Refusal → Result State Refusal
+then_as m o place (Ok s) = if m.again then move_as m.row o place s else Ok s
+then_as m o place (Err r) = Err r
+
+abbrev pub moved_so : LoaderMove → Operation → ℕ → State → Result State Refusal
+moved_so m o place s = then_as m o place (move_as m.row o place s)
+
+-- what goes into an object that the machine would refuse is told as well
+abbrev pub event_by : LoaderMove → State → State → Option Fill → Option Event
+event_by m s t None = event_of m.row (before_of s) t
+event_by m s t (Some f) = Some (event.Filled f.filling f.count f.target)
+
+-- after STOP: of the first pickle nothing is read then, and of several there are none behind the last byte
+abbrev pub stops : Pickles → ℕ → Bool
+stops pickles.First more = true
+stops pickles.All more = more == 0
+stops pickles.OneMemo more = more == 0
+
+abbrev pub stopped_after : Pickles → Opcode → ℕ → Option Closing
+stopped_after p o more = if is_stop o && stops p more then Some closing.Stopped else None
+
+-- why it ends after this item, if it does, when there are so many bytes behind it
+abbrev pub closing_after : Pickles → Opcode → ℕ → ℕ → Option Refusal → Option Closing
+closing_after p o place more (Some r) = Some (closing.Refused place r)
+closing_after p o place more None = stopped_after p o more
+
+-- after STOP, where one unpickler reads on: the stack begins anew, and the memo stays
+abbrev pub keeps : Pickles → Opcode → Bool
+keeps pickles.OneMemo o = is_stop o
+keeps pickles.First o = false
+keeps pickles.All o = false
+
+abbrev pub state_after : Pickles → Opcode → State → State
+state_after p o s = if keeps p o then cleared s else s
+
+abbrev pub gone_to : Way → Standing → Taken → LoaderMove → Result State Refusal → Going
+gone_to w p item m (Err r) = over p.state (closing.Refused p.at.place r)
+gone_to w p item m (Ok t) = record {
+  gone = record {
+    event = event_by m p.state t m.fill;
+    row = item.row;
+    size = item.size;
+    left = item.left;
+    lost = item.lost;
+    closing = closing_after w.pickles item.op.opcode p.at.place (length (drop item.size p.rest)) m.last;
+  };
+  state = state_after w.pickles item.op.opcode t;
+}
+
+abbrev pub gone_as : Way → Standing → Taken → LoaderMove → Going
+gone_as w p item m = gone_to w p item m (moved_so m (used_op m item.op) p.at.place p.state)
+
+abbrev pub gone_by : Way → Standing → Result Taken FrontFault → Going
+gone_by w p (Err f) = over p.state (closing.Fault (tail.Front f) p.at.offset)
+gone_by w p (Ok item) = gone_as w p item (loader_move item.op.opcode item.row (fresh p.state))
+
+-- the next item
+unfoldable pub going : Way → Standing → Going
+going w p = gone_by w p (taken w.frames p.at.left p.rest)
+
+-- where the item behind it is
+abbrev pub spot_after : Spot → Gone → Spot
+spot_after at g = record { offset = at.offset + g.size; place = at.place + 1; left = g.left }
+
+abbrev pub stands_after : Standing → Going → Standing
+stands_after p g =
+    record { state = g.state; rest = drop g.gone.size p.rest; at = spot_after p.at g.gone; naming = naming_after g.gone.row (length g.state.heap) p.naming }
+
+-- ---- all items
+
+-- their lines with how many imports and calls these are, and how it ended
+pub record Tale : Type 0 where
+  pub lines : CountedText
+  pub closing : Closing
+
+abbrev pub tale_over : Closing → Tale
+tale_over c = record { lines = record { text = []; imports = 0; calls = 0 }; closing = c }
+
+abbrev pub tale_after : CountedText → Tale → Tale
+tale_after e t =
+    record { lines = record { text = e.text ⧺ t.lines.text; imports = e.imports + t.lines.imports; calls = e.calls + t.lines.calls }; closing = t.closing }
+
+-- an item, and unless it ended there what comes then
+abbrev pub tale_with : Standing → Going → Tale → Tale
+tale_with p g more = tale_after (counted_text p.at.offset p.naming g.state.heap g.gone.event) (option_map_or tale_over g.gone.closing more)
+
+-- at most n items: more than there are bytes there are not
+unfoldable pub tale : ℕ → Way → Standing → Tale
+tale zero w p = tale_over (closing.Fault (tail.Front front.Ended) p.at.offset)
+tale (suc n) w p = tale_with p (going w p) (tale n w (stands_after p (going w p)))
+
+abbrev pub tale_of : Way → Standing → Tale
+tale_of w p = tale (suc (length p.rest)) w p
+
+-- ---- the first item whose reading loses bytes
+
+abbrev pub search_on : Gone → Standing → Option Standing → Option Standing
+search_on g p more = if g.lost then Some p else (if is_some g.closing then None else more)
+
+-- of at most n items, where it stands before that one; none if it ends before
+unfoldable pub search : ℕ → Way → Standing → Option Standing
+search zero w p = None
+search (suc n) w p = search_on (going w p).gone p (search n w (stands_after p (going w p)))

@@ -1,0 +1,65 @@
+-- What the functions are said to do, piece by piece.
+use Rattle.std.specs.Prelude.{◌≡◌, ◌⊎◌, ℕ, suc, ◌+◌, ◌≤◌, ◌==◌, if◌then◌else◌, Bool, List, ◌++◌, length, drop, Option, Some, None}
+use Rattle.std.specs.Option.{option_map_or}
+use Rattle.pickle_io.specs.Device.{Told, Wrote}
+use Rattle.pickle_ops.specs.declared.fault.FrontFault.TheVariants as front
+use Rattle.pickle_doc.specs.declared.fault.TailFault.TheVariants as tail
+use Rattle.pickle_machine.specs.State.{State}
+use Rattle.pickle_lenient.specs.declared.fault.NotTaken.{NotTaken}
+use Rattle.pickle_lenient.specs.declared.fault.NotTaken.TheVariants as stop
+use Rattle.pickle_show.specs.declared.course.Course.{Course}
+use Rattle.pickle_show.specs.declared.naming.Naming.{Naming}
+use Rattle.pickle_show.specs.declared.report.Closing.{Closing}
+use Rattle.pickle_show.specs.declared.report.Closing.TheVariants as closing
+use Rattle.pickle_further.specs.declared.way.Way.{Way}
+use Rattle.pickle_further.specs.declared.way.Spot.{Spot}
+use Rattle.pickle_further.specs.declared.engine.TaleEnd.{TaleEnd}
+use Rattle.pickle_further.specs.declared.going.Gone.{Gone}
+use Rattle.pickle_further.specs.Going.{Standing, Going, Tale, tale, tale_with, stands_after, nothing}
+
+abbrev pub standing : State → List ℕ → Spot → Naming → Standing
+standing s rest at naming = record { state = s; rest = rest; at = at; naming = naming }
+
+-- it ended before an item, which told nothing
+pub record IsOver (gone : Gone) : Type 0 where
+  pub silent : gone.event ≡ None
+  pub closing : (c : Closing) × (gone.closing ≡ Some c)
+
+-- an item came to this: where it moved the state is the next
+pub record Goes (g : Going) (gone : Gone) (t : State) : Type 0 where
+  pub is : gone ≡ g.gone
+  pub state : (t ≡ g.state) ⊎ (IsOver gone)
+
+-- nothing was read for a fault
+abbrev pub EndsAtFault : NotTaken → ℕ → Gone → Type 0
+EndsAtFault (stop.Fault f) offset gone = gone ≡ nothing (closing.Fault (tail.Front f) offset)
+EndsAtFault stop.Memory offset gone = ⊥
+
+-- what is told from an item on that was gone over, by the state after it, and of at most n items behind it
+abbrev pub here : Gone → Standing → Going
+here gone p = record { gone = gone; state = p.state }
+
+abbrev pub tale_here : ℕ → Way → Standing → Gone → Tale
+tale_here n w p gone = tale_with p (here gone p) (tale n w (stands_after p (here gone p)))
+
+-- why it ends after this item, n being how many more may come
+abbrev pub ended : Gone → ℕ → ℕ → Option Closing
+ended gone n offset = option_map_or Some gone.closing (if n == 0 then Some (closing.Fault (tail.Front front.Ended) (offset + gone.size)) else None)
+
+-- ---- the lines of a tale
+
+-- they were written, and this is how many imports and calls they are, and how it ended
+pub record IsTold (old new : Told) (t : Tale) (end : TaleEnd) : Type 0 where
+  pub written : Wrote old new t.lines.text
+  pub imports : end.course.imports ≡ t.lines.imports
+  pub calls : end.course.calls ≡ t.lines.calls
+  pub closing : end.closing ≡ t.closing
+
+-- of a tale all lines are written but those of this one, whose counts come on top of these
+pub record InTale (whole : Tale) (old now : Told) (course : Course) (t : Tale) : Type 0 where
+  pub front : List ℕ
+  pub written : Wrote old now front
+  pub lines : whole.lines.text ≡ front ++ t.lines.text
+  pub imports : whole.lines.imports ≡ course.imports + t.lines.imports
+  pub calls : whole.lines.calls ≡ course.calls + t.lines.calls
+  pub closing : whole.closing ≡ t.closing

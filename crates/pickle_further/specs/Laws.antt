@@ -1,0 +1,19 @@
+-- What the text of `calls` promises whoever reads it, behind the end of the lines too.
+use Rattle.std.specs.Prelude.{◌≡◌, ℕ, ◌<◌, ◌++◌, true, List, slice_get, Option, Some, None}
+use Rattle.pickle_ops.specs.Kind.{is_opaque}
+use Rattle.pickle_ops.specs.Object.{Object}
+use Rattle.pickle_doc.specs.Document.{Contents}
+use Rattle.pickle_show.specs.Calls.{calls}
+use Rattle.pickle_further.specs.declared.way.Pickles.{Pickles}
+use Rattle.pickle_further.specs.declared.way.Way.{Way}
+use Rattle.pickle_further.specs.Going.{Standing, going}
+use Rattle.pickle_further.specs.CallsText.{document_calls}
+
+-- the text up to the end of the lines is the beginning of the whole, and the status is its status
+abbrev pub LinesComeFirst : Type 0
+LinesComeFirst = (p : Pickles) (d : Contents) → ((more : List ℕ) × ((document_calls p d).text ≡ (calls d).text ++ more)) × ((document_calls p d).status ≡ (calls d).status)
+
+-- an item that moves and has no line makes no opaque object and leaves every one as it was
+abbrev pub NoLineNoReachBehind : Type 0
+NoLineNoReachBehind = (w : Way) (p : Standing) → 0 < (going w p).gone.size → (going w p).gone.event ≡ None
+    → (id : ℕ) (o : Object) → slice_get (going w p).state.heap id ≡ Some o → is_opaque o.kind ≡ true → slice_get p.state.heap id ≡ Some o

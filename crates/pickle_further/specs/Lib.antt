@@ -1,0 +1,6 @@
+-- The definitions that contracts cite.
+pub mod Going
+pub mod Parts
+pub mod CallsText
+pub mod Inside
+pub mod Laws

@@ -1,0 +1,122 @@
+-- What loaders may do behind the end of the lines, as texts.
+-- Source: own.
+use Rattle.std.specs.Prelude.{◌≡◌, ℕ, suc, ◌||◌, Bool, true, false, List, [], length, drop, codes, if◌then◌else◌, Option, Some, None, is_some}
+use Rattle.pickle_io.specs.Text.{◌⧺◌}
+use Rattle.pickle_doc.specs.Document.{Contents, document_bytes}
+use Rattle.pickle_doc.specs.Place.{ops_of, offset_of}
+use Rattle.pickle_machine.specs.State.{State, start}
+use Rattle.pickle_machine.specs.Run.{run}
+use Rattle.pickle_lenient.specs.declared.taken.Frames.{Frames}
+use Rattle.pickle_lenient.specs.declared.taken.Frames.TheVariants as frames
+use Rattle.pickle_show.specs.declared.report.Closing.{Closing}
+use Rattle.pickle_show.specs.declared.report.Closing.TheVariants as closing
+use Rattle.pickle_show.specs.declared.end.Ending.{Ending}
+use Rattle.pickle_show.specs.declared.end.Ending.TheVariants as ending
+use Rattle.pickle_show.specs.Column.{newline}
+use Rattle.pickle_show.specs.Report.{closing_line}
+use Rattle.pickle_show.specs.CallsLine.{totals_line}
+use Rattle.pickle_show.specs.Naming.{begin}
+use Rattle.pickle_show.specs.Calls.{CallsEnd, calls_end, naming_at}
+use Rattle.pickle_further.specs.declared.way.Pickles.{Pickles}
+use Rattle.pickle_further.specs.declared.way.Pickles.TheVariants as pickles
+use Rattle.pickle_further.specs.declared.way.Way.{Way}
+use Rattle.pickle_further.specs.declared.going.Gone.{Gone}
+use Rattle.pickle_further.specs.Going.{Standing, going, Tale, tale_of, search}
+
+-- ---- the last lines of a part
+
+unfoldable pub stop_words : List ℕ
+stop_words = codes "it ends: STOP"
+
+unfoldable pub stop_line : List ℕ
+stop_line = stop_words ⧺ newline
+
+-- how it ended
+unfoldable pub ends_line : Closing → List ℕ
+ends_line closing.Stopped = stop_line
+ends_line (closing.Refused place r) = codes "it ends: " ⧺ closing_line (closing.Refused place r)
+ends_line (closing.Fault f offset) = codes "it ends: " ⧺ closing_line (closing.Fault f offset)
+
+unfoldable pub part_end : ℕ → ℕ → Closing → List ℕ
+part_end imports calls c = totals_line imports calls ⧺ ends_line c
+
+-- ---- a part
+
+unfoldable pub ignored_words : List ℕ
+ignored_words = codes "a loader may go on:"
+
+unfoldable pub buffered_words : List ℕ
+buffered_words = codes "a loader that buffers frames may go on:"
+
+abbrev pub header_words : Frames → List ℕ
+header_words frames.Ignored = ignored_words
+header_words frames.Buffered = buffered_words
+
+unfoldable pub header : Frames → List ℕ
+header f = header_words f ⧺ newline
+
+unfoldable pub tale_text : Tale → List ℕ
+tale_text t = t.lines.text ⧺ part_end t.lines.imports t.lines.calls t.closing
+
+-- it goes on where it has an event or does not end at the first item
+abbrev pub goes_on : Gone → Bool
+goes_on g = is_some g.event || not_over g.closing
+  where
+    not_over : Option Closing → Bool
+    not_over None = true
+    not_over (Some c) = false
+
+-- from here on, where it goes on
+unfoldable pub text_from : Way → Standing → List ℕ
+text_from w p = if goes_on (going w p).gone then header w.frames ⧺ tale_text (tale_of w p) else []
+
+-- ---- where the lines end
+
+abbrev pub ignoring : Pickles → Way
+ignoring p = record { pickles = p; frames = frames.Ignored }
+
+abbrev pub buffering : Pickles → Way
+buffering p = record { pickles = p; frames = frames.Buffered }
+
+-- before item k of a document
+abbrev pub standing_at : Contents → ℕ → State → Standing
+standing_at d k s =
+    record { state = s; rest = drop (offset_of d k) (document_bytes d); at = record { offset = offset_of d k; place = k; left = 0 }; naming = naming_at d k }
+
+abbrev pub behind_at : Pickles → Contents → ℕ → Option State → List ℕ
+behind_at p d k (Some s) = text_from (ignoring p) (standing_at d k s)
+behind_at p d k None = []
+
+-- ---- from the first byte on
+
+-- several pickles are read one after another, each by a machine that begins anew
+abbrev pub are_many : Pickles → Bool
+are_many pickles.First = false
+are_many pickles.All = true
+are_many pickles.OneMemo = false
+
+abbrev pub standing_first : Pickles → List ℕ → Standing
+standing_first p bytes = record { state = start (are_many p); rest = bytes; at = record { offset = 0; place = 0; left = 0 }; naming = begin 0 }
+
+abbrev pub found_text : Way → Option Standing → List ℕ
+found_text w (Some p) = text_from w p
+found_text w None = []
+
+-- from the first item on whose reading loses bytes
+abbrev pub lost_text : Pickles → List ℕ → List ℕ
+lost_text p bytes = found_text (buffering p) (search (suc (length bytes)) (buffering p) (standing_first p bytes))
+
+-- ---- both
+
+-- behind STOP no loader goes on
+abbrev pub is_open : Ending → Bool
+is_open (ending.Closed kept closing.Stopped) = false
+is_open (ending.Closed kept (closing.Refused k r)) = true
+is_open (ending.Closed kept (closing.Fault f offset)) = true
+is_open (ending.Unsure offset) = true
+
+abbrev pub parts_to : Pickles → Contents → CallsEnd → List ℕ
+parts_to p d e = if is_open e.ending then behind_at p d e.place (run (start d.many) (ops_of d) e.place) ⧺ lost_text p (document_bytes d) else []
+
+unfoldable pub parts : Pickles → Contents → List ℕ
+parts p d = parts_to p d (calls_end d)

@@ -1,0 +1,102 @@
+//! The lines of what loaders do, item by item.
+
+ghost use Rattle.std.specs.Prelude.{◌≡◌, ◌<◌, ◌≤◌, ◌+◌, ◌*◌, ◌-◌, ◌^◌, length, IfOk, IfErr};
+ghost use Rattle.pickle_further.specs.CallsText.{CutsText};
+ghost use Rattle.pickle_further.specs.Inside.{standing, tale_here, ended, IsTold};
+
+use crate::going::{Gone, go};
+use crate::way::{Spot, Way};
+use pickle_doc::TailFault;
+use pickle_machine::Machine;
+use pickle_ops::{FrontFault, Page};
+use pickle_show::{Closing, Course, Naming, TextStop, write_line};
+use std::alloc::Global;
+
+/// How the lines of what loaders do end.
+#[derive(Clone, Copy)]
+pub struct TaleEnd {
+    /// How many imports and calls they are.
+    pub course: Course,
+    /// Why it ended.
+    pub closing: Closing,
+}
+
+/// Why it ends after an item, where this many more may come.
+fn ended(gone: Gone, left: usize, offset: u64) -> Option<Closing>
+    requires { offset + gone.size < 2 ^ 63 }
+    ensures { result ≡ ended gone left offset }
+{
+    match gone.closing {
+        Some(closing) => Some(closing),
+        None => {
+            if left == 0 {
+                let end = offset + gone.size as u64;
+                Some(Closing::Fault(TailFault::Front(FrontFault::Ended), end))
+            } else {
+                None
+            }
+        }
+    }
+}
+
+/// No line is written, and names are read so.
+fn course_of(naming: Naming) -> Course
+    ensures { result ≡ record { imports = 0; calls = 0; naming = naming; left = 0 } }
+{
+    Course {
+        imports: 0,
+        calls: 0,
+        naming,
+        left: 0,
+    }
+}
+
+/// The item behind this one.
+pub fn spot_after(at: Spot, gone: Gone) -> Spot
+    requires offset { at.offset + gone.size < 2 ^ 63 }
+    requires place { at.place < 2 ^ 62 }
+    ensures { result ≡ record { offset = at.offset + gone.size; place = at.place + 1; left = gone.left } }
+{
+    Spot {
+        offset: at.offset + gone.size as u64,
+        place: at.place + 1,
+        left: gone.left,
+    }
+}
+
+/// Writes the line of an item that was gone over, and those of what comes then.
+pub fn write_items<S: Page>(
+    alloc: Global,
+    way: Way,
+    bytes: &[u8],
+    from: Spot,
+    naming: Naming,
+    first: Gone,
+    machine: &mut Machine,
+    sink: &mut S,
+) -> Result<TaleEnd, TextStop>
+    requires size { first.size ≤ length bytes.now }
+    requires few { length bytes.now ≤ 2 ^ 30 }
+    requires heap { length machine.old.state.heap + 2 * length bytes.now ≤ 2 ^ 32 - 8 }
+    requires offset { from.offset ≤ 2 ^ 30 }
+    requires place { from.place ≤ 2 ^ 30 }
+    ensures ok { IfOk result (IsTold (S.told sink.old) (S.told sink.new) (tale_here (length bytes.now) way (standing machine.old.state bytes.now from naming) first)) }
+    ensures err { IfErr result (CutsText (S.told sink.old) (S.told sink.new) (tale_here (length bytes.now) way (standing machine.old.state bytes.now from naming) first).lines.text) }
+{
+    let mut gone = first;
+    let mut rest = bytes;
+    let mut at = from;
+    let mut course = course_of(naming);
+    let mut left = bytes.len();
+    'items: loop {
+        write_line(at.offset, course.naming, machine.heap(), gone.event, sink)?;
+        course = course.with(gone.row, machine.heap(), gone.event);
+        if let Some(closing) = ended(gone, left, at.offset) {
+            return Ok(TaleEnd { course, closing });
+        }
+        at = spot_after(at, gone);
+        left -= 1;
+        rest = rest.split_at(gone.size).1;
+        gone = go(alloc, way, rest, at, machine)?;
+    }
+}

@@ -1,0 +1,14 @@
+//! Laws of the definitions. The functions do nothing: what they ensure holds of all documents.
+
+ghost use Rattle.pickle_further.specs.Laws.{LinesComeFirst, NoLineNoReachBehind};
+
+/// What is said up to the end of the lines is said first, whatever comes behind it, and the status is that of these lines.
+pub fn lines_come_first()
+    ensures { LinesComeFirst }
+{}
+
+/// Under the headings too, an item without a line makes no object that comes from elsewhere or from a call, and leaves each of them as
+/// it was.
+pub fn no_line_no_reach_behind()
+    ensures { NoLineNoReachBehind }
+{}

@@ -1,0 +1,211 @@
+//! What loaders may do behind the end of the lines.
+
+ghost use Rattle.std.specs.Prelude.{◌≡◌, ◌<◌, ◌≤◌, ◌+◌, ◌*◌, ◌-◌, ◌^◌, length, suc};
+ghost use Rattle.pickle_io.specs.Device.{Writes};
+ghost use Rattle.pickle_further.specs.CallsText.{PutsText};
+ghost use Rattle.pickle_further.specs.Going.{going, search};
+ghost use Rattle.pickle_further.specs.Parts.{stop_words, stop_line, ends_line, part_end, ignored_words, buffered_words, header_words, header, tale_text, goes_on, text_from, found_text};
+ghost use Rattle.pickle_machine.specs.State.{State};
+ghost use Rattle.pickle_show.specs.Naming.{begin};
+ghost use Rattle.pickle_further.specs.Inside.{standing, tale_here, Goes};
+
+use crate::engine::{spot_after, write_items};
+use crate::going::{Gone, go};
+use crate::way::{Spot, Way};
+use pickle_lenient::Frames;
+use pickle_machine::Machine;
+use pickle_ops::{Failed, Page, write_all};
+use pickle_show::{Closing, Course, Naming, TextStop, write_closing, write_totals};
+use std::alloc::Global;
+
+/// Whether it goes on.
+fn goes_on(gone: Gone) -> bool
+    ensures { result ≡ goes_on gone }
+{
+    gone.event.is_some() || gone.closing.is_none()
+}
+
+/// The words of the line above what loaders may do that ignore frames.
+#[tactic(auto, unfolding(crate::specs::Parts::ignored_words))]
+fn ignored_words() -> &'static str
+    ensures { result.now ≡ ignored_words }
+{
+    "a loader may go on:"
+}
+
+/// The words of the line above what loaders may do that buffer frames.
+#[tactic(auto, unfolding(crate::specs::Parts::buffered_words))]
+fn buffered_words() -> &'static str
+    ensures { result.now ≡ buffered_words }
+{
+    "a loader that buffers frames may go on:"
+}
+
+/// The words of the line above what loaders may do.
+fn header_words(frames: Frames) -> &'static str
+    ensures { result.now ≡ header_words frames }
+{
+    match frames {
+        Frames::Ignored => ignored_words(),
+        Frames::Buffered => buffered_words(),
+    }
+}
+
+/// Writes that a loader may go on.
+#[tactic(auto, using(pickle_io::proofs::Devices::text_steps), unfolding(crate::specs::Parts::header))]
+fn write_header<S: Page>(frames: Frames, sink: &mut S) -> Result<(), Failed>
+    ensures { Writes (S.told sink.old) (S.told sink.new) result (header frames) }
+{
+    write_all(sink, header_words(frames).as_bytes())?;
+    write_all(sink, b"\n")
+}
+
+/// The words of the last line where it ended at STOP.
+#[tactic(auto, unfolding(crate::specs::Parts::stop_words))]
+fn stop_words() -> &'static str
+    ensures { result.now ≡ stop_words }
+{
+    "it ends: STOP"
+}
+
+/// Writes that it ended at STOP.
+#[tactic(auto, using(pickle_io::proofs::Devices::text_steps), unfolding(crate::specs::Parts::stop_line))]
+fn write_stopped<S: Page>(sink: &mut S) -> Result<(), Failed>
+    ensures { Writes (S.told sink.old) (S.told sink.new) result stop_line }
+{
+    write_all(sink, stop_words().as_bytes())?;
+    write_all(sink, b"\n")
+}
+
+/// Writes how it ended.
+#[tactic(auto, using(pickle_io::proofs::Devices::text_steps), unfolding(crate::specs::Parts::ends_line))]
+fn write_ends<S: Page>(closing: Closing, sink: &mut S) -> Result<(), Failed>
+    ensures { Writes (S.told sink.old) (S.told sink.new) result (ends_line closing) }
+{
+    match closing {
+        Closing::Stopped => write_stopped(sink),
+        Closing::Refused(place, refusal) => {
+            write_all(sink, b"it ends: ")?;
+            write_closing(Closing::Refused(place, refusal), sink)
+        }
+        Closing::Fault(fault, offset) => {
+            write_all(sink, b"it ends: ")?;
+            write_closing(Closing::Fault(fault, offset), sink)
+        }
+    }
+}
+
+/// Writes the last lines.
+#[tactic(auto, using(pickle_io::proofs::Devices::text_steps), unfolding(crate::specs::Parts::part_end))]
+fn write_part_end<S: Page>(course: Course, closing: Closing, sink: &mut S) -> Result<(), Failed>
+    ensures { Writes (S.told sink.old) (S.told sink.new) result (part_end course.imports course.calls closing) }
+{
+    write_totals(course, sink)?;
+    write_ends(closing, sink)
+}
+
+/// Writes what comes to this, and the last lines.
+fn write_tale<S: Page>(
+    alloc: Global,
+    way: Way,
+    rest: &[u8],
+    at: Spot,
+    naming: Naming,
+    gone: Gone,
+    machine: &mut Machine,
+    sink: &mut S,
+) -> Result<(), TextStop>
+    requires size { gone.size ≤ length rest.now }
+    requires few { length rest.now ≤ 2 ^ 30 }
+    requires heap { length machine.old.state.heap + 2 * length rest.now ≤ 2 ^ 32 - 8 }
+    requires offset { at.offset ≤ 2 ^ 30 }
+    requires place { at.place ≤ 2 ^ 30 }
+    ensures { PutsText (S.told sink.old) (S.told sink.new) (tale_text (tale_here (length rest.now) way (standing machine.old.state rest.now at naming) gone)) result }
+{
+    let end = write_items(alloc, way, rest, at, naming, gone, machine, sink)?;
+    write_part_end(end.course, end.closing, sink)?;
+    Ok(())
+}
+
+/// Writes what loaders may do from this item on that was gone over, where they go on.
+fn write_gone<S: Page>(
+    alloc: Global,
+    way: Way,
+    rest: &[u8],
+    at: Spot,
+    naming: Naming,
+    gone: Gone,
+    machine: &mut Machine,
+    sink: &mut S,
+) -> Result<(), TextStop>
+    requires size { gone.size ≤ length rest.now }
+    requires few { length rest.now ≤ 2 ^ 30 }
+    requires heap { length machine.old.state.heap + 2 * length rest.now ≤ 2 ^ 32 - 8 }
+    requires offset { at.offset ≤ 2 ^ 30 }
+    requires place { at.place ≤ 2 ^ 30 }
+    ensures { (s : State) → Goes (going way (standing s rest.now at naming)) gone machine.old.state → PutsText (S.told sink.old) (S.told sink.new) (text_from way (standing s rest.now at naming)) result }
+{
+    if !goes_on(gone) {
+        return Ok(());
+    }
+    write_header(way.frames, sink)?;
+    write_tale(alloc, way, rest, at, naming, gone, machine, sink)
+}
+
+/// Writes what loaders may do from here on, where they go on.
+pub fn write_from<S: Page>(
+    alloc: Global,
+    way: Way,
+    rest: &[u8],
+    at: Spot,
+    naming: Naming,
+    machine: &mut Machine,
+    sink: &mut S,
+) -> Result<(), TextStop>
+    requires few { length rest.now ≤ 2 ^ 30 }
+    requires heap { length machine.old.state.heap ≤ 2 ^ 30 }
+    requires offset { at.offset ≤ 2 ^ 30 }
+    requires place { at.place ≤ 2 ^ 30 }
+    ensures { PutsText (S.told sink.old) (S.told sink.new) (text_from way (standing machine.old.state rest.now at naming)) result }
+{
+    let gone = go(alloc, way, rest, at, machine)?;
+    write_gone(alloc, way, rest, at, naming, gone, machine, sink)
+}
+
+/// Writes what loaders may do from the first item on whose reading loses bytes. The machine has done nothing yet.
+pub fn write_found<S: Page>(
+    alloc: Global,
+    way: Way,
+    bytes: &[u8],
+    machine: &mut Machine,
+    sink: &mut S,
+) -> Result<(), TextStop>
+    requires few { length bytes.now ≤ 2 ^ 30 }
+    requires heap { length machine.old.state.heap ≤ 2 ^ 30 }
+    ensures { PutsText (S.told sink.old) (S.told sink.new) (found_text way (search (suc (length bytes.now)) way (standing machine.old.state bytes.now (record { offset = 0; place = 0; left = 0 }) (begin 0)))) result }
+{
+    let mut rest = bytes;
+    let mut at = Spot {
+        offset: 0,
+        place: 0,
+        left: 0,
+    };
+    let mut naming = Naming::begin(0);
+    let mut more = bytes.len();
+    'items: loop {
+        let gone = go(alloc, way, rest, at, machine)?;
+        if gone.lost {
+            return write_gone(alloc, way, rest, at, naming, gone, machine, sink);
+        }
+        if gone.closing.is_some() {
+            return Ok(());
+        }
+        if more == 0 {
+            return Ok(());
+        }
+        naming = naming.after(gone.row, machine.heap().len() as u32);
+        at = spot_after(at, gone);
+        more -= 1;
+        rest = rest.split_at(gone.size).1;
+    }
+}

@@ -1,0 +1,164 @@
+//! The text of what bytes would import and call.
+
+ghost use Rattle.std.specs.Prelude.{◌≡◌, ◌≤◌, ◌+◌, ◌*◌, ◌-◌, ◌^◌, length, drop, IfOk, IfErr};
+ghost use Rattle.pickle_io.specs.Device.{Told};
+ghost use Rattle.pickle_doc.specs.Document.{size_limit};
+ghost use Rattle.pickle_show.specs.Ran.{IsRun};
+ghost use Rattle.pickle_further.specs.Parts.{are_many, is_open, lost_text, parts};
+ghost use Rattle.pickle_further.specs.CallsText.{CompletesText, CutsCallsText, CompletesDocument, CutsDocument, PutsText};
+
+use crate::engine::write_items;
+use crate::going::go;
+use crate::parts::{write_found, write_from};
+use crate::way::{Pickles, Spot, Way};
+use pickle_doc::Items;
+use pickle_lenient::Frames;
+use pickle_machine::Machine;
+use pickle_ops::Page;
+use pickle_show::{Closing, Ending, Naming, Ran, TextStop, run_items, write_end};
+use std::alloc::Global;
+
+/// Whether several pickles are read one after another, each by a machine that begins anew.
+fn are_many(pickles: Pickles) -> bool
+    ensures { result ≡ are_many pickles }
+{
+    match pickles {
+        Pickles::First => false,
+        Pickles::All => true,
+        Pickles::OneMemo => false,
+    }
+}
+
+/// Whether loaders may go on behind such an end.
+fn is_open(ending: Ending) -> bool
+    ensures { result ≡ is_open ending }
+{
+    match ending {
+        Ending::Closed(_, Closing::Stopped) => false,
+        Ending::Closed(_, Closing::Refused(_, _)) => true,
+        Ending::Closed(_, Closing::Fault(_, _)) => true,
+        Ending::Unsure(_) => true,
+    }
+}
+
+/// Writes what loaders may do that buffer frames, from the first item on whose reading loses bytes.
+fn write_lost<S: Page>(
+    alloc: Global,
+    pickles: Pickles,
+    bytes: &[u8],
+    sink: &mut S,
+) -> Result<(), TextStop>
+    requires { length bytes.now ≤ size_limit }
+    ensures { PutsText (S.told sink.old) (S.told sink.new) (lost_text pickles bytes.now) result }
+{
+    let way = Way {
+        pickles,
+        frames: Frames::Buffered,
+    };
+    let mut machine = Machine::start(alloc, are_many(pickles));
+    write_found(alloc, way, bytes, &mut machine, sink)
+}
+
+/// Writes what loaders may do behind the end of the lines.
+fn write_parts<S: Page>(
+    alloc: Global,
+    pickles: Pickles,
+    bytes: &[u8],
+    ran: Ran,
+    machine: &mut Machine,
+    sink: &mut S,
+) -> Result<(), TextStop>
+    requires small { length bytes.now ≤ size_limit }
+    requires offset { ran.offset ≤ length bytes.now }
+    requires place { ran.place ≤ length bytes.now }
+    requires heap { length machine.old.state.heap ≤ ran.place }
+    ensures { (a b : Told) → (w : IsRun (are_many pickles) bytes.now a b machine.old.state ran) → PutsText (S.told sink.old) (S.told sink.new) (parts pickles w.d) result }
+{
+    if !is_open(ran.ending) {
+        return Ok(());
+    }
+    let way = Way {
+        pickles,
+        frames: Frames::Ignored,
+    };
+    let at = Spot {
+        offset: ran.offset,
+        place: ran.place,
+        left: 0,
+    };
+    let rest = bytes.split_at(ran.offset as usize).1;
+    write_from(alloc, way, rest, at, ran.course.naming, machine, sink)?;
+    write_lost(alloc, pickles, bytes, sink)
+}
+
+/// Writes the text of the document that the bytes read as.
+fn write_document<S: Page>(
+    alloc: Global,
+    pickles: Pickles,
+    bytes: &[u8],
+    sink: &mut S,
+) -> Result<u8, TextStop>
+    requires { length bytes.now ≤ size_limit }
+    ensures ok { IfOk result (CompletesDocument pickles bytes.now (S.told sink.old) (S.told sink.new)) }
+    ensures err { IfErr result (CutsDocument pickles bytes.now (S.told sink.old) (S.told sink.new)) }
+{
+    let many = are_many(pickles);
+    let mut machine = Machine::start(alloc, many);
+    let ran = run_items(alloc, many, Items::new(bytes), &mut machine, sink)?;
+    let status = write_end(bytes, ran.course, ran.ending, sink)?;
+    write_parts(alloc, pickles, bytes, ran, &mut machine, sink)?;
+    Ok(status)
+}
+
+/// Writes the text of bytes that one unpickler reads on and on.
+fn write_kept<S: Page>(alloc: Global, bytes: &[u8], sink: &mut S) -> Result<u8, TextStop>
+    requires { length bytes.now ≤ size_limit }
+    ensures ok { IfOk result (CompletesText Pickles.OneMemo bytes.now (S.told sink.old) (S.told sink.new)) }
+    ensures err { IfErr result (CutsCallsText Pickles.OneMemo bytes.now (S.told sink.old) (S.told sink.new)) }
+{
+    let mut machine = Machine::start(alloc, false);
+    let way = Way {
+        pickles: Pickles::OneMemo,
+        frames: Frames::Ignored,
+    };
+    let at = Spot {
+        offset: 0,
+        place: 0,
+        left: 0,
+    };
+    let first = go(alloc, way, bytes, at, &mut machine)?;
+    let end = write_items(
+        alloc,
+        way,
+        bytes,
+        at,
+        Naming::begin(0),
+        first,
+        &mut machine,
+        sink,
+    )?;
+    let status = write_end(bytes, end.course, Ending::Closed(0, end.closing), sink)?;
+    Ok(status)
+}
+
+/// Writes what the pickles of the bytes would import and call: a line for each item that does, the last lines, and behind a refused item,
+/// a fault, or an end of which loaders disagree what those may do that go on. Answers the status: 0 where the reading ended with the
+/// bytes, right behind a STOP, else 1. There are to be no more bytes than the limit.
+///
+/// `Memory` (M) where memory runs out, `Failed` where the sink fails; what was written then is a beginning of the text.
+pub fn calls<S: Page>(
+    alloc: Global,
+    pickles: Pickles,
+    bytes: &[u8],
+    sink: &mut S,
+) -> Result<u8, TextStop>
+    requires { length bytes.now ≤ size_limit }
+    ensures ok { IfOk result (CompletesText pickles bytes.now (S.told sink.old) (S.told sink.new)) }
+    ensures err { IfErr result (CutsCallsText pickles bytes.now (S.told sink.old) (S.told sink.new)) }
+{
+    match pickles {
+        Pickles::First => write_document(alloc, Pickles::First, bytes, sink),
+        Pickles::All => write_document(alloc, Pickles::All, bytes, sink),
+        Pickles::OneMemo => write_kept(alloc, bytes, sink),
+    }
+}

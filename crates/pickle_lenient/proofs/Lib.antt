@@ -1,0 +1,3 @@
+-- Lemmas.
+mod Lenients
+mod Behind

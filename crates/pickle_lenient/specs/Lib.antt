@@ -1,0 +1,5 @@
+-- The definitions that contracts cite.
+pub mod Key
+pub mod Lenient
+pub mod Reading
+pub mod Stream

@@ -1,0 +1,163 @@
+-- What a method comes to where a row makes an object.
+use Rattle.std.proofs.Common.{◌≡◌, ℕ, ◌-◌, ◌<◌, Bool, true, false, List, [], ◌∷◌, ◌++◌, length, map, Option, Some, None, refl, sym, ap, subst, ◌∙◌, inl, inr, arith, length-append}
+use Rattle.std.specs.Prelude.{slice_get, ◌||◌, if◌then◌else◌}
+use Rattle.std.specs.Option.{unwrap_or, option_map_or}
+use Rattle.std.proofs.lemmas.Bool.{cases_lt}
+use Rattle.std.proofs.lemmas.Option.{slice_get_within}
+use Rattle.std.proofs.lemmas.List.{map-append, append-nil}
+use Rattle.pickle_doc.proofs.Lists.{get-within}
+use Rattle.pickle_ops.specs.declared.kind.Kind.{Kind}
+use Rattle.pickle_ops.specs.declared.kind.Kind.TheVariants as kind
+use Rattle.pickle_ops.specs.declared.class.Class.{Class}
+use Rattle.pickle_ops.specs.declared.class.Class.TheVariants as class
+use Rattle.pickle_ops.specs.Object.{Object}
+use Rattle.pickle_ops.specs.Kind.{class_of, is_opaque}
+use Rattle.pickle_machine.specs.State.{State}
+use Rattle.pickle_machine.specs.Move.{push}
+use Rattle.pickle_machine.proofs.Shown.{last_of_more}
+use Rattle.pickle_show.specs.declared.event.Event.TheVariants as event
+use Rattle.pickle_show.specs.Event.{made_event, made_as, is_shown, is_view}
+use Rattle.pickle_show.proofs.Steps.{some_same, none_made}
+use Rattle.pickle_loader.specs.Environment.{PyType, PyTuple, PyList, PyDict, PySet, PyByteArray, Value, Plain, Own, Foreign, Act, Make, Reply, Raises, Answers, World}
+use Rattle.pickle_loader.specs.Unpickler.{Step, Ran, Stopped, Raised, item, append, answered}
+use Rattle.pickle_loader.specs.Told.{told_of, making, acts_told}
+use Rattle.pickle_loader.specs.Values.{Origin, AsLiteral, AsMade, AsAnswer, AsView, origin, IsRead, IsFrom, Knows}
+use Rattle.pickle_loader.specs.Laws.{IsResult}
+use Rattle.pickle_loader.proofs.Images.{image, told-append}
+
+-- ---- which values stand for objects
+
+abbrev pub StandsAs : World → Class → Value → Type 0
+StandsAs w class.Plain v = (n : ℕ) × (n ≡ n)
+StandsAs w class.Opaque v = (t : PyType) × (n : ℕ) × (v ≡ Foreign t n)
+StandsAs w class.Text v = (n : ℕ) × (n ≡ n)
+StandsAs w class.Tuple v = (n : ℕ) × (v ≡ Own PyTuple n)
+StandsAs w class.List v = (n : ℕ) × (v ≡ Own PyList n)
+StandsAs w class.Dict v = (n : ℕ) × (v ≡ Own PyDict n)
+StandsAs w class.Set v = (n : ℕ) × (v ≡ Own PySet n)
+StandsAs w class.ReadOnly v = IsRead w v
+StandsAs w class.ByteArray v = (n : ℕ) × (v ≡ Own PyByteArray n)
+
+-- an origin says the class
+pub stands_as : (w : World) (acts : List Act) (k : Kind) (vs : List Value) (v : Value) → IsFrom w acts k v (origin k vs) → StandsAs w (class_of k) v
+stands_as w acts kind.Tuple vs v (n, is, at) = (n, is)
+stands_as w acts kind.List vs v (n, is, at) = (n, is)
+stands_as w acts kind.Dict vs v (n, is, at) = (n, is)
+stands_as w acts kind.Set vs v (n, is, at) = (n, is)
+stands_as w acts (kind.ByteArray bytes) vs v (n, is, at) = (n, is)
+stands_as w acts (kind.Global names) vs v (t, n, p, is, at) = (t, n, is)
+stands_as w acts kind.StackGlobal vs v (t, n, p, is, at) = (t, n, is)
+stands_as w acts (kind.Ext m) vs v (t, n, p, is, at) = (t, n, is)
+stands_as w acts (kind.Inst names) vs v (t, n, p, is, at) = (t, n, is)
+stands_as w acts kind.Call vs v (t, n, p, is, at) = (t, n, is)
+stands_as w acts kind.New vs v (t, n, p, is, at) = (t, n, is)
+stands_as w acts kind.NewEx vs v (t, n, p, is, at) = (t, n, is)
+stands_as w acts kind.Obj vs v (t, n, p, is, at) = (t, n, is)
+stands_as w acts (kind.PersistentLine line) vs v (t, n, p, is, at) = (t, n, is)
+stands_as w acts kind.Persistent vs v (t, n, p, is, at) = (t, n, is)
+stands_as w acts (kind.Buffer m) vs v (t, n, p, is, at) = (t, n, is)
+stands_as w acts kind.ReadOnly vs v from = from
+stands_as w acts (kind.Bytes bytes) vs v from = inl (bytes, from)
+stands_as w acts _ vs v from = (0, refl)
+
+-- an act stays where it is
+get_more : (acts more : List Act) (n : ℕ) (a : Act) → slice_get acts n ≡ Some a → slice_get (acts ++ more) n ≡ Some a
+get_more acts more n a e = get-within acts more n (slice_get_within acts n a e) ∙ e
+
+from_more : (w : World) (acts more : List Act) (k : Kind) (v : Value) (from : Origin) → IsFrom w acts k v from → IsFrom w (acts ++ more) k v from
+from_more w acts more k v AsLiteral is = is
+from_more w acts more k v (AsMade t items) (n, is, at) = (n, is, get_more acts more n (Make t items) at)
+from_more w acts more k v (AsAnswer act) (t, n, proto, is, at) = (t, n, proto, is, get_more acts more n (act proto) at)
+from_more w acts more k v AsView is = is
+
+pub knows_more : (w : World) (V : ℕ → Value) (acts more : List Act) (heap : List Object) → Knows w V acts heap → Knows w V (acts ++ more) heap
+knows_more w V acts more heap knows id o e = from_more w acts more o.kind (V id) (origin o.kind (map V o.parts)) (knows id o e)
+
+-- ---- what a method is to come to
+
+-- the values on top
+abbrev pub top_value : List Value → Value
+top_value vs = item (length vs - 1) vs
+
+-- where it goes on, and the map has the value on top for an object that was made, it holds what the state holds, and told what the event
+-- tells; where it raised, a beginning of that
+abbrev pub Good : (ℕ → Value) → World → List Object → List Act → State → List Act → ℕ → Step → Type 0
+Good V w heap acts t new proto (Ran q) =
+    (length heap < length t.heap → V (length heap) ≡ top_value q.stack) → (q ≡ image V t proto q.acts) × Knows w V q.acts t.heap × (told_of q.acts ≡ told_of acts ++ new)
+Good V w heap acts t new proto (Stopped v q) = (told_of q.acts ≡ told_of acts ++ new) × Knows w V q.acts t.heap × (t.stopped ≡ t.many) × (proto ≡ 0) × (0 < length t.results) × IsResult V t v
+Good V w heap acts t new proto (Raised done) = (rest : List Act) × (told_of done ++ rest ≡ told_of acts ++ new)
+
+-- ---- an object is made
+
+pub top_appended : (vs : List Value) (v : Value) → top_value (vs ++ v ∷ []) ≡ v
+top_appended vs v =
+    let place : length (vs ++ v ∷ []) - 1 ≡ length vs = omega (arith, length-append vs (v ∷ [])) in
+    ap (λ (i : ℕ). item i (vs ++ v ∷ [])) place ∙ ap (λ (x : Option Value). unwrap_or x (Plain kind.None)) (last_of_more vs v)
+
+pub knows_pushed : (w : World) (V : ℕ → Value) (acts : List Act) (heap : List Object) (x : Object) → Knows w V acts heap → IsFrom w acts x.kind (V (length heap)) (origin x.kind (map V x.parts)) → Knows w V acts (heap ++ x ∷ [])
+knows_pushed w V acts heap x knows from id o e = elim (cases_lt id (length heap)) [
+  | inl there ↦ knows id o (sym (get-within heap (x ∷ []) id there) ∙ e)
+  | inr far ↦
+      let within : id < length (heap ++ x ∷ []) = slice_get_within (heap ++ x ∷ []) id o e in
+      let last : id ≡ length heap = omega (arith, within, far, length-append heap (x ∷ [])) in
+      let is : slice_get (heap ++ x ∷ []) id ≡ Some x = ap (slice_get (heap ++ x ∷ [])) last ∙ last_of_more heap x in
+      let same : o ≡ x = some_same (slice_get (heap ++ x ∷ []) id) o x e is in
+      subst (λ (y : Object). IsFrom w acts y.kind (V id) (origin y.kind (map V y.parts))) (sym same) (subst (λ (i : ℕ). IsFrom w acts x.kind (V i) (origin x.kind (map V x.parts))) (sym last) from)
+]
+
+neither : (a b : Bool) → (a || b) ≡ false → a ≡ false
+neither true b e = absurd cc
+neither false b e = refl
+
+-- what is not opaque is made by no act that is told
+nothing_told : (proto : ℕ) (k : Kind) (vs : List Value) → is_opaque k ≡ false → making proto k vs ≡ []
+nothing_told proto (kind.Global names) vs e = absurd cc
+nothing_told proto kind.StackGlobal vs e = absurd cc
+nothing_told proto (kind.Ext n) vs e = absurd cc
+nothing_told proto (kind.Inst names) vs e = absurd cc
+nothing_told proto kind.Call vs e = absurd cc
+nothing_told proto kind.New vs e = absurd cc
+nothing_told proto kind.NewEx vs e = absurd cc
+nothing_told proto kind.Obj vs e = absurd cc
+nothing_told proto (kind.PersistentLine line) vs e = absurd cc
+nothing_told proto kind.Persistent vs e = absurd cc
+nothing_told proto (kind.Buffer n) vs e = absurd cc
+nothing_told proto _ vs e = refl
+
+-- the event of an object that was made tells how it is made
+pub told_pushed : (V : ℕ → Value) (proto : ℕ) (s t : State) (heap : List Object) (x : Object) → t.heap ≡ heap ++ x ∷ []
+    → acts_told V proto s t (made_event t.heap (length heap)) ≡ making proto x.kind (map V x.parts)
+told_pushed V proto s t heap x e =
+    let here : slice_get t.heap (length heap) ≡ Some x = ap (λ (l : List Object). slice_get l (length heap)) e ∙ last_of_more heap x in
+    ap (λ (y : Option Object). acts_told V proto s t (made_as t.heap (length heap) y)) here ∙ go here (is_shown t.heap x) refl
+  where
+    go : slice_get t.heap (length heap) ≡ Some x → (b : Bool) → is_shown t.heap x ≡ b → acts_told V proto s t (if b then Some (event.Made (length heap)) else None) ≡ making proto x.kind (map V x.parts)
+    go here true f = ap (λ (y : Option Object). option_map_or (λ (o : Object). making proto o.kind (map V o.parts)) y []) here
+    go here false f = sym (nothing_told proto x.kind (map V x.parts) (neither (is_opaque x.kind) (is_view t.heap x) f))
+
+-- where none was made there is none
+pub told_stays : (V : ℕ → Value) (proto : ℕ) (s t : State) (heap : List Object) → t.heap ≡ heap → acts_told V proto s t (made_event t.heap (length heap)) ≡ []
+told_stays V proto s t heap e = ap (acts_told V proto s t) (ap (λ (l : List Object). made_event l (length heap)) e ∙ none_made heap)
+
+pub pushed_good : (V : ℕ → Value) (w : World) (u : State) (k : Kind) (parts : List ℕ) (proto : ℕ) (acts acts2 new : List Act) (v : Value)
+    → IsFrom w acts2 k v (origin k (map V parts)) → Knows w V acts2 u.heap → told_of acts2 ≡ told_of acts ++ new
+    → Good V w u.heap acts (push k parts u) new proto (Ran (append v (image V u proto acts2)))
+pushed_good V w u k parts proto acts acts2 new v from knows told foretold =
+    let x : Object = record { kind = k; parts = parts; changes = [] } in
+    let is : V (length u.heap) ≡ v = foretold (omega (arith, length-append u.heap (x ∷ []))) ∙ top_appended (map V u.top) v in
+    let stack : map V u.top ++ v ∷ [] ≡ map V (u.top ++ length u.heap ∷ []) = ap (λ (y : Value). map V u.top ++ y ∷ []) (sym is) ∙ sym (map-append V u.top (length u.heap ∷ [])) in
+    (ap (λ (l : List Value). record (image V u proto acts2) { stack = l }) stack, knows_pushed w V acts2 u.heap x knows (subst (λ (y : Value). IsFrom w acts2 k y (origin k (map V parts))) (sym is) from), told)
+
+-- the value is the answer to the act
+pub asked_good : (V : ℕ → Value) (w : World) (r : Reply) (u : State) (k : Kind) (parts : List ℕ) (proto : ℕ) (acts acts2 new : List Act) (a : ℕ → Act)
+    → origin k (map V parts) ≡ AsAnswer a → Knows w V acts2 u.heap → told_of (acts2 ++ a proto ∷ []) ≡ told_of acts ++ new
+    → Good V w u.heap acts (push k parts u) new proto (answered r (a proto) (image V u proto acts2) (λ v q. Ran (append v q)))
+asked_good V w Raises u k parts proto acts acts2 new a from knows told = ([], append-nil (told_of (acts2 ++ a proto ∷ [])) ∙ told)
+asked_good V w (Answers t) u k parts proto acts acts2 new a from knows told =
+    pushed_good V w u k parts proto acts (acts2 ++ a proto ∷ []) new (Foreign t (length acts2))
+    (subst (λ (x : Origin). IsFrom w (acts2 ++ a proto ∷ []) k (Foreign t (length acts2)) x) (sym from) (t, length acts2, proto, refl, last_of_more acts2 (a proto)))
+    (knows_more w V acts2 (a proto ∷ []) u.heap knows) told
+
+-- the same where new acts are those of the object
+pub told_one : (acts : List Act) (a : Act) → told_of (acts ++ a ∷ []) ≡ told_of acts ++ told_of (a ∷ [])
+told_one acts a = told-append acts (a ∷ [])

@@ -1,0 +1,62 @@
+//! Laws of the definitions. The functions do nothing: what they ensure holds of all documents and all environments.
+
+ghost use Rattle.pickle_loader.specs.Laws.{LoadsAreListed, ToldHasLine, AllTold, NoLineNoAct};
+ghost use Rattle.pickle_loader.specs.Reader.{OpsAreFetched};
+ghost use Rattle.pickle_loader.specs.FlatStack.{OneStack};
+ghost use Rattle.pickle_loader.specs.Beyond.{WideMovesAreFollowed, WhatIsMissingRaises, FillsAreFollowed};
+ghost use Rattle.pickle_loader.specs.Bytes.{BytesAreListed, NothingElse};
+
+/// What the unpickler does in any environment is what the lines tell, as far as it does not raise.
+pub fn loads_are_listed()
+    ensures { LoadsAreListed }
+{}
+
+/// An item that tells something has a line.
+pub fn told_has_line()
+    ensures { ToldHasLine }
+{}
+
+/// Where the reading ends with status 0, the lines tell all that the unpickler does.
+pub fn all_told()
+    ensures { AllTold }
+{}
+
+/// The opcodes of a document are those that the unpickler reads from its bytes.
+pub fn ops_are_fetched()
+    ensures { OpsAreFetched }
+{}
+
+/// What the unpickler does with bytes in any environment is what the lines tell, as far as items are accepted.
+pub fn bytes_are_listed()
+    ensures { BytesAreListed }
+{}
+
+/// Where the reading ends with status 0, the unpickler does nothing else, however long it runs.
+pub fn nothing_else()
+    ensures { NothingElse }
+{}
+
+/// The stack of the unpickler in C, one list with marks and a fence, is the stack and metastack of the one in Python.
+pub fn one_stack()
+    ensures { OneStack }
+{}
+
+/// An accepted item without a line makes the unpickler do nothing that is told.
+pub fn no_line_no_act()
+    ensures { NoLineNoAct }
+{}
+
+/// Where a loader moves as a row that asks for less, the unpickler does what the event of that move tells, as far as it does not raise.
+pub fn wide_moves_are_followed()
+    ensures { WideMovesAreFollowed }
+{}
+
+/// Where an object, a mark or an entry of the memo is missing, the unpickler raises and did nothing, but for INST.
+pub fn what_is_missing_raises()
+    ensures { WhatIsMissingRaises }
+{}
+
+/// Where objects go into a view, the unpickler does what the event of that tells, as far as it does not raise.
+pub fn fills_are_followed()
+    ensures { FillsAreFollowed }
+{}

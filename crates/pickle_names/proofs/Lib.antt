@@ -1,0 +1,4 @@
+-- Lemmas.
+mod Numbers
+mod Quotes
+mod Turns

@@ -1,0 +1,30 @@
+-- What Python 3 imports for the names of Python 2.
+-- Source: Lib/pickle.py, `find_class`: `NAME_MAPPING` of `Lib/_compat_pickle.py`, and where that has no row, `IMPORT_MAPPING`.
+use Rattle.std.specs.Prelude.{ℕ, ◌&&◌, if◌then◌else◌, Bool, List, [], ◌∷◌, Option, Some, None}
+use Rattle.std.specs.Str.{bytes_eq}
+use Rattle.pickle_names.specs.declared.old_names.NewNames.{NewNames}
+use Rattle.pickle_names.specs.declared.rows.TheConstants.{NAMES, MODULES}
+
+-- what is imported: from which module, and which member of it
+pub record Import : Type 0 where
+  pub from : List ℕ
+  pub name : List ℕ
+
+abbrev pub import_of : NewNames → Import
+import_of r = record { from = r.from.now; name = r.name.now }
+
+-- by the first row of a module, with the name as it is
+abbrev pub by_modules : {R : Type 0} → (R → List ℕ) → (R → List ℕ) → List R → List ℕ → List ℕ → Option Import
+by_modules old new [] from name = None
+by_modules old new (r ∷ rows) from name = if bytes_eq from (old r) then Some (record { from = new r; name = name }) else by_modules old new rows from name
+
+-- by the first row for both names, and where there is none, otherwise
+abbrev pub by_names : {R : Type 0} → (R → Import) → (R → Import) → List R → Option Import → List ℕ → List ℕ → Option Import
+by_names old new [] otherwise from name = otherwise
+by_names old new (r ∷ rows) otherwise from name =
+    if bytes_eq from (old r).from && bytes_eq name (old r).name then Some (new r) else by_names old new rows otherwise from name
+
+-- what is imported for names of Python 2, where that is not what they say
+unfoldable pub renamed : List ℕ → List ℕ → Option Import
+renamed from name =
+    by_names (λ r. record { from = r.0.now; name = r.1.now }) (λ r. record { from = r.2.now; name = r.3.now }) NAMES (by_modules (λ r. r.0.now) (λ r. r.1.now) MODULES from name) from name

@@ -1,0 +1,75 @@
+//! What Python 3 imports for the names of Python 2.
+
+ghost use Rattle.std.specs.Prelude.{◌≡◌, ◌&&◌};
+ghost use Rattle.std.specs.Option.{option_map};
+ghost use Rattle.std.specs.Str.{bytes_eq};
+ghost use Rattle.pickle_names.specs.Renamed.{import_of, by_modules, by_names, renamed};
+
+use crate::rows::{MODULES, NAMES};
+
+/// What is imported.
+#[derive(Clone, Copy)]
+pub struct NewNames<'a> {
+    /// The module.
+    pub from: &'a [u8],
+    /// The member.
+    pub name: &'a [u8],
+}
+
+/// What is imported of a module that has a row, with the name as it is.
+fn by_modules<'a>(
+    rows: &[(&'static str, &'static str)],
+    from: &[u8],
+    name: &'a [u8],
+) -> Option<NewNames<'a>>
+    ensures { option_map import_of result ≡ by_modules (λ r. r.0.now) (λ r. r.1.now) rows.now from.now name.now }
+{
+    for row in rows {
+        if from == row.0.as_bytes() {
+            return Some(NewNames {
+                from: row.1.as_bytes(),
+                name,
+            });
+        }
+    }
+    None
+}
+
+/// Whether a row is for these names.
+fn is_for(
+    row: &(&'static str, &'static str, &'static str, &'static str),
+    from: &[u8],
+    name: &[u8],
+) -> bool
+    ensures { result ≡ (bytes_eq from.now row.now.0.now && bytes_eq name.now row.now.1.now) }
+{
+    from == row.0.as_bytes() && name == row.1.as_bytes()
+}
+
+/// What is imported for names that have a row, and where they have none, otherwise.
+fn by_names<'a>(
+    rows: &[(&'static str, &'static str, &'static str, &'static str)],
+    otherwise: Option<NewNames<'a>>,
+    from: &[u8],
+    name: &[u8],
+) -> Option<NewNames<'a>>
+    ensures { option_map import_of result ≡ by_names (λ r. record { from = r.0.now; name = r.1.now }) (λ r. record { from = r.2.now; name = r.3.now }) rows.now (option_map import_of otherwise.entry) from.now name.now }
+{
+    for row in rows {
+        if is_for(row, from, name) {
+            return Some(NewNames {
+                from: row.2.as_bytes(),
+                name: row.3.as_bytes(),
+            });
+        }
+    }
+    otherwise
+}
+
+/// What is imported for names of Python 2, where that is not what they say.
+#[tactic(auto, unfolding(crate::specs::Renamed::renamed))]
+pub fn renamed<'a>(from: &[u8], name: &'a [u8]) -> Option<NewNames<'a>>
+    ensures { option_map import_of result ≡ renamed from.now name.now }
+{
+    by_names(&NAMES, by_modules(&MODULES, from, name), from, name)
+}

@@ -1,0 +1,75 @@
+//! The answer of a task: a text of all bytes of a source, written to a device through a page that holds nothing back at the end.
+
+ghost use Rattle.std.specs.Prelude.{◌≡◌, ◌≢◌, None, Err};
+ghost use Rattle.picklestep.specs.Device.{AnswersInput, AnswersTask, device_of, text_of as asked_text, input_of as asked_input};
+
+use crate::output::write_out;
+use crate::task::{GivenFile, Task};
+use pickle_doc::LIMIT;
+use pickle_ops::{Buffered, Sink, Source, read_limited};
+use pickle_script::{Stop, Text, write_text};
+use std::alloc::Global;
+
+/// Reads a source whole, writes this text of its bytes, hands all of it on, and answers the status. The bytes are one pickle, or where
+/// `many` holds several that follow one another. The stops are those of `answer_task`.
+fn answer_text<R: Source, K: Sink + Drop>(
+    alloc: Global,
+    text: Text,
+    many: bool,
+    source: &mut R,
+    page: &mut Buffered<K>,
+) -> Result<u8, Stop>
+    ensures answers { AnswersInput text many (R.remaining source.old) (R.remaining source.new) (⟦<Buffered<K> as Sink>⟧.told page.old) (⟦<Buffered<K> as Sink>⟧.told page.new) result }
+
+    // Unless the device fails the page holds nothing back, so that what it reports is what the device took.
+    ensures handed { result ≢ Err Stop.Write → ⟦<Buffered<K> as Sink>⟧.held page.old ≡ 0 → ⟦<Buffered<K> as Sink>⟧.told page.new ≡ K.told (device_of page.new) }
+{
+    let bytes = read_limited(alloc, source, LIMIT)?;
+    let written = write_text(alloc, text, many, bytes.as_slice(), page);
+    write_out(page, written)
+}
+
+/// The file that a task is done on.
+pub fn input_of(task: &Task) -> &GivenFile
+    ensures { result.now ≡ asked_input task.now }
+{
+    match task {
+        Task::List(input) => input,
+        Task::Objects(input) => input,
+        Task::Calls(input, _) => input,
+        Task::Debug(input, _) => input,
+    }
+}
+
+/// The text that a task asks for. A conversation asks for none.
+fn text_of(task: &Task) -> Option<Text>
+    ensures { result ≡ asked_text task.now }
+{
+    match task {
+        Task::List(_) => Some(Text::Listing),
+        Task::Objects(_) => Some(Text::Objects),
+        Task::Calls(_, pickles) => Some(Text::Calls(*pickles)),
+        Task::Debug(_, _) => None,
+    }
+}
+
+/// Reads the input of a task that is no conversation from a source whole, writes the text that the task asks for, hands all of it on,
+/// and answers the status.
+///
+/// `Stop::Read` where the source fails, `Stop::TooLarge` where it has more bytes than `LIMIT`, `Stop::Memory` where memory runs out: a
+/// beginning of the text was written and handed on then, and before all was read nothing. `Stop::Write` where the device fails.
+pub fn answer_task<R: Source, K: Sink + Drop>(
+    alloc: Global,
+    task: &Task,
+    source: &mut R,
+    page: &mut Buffered<K>,
+) -> Result<u8, Stop>
+    requires { asked_text task.now ≢ None }
+    ensures answers { AnswersTask task.now (R.remaining source.old) (R.remaining source.new) (⟦<Buffered<K> as Sink>⟧.told page.old) (⟦<Buffered<K> as Sink>⟧.told page.new) result }
+    ensures handed { result ≢ Err Stop.Write → ⟦<Buffered<K> as Sink>⟧.held page.old ≡ 0 → ⟦<Buffered<K> as Sink>⟧.told page.new ≡ K.told (device_of page.new) }
+{
+    match text_of(task) {
+        Some(text) => answer_text(alloc, text, input_of(task).many, source, page),
+        None => unreachable!(),
+    }
+}

@@ -1,0 +1,263 @@
+"""Pickles to try on loaders: made by chance from a seed. What is on the stack is kept by kinds, so that most of them go far.
+
+A share of each is spelled as no pickler spells it: numbers of GET and PUT with blanks, frames of wrong lengths, arguments that are no tuple,
+lines that the end cuts. Several in a row may stand in frames that hold more than their pickle.
+"""
+
+from __future__ import annotations
+
+import pickletools
+import random
+import struct
+from collections.abc import Callable, Iterator, Sequence
+
+CODES = [opcode.code.encode("latin-1") for opcode in pickletools.opcodes]
+MODULES = [b"os", b"posix", b"a.b", b"commands", b"__builtin__", b"builtins", b"copy_reg", b"collections", b"caf\xc3\xa9"]
+MEMBERS = [b"system", b"getoutput", b"unichr", b"eval", b"OrderedDict", b"x.y", b"_reconstructor", b"\xc3\xa9"]
+ODD_TEXTS = [b"\\u006fs", b"o\\x73", b"\xff", b"\xed\xa0\x80", b"a b", b"", b"\\", b"tab\there", b"\\U0001f600"]
+ODD_KEYS = [b" %d", b"%d ", b"+%d", b"%d\r", b"\t%d", b"0%d", b"%d\0", b"%d\0x", b"%d_0", b"-%d", b"%dL", b"0x%d", b""]
+ODD_NUMBERS = [b"I0x10\n", b"I1_0\n", b"L5\n", b"I 7\n", b"F1_0.5\n", b"Fnan\n", b"I01\n", b"I\n", b"Fx\n", b"S'a\n", b"S\"b\"\n", b"Sa\n"]
+NO_TUPLES = [b"X\x02\0\0\0ab", b"C\x01a", b"]", b"}", b"\x8f", b"(\x91", b"N", b"K\x07", b"\x96\0\0\0\0\0\0\0\0"]
+FILLS = [b"(e", b"(\x90", b"(u", b"(NNe", b"Na", b"NNs", b"(NNu", b"(NN\x90", b"(NNNu", b"\x98", b"\x98Na", b"\x98(e"]
+MOST_BYTES = 3000
+
+
+class Maker:
+    """A pickle in the making: its opcodes, the kinds of the objects on the stack (`o` is one from elsewhere), and those under marks."""
+
+    def __init__(self, chance: random.Random, odd: float) -> None:
+        self.chance = chance
+        self.odd = odd
+        self.opcodes: list[bytes] = []
+        self.top: list[str] = []
+        self.under: list[list[str]] = []
+        self.memo: dict[int, str] = {}
+
+    def put(self, opcode: bytes, takes: int = 0, makes: str = "") -> None:
+        """Adds opcodes that take objects and make some."""
+        self.opcodes.append(opcode)
+        if takes:
+            del self.top[-takes:]
+        self.top.extend(makes)
+
+    def is_odd(self) -> bool:
+        return self.chance.random() < self.odd
+
+    def text_of(self, texts: Sequence[bytes]) -> bytes:
+        return self.chance.choice(ODD_TEXTS if self.is_odd() else texts)
+
+    def text(self, texts: Sequence[bytes]) -> None:
+        text = self.text_of(texts)
+        plain = text.replace(b"\n", b"")
+        how = self.chance.randrange(6)
+        if how == 0:
+            self.put(b"V" + plain + b"\n", makes="s")
+        elif how == 1:
+            self.put(b"S'" + plain.replace(b"'", b"") + b"'\n", makes="s")
+        elif how == 2:
+            self.put(b"U" + bytes([len(text)]) + text, makes="s")
+        elif how == 3:
+            self.put(b"X" + struct.pack("<I", len(text)) + text, makes="s")
+        else:
+            self.put(b"\x8c" + bytes([len(text)]) + text, makes="s")
+
+    # --- One step each ---
+
+    def plain(self) -> None:
+        if self.is_odd():
+            self.put(self.chance.choice(ODD_NUMBERS), makes="p")
+        else:
+            self.put(self.chance.choice([b"N", b"\x88", b"\x89", b"K\x05", b"J\xff\xff\xff\xff", b"I7\n", b"L8L\n", b"F1.5\n", b"\x8a\x01\x09"]), makes="p")
+
+    def container(self) -> None:
+        opcode, kind = self.chance.choice([(b"]", "l"), (b"}", "d"), (b")", "t"), (b"\x8f", "e"), (b"C\x02ab", "b"), (b"\x96\x01" + b"\0" * 7 + b"a", "a")])
+        self.put(opcode, makes=kind)
+
+    def elsewhere(self) -> None:
+        how = self.chance.randrange(12)
+        if how < 5:
+            self.put(b"c" + self.text_of(MODULES) + b"\n" + self.text_of(MEMBERS) + b"\n", makes="o")
+        elif how < 8:
+            self.text(MODULES)
+            self.text(MEMBERS)
+            self.put(b"\x93", 2, "o")
+        elif how == 8:
+            self.put(self.chance.choice([b"\x82\x01", b"\x82\x02", b"\x83\x00\x01", b"\x84\xff\xff\xff\x7f", b"\x82\x01"]), makes="o")
+        elif how == 9:
+            self.put(b"P" + self.chance.choice([b"17", b"text", b"\xff" if self.is_odd() else b"a"]) + b"\n", makes="o")
+        elif how == 10:
+            self.put(b"\x97", makes="o")
+        elif self.top:
+            self.put(b"Q", 1, "o")
+
+    def callable(self) -> None:
+        if not self.top or self.top[-1] != "o":
+            self.elsewhere()
+
+    def arguments(self) -> None:
+        if self.is_odd():
+            self.put(self.chance.choice(NO_TUPLES), makes="t")
+        else:
+            self.put(self.chance.choice([b")", b"N\x85", b"K\x01K\x02\x86", b"(NNNNt", b"X\x02\0\0\0id\x85"]), makes="t")
+
+    def call(self) -> None:
+        self.callable()
+        how = self.chance.randrange(6)
+        if how < 4:
+            self.arguments()
+            self.put(b"R" if how < 3 else b"\x81", 2, "o")
+        elif how == 4:
+            self.arguments()
+            self.put(self.chance.choice([b"}", b"}X\x01\0\0\0kNs"] if not self.is_odd() else [b"N", b"]"]), makes="d")
+            self.put(b"\x92", 3, "o")
+        else:
+            self.put(self.chance.choice([b"N", b"}", b"N}\x86"]), makes="d")
+            self.put(b"b", 1)
+
+    def old_call(self) -> None:
+        arguments = self.chance.choice([b"", b"N", b"K\x01K\x02"])
+        if self.is_odd() and self.chance.random() < 0.3:
+            self.put(b"i" + self.text_of(MODULES) + b"\n" + self.text_of(MEMBERS) + b"\n")
+        elif self.chance.random() < 0.5:
+            self.put(b"(" + arguments + b"i" + self.text_of(MODULES) + b"\n" + self.text_of(MEMBERS) + b"\n", makes="o")
+        else:
+            self.put(b"(cos\nx\n" + arguments + b"o", makes="o")
+
+    def fill(self) -> None:
+        kind = self.top[-1] if self.top else ""
+        fills = {"l": [b"Na", b"(NNe", b"(e"], "d": [b"NNs", b"(NNu"], "e": [b"(NN\x90"], "o": FILLS}.get(kind)
+        if fills is not None:
+            self.put(self.chance.choice(fills))
+        elif self.is_odd() and kind:
+            self.put(self.chance.choice(FILLS))
+
+    def memoize(self) -> None:
+        if not self.top:
+            return
+        key = self.chance.choice([0, 1, 2, 5, 255])
+        how = self.chance.randrange(4)
+        if how == 0:
+            key = len(self.memo)
+            self.put(b"\x94")
+        elif how == 1:
+            self.put(b"q" + bytes([key]))
+        elif how == 2:
+            self.put(b"r" + struct.pack("<I", key))
+        else:
+            self.put(b"p" + self.spelled(key) + b"\n")
+        self.memo[key] = self.top[-1]
+
+    def recall(self) -> None:
+        if not self.memo:
+            return
+        key = self.chance.choice(sorted(self.memo))
+        how = self.chance.randrange(3)
+        spelled = (b"h" + bytes([key]), b"j" + struct.pack("<I", key), b"g" + self.spelled(key) + b"\n")[how]
+        self.put(spelled, makes=self.memo[key])
+
+    def spelled(self, key: int) -> bytes:
+        spelling = self.chance.choice(ODD_KEYS) if self.is_odd() else b"%d"
+        return spelling % key if b"%" in spelling else spelling
+
+    def mark(self) -> None:
+        self.put(b"(")
+        self.under.append(self.top)
+        self.top = []
+
+    def cut(self) -> None:
+        if self.under:
+            self.opcodes.append(self.chance.choice([b"t", b"l", b"\x91", b"1", b"d"] if len(self.top) % 2 == 0 else [b"t", b"l", b"1"]))
+            made = {b"t": "t", b"l": "l", b"\x91": "f", b"d": "d", b"1": ""}[self.opcodes[-1]]
+            self.top = self.under.pop() + list(made)
+
+    def handle(self) -> None:
+        if self.top:
+            self.put(*self.chance.choice([(b"2", 0, self.top[-1]), (b"0", 1, "")]))
+
+    def protocol(self) -> None:
+        self.put(b"\x80" + bytes([self.chance.choice([2, 3, 4, 5] if not self.is_odd() else [1, 6, 200])]))
+
+    def anything(self) -> None:
+        if self.is_odd():
+            self.put(self.chance.choice(CODES))
+
+    def pickle(self, steps: int, frames: bool) -> bytes:
+        """The bytes of a whole pickle."""
+        if self.chance.random() < 0.5:
+            self.protocol()
+        for _ in range(steps):
+            self.chance.choice(STEPS)(self)
+        if not self.top or self.chance.random() < 0.5:
+            self.put(b"clast\nact\n)R", makes="o")
+        self.put(b".")
+        opcodes = framed(self.chance, self.opcodes, self.odd) if frames else self.opcodes
+        return b"".join(opcodes)
+
+
+STEPS: list[Callable[[Maker], None]] = [
+    *[Maker.plain] * 3, *[Maker.container] * 3, *[Maker.elsewhere] * 4, *[Maker.call] * 6, *[Maker.fill] * 5, *[Maker.old_call] * 2,
+    *[Maker.memoize] * 3, *[Maker.recall] * 3, Maker.mark, *[Maker.cut] * 2, Maker.handle, Maker.protocol, Maker.anything,
+]
+
+
+def framed(chance: random.Random, opcodes: Sequence[bytes], odd: float) -> list[bytes]:
+    """Opcodes with frames around some of them. A frame of a wrong length ends within an opcode, or goes on where nothing is."""
+    made: list[bytes] = []
+    at = 0
+    while at < len(opcodes):
+        count = chance.randrange(1, 9) if chance.random() < 0.7 else len(opcodes)
+        body = list(opcodes[at:at + count])
+        at += count
+        size = sum(map(len, body))
+        if chance.random() < odd:
+            size = max(0, size + chance.choice([-2, -1, 1, 2, 9, 40, -size]))
+            if chance.random() < 0.3:
+                body = framed(chance, body, odd)
+        made += [b"\x95" + struct.pack("<Q", size), *body] if chance.random() < 0.7 else body
+    return made
+
+
+def made(chance: random.Random, frames: bool = True) -> bytes:
+    """One pickle."""
+    odd = chance.choice([0, 0, 0.05, 0.15, 0.4])
+    return Maker(chance, odd).pickle(chance.choice([4, 8, 16, 30]), frames and chance.random() < 0.35)
+
+
+def changed(chance: random.Random, real: Sequence[bytes]) -> bytes:
+    """A real pickle with something changed: bytes, its end, opcodes of another, or its frames."""
+    pickle = chance.choice(real)
+    how = chance.randrange(5)
+    if how == 0:
+        return pickle[:chance.randrange(len(pickle) + 1)]
+    if how == 1:
+        at = chance.randrange(len(pickle))
+        return pickle[:at] + bytes([chance.randrange(256)]) + pickle[at + 1:]
+    maker = Maker(chance, 0.3)
+    maker.top = ["o"]
+    for _ in range(4):
+        chance.choice(STEPS)(maker)
+    at = chance.randrange(len(pickle) + 1)
+    opcodes = [pickle[:at], *maker.opcodes, pickle[at:] if how == 2 else b"clast\nact\n)R."]
+    return b"".join(framed(chance, opcodes, 0.5) if how == 4 else opcodes)
+
+
+def singles(seed: int, count: int, real: Sequence[bytes]) -> Iterator[bytes]:
+    """Pickles, two of three made from nothing."""
+    chance = random.Random(f"one {seed}")
+    short = [pickle for pickle in real if 0 < len(pickle) <= MOST_BYTES]
+    for _ in range(count):
+        yield made(chance) if chance.random() < 0.66 or not short else changed(chance, short)
+
+
+def rows(seed: int, count: int, frames: bool = True) -> Iterator[bytes]:
+    """Two or three pickles in a row; of some the frame goes on behind STOP."""
+    chance = random.Random(f"several {seed} {frames}")
+    for _ in range(count):
+        pickles = []
+        for _ in range(chance.choice([2, 2, 3])):
+            pickle = made(chance, frames)
+            if frames and chance.random() < 0.15:
+                rest = chance.choice([b"", b"N.", b"\0", b"(", b"X\x10\0\0\0", b"cin\nframe\n."])
+                pickle = b"\x95" + struct.pack("<Q", len(pickle) + len(rest)) + pickle + rest
+            pickles.append(pickle)
+        yield b"".join(pickles)

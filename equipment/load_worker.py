@@ -1,0 +1,195 @@
+#!/usr/bin/env python3
+"""Gives pickles to real unpicklers, one load after another, and writes down what they do. Nothing that a pickle names is imported.
+
+    load_worker.py CASES OUT [--one]
+
+CASES has pickles, each behind its length (4 bytes). Each line of OUT is JSON: for each unpickler its name and its acts, each as what is
+done, to which thing (by the number of the act that brought it), and with what. With --one the same unpickler loads again and again.
+"""
+
+from __future__ import annotations
+
+import _compat_pickle
+import copyreg
+import io
+import json
+import pickle
+import resource
+import struct
+import sys
+from collections.abc import Callable, Iterator
+from typing import Any, Optional
+
+MOST_ACTS = 3000
+MOST_MEMORY = 3 << 30
+EXTENSIONS = (1, 2, 256, 0x7FFFFFFF)
+
+acts: list[list[Any]] = []
+
+
+class TooMany(BaseException):
+    """Nothing more is written down."""
+
+
+def act(what: str, target: Optional[int], *rest: Any) -> int:
+    """Writes an act down, and answers its number."""
+    if len(acts) >= MOST_ACTS:
+        raise TooMany
+    acts.append([what, target, *rest])
+    return len(acts) - 1
+
+
+def number_of(thing: Any) -> Optional[int]:
+    """The act that brought a thing."""
+    number: Optional[int] = vars(thing).get("number")
+    return number
+
+
+def doing(what: str, count: Callable[[tuple[Any, ...]], int]) -> Callable[..., None]:
+    def method(self: Any, *values: Any) -> None:
+        act(what, number_of(self), count(values))
+    return method
+
+
+def asked(what: str, count: Callable[[tuple[Any, ...]], int]) -> property:
+    """A method of a class that is written down when it is called of the class itself."""
+    return property(lambda self: lambda *values: act(what, number_of(self), count(values)) and None)
+
+
+def one(values: tuple[Any, ...]) -> int:
+    return 1
+
+
+def size(values: tuple[Any, ...]) -> int:
+    return len(values[0])
+
+
+class Meta(type):
+    """A thing from elsewhere: a class, which can be called, made, filled and given a state. It is equal to itself alone."""
+
+    append, extend, add = asked("append", one), asked("append", size), asked("add", one)
+    __setstate__ = asked("state", one)
+    __setitem__ = doing("set", one)
+
+    def __call__(cls, *values: Any, **named: Any) -> Any:
+        return thing(act("call", number_of(cls), len(values)))
+
+    def __hash__(cls) -> int:
+        return id(cls) >> 4
+
+    def __index__(cls) -> int:
+        return 0
+
+    def __iter__(cls) -> Iterator[Any]:
+        return iter(())
+
+    def keys(cls) -> list[Any]:
+        return []
+
+    def __getitem__(cls, key: Any) -> None:
+        return None
+
+
+class Base(metaclass=Meta):
+    def __new__(cls, *values: Any, **named: Any) -> Any:
+        return thing(act("new", number_of(cls), len(values)))
+
+
+def thing(number: int) -> Any:
+    return type.__new__(Meta, "Thing", (Base,), {"number": number})
+
+
+class Held(bytes):
+    """A buffer from elsewhere, which is read only already."""
+
+    append, extend, add = doing("append", one), doing("append", size), doing("add", one)
+    __setstate__, __setitem__ = doing("state", one), doing("set", one)
+
+    def __call__(self, *values: Any, **named: Any) -> Any:
+        return thing(act("call", number_of(self), len(values)))
+
+
+def buffers() -> Iterator[Any]:
+    for _ in range(3):
+        held = Held(b"ab")
+        vars(held)["number"] = act("buffer", None)
+        yield held
+
+
+def brought(self: Any, module: str, name: str) -> Any:
+    """Stands for an import. The unpickler in Python knows its protocol, and so which names Python 3 imports."""
+    names = [module, name]
+    if getattr(self, "proto", 3) < 3:
+        names = list(_compat_pickle.NAME_MAPPING.get((module, name), (_compat_pickle.IMPORT_MAPPING.get(module, module), name)))
+    return thing(act("import", None, module, name, names if isinstance(self, pickle._Unpickler) else None))
+
+
+def persistent(self: Any, asked_for: Any) -> Any:
+    if asked_for == "text":
+        act("persistent", None, "text")
+        return "os"
+    return thing(act("persistent", None))
+
+
+class FromC(pickle.Unpickler):
+    find_class, persistent_load = brought, persistent
+
+
+class FromPython(pickle._Unpickler):
+    find_class, persistent_load = brought, persistent
+
+
+class Peeking(io.BytesIO):
+    """A file that shows all that is left of it, as `pickle.loads` has it."""
+
+    def peek(self, count: int) -> bytes:
+        return self.getvalue()[self.tell():]
+
+
+LOADERS: dict[str, tuple[Any, Callable[[bytes], Any]]] = {
+    "C from bytes": (FromC, Peeking),
+    "C from BytesIO": (FromC, io.BytesIO),
+    "C from a buffered file": (FromC, lambda data: io.BufferedReader(io.BytesIO(data))),
+    "Python": (FromPython, io.BytesIO),
+}
+
+
+def has_more(file: Any) -> bool:
+    return bool(file.peek(1)[:1]) if hasattr(file, "peek") else file.tell() < len(file.getvalue())
+
+
+def load_all(name: str, data: bytes, is_one: bool) -> list[list[Any]]:
+    """What an unpickler does with all pickles of some bytes."""
+    kind, opened = LOADERS[name]
+    acts.clear()
+    copyreg._extension_cache.clear()  # type: ignore[attr-defined]
+    file = opened(data)
+    try:
+        unpickler = kind(file, buffers=buffers())
+        unpickler.load()
+        while has_more(file):
+            if not is_one:
+                unpickler = kind(file, buffers=buffers())
+            unpickler.load()
+    except (Exception, TooMany):
+        pass  # (it ends there)
+    return list(acts)
+
+
+def cases_of(path: str) -> Iterator[bytes]:
+    with open(path, "rb") as file:
+        while length := file.read(4):
+            yield file.read(struct.unpack("<I", length)[0])
+
+
+def main() -> None:
+    resource.setrlimit(resource.RLIMIT_AS, (MOST_MEMORY, MOST_MEMORY))
+    for code in EXTENSIONS:
+        copyreg._inverted_registry[code] = ("extension", str(code))  # type: ignore[attr-defined]
+    with open(sys.argv[2], "w") as out:
+        for data in cases_of(sys.argv[1]):
+            print(json.dumps([[name, load_all(name, data, "--one" in sys.argv)] for name in LOADERS]), file=out)
+
+
+if __name__ == "__main__":
+    main()

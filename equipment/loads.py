@@ -1,0 +1,312 @@
+"""Compares what real unpicklers do with the lines of `calls`.
+
+The unpicklers run in load_worker.py: in C from bytes, from BytesIO and from a buffered file, and the one in Python, each in a loop of loads.
+Each act of theirs has to have its line, in its order: among those of the strict reading and of the part behind its end, or among these and
+then those of the part for loaders that buffer frames. Lines that no unpickler gets to are no difference: loaders end at values that the
+program does not look into. The cases come from load_cases.py, and the seed is printed.
+"""
+
+from __future__ import annotations
+
+import functools
+import json
+import pathlib
+import re
+import struct
+import subprocess
+import sys
+from collections.abc import Iterable, Iterator, Sequence
+from dataclasses import dataclass, field
+from typing import Any, Optional
+
+ROOT = pathlib.Path(__file__).resolve().parent.parent
+sys.path.append(str(ROOT / "python"))
+
+import load_cases  # noqa: E402
+from picklestep.answers import Calls  # noqa: E402
+from picklestep.records import Briefs, Extension, Global, Reach, Ref  # noqa: E402
+from trials.trial import Noted, Trial  # noqa: E402
+
+SEED = 1
+EACH = 2500
+MOST_SHOWN = 3
+CALLS = ("call", "new", "inst")
+FILLS = ("append", "set", "add")
+ODDITY = re.compile(r"(stopped|[FSU][0-9]+) +(.*?) {2,}([0-9a-f*]+(?: [0-9a-f*]+)*)")
+BUFFERED = "a loader that buffers frames may go on"
+
+
+@dataclass
+class Told:
+    """A line, as one act: an `inst` is two. `target` is the line that brought what is called, filled or given a state."""
+
+    what: str
+    reach: Reach
+    target: Optional["Told"] = None
+    count: Optional[int] = None
+    may_be_missed: bool = False
+
+
+@dataclass
+class Reader:
+    """Reads lines in their order: `brought` has the line that brought an object, by its number, and `extensions` the first of each code."""
+
+    brought: dict[int, Told] = field(default_factory=dict)
+    extensions: dict[int, Told] = field(default_factory=dict)
+
+    def copy(self) -> "Reader":
+        return Reader(dict(self.brought), dict(self.extensions))
+
+    def acts(self, reaches: Iterable[Reach]) -> list[Told]:
+        told: list[Told] = []
+        for reach in reaches:
+            told += self._acts(reach)
+        return told
+
+    def _acts(self, reach: Reach) -> list[Told]:
+        if reach.what == "readonly":
+            # (A thing that can only be read already stays itself.)
+            if reach.target in self.brought and reach.number is not None:
+                self.brought[reach.number] = self.brought[reach.target]
+            return []
+        if reach.what in ("state", *FILLS):
+            target = self.brought.get(-1 if reach.target is None else reach.target)
+            count = reach.count if reach.what in FILLS else 1
+            return [Told(reach.what, reach, target, count, may_be_missed=target is None or not count)]
+        told = self._named(reach)
+        if reach.number is not None:
+            self.brought[reach.number] = self.extensions.get(_code(told[-1]), told[-1]) if told[-1].what == "import" else told[-1]
+        return told
+
+    def _named(self, reach: Reach) -> list[Told]:
+        if reach.what == "inst":
+            first = Told("import", reach)
+            return [first, Told("call", reach, first, _count(reach))]
+        if reach.what in CALLS:
+            target = self.brought.get(reach.name.number) if isinstance(reach.name, Ref) else None
+            return [Told("call", reach, target, _count(reach))]
+        told = Told(reach.what, reach)
+        if isinstance(reach.name, Extension):
+            told.may_be_missed = self.extensions.setdefault(reach.name.code, told) is not told  # (it is kept in a cache)
+        return [told]
+
+
+def _code(told: Told) -> int:
+    return told.reach.name.code if isinstance(told.reach.name, Extension) else 0
+
+
+def _count(reach: Reach) -> Optional[int]:
+    return len(reach.value.items) + reach.value.more if isinstance(reach.value, Briefs) else None
+
+
+def _is_text(part: object, text: str) -> bool:
+    return isinstance(part, Ref) or part == text.encode("utf-8", "surrogatepass")
+
+
+def _is_import(reach: Reach, module: str, name: str, imported: Optional[Sequence[str]]) -> bool:
+    """Whether a line tells this import: what stands in the pickle, and what Python 3 imports for it."""
+    if isinstance(reach.name, Extension):
+        return (module, name) == ("extension", str(reach.name.code))
+    said = reach.said or reach.name
+    if not isinstance(said, Global) or not isinstance(reach.name, Global):
+        return False
+    if imported is not None and not (_is_text(reach.name.module, imported[0]) and _is_text(reach.name.name, imported[1])):
+        return False
+    return _is_text(said.module, module) and _is_text(said.name, name)
+
+
+class Match:
+    """How far the acts of an unpickler are told. `pairs` has for each act its line."""
+
+    def __init__(self, acts: Sequence[Sequence[Any]]) -> None:
+        self.acts = acts
+        self.pairs: list[Told] = []
+        self._texts: set[int] = set()  # (lines that brought a text, of which nothing is written down)
+
+    def go_on(self, told: Sequence[Told]) -> bool:
+        """Goes over lines, and says whether all acts are told. Of a line that fills, several acts may put in its items."""
+        left: Optional[int] = None
+        at = 0
+        while len(self.pairs) < len(self.acts):
+            act = self.acts[len(self.pairs)]
+            while at < len(told) and not self._is(act, told[at], left) and self._may_be_missed(told[at]):
+                at, left = at + 1, None
+            if at == len(told) or not self._is(act, told[at], left):
+                return False
+            self.pairs.append(told[at])
+            if act[2:] == ["text"]:
+                self._texts.add(id(told[at]))
+            if act[0] in FILLS:
+                left = (told[at].count or 0 if left is None else left) - act[2]
+            if act[0] not in FILLS or not left:
+                at, left = at + 1, None
+        return True
+
+    def _may_be_missed(self, told: Told) -> bool:
+        return told.may_be_missed or id(told.target) in self._texts
+
+    def _is(self, act: Sequence[Any], told: Told, left: Optional[int]) -> bool:
+        what, target, *rest = act
+        if ("call" if what == "new" else what) != told.what:
+            return False
+        if what == "import":
+            return _is_import(told.reach, *rest)
+        if what in ("persistent", "buffer"):
+            return True
+        brought = self.pairs[target]
+        if told.target is not brought and not self._is_named(told, brought):
+            return False
+        if what in FILLS:
+            return rest[0] <= (told.count or 0 if left is None else left)
+        return what == "state" or told.count in (None, rest[0])
+
+    @staticmethod
+    def _is_named(told: Told, brought: Told) -> bool:
+        """Whether a line without a target names it. Of a buffer that is made read-only no line says which number it has then."""
+        if told.target is not None:
+            return False
+        if told.reach.name is None or isinstance(told.reach.name, Ref):
+            return brought.what == "buffer"
+        return brought.what == "import" and told.reach.name == brought.reach.name
+
+
+def untold(text: str, acts: Sequence[Sequence[Any]]) -> str:
+    """What of an unpickler's acts no line tells; an empty text where all are told."""
+    answer = Calls(text)
+    reader = Reader()
+    strict = reader.acts(answer)
+    before = reader.copy()
+    parts = {part.heading: part for part in answer.parts}
+    behind = reader.acts(reach for heading, part in parts.items() if heading != BUFFERED for reach in part)
+    match = Match(acts)
+    if match.go_on([*strict, *behind]):
+        return ""
+    first = len(match.pairs)
+    if BUFFERED in parts and _is_buffered(parts[BUFFERED], [*strict, *behind], before, reader, match):
+        return ""
+    return f"{acts[first]} is not told"
+
+
+def has_large_key(text: str, case: bytes) -> bool:
+    """Whether the lines end at a GET or PUT of 2^64 or more, which the unpickler in Python takes: docs/CODES.md says so."""
+    answer = Calls(text)
+    faults = [end.offset for end in (answer.end, *(part.end for part in answer.parts)) if end.code == "F5" and end.offset is not None]
+    lines = [case[offset + 1:].partition(b"\n")[0].strip() for offset in faults]
+    return any(line.isdigit() and int(line) >= 1 << 64 for line in lines)
+
+
+def _is_buffered(part: Iterable[Reach], told: Sequence[Told], before: Reader, after: Reader, match: Match) -> bool:
+    """Whether acts go on in the part for loaders that buffer frames: from some act on that is told before it."""
+    pairs = match.pairs
+    for reader in (after, before):
+        behind = reader.copy().acts(part)
+        for count in range(len(pairs), -1, -1):
+            match.pairs = list(pairs[:count])
+            if match.go_on(behind):
+                return True
+    return False
+
+
+@dataclass
+class Loads:
+    """Runs the program and the unpicklers, and keeps how much was tried."""
+
+    program: str
+    folder: pathlib.Path
+    cases: int = 0
+    acts: int = 0
+
+    def told(self, case: bytes, options: Sequence[str]) -> str:
+        """What the program says of a case."""
+        path = self.folder / "case"
+        path.write_bytes(case)
+        done = subprocess.run([self.program, "calls", *options, str(path)], capture_output=True, close_fds=False, timeout=60, check=False)
+        if done.returncode not in (0, 1) or done.stderr:
+            return ""
+        return done.stdout.decode("ascii")
+
+    def done(self, name: str, cases: Sequence[bytes], options: Sequence[str]) -> Iterator[list[tuple[str, list[Any]]]]:
+        """What the unpicklers do with each case."""
+        given, out = self.folder / f"{name}.cases", self.folder / f"{name}.acts"
+        given.write_bytes(b"".join(struct.pack("<I", len(case)) + case for case in cases))
+        words = [sys.executable, "-W", "ignore", "-B", str(ROOT / "equipment" / "load_worker.py"), str(given), str(out)]
+        subprocess.run([*words, *options], check=True, timeout=600)
+        with out.open() as lines:
+            for line in lines:
+                yield json.loads(line)
+
+    def fault(self, name: str, cases: Sequence[bytes], kept: bool = False) -> Noted:
+        """What is not told of some cases."""
+        self.folder.mkdir(parents=True, exist_ok=True)
+        found: list[str] = []
+        count = 0
+        for case, loads in zip(cases, self.done(name, cases, ["--one"] if kept else [])):
+            text = self.told(case, ["--memo", "kept"] if kept else [])
+            for loader, acts in loads:
+                count += len(acts)
+                why = untold(text, acts) if text else "the program gives no answer"
+                if why and not (loader == "Python" and has_large_key(text, case)):
+                    found.append(f"{loader}: {why}: {case.hex()}")
+        self.cases, self.acts = self.cases + len(cases), self.acts + count
+        shown = "; ".join(sorted(found, key=len)[:MOST_SHOWN])
+        return Noted(f"{len(found)} differences, first {shown}" if found else "", f": {len(cases)} cases, {count} acts")
+
+    def closing(self) -> str:
+        return f"{self.acts} acts of four unpicklers with {self.cases} cases, seed {SEED}"
+
+
+@dataclass(frozen=True)
+class Oddity:
+    """A row of equipment/oddities.txt. `end` is the code at which the strict reading ends, or `stopped`."""
+
+    end: str
+    name: str
+    data: bytes
+
+
+def oddities() -> Iterator[Oddity]:
+    """All rows of the page."""
+    for line in (ROOT / "equipment" / "oddities.txt").read_text().splitlines():
+        row = ODDITY.fullmatch(line)
+        if row is not None:
+            yield Oddity(row[1], row[2], b"".join(map(_bytes_of, row[3].split())))
+
+
+def _bytes_of(word: str) -> bytes:
+    """Bytes in hexadecimal; with a number behind a star they come so many times."""
+    digits, _, count = word.partition("*")
+    return bytes.fromhex(digits) * int(count or 1)
+
+
+def _odd(loads: Loads, rows: Sequence[Oddity]) -> Noted:
+    """Whether each row ends as it says, and what loaders do with it is told."""
+    noted = loads.fault("odd", [row.data for row in rows])
+    ends = [(row, Calls(loads.told(row.data, ())).end.code or "stopped") for row in rows]
+    wrong = [f"{row.name} ends with {end} and not {row.end}" for row, end in ends if end != row.end]
+    return Noted("; ".join([noted.why, *wrong]) if noted.why else "; ".join(wrong), noted.note)
+
+
+def trials(loads: Loads, pickles: pathlib.Path) -> list[Trial]:
+    real = [path.read_bytes() for path in sorted(pickles.glob("*.pickle"))]
+    made = [Trial("real pickles in loaders", functools.partial(loads.fault, "real", real))]
+    made.append(Trial("oddities in loaders", functools.partial(_odd, loads, list(oddities()))))
+    for number in range(8):
+        made.append(Trial(f"pickles {number} of seed {SEED} in loaders", functools.partial(_tried, loads, "singles", number, real)))
+    for number in range(2):
+        made.append(Trial(f"rows {number} of seed {SEED} in loaders", functools.partial(_tried, loads, "rows", number, real)))
+    made.append(Trial(f"rows of seed {SEED} in loaders that keep their memo", functools.partial(_tried, loads, "kept", 0, real)))
+    return [*made, Trial("names of Python 2", _old_names)]
+
+
+def _tried(loads: Loads, kind: str, number: int, real: Sequence[bytes]) -> Noted:
+    seed = SEED * 1000 + number
+    if kind == "singles":
+        return loads.fault(f"{kind}{number}", list(load_cases.singles(seed, EACH, real)))
+    return loads.fault(f"{kind}{number}", list(load_cases.rows(seed, EACH, frames=kind != "kept")), kind == "kept")
+
+
+def _old_names() -> Noted:
+    words = [sys.executable, "-B", str(ROOT / "equipment" / "old_names.py")]
+    done = subprocess.run(words, capture_output=True, text=True, check=False)
+    said = (done.stdout or done.stderr).strip()
+    return Noted("" if done.returncode == 0 else said or "it says nothing", f": {said}" if done.returncode == 0 else "")

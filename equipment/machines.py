@@ -1,0 +1,279 @@
+"""Tries the programs for further machines: each gives, byte for byte, what the program gives that the proofs built."""
+
+from __future__ import annotations
+
+import filecmp
+import functools
+import json
+import random
+import shutil
+import subprocess
+import sys
+from collections.abc import Iterator
+from dataclasses import dataclass, field
+from pathlib import Path
+from typing import Callable, NamedTuple
+
+from trials.room import beginning, text_difference
+from trials.samples import HOSTILE
+from trials.trial import Noted, Skip, Trial
+
+STATIC, ARM, MODULE = "linux-x86_64-static/picklestep", "linux-aarch64/picklestep", "picklestep.wasm"
+SCRIPT = (
+    b"where\nstep\nstep\nstack\nmemo\nshow 0\nrun\nwhere\nback\nback\nbreak 3\ngoto 2\nrun\nnext\nshow 2\ndelete 0\nundo\nredo\nundo\n"
+    b"goto 0\nrun\ninsert 0 4e\nbytes\nlist\nnonsense\nquit\n"
+)
+TASKS = (("list",), ("objects",), ("calls",), ("list", "--many"), ("debug",), ("debug", "--window", "3"))
+CASES = 2000
+SEED = 1
+# (a static program of Debian's glibc or musl needs no other file: it names neither a loader nor a library)
+NEEDS_OTHERS = ("INTERP", "NEEDED")
+LIMITS = (8, 16, 32, 64)  # MiB
+MOST_BYTES = 8 << 20
+
+
+class Answer(NamedTuple):
+    status: int
+    output: bytes
+    errors: bytes
+
+
+@dataclass(frozen=True)
+class Asked:
+    """A run that is compared: the words before the file, and the file."""
+
+    words: tuple[str, ...]
+    file: Path
+
+    @property
+    def given(self) -> bytes:
+        return SCRIPT if self.words[0] == "debug" else b""
+
+
+def ask(program: list[str], asked: Asked, memory: str = "unlimited") -> Answer:
+    command = ["sh", "-c", 'ulimit -v "$1"; shift; exec "$@"', "sh", memory, *program, *asked.words, str(asked.file)]
+    done = subprocess.run(command, input=asked.given, capture_output=True, timeout=300, check=False)
+    return Answer(done.returncode, done.stdout, done.stderr)
+
+
+@dataclass
+class Machines:
+    root: Path
+    program: Path
+    folder: Path
+    pickles: Path
+    runs: int = 0
+    answers: dict[Asked, Answer] = field(default_factory=dict)
+
+    @property
+    def dist(self) -> Path:
+        return self.root / "dist"
+
+    def closing(self) -> str:
+        return f"{self.runs} runs for further machines were compared, by machines.py"
+
+    @functools.cached_property
+    def real(self) -> list[Asked]:
+        """Each task over each real pickle."""
+        files = sorted(self.pickles.glob("*.pickle"))
+        return [Asked(words, file) for file in files for words in TASKS]
+
+    @functools.cached_property
+    def random(self) -> list[Asked]:
+        """Pieces of real pickles with some bytes changed. The seed is always the same."""
+        chance = random.Random(SEED)
+        folder = self.folder / "random"
+        folder.mkdir(parents=True, exist_ok=True)
+        sources = [content for file in sorted(self.pickles.glob("*.pickle")) if (content := file.read_bytes()[:2000])]
+        made = []
+        for number in range(CASES):
+            case = bytearray(chance.choice(sources)[: chance.randrange(2, 400)])
+            for _ in range(chance.randrange(4)):
+                case[chance.randrange(len(case))] = chance.randrange(256)
+            file = folder / f"{number}.pickle"
+            file.write_bytes(case)
+            made.append(Asked(chance.choice(TASKS), file))
+        return made
+
+    def wanted(self, asked: Asked) -> Answer:
+        if asked not in self.answers:
+            self.answers[asked] = ask([str(self.program)], asked)
+        return self.answers[asked]
+
+    def compare(self, asked: Asked, found: Answer) -> str:
+        """What is wrong with an answer."""
+        self.runs += 1
+        wanted = self.wanted(asked)
+        if found == wanted:
+            return ""
+        why = text_difference(found.output, wanted.output) or text_difference(found.errors, wanted.errors) or f"status {found.status}"
+        return f"{' '.join(asked.words)} {asked.file.name}: {why}, with errors that begin: {beginning(found.errors)}"
+
+    def compare_all(self, program: list[str], runs: list[Asked]) -> Noted:
+        for asked in runs:
+            why = self.compare(asked, ask(program, asked))
+            if why:
+                return Noted(why, "")
+        return Noted("", f": {len(runs)} runs")
+
+    def compare_module(self, runs: list[Asked]) -> Noted:
+        """The same in Node: one process has an instance of the module for each run."""
+        for asked, found in zip(runs, self.in_node(runs)):
+            why = self.compare(asked, found)
+            if why:
+                return Noted(why, "")
+        return Noted("", f": {len(runs)} runs")
+
+    def in_node(self, runs: list[Asked], pages: int = 0) -> Iterator[Answer]:
+        """What the module answers, with at most so many pages of memory."""
+        node = self.tool("node", "Node 20 or later")
+        folder = self.folder / "node"
+        folder.mkdir(parents=True, exist_ok=True)
+        lines = []
+        for number, asked in enumerate(runs):
+            (folder / f"{number}.in").write_bytes(asked.given)
+            lines.append({"words": ["picklestep", *asked.words, str(asked.file)], "at": str(folder / str(number))})
+        (folder / "runs.json").write_text(json.dumps({"module": str(self.dist / MODULE), "pages": pages, "runs": lines}))
+        done = subprocess.run([node, str(self.root / "equipment/run_module.mjs"), str(folder / "runs.json")], capture_output=True, timeout=900)
+        if done.returncode != 0:
+            raise OSError(f"node: status {done.returncode}, {beginning(done.stderr)}")
+        for number, status in enumerate(json.loads(done.stdout)):
+            yield Answer(status, (folder / f"{number}.out").read_bytes(), (folder / f"{number}.err").read_bytes())
+
+    def tool(self, name: str, what: str) -> str:
+        found = shutil.which(name)
+        if found is None:
+            raise Skip(f"there is no {name} ({what}: equipment/install_targets)")
+        return found
+
+    def arm(self) -> list[str]:
+        return [self.tool("qemu-aarch64", "Debian's qemu-user"), str(self.dist / ARM)]
+
+
+def make(machines: Machines, to: Path) -> bytes:
+    """Makes the programs for further machines, and answers why not, or nothing."""
+    done = subprocess.run([sys.executable, "-B", str(machines.root / "targets/make.py"), str(to)], capture_output=True, check=False)
+    return done.stderr if done.returncode != 0 else b""
+
+
+def made_again(machines: Machines) -> str:
+    """From what the proofs built, each byte for byte. Tools that are missing are installed where that can be done; tools of another
+    version would make others: that is said."""
+    to = machines.folder / "made"
+    fault = make(machines, to)
+    if b"is not installed" in fault:
+        installed = subprocess.run([machines.root / "equipment/install_targets"], capture_output=True, check=False)
+        if installed.returncode != 0:
+            raise Skip(beginning(installed.stderr))
+        fault = make(machines, to)
+    if fault:
+        return beginning(fault)
+    for file in (STATIC, ARM, MODULE, "picklestep.mjs", "SHA256SUMS", "TOOLS"):
+        if not filecmp.cmp(to / file, machines.dist / file, shallow=False):
+            return f"{file} differs from that in dist"
+    return ""
+
+
+def alone(machines: Machines, file: str) -> str:
+    """Nothing else is needed to start it."""
+    said = subprocess.run(["readelf", "--program-headers", "--dynamic", "--wide", machines.dist / file], capture_output=True, text=True, check=True)
+    return next((f"it has {word}" for word in NEEDS_OTHERS if word in said.stdout), "")
+
+
+def in_empty_root(machines: Machines) -> str:
+    bare = machines.folder / "bare"
+    bare.mkdir(parents=True)
+    shutil.copy(machines.dist / STATIC, bare / "picklestep")
+    (bare / "hostile.pickle").write_bytes(HOSTILE)
+    done = subprocess.run(["chroot", bare, "/picklestep", "calls", "/hostile.pickle"], capture_output=True, check=False)
+    if done.returncode == 125:
+        raise Skip("the root may not be changed here")
+    wanted = ask([str(machines.program)], Asked(("calls",), bare / "hostile.pickle"))
+    return "" if Answer(done.returncode, done.stdout, done.stderr) == wanted else f"status {done.returncode}: {beginning(done.stderr)}"
+
+
+def large(machines: Machines) -> Asked:
+    file = machines.folder / "large.pickle"
+    if not file.exists():
+        file.parent.mkdir(parents=True, exist_ok=True)
+        file.write_bytes(b"\x80\x04](" + b"\x8c\x03abc\x94" * 1_000_000 + b"e.")
+    return Asked(("calls",), file)
+
+
+def is_out_of_memory(found: Answer) -> str:
+    if (found.status, found.errors) == (2, b"picklestep: out of memory\n"):
+        return ""
+    return f"status {found.status}, errors {beginning(found.errors)}"
+
+
+def memory_of_static(machines: Machines) -> str:
+    for limit in LIMITS:
+        why = is_out_of_memory(ask([str(machines.dist / STATIC)], large(machines), memory=str(limit << 10)))
+        if why:
+            return f"{limit} MiB: {why}"
+    return ""
+
+
+def memory_of_module(machines: Machines) -> str:
+    for limit in LIMITS:
+        for found in machines.in_node([large(machines)], pages=limit << 4):
+            why = is_out_of_memory(found)
+            if why:
+                return f"{limit} MiB: {why}"
+    return ""
+
+
+def started_in_node(machines: Machines) -> str:
+    """picklestep.mjs as a user starts it, with a file that is named from the current folder."""
+    node = machines.tool("node", "Node 20 or later")
+    machines.folder.mkdir(parents=True, exist_ok=True)
+    (machines.folder / "named.pickle").write_bytes(HOSTILE)
+    for words in (["calls", "named.pickle"], ["list", "missing"], ["list"], ["calls", str(machines.folder / "named.pickle")]):
+        found, wanted = (
+            subprocess.run([*program, *words], cwd=machines.folder, capture_output=True, check=False)
+            for program in ([node, str(machines.dist / "picklestep.mjs")], [str(machines.program)])
+        )
+        if (found.returncode, found.stdout, found.stderr) != (wanted.returncode, wanted.stdout, wanted.stderr):
+            return f"{words}: status {found.returncode}, errors {beginning(found.stderr)}"
+    return ""
+
+
+def size_of_all(machines: Machines) -> str:
+    size = sum(file.stat().st_size for file in machines.dist.rglob("*") if file.is_file())
+    return "" if size < MOST_BYTES else f"dist has {size} bytes"
+
+
+def heap(machines: Machines) -> str:
+    """The C of the heap and of the moves of blocks, under a load of random sizes."""
+    made = machines.folder / "try_heap"
+    machines.folder.mkdir(parents=True, exist_ok=True)
+    c = machines.root / "targets/c"
+    words = ["cc", "-O2", "-fno-builtin", "-o", made, machines.root / "equipment/try_heap.c", c / "heap.c", c / "blocks.c"]
+    done = subprocess.run([str(word) for word in words], capture_output=True, check=False)
+    if done.returncode != 0:
+        return f"it does not compile: {beginning(done.stderr)}"
+    done = subprocess.run([str(made)], capture_output=True, timeout=300, check=False)
+    return "" if done.returncode == 0 else f"status {done.returncode}: {beginning(done.stdout)}"
+
+
+ROWS: list[tuple[str, Callable[[Machines], str | Noted]]] = [
+    ("further machines: made again, each is the released one", made_again),
+    ("further machines: the heap in C", heap),
+    ("further machines: dist is under 8 MB", size_of_all),
+    ("x86-64, static: needs no other file", lambda machines: alone(machines, STATIC)),
+    ("x86-64, static: in an empty root", in_empty_root),
+    ("x86-64, static: all real pickles", lambda machines: machines.compare_all([str(machines.dist / STATIC)], machines.real)),
+    ("x86-64, static: random cases", lambda machines: machines.compare_all([str(machines.dist / STATIC)], machines.random)),
+    ("x86-64, static: out of memory is an answer", memory_of_static),
+    ("ARM: needs no other file", lambda machines: alone(machines, ARM)),
+    ("ARM, under an emulator: all real pickles", lambda machines: machines.compare_all(machines.arm(), machines.real)),
+    ("ARM, under an emulator: random cases", lambda machines: machines.compare_all(machines.arm(), machines.random)),
+    ("the module in Node: as it is started", started_in_node),
+    ("the module in Node: all real pickles", lambda machines: machines.compare_module(machines.real)),
+    ("the module in Node: random cases", lambda machines: machines.compare_module(machines.random)),
+    ("the module in Node: out of memory is an answer", memory_of_module),
+]
+
+
+def trials(machines: Machines) -> list[Trial]:
+    return [Trial(name, functools.partial(row, machines)) for name, row in ROWS]

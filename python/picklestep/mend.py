@@ -1,0 +1,45 @@
+"""`picklestep mend FILE`: what can be kept of a pickle that is cut off or damaged. Nothing of it is run."""
+
+from __future__ import annotations
+
+import argparse
+import os
+import sys
+from typing import List, Optional
+
+from .errors import PicklestepError, reason
+from .mending import mended
+from .python_source.command import print_text
+from .session import Session
+
+__all__ = ['main']
+
+
+def main(arguments: List[str]) -> int:
+    """Writes a line for each edit, and saves the result. The status is 0 where the pickle was whole, 1 where it was mended, 2 where there is
+    no result."""
+    parser = argparse.ArgumentParser(
+        prog='picklestep mend', description='Makes a pickle that reads to its STOP of one that is cut off or damaged; nothing of it is run.',
+        epilog='Status: 0 if the pickle was whole, 1 if it was mended, 2 if there is no result.')
+    parser.add_argument('file', metavar='FILE', help='the pickle, which stays as it is')
+    parser.add_argument('--save', metavar='OUT', help='write the result to this file, which cannot be FILE')
+    options = parser.parse_args(arguments)
+    if _is_same(options.file, options.save):
+        print('picklestep: OUT is FILE, which stays as it is', file=sys.stderr)
+        return 2
+    try:
+        answer = mended(options.file)
+        print_text(''.join(f'{step}\n' for step in answer.steps) or 'it is whole\n')
+        if options.save is not None:
+            with Session(answer.content) as session:
+                session.save(options.save)
+            print_text(f'saved {ascii(options.save)[1:-1]}\n')
+    except (OSError, PicklestepError) as error:
+        print(f'picklestep: {reason(error)}', file=sys.stderr)
+        return 2
+    return 1 if answer.steps else 0
+
+
+def _is_same(file: str, out: Optional[str]) -> bool:
+    """Whether both are one file."""
+    return out is not None and os.path.exists(file) and os.path.exists(out) and os.path.samefile(file, out)

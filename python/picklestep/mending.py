@@ -1,0 +1,239 @@
+"""What can be kept of a pickle that is cut off or damaged, as a pickle that reads to its STOP.
+
+Frames that do not fit are taken away, bytes that are no opcodes are cut off, and a STOP is added. What was under way is closed as picklers close
+it: what stands above a mark goes into the list, set or dictionary below the mark, else into a tuple. Nothing is called, and no state is given, that
+the pickle had not called and given by then.
+
+The edits are those of a session, so it is the proved program that makes them and says how the pickle ends.
+"""
+
+from __future__ import annotations
+
+from dataclasses import dataclass
+from typing import List, Optional, Tuple
+
+from .answers import Heap
+from .errors import PicklestepError
+from .records import Mark, Object
+from .session import Session
+from .sources import Source
+from .tasks import listing
+
+__all__ = ['Mended', 'TooCrooked', 'mended']
+
+# A pickle with more frames that do not fit, or more places to cut, is not mended.
+_MOST_ROUNDS = 200
+# The code of FRAME and its argument.
+_FRAME_SIZE = 9
+# So many objects are dropped one by one; more than these together with all down to the mark.
+_MOST_DROPPED = 1000
+# So many objects are looked at to see whether one can be a key.
+_MOST_LOOKED_AT = 10_000
+
+# The faults of frames.
+_OF_FRAMES = ('F6', 'F7', 'F8')
+
+_UNHASHABLE = ('list', 'dict', 'set', 'bytearray')
+_FILLERS = {'list': 'APPENDS', 'set': 'ADDITEMS', 'dict': 'SETITEMS', 'append': 'APPENDS', 'add': 'ADDITEMS', 'set in': 'SETITEMS'}
+_TUPLES = {2: 'TUPLE2', 3: 'TUPLE3'}
+
+
+class TooCrooked(PicklestepError):
+    """A pickle with so many faults that nothing is mended."""
+
+
+@dataclass(frozen=True)
+class Mended:
+    """A pickle that reads to its STOP, and what was done to it, a line each. There are none where it was whole."""
+
+    content: bytes
+    steps: Tuple[str, ...]
+
+
+def mended(source: Source) -> Mended:
+    """What can be kept of a pickle.
+
+    >>> made = mended(b'\\x80\\x04\\x95\\x40\\0\\0\\0\\0\\0\\0\\0]\\x94(K\\x01K\\x02M')
+    >>> made.content
+    b'\\x80\\x04]\\x94(K\\x01K\\x02e.'
+    >>> for step in made.steps:
+    ...     print(step)
+    2: FRAME 64 taken away: F7 frame past the end at 2
+    9: 1 byte cut off: F3 truncated at 9
+    9: STOP added
+    9: APPENDS added: 2 objects into list #0
+    """
+    with Session(source) as session:
+        content = session.bytes()
+    steps: List[str] = []
+    is_cut = False
+    for _ in range(_MOST_ROUNDS):
+        with Session(content) as session:
+            fault = _fault(session)
+            if fault is None:
+                return Mended(_closed(session, steps) if is_cut else content, tuple(steps))
+        code, offset, text = fault
+        if code in _OF_FRAMES:
+            content = _without_frame(content, offset, text, code == 'F8', steps)
+        else:
+            content, is_cut = _cut(content, offset, text, steps), True
+    raise TooCrooked(f'it has more than {_MOST_ROUNDS} faults')
+
+
+def _fault(session: Session) -> Optional[Tuple[str, int, str]]:
+    """What is wrong: a code, the offset, and the program's words. None where the pickle reads to a STOP."""
+    where = session.where()
+    end = where.end
+    if end.code not in _OF_FRAMES and where.places:
+        ran = session.run()
+        if ran.why == 'refused':
+            return 'S', session.where().offset, ran.text
+    if end.code is None or end.offset is None:
+        return None
+    return end.code, end.offset, end.text
+
+
+def _without_frame(content: bytes, offset: int, text: str, is_crossed: bool, steps: List[str]) -> bytes:
+    """The bytes without the FRAME that does not fit: the one at an offset, or the last before it, which an opcode crosses."""
+    if is_crossed:
+        lines = listing(content)
+        offset = next(opcode.offset for opcode in map(lines.__getitem__, range(len(lines) - 1, -1, -1)) if opcode.name == 'FRAME')
+    length = int.from_bytes(content[offset + 1:offset + _FRAME_SIZE], 'little')
+    steps.append(f'{offset}: FRAME {length} taken away: {text}')
+    return content[:offset] + content[offset + _FRAME_SIZE:]
+
+
+def _cut(content: bytes, offset: int, text: str, steps: List[str]) -> bytes:
+    """The bytes up to an offset, then NONE (since STOP is refused where nothing is built) and STOP."""
+    count = len(content) - offset
+    if count:
+        steps.append(f'{offset}: {count} byte{"s" if count > 1 else ""} cut off: {text}')
+    steps.append(f'{offset}: STOP added' + ('' if count else f': {text}'))
+    return content[:offset] + b'N.'
+
+
+def _closed(session: Session, steps: List[str]) -> bytes:
+    """The pickle of a session that ends in NONE and STOP which were added, with what was under way closed."""
+    place = session.where().places - 2
+    session.goto(place)
+    closing = _Closing(session, place, steps)
+    if closing.close():
+        session.delete(closing.place)
+    ran = session.run()
+    if ran.why != 'end':
+        raise PicklestepError(f'what was under way cannot be closed: {ran.text}')
+    return session.bytes()
+
+
+class _Closing:
+    """Closes what is under way before the NONE at a place."""
+
+    def __init__(self, session: Session, place: int, steps: List[str]) -> None:
+        self.session = session
+        self.place = place
+        self.steps = steps
+        self.heap: Heap = session.objects()
+        # What is on the stack, from the bottom: the numbers of objects, cut at the marks.
+        self.sections: List[List[int]] = [[]]
+        for entry in session.stack():
+            if isinstance(entry, Mark):
+                self.sections.append([])
+            else:
+                self.sections[-1].append(entry.number)
+        self.made = len(self.heap)
+
+    def close(self) -> bool:
+        """Answers whether one object is on the stack then; else there is none."""
+        while len(self.sections) > 1:
+            self._close_mark(self.sections.pop())
+        bottom = self.sections[0]
+        if len(bottom) > 1:
+            self._gather(len(bottom))
+        elif not bottom:
+            self.steps.append(f'{self.session.where().offset}: NONE added: nothing was built')
+        return bool(bottom)
+
+    # --- What stands above a mark ---
+
+    def _close_mark(self, items: List[int]) -> None:
+        below = self.sections[-1]
+        filler, target = self._filler(below[-1]) if below else (None, '')
+        if not items:
+            self._add('POP_MARK', 'nothing stands above the mark')
+        elif filler is None:
+            self._add('TUPLE', f'{_objects(len(items))} above the mark')
+            below.append(self._new())
+        else:
+            self._fill(items, filler, target)
+
+    def _filler(self, number: int) -> Tuple[Optional[str], str]:
+        """The opcode by which a pickler fills the object below a mark. None where that is no container, or it cannot be known."""
+        made = self._object(number)
+        if made is None:
+            return None, ''
+        ways = [change.how if change.key is None else 'set in' for change in made.changes if change.how in ('append', 'add', 'set')]
+        way = made.kind if made.kind in ('list', 'set', 'dict') else ways[-1] if ways else ''
+        return _FILLERS.get(way), f'{made.kind} #{number}'
+
+    def _fill(self, items: List[int], filler: str, target: str) -> None:
+        kept = len(items)
+        if filler == 'SETITEMS':
+            kept = next((at for at in range(0, len(items) - 1, 2) if not self._can_be_key(items[at])), len(items) // 2 * 2)
+        elif filler == 'ADDITEMS':
+            kept = next((at for at, number in enumerate(items) if not self._can_be_key(number)), len(items))
+        if not kept or len(items) - kept > _MOST_DROPPED:
+            self._add('POP_MARK', f'{_objects(len(items))} above the mark dropped: no whole item of {target}')
+            return
+        for number in reversed(items[kept:]):
+            self._add('POP', f'#{number} dropped: no whole item of {target}')
+        self._add(filler, f'{_objects(kept)} into {target}')
+
+    # --- What is left ---
+
+    def _gather(self, count: int) -> None:
+        """Puts all that is left on the stack into a tuple."""
+        if count in _TUPLES:
+            self._add(_TUPLES[count], f'{_objects(count)} on the stack')
+            return
+        self.session.goto(0)
+        first = 1 if self.session.items()[0].name == 'PROTO' else 0
+        self.session.insert(first, 'MARK')
+        self.place += 1
+        self.session.goto(self.place)
+        self.steps.append(f'{self.session.items()[first].offset}: MARK added')
+        self._add('TUPLE', f'{_objects(count)} on the stack')
+
+    # --- Edits and objects ---
+
+    def _add(self, name: str, why: str) -> None:
+        """Puts an opcode behind all that was built."""
+        offset = self.session.where().offset
+        self.session.insert(self.place, name)
+        self.session.step()
+        self.place += 1
+        self.steps.append(f'{offset}: {name} added: {why}')
+
+    def _new(self) -> int:
+        """The number of the object that was made last."""
+        self.made += 1
+        return self.made - 1
+
+    def _object(self, number: int) -> Optional[Object]:
+        return self.heap[number] if number < len(self.heap) else None
+
+    def _can_be_key(self, number: int) -> bool:
+        """Whether an object can be a key or a member of a set, as far as the pickle shows it."""
+        waiting = [number]
+        for _ in range(_MOST_LOOKED_AT):
+            if not waiting:
+                return True
+            made = self._object(waiting.pop())
+            if made is None or made.kind in _UNHASHABLE:
+                return False
+            if made.kind in ('tuple', 'frozenset'):
+                waiting.extend(made.parts)
+        return False
+
+
+def _objects(count: int) -> str:
+    return f'{count} objects' if count > 1 else '1 object'

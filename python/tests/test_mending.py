@@ -1,0 +1,173 @@
+"""`picklestep mend`: what is kept of pickles that are cut off, and that nothing is added to what they do."""
+
+from __future__ import annotations
+
+import collections
+import datetime
+import decimal
+import io
+import os
+import pickle
+import random
+import subprocess
+import sys
+import tempfile
+import unittest
+from collections import Counter
+from pathlib import Path
+from typing import Any, Iterator, List
+
+import picklestep
+from pickles import real_pickles
+from picklestep.mending import TooCrooked, mended
+from scan_support import environment
+
+_FILLS = ('append ', 'set ', 'add ')
+
+VALUES: List[Any] = [
+    {'user': 'bob', 'jobs': [1, 2.5, None, True], 'more': {'a': (1, 2), 'b': (1, 2, 3, 4, 5), 'c': {1, 2, 3}}},
+    [[], {}, [[1], [2, 3]], ({'k': [b'x', 'y']}, 'z'), frozenset([7])],
+    collections.OrderedDict(a=1, b=[2, 3], c='d'), collections.deque([1, [2], 3]), collections.Counter('hello'),
+    [datetime.date(2020, 1, 2), decimal.Decimal('1.5'), datetime.timedelta(3)], {datetime.date(2020, 1, 2): 1, (1, 'x'): 2, 3: [4]},
+    collections.defaultdict(list, {'a': [1], 'b': [2]}), [1 << 70, -5, 'x' * 300, b'y' * 300, bytearray(b'z')],
+]
+
+
+class _Built(pickle._Unpickler):  # type: ignore[name-defined,misc]
+    """What Python's unpickler has on its stack where the bytes end."""
+
+    def built(self) -> List[Any]:
+        try:
+            return [self.load()]
+        except (EOFError, pickle.UnpicklingError, IndexError, ValueError):
+            return [*(each for section in self.metastack for each in section), *self.stack]
+
+
+def leaves(value: Any) -> Iterator[Any]:
+    """All plain values in containers, and in what calls made."""
+    if isinstance(value, (list, tuple, set, frozenset, collections.deque)):
+        for each in value:
+            yield from leaves(each)
+    elif isinstance(value, dict):
+        for pair in value.items():
+            yield from leaves(pair)
+    else:
+        yield repr(value)
+
+
+def reaches(source: bytes) -> List[str]:
+    return [reach.text for reach in picklestep.calls(source)]
+
+
+class Cuts(unittest.TestCase):
+    """Pickles that are cut at each place, or at some."""
+
+    def test_all_is_kept(self) -> None:
+        """What was built is in the result, unless the lines say that it was dropped."""
+        random.seed(1)
+        for value in VALUES:
+            for protocol in (0, 1, 2, 4, 5):
+                data = pickle.dumps(value, protocol)
+                for cut in sorted(random.sample(range(1, len(data)), min(4, len(data) - 1))):
+                    with self.subTest(value, protocol=protocol, cut=cut):
+                        self.assert_kept(data[:cut])
+
+    def assert_kept(self, data: bytes) -> None:
+        answer = mended(data)
+        made = pickle.loads(answer.content)
+        kept, built = Counter(leaves(made)), Counter(leaves(self.built(data)))
+        if not built and answer.content.endswith(b'N.'):
+            built = Counter(['None'])
+        self.assertFalse(kept - built, (answer.steps, kept, built))
+        if not any('dropped' in step for step in answer.steps):
+            self.assertEqual(kept, built, answer.steps)
+
+    def built(self, data: bytes) -> List[Any]:
+        """What a loader has where the whole opcodes end; a frame that is cut is none."""
+        if data[2:3] == b'\x95':
+            data = data[:2] + data[11:]
+        while True:  # (without the opcode that is cut)
+            fault = picklestep.listing(data).end
+            if fault.code != 'F3':
+                return _Built(io.BytesIO(data)).built()
+            assert fault.offset is not None
+            data = data[:fault.offset]
+
+    def test_nothing_more_is_done(self) -> None:
+        """The result reads to its STOP, and imports and calls what the whole one does, up to the cut."""
+        random.seed(2)
+        for value in VALUES:
+            for protocol in (0, 2, 4):
+                data = pickle.dumps(value, protocol)
+                whole = reaches(data)
+                for cut in random.sample(range(1, len(data)), 4):
+                    answer = picklestep.calls(mended(data[:cut]).content)
+                    self.assertTrue(answer.end.is_stopped)
+                    found = [reach.text for reach in answer if not reach.text.startswith(_FILLS)]
+                    self.assertEqual(found, [text for text in whole if not text.startswith(_FILLS)][:len(found)])
+
+
+    def test_real_pickles(self) -> None:
+        """The kept ones, each cut at two places."""
+        random.seed(3)
+        tried = 0
+        for name, data in real_pickles().items():
+            whole = picklestep.calls(data, first=True)
+            if not whole.end.is_stopped or whole.kept or len(data) > 100_000:
+                continue
+            wanted = [reach.text for reach in whole if not reach.text.startswith(_FILLS)]
+            for cut in random.sample(range(1, len(data)), min(2, len(data) - 1)):
+                with self.subTest(name, cut=cut):
+                    answer = picklestep.calls(mended(data[:cut]).content)
+                    found = [reach.text for reach in answer if not reach.text.startswith(_FILLS)]
+                    self.assertTrue(answer.end.is_stopped)
+                    self.assertEqual(found, wanted[:len(found)])
+                    tried += 1
+        self.assertGreater(tried, 100)
+
+
+class Crooked(unittest.TestCase):
+    """Faults by hand."""
+
+    def test_frames_and_bytes(self) -> None:
+        for data, content in ((b'\x80\x04\x95\x40\0\0\0\0\0\0\0N.', b'\x80\x04N.'), (b'N\x95\x02\0\0\0\0\0\0\0NK\x01\x86.', b'NNK\x01\x86.'),
+                              (b'N\x95\x0b\0\0\0\0\0\0\0N\x95\0\0\0\0\0\0\0\0.', b'NN.'), (b'', b'N.'), (b'(', b'(1N.'), (b'K\x01\xff', b'K\x01.'),
+                              (b'K\x01K\x02K\x03K\x04', b'(K\x01K\x02K\x03K\x04t.'), (b']K\x01', b']K\x01\x86.'), (b'N0h\5.', b'N0N.'),
+                              (b'}(K\x01K\x02]K\x03', b'}(K\x01K\x02]K\x0300u.'), (b'N.', b'N.')):
+            with self.subTest(data):
+                answer = mended(data)
+                self.assertTrue(picklestep.calls(answer.content).end.is_stopped)
+                self.assertEqual(bool(answer.steps), data != content)
+                if not data.startswith((b'N\x95', b'\x80')):
+                    self.assertEqual(answer.content, content)
+
+    def test_too_crooked(self) -> None:
+        with self.assertRaises(TooCrooked):
+            mended(b'N0\x95\x40\0\0\0\0\0\0' * 300)
+
+
+class Words(unittest.TestCase):
+    """`picklestep mend`."""
+
+    def test_status_and_files(self) -> None:
+        with tempfile.TemporaryDirectory() as folder:
+            def run(*words: str) -> 'subprocess.CompletedProcess[str]':
+                return subprocess.run([sys.executable, '-m', 'picklestep', 'mend', *words], cwd=folder, env=environment(), capture_output=True,
+                                      text=True, timeout=300)
+            path = Path(folder, 'cut.pickle')
+            path.write_bytes(b']K\x01a')
+            done = run('cut.pickle', '--save', 'out.pickle')
+            self.assertEqual((done.returncode, done.stdout), (1, '4: STOP added: F1 ended at 4\nsaved out.pickle\n'))
+            self.assertEqual(Path(folder, 'out.pickle').read_bytes(), b']K\x01a.')
+            done = run('out.pickle')
+            self.assertEqual((done.returncode, done.stdout), (0, 'it is whole\n'))
+            os.link(path, Path(folder, 'same'))
+            done = run('cut.pickle', '--save', 'same')
+            self.assertEqual((done.returncode, done.stdout, path.read_bytes()), (2, '', b']K\x01a'))
+            done = run('none')
+            self.assertEqual((done.returncode, done.stdout), (2, ''))
+            self.assertNotIn('Traceback', done.stderr)
+
+
+if __name__ == '__main__':
+    unittest.main()

@@ -1,0 +1,26 @@
+#!/usr/bin/env node
+// node picklestep.mjs WORD..: the program as a module (picklestep.wasm beside this file) under Node's own WASI, Node 20 or later.
+import { readFileSync } from 'node:fs';
+import { setFlagsFromString } from 'node:v8';
+
+// Node 20 breaks in the fast calls of its WASI after a longer run.
+try { setFlagsFromString('--no-turbo-fast-api-calls'); } catch { /* another Node has no such flag */ }
+const warn = process.emitWarning;
+process.emitWarning = () => {};
+const { WASI } = await import('node:wasi');
+process.emitWarning = warn;
+
+// Each drive of Windows is a folder of its own; elsewhere there is one root.
+const here = process.cwd();
+const windows = process.platform === 'win32';
+const drive = windows ? here.slice(0, 2) : '';
+const plain = (path) => (windows ? path.replaceAll('\\', '/').replace(/^[A-Za-z]:(?=\/)/, '') : path);
+const wasi = new WASI({
+    version: 'preview1',
+    args: ['picklestep', ...process.argv.slice(2).map(plain)],
+    env: { PWD: plain(here) },
+    preopens: { '/': windows ? `${drive}\\` : '/' },
+    returnOnExit: true,
+});
+const module = new WebAssembly.Module(readFileSync(new URL('picklestep.wasm', import.meta.url)));
+process.exitCode = wasi.start(new WebAssembly.Instance(module, wasi.getImportObject()));
