@@ -29,7 +29,7 @@ use Rattle.pickle_show.proofs.Reaches.{row_unseen}
 
 pub lines_come_first : LinesComeFirst
 unfolding ◌⧺◌
-lines_come_first p d = ((parts p d, refl), refl)
+lines_come_first how p d = ((parts how p d, refl), refl)
 
 -- ---- no line, no reach
 

@@ -15,6 +15,7 @@ use Rattle.pickle_lenient.specs.declared.fault.NotTaken.TheVariants as stop
 use Rattle.pickle_lenient.specs.Stream.{taken, IsTaken, IsNotTaken}
 use Rattle.pickle_show.specs.declared.report.Closing.{Closing}
 use Rattle.pickle_show.specs.declared.report.Closing.TheVariants as closing
+use Rattle.pickle_show.specs.declared.naming.Detail.TheVariants as detail
 use Rattle.pickle_show.specs.declared.naming.Naming.{Naming}
 use Rattle.pickle_show.specs.declared.stop.TextStop.{TextStop}
 use Rattle.pickle_further.specs.declared.way.Way.{Way}
@@ -60,7 +61,7 @@ pub go_some : (w : Way) (s : State) (rest : List ℕ) (at : Spot) (item : Taken)
     → IfOk r (λ g. (q : Standing) → q.state ≡ s → q.at.place ≡ at.place → length (drop item.size q.rest) ≡ more → Goes (gone_as w q item (loader_move item.op.opcode item.row (fresh q.state))) g t)
     → IfOk r (λ g. g.closing ≡ None → 0 < g.size)
 go_some w s rest at item t more (Ok g) e is h =
-    let q : Standing = standing s rest at (begin 0) in
+    let q : Standing = standing s rest at (begin detail.Cut 0) in
     let m : LoaderMove = loader_move item.op.opcode item.row (fresh s) in
     λ none. gone_some w q item m (moved_so m (used_op m item.op) at.place s) g (h q refl refl (length-drop item.size rest ∙ sym is)).is e.some none
 go_some w s rest at item t more (Err x) e is h = tt

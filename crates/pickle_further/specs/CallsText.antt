@@ -8,6 +8,7 @@ use Rattle.pickle_show.specs.declared.end.Ending.{Ending}
 use Rattle.pickle_show.specs.declared.end.Ending.TheVariants as ending
 use Rattle.pickle_show.specs.declared.stop.TextStop.{TextStop}
 use Rattle.pickle_show.specs.declared.stop.TextStop.TheVariants as stop
+use Rattle.pickle_show.specs.declared.naming.Detail.{Detail}
 use Rattle.pickle_show.specs.Output.{Output}
 use Rattle.pickle_show.specs.CallsLine.{calls_end_text, ending_status}
 use Rattle.pickle_show.specs.Calls.{calls}
@@ -19,8 +20,8 @@ use Rattle.pickle_further.specs.Parts.{ignoring, are_many, standing_first, parts
 -- ---- of a document
 
 -- the lines up to the end, and what is behind it; the status is that of the first
-abbrev pub document_calls : Pickles → Contents → Output
-document_calls p d = record { text = (calls d).text ⧺ parts p d; status = (calls d).status }
+abbrev pub document_calls : Detail → Pickles → Contents → Output
+document_calls how p d = record { text = (calls how d).text ⧺ parts how p d; status = (calls how d).status }
 
 -- ---- of bytes that one unpickler reads on and on
 
@@ -30,16 +31,16 @@ tale_calls bytes t = record {
   status = ending_status (ending.Closed 0 t.closing);
 }
 
-unfoldable pub kept_calls : List ℕ → Output
-kept_calls bytes = tale_calls bytes (tale_of (ignoring pickles.OneMemo) (standing_first pickles.OneMemo bytes))
+unfoldable pub kept_calls : Detail → List ℕ → Output
+kept_calls how bytes = tale_calls bytes (tale_of (ignoring pickles.OneMemo) (standing_first how pickles.OneMemo bytes))
 
 -- ---- of bytes
 
 -- this is their text: that of the document that they read as, or with the memo kept that of the bytes
-abbrev pub IsCallsText : Pickles → List ℕ → Output → Type 0
-IsCallsText pickles.OneMemo bytes o = o ≡ kept_calls bytes
-IsCallsText pickles.First bytes o = (d : Contents) × ReadsAs false bytes d × (o ≡ document_calls pickles.First d)
-IsCallsText pickles.All bytes o = (d : Contents) × ReadsAs true bytes d × (o ≡ document_calls pickles.All d)
+abbrev pub IsCallsText : Detail → Pickles → List ℕ → Output → Type 0
+IsCallsText how pickles.OneMemo bytes o = o ≡ kept_calls how bytes
+IsCallsText how pickles.First bytes o = (d : Contents) × ReadsAs false bytes d × (o ≡ document_calls how pickles.First d)
+IsCallsText how pickles.All bytes o = (d : Contents) × ReadsAs true bytes d × (o ≡ document_calls how pickles.All d)
 
 -- ---- what became of it
 
@@ -53,17 +54,18 @@ PutsText old new text (Ok x) = Wrote old new text
 PutsText old new text (Err e) = CutsText old new text e
 
 -- the whole text was written, and this is its status
-abbrev pub CompletesText : Pickles → List ℕ → Told → Told → ℕ → Type 0
-CompletesText p bytes old new status = (o : Output) × IsCallsText p bytes o × Wrote old new o.text × (status ≡ o.status)
+abbrev pub CompletesText : Detail → Pickles → List ℕ → Told → Told → ℕ → Type 0
+CompletesText how p bytes old new status = (o : Output) × IsCallsText how p bytes o × Wrote old new o.text × (status ≡ o.status)
 
 -- a beginning of it was written
-abbrev pub CutsCallsText : Pickles → List ℕ → Told → Told → TextStop → Type 0
-CutsCallsText p bytes old new e = (o : Output) × IsCallsText p bytes o × CutsText old new o.text e
+abbrev pub CutsCallsText : Detail → Pickles → List ℕ → Told → Told → TextStop → Type 0
+CutsCallsText how p bytes old new e = (o : Output) × IsCallsText how p bytes o × CutsText old new o.text e
 
 -- ---- the same of a document
 
-abbrev pub CompletesDocument : Pickles → List ℕ → Told → Told → ℕ → Type 0
-CompletesDocument p bytes old new status = (d : Contents) × ReadsAs (are_many p) bytes d × Wrote old new (document_calls p d).text × (status ≡ (document_calls p d).status)
+abbrev pub CompletesDocument : Detail → Pickles → List ℕ → Told → Told → ℕ → Type 0
+CompletesDocument how p bytes old new status =
+    (d : Contents) × ReadsAs (are_many p) bytes d × Wrote old new (document_calls how p d).text × (status ≡ (document_calls how p d).status)
 
-abbrev pub CutsDocument : Pickles → List ℕ → Told → Told → TextStop → Type 0
-CutsDocument p bytes old new e = (d : Contents) × ReadsAs (are_many p) bytes d × CutsText old new (document_calls p d).text e
+abbrev pub CutsDocument : Detail → Pickles → List ℕ → Told → Told → TextStop → Type 0
+CutsDocument how p bytes old new e = (d : Contents) × ReadsAs (are_many p) bytes d × CutsText old new (document_calls how p d).text e

@@ -3,6 +3,7 @@ use Rattle.std.specs.Prelude.{◌≡◌, ℕ, ◌<◌, ◌++◌, true, List, sli
 use Rattle.pickle_ops.specs.Kind.{is_opaque}
 use Rattle.pickle_ops.specs.Object.{Object}
 use Rattle.pickle_doc.specs.Document.{Contents}
+use Rattle.pickle_show.specs.declared.naming.Detail.{Detail}
 use Rattle.pickle_show.specs.Calls.{calls}
 use Rattle.pickle_further.specs.declared.way.Pickles.{Pickles}
 use Rattle.pickle_further.specs.declared.way.Way.{Way}
@@ -11,7 +12,8 @@ use Rattle.pickle_further.specs.CallsText.{document_calls}
 
 -- the text up to the end of the lines is the beginning of the whole, and the status is its status
 abbrev pub LinesComeFirst : Type 0
-LinesComeFirst = (p : Pickles) (d : Contents) → ((more : List ℕ) × ((document_calls p d).text ≡ (calls d).text ++ more)) × ((document_calls p d).status ≡ (calls d).status)
+LinesComeFirst = (how : Detail) (p : Pickles) (d : Contents)
+    → ((more : List ℕ) × ((document_calls how p d).text ≡ (calls how d).text ++ more)) × ((document_calls how p d).status ≡ (calls how d).status)
 
 -- an item that moves and has no line makes no opaque object and leaves every one as it was
 abbrev pub NoLineNoReachBehind : Type 0

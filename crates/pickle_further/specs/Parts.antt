@@ -15,6 +15,7 @@ use Rattle.pickle_show.specs.declared.end.Ending.TheVariants as ending
 use Rattle.pickle_show.specs.Column.{newline}
 use Rattle.pickle_show.specs.Report.{closing_line}
 use Rattle.pickle_show.specs.CallsLine.{totals_line}
+use Rattle.pickle_show.specs.declared.naming.Detail.{Detail}
 use Rattle.pickle_show.specs.Naming.{begin}
 use Rattle.pickle_show.specs.Calls.{CallsEnd, calls_end, naming_at}
 use Rattle.pickle_further.specs.declared.way.Pickles.{Pickles}
@@ -79,13 +80,13 @@ abbrev pub buffering : Pickles → Way
 buffering p = record { pickles = p; frames = frames.Buffered }
 
 -- before item k of a document
-abbrev pub standing_at : Contents → ℕ → State → Standing
-standing_at d k s =
-    record { state = s; rest = drop (offset_of d k) (document_bytes d); at = record { offset = offset_of d k; place = k; left = 0 }; naming = naming_at d k }
+abbrev pub standing_at : Detail → Contents → ℕ → State → Standing
+standing_at how d k s =
+    record { state = s; rest = drop (offset_of d k) (document_bytes d); at = record { offset = offset_of d k; place = k; left = 0 }; naming = naming_at how d k }
 
-abbrev pub behind_at : Pickles → Contents → ℕ → Option State → List ℕ
-behind_at p d k (Some s) = text_from (ignoring p) (standing_at d k s)
-behind_at p d k None = []
+abbrev pub behind_at : Detail → Pickles → Contents → ℕ → Option State → List ℕ
+behind_at how p d k (Some s) = text_from (ignoring p) (standing_at how d k s)
+behind_at how p d k None = []
 
 -- ---- from the first byte on
 
@@ -95,16 +96,16 @@ are_many pickles.First = false
 are_many pickles.All = true
 are_many pickles.OneMemo = false
 
-abbrev pub standing_first : Pickles → List ℕ → Standing
-standing_first p bytes = record { state = start (are_many p); rest = bytes; at = record { offset = 0; place = 0; left = 0 }; naming = begin 0 }
+abbrev pub standing_first : Detail → Pickles → List ℕ → Standing
+standing_first how p bytes = record { state = start (are_many p); rest = bytes; at = record { offset = 0; place = 0; left = 0 }; naming = begin how 0 }
 
 abbrev pub found_text : Way → Option Standing → List ℕ
 found_text w (Some p) = text_from w p
 found_text w None = []
 
 -- from the first item on whose reading loses bytes
-abbrev pub lost_text : Pickles → List ℕ → List ℕ
-lost_text p bytes = found_text (buffering p) (search (suc (length bytes)) (buffering p) (standing_first p bytes))
+abbrev pub lost_text : Detail → Pickles → List ℕ → List ℕ
+lost_text how p bytes = found_text (buffering p) (search (suc (length bytes)) (buffering p) (standing_first how p bytes))
 
 -- ---- both
 
@@ -115,8 +116,9 @@ is_open (ending.Closed kept (closing.Refused k r)) = true
 is_open (ending.Closed kept (closing.Fault f offset)) = true
 is_open (ending.Unsure offset) = true
 
-abbrev pub parts_to : Pickles → Contents → CallsEnd → List ℕ
-parts_to p d e = if is_open e.ending then behind_at p d e.place (run (start d.many) (ops_of d) e.place) ⧺ lost_text p (document_bytes d) else []
+abbrev pub parts_to : Detail → Pickles → Contents → CallsEnd → List ℕ
+parts_to how p d e =
+    if is_open e.ending then behind_at how p d e.place (run (start d.many) (ops_of d) e.place) ⧺ lost_text how p (document_bytes d) else []
 
-unfoldable pub parts : Pickles → Contents → List ℕ
-parts p d = parts_to p d (calls_end d)
+unfoldable pub parts : Detail → Pickles → Contents → List ℕ
+parts how p d = parts_to how p d (calls_end d)

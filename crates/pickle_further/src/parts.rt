@@ -15,7 +15,7 @@ use crate::way::{Spot, Way};
 use pickle_lenient::Frames;
 use pickle_machine::Machine;
 use pickle_ops::{Failed, Page, write_all};
-use pickle_show::{Closing, Course, Naming, TextStop, write_closing, write_totals};
+use pickle_show::{Closing, Course, Detail, Naming, TextStop, write_closing, write_totals};
 use std::alloc::Global;
 
 /// Whether it goes on.
@@ -175,6 +175,7 @@ pub fn write_from<S: Page>(
 /// Writes what loaders may do from the first item on whose reading loses bytes. The machine has done nothing yet.
 pub fn write_found<S: Page>(
     alloc: Global,
+    detail: Detail,
     way: Way,
     bytes: &[u8],
     machine: &mut Machine,
@@ -182,7 +183,7 @@ pub fn write_found<S: Page>(
 ) -> Result<(), TextStop>
     requires few { length bytes.now ≤ 2 ^ 30 }
     requires heap { length machine.old.state.heap ≤ 2 ^ 30 }
-    ensures { PutsText (S.told sink.old) (S.told sink.new) (found_text way (search (suc (length bytes.now)) way (standing machine.old.state bytes.now (record { offset = 0; place = 0; left = 0 }) (begin 0)))) result }
+    ensures { PutsText (S.told sink.old) (S.told sink.new) (found_text way (search (suc (length bytes.now)) way (standing machine.old.state bytes.now (record { offset = 0; place = 0; left = 0 }) (begin detail 0)))) result }
 {
     let mut rest = bytes;
     let mut at = Spot {
@@ -190,7 +191,7 @@ pub fn write_found<S: Page>(
         place: 0,
         left: 0,
     };
-    let mut naming = Naming::begin(0);
+    let mut naming = Naming::begin(detail, 0);
     let mut more = bytes.len();
     'items: loop {
         let gone = go(alloc, way, rest, at, machine)?;

@@ -15,7 +15,7 @@ use pickle_doc::Items;
 use pickle_lenient::Frames;
 use pickle_machine::Machine;
 use pickle_ops::Page;
-use pickle_show::{Closing, Ending, Naming, Ran, TextStop, run_items, write_end};
+use pickle_show::{Closing, Detail, Ending, Naming, Ran, TextStop, run_items, write_end};
 use std::alloc::Global;
 
 /// Whether several pickles are read one after another, each by a machine that begins anew.
@@ -44,24 +44,26 @@ fn is_open(ending: Ending) -> bool
 /// Writes what loaders may do that buffer frames, from the first item on whose reading loses bytes.
 fn write_lost<S: Page>(
     alloc: Global,
+    detail: Detail,
     pickles: Pickles,
     bytes: &[u8],
     sink: &mut S,
 ) -> Result<(), TextStop>
     requires { length bytes.now ≤ size_limit }
-    ensures { PutsText (S.told sink.old) (S.told sink.new) (lost_text pickles bytes.now) result }
+    ensures { PutsText (S.told sink.old) (S.told sink.new) (lost_text detail pickles bytes.now) result }
 {
     let way = Way {
         pickles,
         frames: Frames::Buffered,
     };
     let mut machine = Machine::start(alloc, are_many(pickles));
-    write_found(alloc, way, bytes, &mut machine, sink)
+    write_found(alloc, detail, way, bytes, &mut machine, sink)
 }
 
 /// Writes what loaders may do behind the end of the lines.
 fn write_parts<S: Page>(
     alloc: Global,
+    detail: Detail,
     pickles: Pickles,
     bytes: &[u8],
     ran: Ran,
@@ -72,7 +74,7 @@ fn write_parts<S: Page>(
     requires offset { ran.offset ≤ length bytes.now }
     requires place { ran.place ≤ length bytes.now }
     requires heap { length machine.old.state.heap ≤ ran.place }
-    ensures { (a b : Told) → (w : IsRun (are_many pickles) bytes.now a b machine.old.state ran) → PutsText (S.told sink.old) (S.told sink.new) (parts pickles w.d) result }
+    ensures { (a b : Told) → (w : IsRun detail (are_many pickles) bytes.now a b machine.old.state ran) → PutsText (S.told sink.old) (S.told sink.new) (parts detail pickles w.d) result }
 {
     if !is_open(ran.ending) {
         return Ok(());
@@ -88,33 +90,39 @@ fn write_parts<S: Page>(
     };
     let rest = bytes.split_at(ran.offset as usize).1;
     write_from(alloc, way, rest, at, ran.course.naming, machine, sink)?;
-    write_lost(alloc, pickles, bytes, sink)
+    write_lost(alloc, detail, pickles, bytes, sink)
 }
 
 /// Writes the text of the document that the bytes read as.
 fn write_document<S: Page>(
     alloc: Global,
+    detail: Detail,
     pickles: Pickles,
     bytes: &[u8],
     sink: &mut S,
 ) -> Result<u8, TextStop>
     requires { length bytes.now ≤ size_limit }
-    ensures ok { IfOk result (CompletesDocument pickles bytes.now (S.told sink.old) (S.told sink.new)) }
-    ensures err { IfErr result (CutsDocument pickles bytes.now (S.told sink.old) (S.told sink.new)) }
+    ensures ok { IfOk result (CompletesDocument detail pickles bytes.now (S.told sink.old) (S.told sink.new)) }
+    ensures err { IfErr result (CutsDocument detail pickles bytes.now (S.told sink.old) (S.told sink.new)) }
 {
     let many = are_many(pickles);
     let mut machine = Machine::start(alloc, many);
-    let ran = run_items(alloc, many, Items::new(bytes), &mut machine, sink)?;
+    let ran = run_items(alloc, detail, many, Items::new(bytes), &mut machine, sink)?;
     let status = write_end(bytes, ran.course, ran.ending, sink)?;
-    write_parts(alloc, pickles, bytes, ran, &mut machine, sink)?;
+    write_parts(alloc, detail, pickles, bytes, ran, &mut machine, sink)?;
     Ok(status)
 }
 
 /// Writes the text of bytes that one unpickler reads on and on.
-fn write_kept<S: Page>(alloc: Global, bytes: &[u8], sink: &mut S) -> Result<u8, TextStop>
+fn write_kept<S: Page>(
+    alloc: Global,
+    detail: Detail,
+    bytes: &[u8],
+    sink: &mut S,
+) -> Result<u8, TextStop>
     requires { length bytes.now ≤ size_limit }
-    ensures ok { IfOk result (CompletesText Pickles.OneMemo bytes.now (S.told sink.old) (S.told sink.new)) }
-    ensures err { IfErr result (CutsCallsText Pickles.OneMemo bytes.now (S.told sink.old) (S.told sink.new)) }
+    ensures ok { IfOk result (CompletesText detail Pickles.OneMemo bytes.now (S.told sink.old) (S.told sink.new)) }
+    ensures err { IfErr result (CutsCallsText detail Pickles.OneMemo bytes.now (S.told sink.old) (S.told sink.new)) }
 {
     let mut machine = Machine::start(alloc, false);
     let way = Way {
@@ -132,7 +140,7 @@ fn write_kept<S: Page>(alloc: Global, bytes: &[u8], sink: &mut S) -> Result<u8, 
         way,
         bytes,
         at,
-        Naming::begin(0),
+        Naming::begin(detail, 0),
         first,
         &mut machine,
         sink,
@@ -148,17 +156,18 @@ fn write_kept<S: Page>(alloc: Global, bytes: &[u8], sink: &mut S) -> Result<u8, 
 /// `Memory` (M) where memory runs out, `Failed` where the sink fails; what was written then is a beginning of the text.
 pub fn calls<S: Page>(
     alloc: Global,
+    detail: Detail,
     pickles: Pickles,
     bytes: &[u8],
     sink: &mut S,
 ) -> Result<u8, TextStop>
     requires { length bytes.now ≤ size_limit }
-    ensures ok { IfOk result (CompletesText pickles bytes.now (S.told sink.old) (S.told sink.new)) }
-    ensures err { IfErr result (CutsCallsText pickles bytes.now (S.told sink.old) (S.told sink.new)) }
+    ensures ok { IfOk result (CompletesText detail pickles bytes.now (S.told sink.old) (S.told sink.new)) }
+    ensures err { IfErr result (CutsCallsText detail pickles bytes.now (S.told sink.old) (S.told sink.new)) }
 {
     match pickles {
-        Pickles::First => write_document(alloc, Pickles::First, bytes, sink),
-        Pickles::All => write_document(alloc, Pickles::All, bytes, sink),
-        Pickles::OneMemo => write_kept(alloc, bytes, sink),
+        Pickles::First => write_document(alloc, detail, Pickles::First, bytes, sink),
+        Pickles::All => write_document(alloc, detail, Pickles::All, bytes, sink),
+        Pickles::OneMemo => write_kept(alloc, detail, bytes, sink),
     }
 }

@@ -256,11 +256,11 @@ read_through many bytes d reads small true e whole =
 
 pub nothing_else : NothingElse
 unfolding Acts
-nothing_else w many bytes d reads small status =
+nothing_else how w many bytes d reads small status =
     let formed = reads.document.formed in
     let far = is_reached (start d.many) (ops_of d) (length (ops_of d)) in
     let k : ℕ = reached (start d.many) (ops_of d) (length (ops_of d)) in
-    let ended = zero_end d k far.state refl far.is status in
+    let ended = zero_end how d k far.state refl far.is status in
     let zero_status : closing_status (closing_to d k (refused_on (item_at d k) far.state)) ≡ 0 = ended.1 in
     let none : refused_on (item_at d k) far.state ≡ None = not_refused d k (refused_on (item_at d k) far.state) zero_status in
     let all : k ≡ length (ops_of d) = all_reached d k far.state (item_at d k) refl far.is none far.most far.within in

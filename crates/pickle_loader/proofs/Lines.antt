@@ -23,6 +23,7 @@ use Rattle.pickle_show.specs.CallsLine.{event_text, event_line, line_of, ending_
 use Rattle.pickle_show.specs.Listing.{reached}
 use Rattle.pickle_show.specs.Report.{refused_on, closing_status}
 use Rattle.pickle_show.specs.declared.report.Closing.{Closing}
+use Rattle.pickle_show.specs.declared.naming.Detail.{Detail}
 use Rattle.pickle_show.specs.declared.naming.Naming.{Naming}
 use Rattle.pickle_show.specs.Calls.{naming_at, entry_on, entry_at, first_inside, closing_to, kept_by, end_to, end_from, end_by, calls_end, calls}
 use Rattle.pickle_loader.specs.Environment.{Value, Act, World}
@@ -51,7 +52,7 @@ item_tells V proto offset m None y z h = refl
 
 pub told_has_line : ToldHasLine
 unfolding told_at entry_at
-told_has_line V d k some = λ none. some (item_tells V (protocol_at (ops_of d) k) (offset_of d k) (naming_at d k) (item_at d k) (run (start d.many) (ops_of d) k) (run (start d.many) (ops_of d) (suc k)) none)
+told_has_line how V d k some = λ none. some (item_tells V (protocol_at (ops_of d) k) (offset_of d k) (naming_at how d k) (item_at d k) (run (start d.many) (ops_of d) k) (run (start d.many) (ops_of d) (suc k)) none)
 
 -- ---- status 0
 
@@ -77,10 +78,10 @@ zero_by d k s None is here e =
     ap (λ (x : Option ℕ). ending_status (end_from d k x).ending) is ∙ ap (λ (y : Option State). ending_status (end_to d k y).ending) here in
     (refl, closed_zero (kept_by d c == 0) (closing_status c) (sym closes ∙ e))
 
-pub zero_end : (d : Contents) (k : ℕ) (s : State) → reached (start d.many) (ops_of d) (length (ops_of d)) ≡ k → run (start d.many) (ops_of d) k ≡ Some s → (calls d).status ≡ 0
+pub zero_end : (how : Detail) (d : Contents) (k : ℕ) (s : State) → reached (start d.many) (ops_of d) (length (ops_of d)) ≡ k → run (start d.many) (ops_of d) k ≡ Some s → (calls how d).status ≡ 0
     → (first_inside d k ≡ None) × (closing_status (closing_to d k (refused_on (item_at d k) s)) ≡ 0)
 unfolding calls calls_end
-zero_end d k s e here nought =
+zero_end how d k s e here nought =
     let z : ending_status (end_by d k).ending ≡ 0 = sym (ap (λ (n : ℕ). ending_status (end_by d n).ending) e) ∙ nought in
     zero_by d k s (first_inside d k) refl here z
 
@@ -103,21 +104,22 @@ all_reached d k s (Some o) is here none most within =
     absurd (omega (arith, most (suc k) (next o k s) (omega (arith, slice_get_within (ops_of d) k o is)) more))
 
 pub all_told : AllTold
-all_told w d formed status =
+all_told how w d formed status =
     let law = loads_are_listed w d formed in
     let far = is_reached (start d.many) (ops_of d) (length (ops_of d)) in
     let k : ℕ = reached (start d.many) (ops_of d) (length (ops_of d)) in
-    let none : refused_on (item_at d k) far.state ≡ None = not_refused d k (refused_on (item_at d k) far.state) (zero_end d k far.state refl far.is status).1 in
+    let none : refused_on (item_at d k) far.state ≡ None = not_refused d k (refused_on (item_at d k) far.state) (zero_end how d k far.state refl far.is status).1 in
     let all : k ≡ length (ops_of d) = all_reached d k far.state (item_at d k) refl far.is none far.most far.within in
     let last : run (start d.many) (ops_of d) (length (ops_of d)) ≡ Some far.state = ap (run (start d.many) (ops_of d)) (sym all) ∙ far.is in
     (law.0, far.state, last, law.1 (length (ops_of d)) far.state last)
 
 -- ---- no line, no act
 
-told_same : (V : ℕ → Value) (d : Contents) (k : ℕ) → (entry_at d k).text ≡ [] → told V d.many (ops_of d) (suc k) ≡ told V d.many (ops_of d) k
+told_same : (how : Detail) (V : ℕ → Value) (d : Contents) (k : ℕ) → (entry_at how d k).text ≡ [] → told V d.many (ops_of d) (suc k) ≡ told V d.many (ops_of d) k
 unfolding told told_at entry_at
-told_same V d k none =
-    ap (λ (l : List Act). told V d.many (ops_of d) k ++ l) (item_tells V (protocol_at (ops_of d) k) (offset_of d k) (naming_at d k) (item_at d k) (run (start d.many) (ops_of d) k) (run (start d.many) (ops_of d) (suc k)) none)
+told_same how V d k none =
+    ap (λ (l : List Act). told V d.many (ops_of d) k ++ l)
+    (item_tells V (protocol_at (ops_of d) k) (offset_of d k) (naming_at how d k) (item_at d k) (run (start d.many) (ops_of d) k) (run (start d.many) (ops_of d) (suc k)) none)
     ∙ append-nil (told V d.many (ops_of d) k)
 
 -- no more is told than the state tells
@@ -133,13 +135,13 @@ no_more w V many acts s t o (Ended v u) f g = omega (arith, at_most w V acts t (
 no_more w V many acts s t o (Failed done) f g = omega arith
 
 pub no_line_no_act : NoLineNoAct
-no_line_no_act w d formed k t e none =
+no_line_no_act how w d formed k t e none =
     let law = loads_are_listed w d formed in
     let m = move_to (start d.many) (ops_of d) k t e in
     let before = law.1 k m.before m.reached in
     let next : load w d.many (ops_of d) (suc k) ≡ load_item w d.many (Some m.item) (load w d.many (ops_of d) k) = next_load w d.many (ops_of d) k m.item m.there in
     let after : Follows w law.0 (told law.0 d.many (ops_of d) k) t (load_item w d.many (Some m.item) (load w d.many (ops_of d) k)) =
     subst (λ (l : Loaded). Follows w law.0 (told law.0 d.many (ops_of d) k) t l) next
-    (subst (λ (acts : List Act). Follows w law.0 acts t (load w d.many (ops_of d) (suc k))) (told_same law.0 d k none) (law.1 (suc k) t e)) in
+    (subst (λ (acts : List Act). Follows w law.0 acts t (load w d.many (ops_of d) (suc k))) (told_same how law.0 d k none) (law.1 (suc k) t e)) in
     subst (λ (l : Loaded). length (told_of (acts_of l)) ≤ length (told_of (acts_of (load w d.many (ops_of d) k)))) (sym next)
     (no_more w law.0 d.many (told law.0 d.many (ops_of d) k) m.before t m.item (load w d.many (ops_of d) k) before after)

@@ -10,6 +10,7 @@ use Rattle.pickle_further.specs.declared.way.Pickles.{Pickles}
 use Rattle.pickle_further.specs.declared.way.Pickles.TheVariants as pickles
 use Rattle.pickle_further.specs.CallsText.{document_calls, kept_calls}
 use Rattle.pickle_further.specs.CallsText as further
+use Rattle.pickle_show.specs.declared.naming.Detail.{Detail}
 use Rattle.pickle_show.specs.declared.stop.TextStop.TheVariants as cut
 use Rattle.pickle_script.specs.declared.stop.Stop.TheVariants as stop
 use Rattle.pickle_script.specs.declared.texts.Text.{Text}
@@ -22,23 +23,23 @@ nothing_written output many bytes a small =
     let some = some_document many bytes small in
     (some.0, some.1, ((output some.0).text, WroteAllBut-none a (output some.0).text))
 
-no_calls : (p : Pickles) (bytes : List ℕ) (a : Told) → AreBytes bytes → further.CutsCallsText p bytes a a cut.Memory
-no_calls pickles.First bytes a small =
+no_calls : (how : Detail) (p : Pickles) (bytes : List ℕ) (a : Told) → AreBytes bytes → further.CutsCallsText how p bytes a a cut.Memory
+no_calls how pickles.First bytes a small =
     let some = some_document false bytes small in
-    let o = document_calls pickles.First some.0 in
+    let o = document_calls how pickles.First some.0 in
     (o, (some.0, some.1, refl), (o.text, WroteAllBut-none a o.text))
-no_calls pickles.All bytes a small =
+no_calls how pickles.All bytes a small =
     let some = some_document true bytes small in
-    let o = document_calls pickles.All some.0 in
+    let o = document_calls how pickles.All some.0 in
     (o, (some.0, some.1, refl), (o.text, WroteAllBut-none a o.text))
-no_calls pickles.OneMemo bytes a small =
-    let o = kept_calls bytes in
+no_calls how pickles.OneMemo bytes a small =
+    let o = kept_calls how bytes in
     (o, refl, (o.text, WroteAllBut-none a o.text))
 
 nothing_left : (t : Text) (many : Bool) (bytes : List ℕ) (a : Told) → AreBytes bytes → StopsText t many bytes a a stop.TooLarge
 nothing_left text.Listing many bytes a small = nothing_written listing many bytes a small
 nothing_left text.Objects many bytes a small = refl
-nothing_left (text.Calls pickles) many bytes a small = no_calls pickles bytes a small
+nothing_left (text.Calls pickles detail) many bytes a small = no_calls detail pickles bytes a small
 
 pub refused_large : {S : Type 0} (told : S → Told) (t : Text) (many : Bool) (bytes : List ℕ) (sink : S) → AreBytes bytes → size_limit < length bytes
     → AnswersText t many bytes told sink sink (Err stop.TooLarge)

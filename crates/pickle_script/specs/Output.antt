@@ -7,6 +7,7 @@ use Rattle.pickle_show.specs.Output.{Output, Breaks, Begins}
 use Rattle.pickle_show.specs.Listing.{listing}
 use Rattle.pickle_show.specs.Written.{IsListed}
 use Rattle.pickle_show.specs.Report.{IsReported, BreaksReport}
+use Rattle.pickle_show.specs.declared.naming.Detail.{Detail}
 use Rattle.pickle_show.specs.declared.stop.TextStop.TheVariants as cut
 use Rattle.pickle_further.specs.declared.way.Pickles.{Pickles}
 use Rattle.pickle_further.specs.CallsText as further
@@ -21,7 +22,7 @@ use Rattle.pickle_script.specs.declared.texts.Text.TheVariants as text
 abbrev pub CompletesText : Text → Bool → List ℕ → Told → Told → ℕ → Type 0
 CompletesText text.Listing many bytes old new status = IsListed many bytes old new status
 CompletesText text.Objects many bytes old new status = IsReported many bytes old new status
-CompletesText (text.Calls pickles) many bytes old new status = further.CompletesText pickles bytes old new status
+CompletesText (text.Calls pickles detail) many bytes old new status = further.CompletesText detail pickles bytes old new status
 
 -- ---- not finished
 
@@ -40,16 +41,16 @@ StopsReport many bytes old new stop.TooLarge = new ≡ old
 StopsReport many bytes old new stop.Memory = new ≡ old
 
 -- what it leaves of what is imported and called: as of a listing
-abbrev pub StopsCalls : Pickles → List ℕ → Told → Told → Stop → Type 0
-StopsCalls pickles bytes old new stop.Read = ⊥
-StopsCalls pickles bytes old new stop.Write = further.CutsCallsText pickles bytes old new cut.Failed
-StopsCalls pickles bytes old new stop.TooLarge = further.CutsCallsText pickles bytes old new cut.Memory
-StopsCalls pickles bytes old new stop.Memory = further.CutsCallsText pickles bytes old new cut.Memory
+abbrev pub StopsCalls : Detail → Pickles → List ℕ → Told → Told → Stop → Type 0
+StopsCalls how pickles bytes old new stop.Read = ⊥
+StopsCalls how pickles bytes old new stop.Write = further.CutsCallsText how pickles bytes old new cut.Failed
+StopsCalls how pickles bytes old new stop.TooLarge = further.CutsCallsText how pickles bytes old new cut.Memory
+StopsCalls how pickles bytes old new stop.Memory = further.CutsCallsText how pickles bytes old new cut.Memory
 
 abbrev pub StopsText : Text → Bool → List ℕ → Told → Told → Stop → Type 0
 StopsText text.Listing many bytes old new e = Stops listing many bytes old new e
 StopsText text.Objects many bytes old new e = StopsReport many bytes old new e
-StopsText (text.Calls pickles) many bytes old new e = StopsCalls pickles bytes old new e
+StopsText (text.Calls pickles detail) many bytes old new e = StopsCalls detail pickles bytes old new e
 
 -- ---- the answer
 

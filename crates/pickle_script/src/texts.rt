@@ -7,7 +7,7 @@ use crate::stop::Stop;
 use pickle_doc::LIMIT;
 use pickle_further::Pickles;
 use pickle_ops::Page;
-use pickle_show::{list_bytes, report_of_bytes};
+use pickle_show::{Detail, list_bytes, report_of_bytes};
 use std::alloc::Global;
 
 /// What is written of an input.
@@ -19,8 +19,8 @@ pub enum Text {
     /// result, and a closing line where one is refused or the bytes have a fault.
     Objects,
     /// What they would import and call in this reading, whatever the mode: a line for each step that does so, how many imports and calls
-    /// these are, and behind an end at which loaders part what those may do that go on.
-    Calls(Pickles),
+    /// these are, and behind an end at which loaders part what those may do that go on; arguments are cut, or shown in full.
+    Calls(Pickles, Detail),
 }
 
 /// Writes a text of the pickle that the bytes are, or where `many` holds of several pickles that follow one another, and answers its
@@ -44,7 +44,9 @@ pub fn write_text<S: Page>(
     match text {
         Text::Listing => Ok(list_bytes(alloc, many, bytes, sink)?),
         Text::Objects => Ok(report_of_bytes(alloc, many, bytes, sink)?),
-        Text::Calls(pickles) => Ok(pickle_further::calls(alloc, pickles, bytes, sink)?),
+        Text::Calls(pickles, detail) => Ok(pickle_further::calls(
+            alloc, detail, pickles, bytes, sink,
+        )?),
     }
 }
 
@@ -76,14 +78,16 @@ pub fn objects_many<S: Page>(alloc: Global, bytes: &[u8], sink: &mut S) -> Resul
     write_text(alloc, Text::Objects, true, bytes, sink)
 }
 
-/// Writes what the pickles would import and call in this reading, as `write_text` does: the lines of all of them, and the counts once.
+/// Writes what the pickles would import and call in this reading, as `write_text` does: the lines of all of them, with arguments cut or in
+/// full, and the counts once.
 pub fn calls<S: Page>(
     alloc: Global,
     pickles: Pickles,
+    detail: Detail,
     bytes: &[u8],
     sink: &mut S,
 ) -> Result<u8, Stop>
-    ensures { AnswersText (Text.Calls pickles) false bytes.now S.told sink.old sink.new result }
+    ensures { AnswersText (Text.Calls pickles detail) false bytes.now S.told sink.old sink.new result }
 {
-    write_text(alloc, Text::Calls(pickles), false, bytes, sink)
+    write_text(alloc, Text::Calls(pickles, detail), false, bytes, sink)
 }

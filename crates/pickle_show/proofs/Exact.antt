@@ -27,6 +27,7 @@ use Rattle.pickle_show.specs.declared.event.Before.{Before}
 use Rattle.pickle_show.specs.declared.event.Event.{Event}
 use Rattle.pickle_show.specs.declared.event.Event.TheVariants as event
 use Rattle.pickle_show.specs.Event.{before_of, event_of, made_event, made_as, is_view, top_of, taken_count}
+use Rattle.pickle_show.specs.declared.naming.Detail.{Detail}
 use Rattle.pickle_show.specs.CallsLine.{event_line, line_of}
 use Rattle.pickle_show.specs.Calls.{CountedText, naming_at, entry_at}
 use Rattle.pickle_show.specs.CallsLaws.{IsStep, Makes, Changes, IsShown, LineExactly, row_adds}
@@ -111,27 +112,27 @@ item_of_step d k s t step =
     let m = moves_at d k s t step in
     (m.item, m.there, subst (λ (x : State). HeapOf (row_of m.item) (fresh s) x) m.leads (heap_of (row_of m.item) (kind_of m.item) k (fresh s)))
 
-a_line : (d : Contents) (k : ℕ) (o : Operation) (s t : State) (e : Event) → item_at d k ≡ Some o → IsStep d k s t → item_event o s t ≡ Some e → (entry_at d k).text ≢ []
-a_line d k o s t e there step is = λ none.
-    let text : (entry_at d k).text ≡ line_of (offset_of d k) (naming_at d k) t.heap (item_event o s t) = ap (λ (x : CountedText). x.text) (entry_is d k o s t there step.before step.after) in
-    let here : event_line (offset_of d k) (naming_at d k) t.heap e ≡ [] = ap (line_of (offset_of d k) (naming_at d k) t.heap) (sym is) ∙ sym text ∙ none in
-    absurd (omega (arith, long (offset_of d k) (naming_at d k) t.heap e, ap length here))
+a_line : (how : Detail) (d : Contents) (k : ℕ) (o : Operation) (s t : State) (e : Event) → item_at d k ≡ Some o → IsStep d k s t → item_event o s t ≡ Some e → (entry_at how d k).text ≢ []
+a_line how d k o s t e there step is = λ none.
+    let text : (entry_at how d k).text ≡ line_of (offset_of d k) (naming_at how d k) t.heap (item_event o s t) = ap (λ (x : CountedText). x.text) (entry_is how d k o s t there step.before step.after) in
+    let here : event_line (offset_of d k) (naming_at how d k) t.heap e ≡ [] = ap (line_of (offset_of d k) (naming_at how d k) t.heap) (sym is) ∙ sym text ∙ none in
+    absurd (omega (arith, long (offset_of d k) (naming_at how d k) t.heap e, ap length here))
 
 build_event : (o : Operation) (s t : State) → o.opcode ≡ op.Build → (e : Event) × (item_event o s t ≡ Some e)
 build_event o s t is = (_, ap (λ (x : Opcode). event_of (row_of_opcode x o.arg) (before_of (fresh s)) t) is)
 
-makes_line : (d : Contents) (k : ℕ) (s t : State) → IsStep d k s t → Makes s t → (entry_at d k).text ≢ []
-makes_line d k s t step m =
+makes_line : (how : Detail) (d : Contents) (k : ℕ) (s t : State) → IsStep d k s t → Makes s t → (entry_at how d k).text ≢ []
+makes_line how d k s t step m =
     let i = item_of_step d k s t step in
     let made = pushed_by (row_of i.0) (fresh s) t m.id m.object i.2 m.there (ap (λ (l : List Object). slice_get l m.id) (fresh_heap s) ∙ m.fresh) in
     let here : slice_get t.heap (length (fresh s).heap) ≡ Some m.object = ap (slice_get t.heap) (sym made.0) ∙ m.there in
-    a_line d k i.0 s t (event.Made (length (fresh s).heap)) i.1 step (made.1 ∙ made_here t.heap (length (fresh s).heap) m.object here (or_true (is_opaque m.object.kind) (is_view t.heap m.object) m.shown))
+    a_line how d k i.0 s t (event.Made (length (fresh s).heap)) i.1 step (made.1 ∙ made_here t.heap (length (fresh s).heap) m.object here (or_true (is_opaque m.object.kind) (is_view t.heap m.object) m.shown))
 
-changes_line : (d : Contents) (k : ℕ) (s t : State) → IsStep d k s t → Changes s t → (entry_at d k).text ≢ []
-changes_line d k s t step c = λ none.
+changes_line : (how : Detail) (d : Contents) (k : ℕ) (s t : State) → IsStep d k s t → Changes s t → (entry_at how d k).text ≢ []
+changes_line how d k s t step c = λ none.
     let i = item_of_step d k s t step in
     let kinds : c.new.kind ≡ c.old.kind = kind_stays (row_of i.0) (fresh s) t c.id c.old c.new i.2 (ap (λ (l : List Object). slice_get l c.id) (fresh_heap s) ∙ c.before) c.after in
-    let same : slice_get s.heap c.id ≡ Some c.new = no_line_no_reach d k s t step none c.id c.new c.after (ap is_opaque kinds ∙ c.opaque) in
+    let same : slice_get s.heap c.id ≡ Some c.new = no_line_no_reach how d k s t step none c.id c.new c.after (ap is_opaque kinds ∙ c.opaque) in
     let equal : c.old ≡ c.new = some_same (slice_get s.heap c.id) c.old c.new c.before same in
     absurd (omega (arith, c.more, ap (λ (o : Object). length o.changes) equal))
 
@@ -147,17 +148,17 @@ adds_event (row.CutChange filling.Append) b t a o = added filling.Append (taken_
 adds_event (row.CutChange filling.Add) b t a o = added filling.Add (taken_count b t) t o
 adds_event _ b t a o = absurd cc
 
-shown_line : (d : Contents) (k : ℕ) (s t : State) → IsStep d k s t → IsShown d k s t → (entry_at d k).text ≢ []
-shown_line d k s t step shown = elim shown [
-  | inl makes ↦ makes_line d k s t step makes
+shown_line : (how : Detail) (d : Contents) (k : ℕ) (s t : State) → IsStep d k s t → IsShown d k s t → (entry_at how d k).text ≢ []
+shown_line how d k s t step shown = elim shown [
+  | inl makes ↦ makes_line how d k s t step makes
   | inr rest ↦ (elim rest [
-    | inl changes ↦ changes_line d k s t step changes
+    | inl changes ↦ changes_line how d k s t step changes
     | inr more ↦ (elim more [
-      | inl adds ↦ let e = adds_event (row_of adds.0) (before_of (fresh s)) t adds.2 adds.3 in a_line d k adds.0 s t e.0 adds.1 step e.1
-      | inr build ↦ let e = build_event build.0 s t build.2 in a_line d k build.0 s t e.0 build.1 step e.1
+      | inl adds ↦ let e = adds_event (row_of adds.0) (before_of (fresh s)) t adds.2 adds.3 in a_line how d k adds.0 s t e.0 adds.1 step e.1
+      | inr build ↦ let e = build_event build.0 s t build.2 in a_line how d k build.0 s t e.0 build.1 step e.1
     ])
   ])
 ]
 
 pub line_exactly : LineExactly
-line_exactly d k s t step = (λ some. only_shown d k s t step some, λ shown. shown_line d k s t step shown)
+line_exactly how d k s t step = (λ some. only_shown how d k s t step some, λ shown. shown_line how d k s t step shown)

@@ -27,6 +27,7 @@ use Rattle.pickle_show.specs.Listing.{reached}
 use Rattle.pickle_show.specs.declared.event.Event.{Event}
 use Rattle.pickle_show.specs.Event.{before_of, event_of}
 use Rattle.pickle_show.specs.CallsLine.{line_of, imports_of, calls_of, calls_end_text, ending_status}
+use Rattle.pickle_show.specs.declared.naming.Detail.{Detail}
 use Rattle.pickle_show.specs.declared.naming.Naming.{Naming}
 use Rattle.pickle_show.specs.Naming.{begin, naming_after}
 
@@ -50,9 +51,9 @@ naming_on (Some o) (Some t) m = naming_after (row_of o) (length t.heap) m
 naming_on (Some o) None m = m
 naming_on None t m = m
 
-abbrev pub naming_at : Contents → ℕ → Naming
-naming_at d zero = begin 0
-naming_at d (suc k) = naming_on (item_at d k) (run (start d.many) (ops_of d) (suc k)) (naming_at d k)
+abbrev pub naming_at : Detail → Contents → ℕ → Naming
+naming_at how d zero = begin how 0
+naming_at how d (suc k) = naming_on (item_at d k) (run (start d.many) (ops_of d) (suc k)) (naming_at how d k)
 
 -- from the state before the item, as its move is taken on it, to the one after it
 abbrev pub entry_on : ℕ → Naming → Option Operation → Option State → Option State → CountedText
@@ -62,14 +63,18 @@ entry_on offset m (Some o) None t = no_entry
 entry_on offset m None s t = no_entry
 
 -- what item k comes to
-unfoldable pub entry_at : Contents → ℕ → CountedText
-entry_at d k = entry_on (offset_of d k) (naming_at d k) (item_at d k) (run (start d.many) (ops_of d) k) (run (start d.many) (ops_of d) (suc k))
+unfoldable pub entry_at : Detail → Contents → ℕ → CountedText
+entry_at how d k = entry_on (offset_of d k) (naming_at how d k) (item_at d k) (run (start d.many) (ops_of d) k) (run (start d.many) (ops_of d) (suc k))
 
 -- what the first n items come to
-unfoldable pub entries : Contents → ℕ → CountedText
-entries d zero = no_entry
-entries d (suc k) =
-    record { text = (entries d k).text ⧺ (entry_at d k).text; imports = (entries d k).imports + (entry_at d k).imports; calls = (entries d k).calls + (entry_at d k).calls }
+unfoldable pub entries : Detail → Contents → ℕ → CountedText
+entries how d zero = no_entry
+entries how d (suc k) =
+    record {
+      text = (entries how d k).text ⧺ (entry_at how d k).text;
+      imports = (entries how d k).imports + (entry_at how d k).imports;
+      calls = (entries how d k).calls + (entry_at how d k).calls;
+    }
 
 -- ---- a frame that goes on behind STOP
 
@@ -145,8 +150,8 @@ calls_end d = end_by d (reached (start d.many) (ops_of d) (length (ops_of d)))
 abbrev pub with_end : Contents → CountedText → Ending → Output
 with_end d e x = record { text = e.text ⧺ calls_end_text (document_bytes d) e.imports e.calls x; status = ending_status x }
 
-abbrev pub calls_to : Contents → CallsEnd → Output
-calls_to d e = with_end d (entries d e.place) e.ending
+abbrev pub calls_to : Detail → Contents → CallsEnd → Output
+calls_to how d e = with_end d (entries how d e.place) e.ending
 
-unfoldable pub calls : Contents → Output
-calls d = calls_to d (calls_end d)
+unfoldable pub calls : Detail → Contents → Output
+calls how d = calls_to how d (calls_end d)

@@ -14,6 +14,7 @@ use Rattle.pickle_ops.specs.Row.{row_of}
 use Rattle.pickle_machine.specs.State.{State, start}
 use Rattle.pickle_machine.specs.Run.{run}
 use Rattle.pickle_machine.specs.Loader.{loose_at}
+use Rattle.pickle_show.specs.declared.naming.Detail.{Detail}
 use Rattle.pickle_show.specs.Output.{Output}
 use Rattle.pickle_show.specs.Event.{is_view, top_of}
 use Rattle.pickle_show.specs.Calls.{calls, entry_at}
@@ -21,13 +22,13 @@ use Rattle.pickle_show.specs.Calls.{calls, entry_at}
 -- ---- one text
 
 -- the text of the document that the bytes read as, as several pickles or as one
-abbrev pub IsCallsOf : Bool → List ℕ → Output → Type 0
-IsCallsOf many bytes c = (d : Contents) × ReadsAs many bytes d × (c ≡ calls d)
+abbrev pub IsCallsOf : Detail → Bool → List ℕ → Output → Type 0
+IsCallsOf how many bytes c = (d : Contents) × ReadsAs many bytes d × (c ≡ calls how d)
 
 -- in each mode a byte string has one text with one status, and no other
 abbrev pub OneText : Type 0
-OneText = (many : Bool) (bytes : List ℕ) → AreBytes bytes → length bytes < 2 ^ 64
-    → (c : Output) × IsCallsOf many bytes c × ((e : Contents) → ReadsAs many bytes e → c ≡ calls e)
+OneText = (how : Detail) (many : Bool) (bytes : List ℕ) → AreBytes bytes → length bytes < 2 ^ 64
+    → (c : Output) × IsCallsOf how many bytes c × ((e : Contents) → ReadsAs many bytes e → c ≡ calls how e)
 
 -- ---- no line, no reach
 
@@ -38,7 +39,7 @@ pub record IsStep (d : Contents) (k : ℕ) (s t : State) : Type 0 where
 
 -- an accepted item without a line makes no opaque object and leaves every one as it was
 abbrev pub NoLineNoReach : Type 0
-NoLineNoReach = (d : Contents) (k : ℕ) (s t : State) → IsStep d k s t → (entry_at d k).text ≡ []
+NoLineNoReach = (how : Detail) (d : Contents) (k : ℕ) (s t : State) → IsStep d k s t → (entry_at how d k).text ≡ []
     → (id : ℕ) (o : Object) → slice_get t.heap id ≡ Some o → is_opaque o.kind ≡ true → slice_get s.heap id ≡ Some o
 
 -- ---- exactly which items have a line
@@ -87,4 +88,4 @@ IsShown d k s t = Makes s t ⊎ (Changes s t ⊎ (Adds d k t ⊎ Builds d k))
 
 -- an accepted item has a line exactly where it is shown
 abbrev pub LineExactly : Type 0
-LineExactly = (d : Contents) (k : ℕ) (s t : State) → IsStep d k s t → ((entry_at d k).text ≢ [] → IsShown d k s t) × (IsShown d k s t → (entry_at d k).text ≢ [])
+LineExactly = (how : Detail) (d : Contents) (k : ℕ) (s t : State) → IsStep d k s t → ((entry_at how d k).text ≢ [] → IsShown d k s t) × (IsShown d k s t → (entry_at how d k).text ≢ [])

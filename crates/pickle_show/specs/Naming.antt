@@ -13,6 +13,7 @@ use Rattle.pickle_ops.specs.declared.row.Row.TheVariants as row
 use Rattle.pickle_ops.specs.declared.kind.Kind.{Kind}
 use Rattle.pickle_ops.specs.declared.kind.Kind.TheVariants as kind
 use Rattle.pickle_ops.specs.Object.{Object}
+use Rattle.pickle_show.specs.declared.naming.Detail.{Detail}
 use Rattle.pickle_show.specs.declared.naming.Naming.{Naming}
 use Rattle.pickle_show.specs.declared.name.SpelledText.{SpelledText}
 use Rattle.pickle_show.specs.declared.name.NamePair.{NamePair}
@@ -22,18 +23,18 @@ use Rattle.pickle_show.specs.Event.{part}
 -- ---- which names are those of Python 2
 
 -- a pickle begins, when there are this many objects
-abbrev pub begin : ℕ → Naming
-begin objects = record { old = true; since = objects }
+abbrev pub begin : Detail → ℕ → Naming
+begin how objects = record { detail = how; old = true; since = objects }
 
 -- names are read as of Python 2 or not, from these objects on where they were not before
 abbrev pub turned : Bool → ℕ → Naming → Naming
-turned true objects m = if m.old then m else record { old = true; since = objects }
-turned false objects m = if m.old then record { old = false; since = objects } else m
+turned true objects m = if m.old then m else record m { old = true; since = objects }
+turned false objects m = if m.old then record m { old = false; since = objects } else m
 
 -- after an item, when there are this many objects: after STOP the next pickle begins
 abbrev pub naming_after : Row → ℕ → Naming → Naming
 naming_after (row.Protocol n) objects m = turned (nat_lt n 3) objects m
-naming_after row.Stop objects m = begin objects
+naming_after row.Stop objects m = begin m.detail objects
 naming_after _ objects m = m
 
 -- ---- texts

@@ -5,20 +5,20 @@ ghost use Rattle.pickle_io.specs.Text.{◌⧺◌, quoted};
 ghost use Rattle.pickle_names.specs.Value.{decode};
 ghost use Rattle.pickle_names.specs.Reading.{IsReading};
 ghost use Rattle.pickle_io.specs.Device.{Writes, each};
-ghost use Rattle.pickle_show.specs.Brief.{over_text, cut_quoted, cut_after, cut_text, cut_text_after, cut_long, kind_brief, brief_text, next_brief, comma_list, more_text, briefs_text, kind_value, value_text};
+ghost use Rattle.pickle_show.specs.Brief.{over_text, cut_quoted, cut_after, cut_text, cut_long, shown_quoted, payload_after, shown_text, text_after, shown_long, long_after, kind_brief, brief_text, next_brief, comma_list, more_text, cut_list, shown_list, briefs_text, kind_value, value_text};
 
 use crate::front::front;
 use crate::kind::write_kind;
 use crate::name::{inner, write_global_after, write_stack_after};
-use crate::naming::Naming;
+use crate::naming::{Detail, Naming};
 use crate::words::{write_id, write_with_number};
-use pickle_names::{Coding, Reading, read, write_value as write_text_value};
+use pickle_names::{Coding, Reading, read, write_text, write_value as write_text_value};
 use pickle_ops::{Failed, Kind, ObjId, Object, Page, write_all, write_long, write_quoted};
 
-/// How many bytes of a payload are shown. A name is shown whole, since names are what is looked for.
+/// At how many bytes a payload is cut. A name is shown whole, since names are what is looked for.
 const MOST_BYTES: usize = 64;
 
-/// How many objects of a list are shown.
+/// At how many objects a list is cut.
 const MOST_OBJECTS: usize = 16;
 
 /// Writes how many bytes more there are, if any.
@@ -51,7 +51,7 @@ fn write_cut_after<S: Page>(keyword: &[u8], text: &[u8], sink: &mut S) -> Result
     write_cut(text, sink)
 }
 
-/// How many characters of a text are shown.
+/// At how many characters a text is cut.
 const MOST_CHARACTERS: usize = 64;
 
 /// Writes the first characters of a text by their value, and how many more bytes there are.
@@ -81,28 +81,89 @@ fn write_cut_text<S: Page>(coding: Coding, text: &[u8], sink: &mut S) -> Result<
     }
 }
 
-/// Writes a keyword, and the first characters of a text.
-#[tactic(auto, using(pickle_io::proofs::Devices::text_steps), unfolding(crate::specs::Brief::cut_text_after))]
-fn write_cut_text_after<S: Page>(
-    keyword: &[u8],
-    coding: Coding,
-    text: &[u8],
-    sink: &mut S,
-) -> Result<(), Failed>
-    ensures { Writes (S.told sink.old) (S.told sink.new) result (cut_text_after keyword.now coding text.now) }
-{
-    write_all(sink, keyword)?;
-    write_cut_text(coding, text, sink)
-}
-
 /// Writes a long number by its first bytes, and how many more there are.
 #[tactic(auto, using(pickle_io::proofs::Devices::text_steps), unfolding(crate::specs::Brief::cut_long))]
 fn write_cut_long<S: Page>(bytes: &[u8], sink: &mut S) -> Result<(), Failed>
     ensures { Writes (S.told sink.old) (S.told sink.new) result (cut_long bytes.now) }
 {
-    write_all(sink, b"int ")?;
     write_long(front(bytes, MOST_BYTES), sink)?;
     write_over(bytes.len().saturating_sub(MOST_BYTES), sink)
+}
+
+/// Writes a payload in quotes, cut or in full.
+#[tactic(auto, unfolding(crate::specs::Brief::shown_quoted))]
+fn write_shown<S: Page>(detail: Detail, text: &[u8], sink: &mut S) -> Result<(), Failed>
+    ensures { Writes (S.told sink.old) (S.told sink.new) result (shown_quoted detail text.now) }
+{
+    match detail {
+        Detail::Cut => write_cut(text, sink),
+        Detail::Full => write_quoted(text, sink),
+    }
+}
+
+/// Writes a keyword, and a payload in quotes, cut or in full.
+#[tactic(auto, using(pickle_io::proofs::Devices::text_steps), unfolding(crate::specs::Brief::payload_after))]
+fn write_payload_after<S: Page>(
+    detail: Detail,
+    keyword: &[u8],
+    text: &[u8],
+    sink: &mut S,
+) -> Result<(), Failed>
+    ensures { Writes (S.told sink.old) (S.told sink.new) result (payload_after detail keyword.now text.now) }
+{
+    write_all(sink, keyword)?;
+    write_shown(detail, text, sink)
+}
+
+/// Writes a text by its value, cut or in full.
+#[tactic(auto, unfolding(crate::specs::Brief::shown_text))]
+fn write_shown_text<S: Page>(
+    detail: Detail,
+    coding: Coding,
+    text: &[u8],
+    sink: &mut S,
+) -> Result<(), Failed>
+    ensures { Writes (S.told sink.old) (S.told sink.new) result (shown_text detail coding text.now) }
+{
+    match detail {
+        Detail::Cut => write_cut_text(coding, text, sink),
+        Detail::Full => write_text(coding, text, sink),
+    }
+}
+
+/// Writes a keyword, and a text by its value, cut or in full.
+#[tactic(auto, using(pickle_io::proofs::Devices::text_steps), unfolding(crate::specs::Brief::text_after))]
+fn write_text_after<S: Page>(
+    detail: Detail,
+    keyword: &[u8],
+    coding: Coding,
+    text: &[u8],
+    sink: &mut S,
+) -> Result<(), Failed>
+    ensures { Writes (S.told sink.old) (S.told sink.new) result (text_after detail keyword.now coding text.now) }
+{
+    write_all(sink, keyword)?;
+    write_shown_text(detail, coding, text, sink)
+}
+
+/// Writes a long number, cut or in full.
+#[tactic(auto, unfolding(crate::specs::Brief::shown_long))]
+fn write_shown_long<S: Page>(detail: Detail, bytes: &[u8], sink: &mut S) -> Result<(), Failed>
+    ensures { Writes (S.told sink.old) (S.told sink.new) result (shown_long detail bytes.now) }
+{
+    match detail {
+        Detail::Cut => write_cut_long(bytes, sink),
+        Detail::Full => write_long(bytes, sink),
+    }
+}
+
+/// Writes a keyword, and a long number, cut or in full.
+#[tactic(auto, using(pickle_io::proofs::Devices::text_steps), unfolding(crate::specs::Brief::long_after))]
+fn write_long_after<S: Page>(detail: Detail, bytes: &[u8], sink: &mut S) -> Result<(), Failed>
+    ensures { Writes (S.told sink.old) (S.told sink.new) result (long_after detail bytes.now) }
+{
+    write_all(sink, b"int ")?;
+    write_shown_long(detail, bytes, sink)
 }
 
 /// Writes an object of this kind with these parts in brief.
@@ -117,31 +178,38 @@ fn write_kind_brief<S: Page>(
 ) -> Result<(), Failed>
     ensures { Writes (S.told sink.old) (S.told sink.new) result (kind_brief naming heap.now id kind.now parts.now) }
 {
+    let detail = naming.detail;
     match kind {
         Kind::None => write_kind(kind, sink),
         Kind::True => write_kind(kind, sink),
         Kind::False => write_kind(kind, sink),
         Kind::Int(_) => write_kind(kind, sink),
-        Kind::Long(bytes) => write_cut_long(bytes.as_slice(), sink),
-        Kind::IntLine(text) => write_cut_after(b"int-line ", text.as_slice(), sink),
-        Kind::LongLine(text) => write_cut_after(b"long-line ", text.as_slice(), sink),
-        Kind::FloatLine(text) => write_cut_after(b"float-line ", text.as_slice(), sink),
+        Kind::Long(bytes) => write_long_after(detail, bytes.as_slice(), sink),
+        Kind::IntLine(text) => write_payload_after(detail, b"int-line ", text.as_slice(), sink),
+        Kind::LongLine(text) => write_payload_after(detail, b"long-line ", text.as_slice(), sink),
+        Kind::FloatLine(text) => write_payload_after(detail, b"float-line ", text.as_slice(), sink),
         Kind::Float(_) => write_kind(kind, sink),
         Kind::LegacyString(text) => {
-            write_cut_text_after(b"string ", Coding::Ascii, text.as_slice(), sink)
+            write_text_after(detail, b"string ", Coding::Ascii, text.as_slice(), sink)
         }
         Kind::LegacyLine(text) => {
-            write_cut_text_after(
+            write_text_after(
+                detail,
                 b"string ",
                 Coding::StringEscape,
                 inner(text.as_slice()),
                 sink,
             )
         }
-        Kind::Text(text) => write_cut_text(Coding::AnyUtf8, text.as_slice(), sink),
-        Kind::TextLine(text) => write_cut_text(Coding::RawEscape, text.as_slice(), sink),
-        Kind::Bytes(bytes) => write_cut_after(b"bytes ", bytes.as_slice(), sink),
-        Kind::ByteArray(bytes) => write_cut_after(b"bytearray ", bytes.as_slice(), sink),
+        Kind::Text(text) => write_shown_text(detail, Coding::AnyUtf8, text.as_slice(), sink),
+        Kind::TextLine(text) => write_shown_text(detail, Coding::RawEscape, text.as_slice(), sink),
+        Kind::Bytes(bytes) => write_payload_after(detail, b"bytes ", bytes.as_slice(), sink),
+        Kind::ByteArray(bytes) => write_payload_after(
+            detail,
+            b"bytearray ",
+            bytes.as_slice(),
+            sink,
+        ),
         Kind::Global(names) => {
             write_global_after(
                 b"global ",
@@ -247,7 +315,37 @@ fn write_more<S: Page>(count: usize, sink: &mut S) -> Result<(), Failed>
     }
 }
 
-/// Writes the first objects in brackets, and how many more there are.
+/// Writes the first objects, and how many more there are.
+#[tactic(auto, using(pickle_io::proofs::Devices::text_steps), unfolding(crate::specs::Brief::cut_list))]
+fn write_cut_list<S: Page>(
+    naming: Naming,
+    heap: &[Object],
+    ids: &[ObjId],
+    sink: &mut S,
+) -> Result<(), Failed>
+    ensures { Writes (S.told sink.old) (S.told sink.new) result (cut_list naming heap.now ids.now) }
+{
+    write_joined(naming, heap, front(ids, MOST_OBJECTS), sink)?;
+    write_more(ids.len().saturating_sub(MOST_OBJECTS), sink)
+}
+
+/// Writes the first objects, or all.
+#[tactic(auto, unfolding(crate::specs::Brief::shown_list))]
+fn write_shown_list<S: Page>(
+    naming: Naming,
+    heap: &[Object],
+    ids: &[ObjId],
+    sink: &mut S,
+) -> Result<(), Failed>
+    ensures { Writes (S.told sink.old) (S.told sink.new) result (shown_list naming.detail naming heap.now ids.now) }
+{
+    match naming.detail {
+        Detail::Cut => write_cut_list(naming, heap, ids, sink),
+        Detail::Full => write_joined(naming, heap, ids, sink),
+    }
+}
+
+/// Writes objects in brackets.
 #[tactic(auto, using(pickle_io::proofs::Devices::text_steps), unfolding(crate::specs::Brief::briefs_text))]
 pub fn write_briefs<S: Page>(
     naming: Naming,
@@ -258,8 +356,7 @@ pub fn write_briefs<S: Page>(
     ensures { Writes (S.told sink.old) (S.told sink.new) result (briefs_text naming heap.now ids.now) }
 {
     write_all(sink, b"(")?;
-    write_joined(naming, heap, front(ids, MOST_OBJECTS), sink)?;
-    write_more(ids.len().saturating_sub(MOST_OBJECTS), sink)?;
+    write_shown_list(naming, heap, ids, sink)?;
     write_all(sink, b")")
 }
 

@@ -11,7 +11,7 @@ use crate::calls_line::write_line;
 use crate::course::Course;
 use crate::end::{Ending, write_end};
 use crate::event::{Before, event_of};
-use crate::naming::leaves_frame;
+use crate::naming::{Detail, leaves_frame};
 use crate::report::{Closing, closing_at, step_over};
 use crate::stop::TextStop;
 use pickle_doc::{ItemSource, Items, NextRef, ends_reading, is_stop};
@@ -41,6 +41,7 @@ pub struct Ran {
 /// `Memory` (M) where memory runs out, `Failed` where the sink fails; what was written then is a beginning of the text.
 pub fn run_items<'a, I: ItemSource<'a>, S: Page>(
     alloc: Global,
+    detail: Detail,
     many: bool,
     source: I,
     machine: &mut Machine,
@@ -48,11 +49,11 @@ pub fn run_items<'a, I: ItemSource<'a>, S: Page>(
 ) -> Result<Ran, TextStop>
     requires source { GivesDocument many (I.unread source) }
     requires fresh { machine.old.state ≡ start many }
-    ensures ok { IfOk result (IsRun many (I.unread source).rest (S.told sink.old) (S.told sink.new) machine.new.state) }
-    ensures err { IfErr result (CutsCalls many (I.unread source).rest (S.told sink.old) (S.told sink.new)) }
+    ensures ok { IfOk result (IsRun detail many (I.unread source).rest (S.told sink.old) (S.told sink.new) machine.new.state) }
+    ensures err { IfErr result (CutsCalls detail many (I.unread source).rest (S.told sink.old) (S.told sink.new)) }
 {
     let mut reader = source;
-    let mut course = Course::new();
+    let mut course = Course::new(detail);
     let mut offset = 0;
     let mut place = 0;
     let mut stop = false;
@@ -117,15 +118,16 @@ pub fn run_items<'a, I: ItemSource<'a>, S: Page>(
 /// `Memory` (M) where memory runs out, `Failed` where the sink fails; what was written then is a beginning of the text.
 pub fn calls_of_bytes<S: Page>(
     alloc: Global,
+    detail: Detail,
     many: bool,
     bytes: &[u8],
     sink: &mut S,
 ) -> Result<u8, TextStop>
     requires { length bytes.now ≤ size_limit }
-    ensures ok { IfOk result (CompletesCalls many bytes.now (S.told sink.old) (S.told sink.new)) }
-    ensures err { IfErr result (CutsCalls many bytes.now (S.told sink.old) (S.told sink.new)) }
+    ensures ok { IfOk result (CompletesCalls detail many bytes.now (S.told sink.old) (S.told sink.new)) }
+    ensures err { IfErr result (CutsCalls detail many bytes.now (S.told sink.old) (S.told sink.new)) }
 {
     let mut machine = Machine::start(alloc, many);
-    let ran = run_items(alloc, many, Items::new(bytes), &mut machine, sink)?;
+    let ran = run_items(alloc, detail, many, Items::new(bytes), &mut machine, sink)?;
     write_end(bytes, ran.course, ran.ending, sink)
 }

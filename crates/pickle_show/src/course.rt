@@ -5,7 +5,7 @@ ghost use Rattle.pickle_show.specs.CallsLine.{is_import, is_call, imports_of, ca
 ghost use Rattle.pickle_show.specs.Event.{object_is};
 
 use crate::event::Event;
-use crate::naming::{Naming, left_behind};
+use crate::naming::{Detail, Naming, left_behind};
 use pickle_ops::{Kind, ObjId, Object, OpRef, Row};
 
 /// What goes along with the items that were stepped: how many imports and calls their lines are, how names are read, and what is left of a
@@ -97,13 +97,13 @@ impl Course {
     ghost use Rattle.pickle_show.specs.CallsLine.{imports_of, calls_of};
 
     /// No line was written.
-    pub fn new() -> Course
-        ensures { result ≡ record { imports = 0; calls = 0; naming = begin 0; left = 0 } }
+    pub fn new(detail: Detail) -> Course
+        ensures { result ≡ record { imports = 0; calls = 0; naming = begin detail 0; left = 0 } }
     {
         Course {
             imports: 0,
             calls: 0,
-            naming: Naming::begin(0),
+            naming: Naming::begin(detail, 0),
             left: 0,
         }
     }

@@ -51,7 +51,7 @@ pub use event::{Before, Event, event_of};
 pub use laws::one_report;
 pub use list::{list_bytes, list_items, write_listing};
 pub use memo::write_memo;
-pub use naming::Naming;
+pub use naming::{Detail, Naming};
 pub use number::write_right;
 pub use object::{write_all_next, write_object, write_objects};
 pub use report::{

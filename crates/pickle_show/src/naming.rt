@@ -1,4 +1,4 @@
-//! How the names of what is imported are read, and what is left of a frame: both go along with the items.
+//! How the names of what is imported are read, how much of an argument is shown, and what is left of a frame: these go along with the items.
 
 ghost use Rattle.std.specs.Prelude.{◌≡◌, ◌&&◌, nat_lt};
 ghost use Rattle.pickle_doc.specs.DocUnit.{is_stop, is_frame, frame_number};
@@ -6,10 +6,23 @@ ghost use Rattle.pickle_doc.specs.Fitting.{left_behind};
 
 use pickle_ops::{ObjId, OpRef, Opcode, Row};
 
-/// Whether names are read as those of Python 2, and how many objects there were when that began: of older ones it is not known.
+/// How much of an argument is shown.
+#[derive(Clone, Copy, Debug, PartialEq, Eq)]
+pub enum Detail {
+    /// The first 64 characters of a text, the first 64 bytes of other payloads, the first 16 parts of a tuple, and how many more there
+    /// are.
+    Cut,
+    /// All of a text, of a payload, and of the parts of a tuple.
+    Full,
+}
+
+/// How objects are shown in a line: how much of them, whether names are read as those of Python 2, and how many objects there were when
+/// that began: of older ones it is not known.
 #[derive(Clone, Copy)]
 pub struct Naming {
-    /// Below protocol 3 they are.
+    /// How much of an argument is shown.
+    pub detail: Detail,
+    /// Below protocol 3 names are read as those of Python 2.
     pub old: bool,
     /// The number of the first object since then.
     pub since: ObjId,
@@ -20,10 +33,11 @@ impl Naming {
     ghost use Rattle.pickle_show.specs.Naming.{begin, turned, naming_after};
 
     /// A pickle begins, when there are this many objects.
-    pub fn begin(objects: ObjId) -> Naming
-        ensures { result ≡ begin objects }
+    pub fn begin(detail: Detail, objects: ObjId) -> Naming
+        ensures { result ≡ begin detail objects }
     {
         Naming {
+            detail,
             old: true,
             since: objects,
         }
@@ -37,6 +51,7 @@ impl Naming {
             self
         } else {
             Naming {
+                detail: self.detail,
                 old,
                 since: objects,
             }
@@ -49,7 +64,7 @@ impl Naming {
     {
         match row {
             Row::Protocol(protocol) => self.turned(protocol < 3, objects),
-            Row::Stop => Naming::begin(objects),
+            Row::Stop => Naming::begin(self.detail, objects),
             _ => self,
         }
     }

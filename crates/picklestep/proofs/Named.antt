@@ -7,10 +7,11 @@ use Rattle.clap.specs.declared.error.Error.{Error}
 use Rattle.clap.specs.declared.error.kind.ErrorKind.TheVariants as kind
 use Rattle.picklestep.specs.declared.task.Task.{Task}
 use Rattle.picklestep.specs.declared.task.Task.TheVariants as task
+use Rattle.picklestep.specs.declared.task.CallsOptions.{CallsOptions}
 use Rattle.picklestep.specs.declared.task.Usage.{Usage}
 use Rattle.picklestep.specs.declared.task.Usage.TheVariants as usage
 use Rattle.pickle_further.specs.declared.way.Pickles.{Pickles}
-use Rattle.picklestep.specs.CommandLine.{Matches, GivesReading, HasReading, IsMemory, IsNamed, IsWindow, most_records}
+use Rattle.picklestep.specs.CommandLine.{Matches, GivesReading, HasReading, HasCallsOptions, IsMemory, IsNamed, IsWindow, most_records}
 
 -- ---- a subcommand
 
@@ -41,7 +42,7 @@ no_file matches name rows found want file p n q f =
 pub no_task : (matches : Matches) (name : Text) (rows : List Row) (t : Task) → matches ≡ Some (name, rows) → None ≡ first_of (codes "FILE") rows → IsNamed matches t → ⊥
 no_task matches name rows (task.List input) p n u = no_file matches name rows u.rows _ _ p n u.used u.file_is
 no_task matches name rows (task.Objects input) p n u = no_file matches name rows u.rows _ _ p n u.used u.file_is
-no_task matches name rows (task.Calls input pickles) p n u = no_file matches name rows u.0.rows _ _ p n u.0.used u.0.file_is
+no_task matches name rows (task.Calls input options) p n u = no_file matches name rows u.0.rows _ _ p n u.0.used u.0.file_is
 no_task matches name rows (task.Debug input options) p n u = no_file matches name rows u.0.rows _ _ p n u.0.used u.0.file_is
 
 -- ---- a window
@@ -114,12 +115,12 @@ letter None = 0
 letter (Some ([], rows)) = 0
 letter (Some (c ∷ more, rows)) = c
 
--- without a reading there is no task of `calls`
-pub no_reading : (matches : Matches) (rows : List Row) (t : Task) → matches ≡ Some (codes "calls", rows) → ((p : Pickles) → HasReading rows p → ⊥) → IsNamed matches t → ⊥
+-- without its options there is no task of `calls`
+pub no_reading : (matches : Matches) (rows : List Row) (t : Task) → matches ≡ Some (codes "calls", rows) → ((o : CallsOptions) → HasCallsOptions rows o → ⊥) → IsNamed matches t → ⊥
 unfolding letter
 no_reading matches rows (task.List input) e out u = let bad : 99 ≡ 108 = ap letter (sym e ∙ u.used) in omega (arith, bad)
 no_reading matches rows (task.Objects input) e out u = let bad : 99 ≡ 111 = ap letter (sym e ∙ u.used) in omega (arith, bad)
-no_reading matches rows (task.Calls input pickles) e out u = out pickles (subst (λ r. HasReading r pickles) (sym (not_used matches _ _ rows u.0.rows e u.0.used)) u.1)
+no_reading matches rows (task.Calls input options) e out u = out options (subst (λ r. HasCallsOptions r options) (sym (not_used matches _ _ rows u.0.rows e u.0.used)) u.1)
 no_reading matches rows (task.Debug input options) e out u = let bad : 99 ≡ 100 = ap letter (sym e ∙ u.0.used) in omega (arith, bad)
 
 -- ---- a refusal

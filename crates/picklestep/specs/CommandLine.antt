@@ -1,16 +1,19 @@
 -- The command line, as clap's words say it, and the task that clap's matches of the words name.
-use Rattle.std.specs.Prelude.{◌≡◌, ◌≤◌, Bool, IsTrue, ℕ, List, Option, None, Some, IfSome, option_map, true, false, pos, codes, ⊤}
+use Rattle.std.specs.Prelude.{◌≡◌, ◌≢◌, ◌≤◌, Bool, IsTrue, ℕ, List, Option, None, Some, IfSome, option_map, true, false, pos, codes, ⊤}
 use Rattle.std.specs.String.{string_bytes}
 use Rattle.std.specs.Str.Parse.{IsNumeral, digits_value, without_leading_plus}
 use Rattle.clap.specs.Words.{App, Row, Rule, Text, first_of, one_of, kind_of, new_app, new_rule, with_rule, with_subcommand}
 use Rattle.clap.specs.declared.builder.action.ArgAction.TheVariants.{Set, SetTrue}
 use Rattle.clap.specs.declared.builder.value_parser.ValueParser.TheVariants as parser
 use Rattle.clap.specs.declared.error.kind.ErrorKind.TheVariants as kind
+use Rattle.pickle_show.specs.declared.naming.Detail.{Detail}
+use Rattle.pickle_show.specs.declared.naming.Detail.TheVariants as detail
 use Rattle.pickle_further.specs.declared.way.Pickles.{Pickles}
 use Rattle.pickle_further.specs.declared.way.Pickles.TheVariants as pickles
 use Rattle.picklestep.specs.declared.task.Task.{Task}
 use Rattle.picklestep.specs.declared.task.Task.TheVariants as task
 use Rattle.picklestep.specs.declared.task.GivenFile.{GivenFile}
+use Rattle.picklestep.specs.declared.task.CallsOptions.{CallsOptions}
 use Rattle.picklestep.specs.declared.task.Options.{Options}
 use Rattle.picklestep.specs.declared.task.Usage.{Usage}
 use Rattle.picklestep.specs.declared.task.Usage.TheVariants as usage
@@ -39,12 +42,15 @@ first_rule = record (new_rule (codes "first")) { long = Some (codes "first"); ac
 abbrev pub memo_rule : Rule
 memo_rule = record (new_rule (codes "memo")) { long = Some (codes "memo"); value_names = 1; action = Some Set }
 
+abbrev pub full_rule : Rule
+full_rule = record (new_rule (codes "full")) { long = Some (codes "full"); action = Some SetTrue }
+
 -- a subcommand that is done on one file, as one pickle or as several
 abbrev pub on_file : Text → App
 on_file name = with_rule (with_rule (new_app name) file_rule) many_rule
 
 abbrev pub calls_app : App
-calls_app = with_rule (with_rule (on_file (codes "calls")) first_rule) memo_rule
+calls_app = with_rule (with_rule (with_rule (on_file (codes "calls")) first_rule) memo_rule) full_rule
 
 abbrev pub debug_app : App
 debug_app = with_rule (with_rule (on_file (codes "debug")) window_rule) save_rule
@@ -96,6 +102,15 @@ pub record HasReading (rows : List Row) (p : Pickles) : Type 0 where
   pub all_is : first_of (codes "first") rows ≡ Some (codes "true") → IsTrue first
   pub gives : GivesReading first (first_of (codes "memo") rows) p
 
+-- arguments are shown in full with `--full`, and are cut without it
+abbrev pub HasDetail : List Row → Detail → Type 0
+HasDetail rows detail.Full = first_of (codes "full") rows ≡ Some (codes "true")
+HasDetail rows detail.Cut = first_of (codes "full") rows ≢ Some (codes "true")
+
+pub record HasCallsOptions (rows : List Row) (options : CallsOptions) : Type 0 where
+  pub pickles_is : HasReading rows options.pickles
+  pub detail_is : HasDetail rows options.detail
+
 pub record HasOptions (rows : List Row) (options : Options) : Type 0 where
   pub save_is : first_of (codes "save") rows ≡ option_map string_bytes options.save
   pub window_is : IsWindow (one_of (codes "window") rows) options.window
@@ -103,14 +118,14 @@ pub record HasOptions (rows : List Row) (options : Options) : Type 0 where
 abbrev pub IsNamed : Matches → Task → Type 0
 IsNamed matches (task.List input) = IsUsed (codes "list") matches input
 IsNamed matches (task.Objects input) = IsUsed (codes "objects") matches input
-IsNamed matches (task.Calls input pickles) = (u : IsUsed (codes "calls") matches input) × HasReading u.rows pickles
+IsNamed matches (task.Calls input options) = (u : IsUsed (codes "calls") matches input) × HasCallsOptions u.rows options
 IsNamed matches (task.Debug input options) = (u : IsUsed (codes "debug") matches input) × HasOptions u.rows options
 
 -- a number of step records is within the bounds
 abbrev pub IsBounded : Task → Type 0
 IsBounded (task.List input) = ⊤
 IsBounded (task.Objects input) = ⊤
-IsBounded (task.Calls input pickles) = ⊤
+IsBounded (task.Calls input options) = ⊤
 IsBounded (task.Debug input options) = IfSome options.window (λ n. (1 ≤ n) × (n ≤ most_records))
 
 -- the words are refused where memory runs out

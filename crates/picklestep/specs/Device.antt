@@ -56,14 +56,14 @@ AnswersInput text many source source' old new result = WasNotRead source source'
 abbrev pub input_of : Task → GivenFile
 input_of (task.List input) = input
 input_of (task.Objects input) = input
-input_of (task.Calls input pickles) = input
+input_of (task.Calls input options) = input
 input_of (task.Debug input options) = input
 
 -- a conversation asks for no text
 abbrev pub text_of : Task → Option Text
 text_of (task.List input) = Some text.Listing
 text_of (task.Objects input) = Some text.Objects
-text_of (task.Calls input pickles) = Some (text.Calls pickles)
+text_of (task.Calls input options) = Some (text.Calls options.pickles options.detail)
 text_of (task.Debug input options) = None
 
 -- the text that is asked for, in the mode that is asked for, was answered of all bytes of the source

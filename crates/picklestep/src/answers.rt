@@ -48,7 +48,7 @@ fn text_of(task: &Task) -> Option<Text>
     match task {
         Task::List(_) => Some(Text::Listing),
         Task::Objects(_) => Some(Text::Objects),
-        Task::Calls(_, pickles) => Some(Text::Calls(*pickles)),
+        Task::Calls(_, options) => Some(Text::Calls(options.pickles, options.detail)),
         Task::Debug(_, _) => None,
     }
 }

@@ -2,13 +2,19 @@
 
 ghost use Rattle.std.specs.Prelude.{◌≡◌, IfOk, false};
 ghost use Rattle.clap.specs.Words.{rule_of, app_of};
-ghost use Rattle.picklestep.specs.CommandLine.{file_rule, many_rule, first_rule, memo_rule, window_rule, save_rule, on_file, calls_app, debug_app, program};
+ghost use Rattle.picklestep.specs.CommandLine.{file_rule, many_rule, first_rule, memo_rule, full_rule, window_rule, save_rule, on_file, calls_app, debug_app, program};
 
 use clap::{Arg, ArgAction, Command};
 use std::alloc::{AllocError, Global};
 
 /// The most step records that a conversation may be asked to keep.
 pub const MOST_RECORDS: usize = 1_000_000;
+
+/// What `--many` does.
+const MANY: &str = "read FILE as pickles that follow one another: go on after each STOP";
+
+/// What it does for `calls`.
+const MANY_OF_CALLS: &str = "changes nothing: all pickles of FILE are read without it too";
 
 /// The argument of a task that is done on one file.
 fn file_argument<'a>(alloc: Global) -> Arg<'a>
@@ -22,24 +28,24 @@ fn file_argument<'a>(alloc: Global) -> Arg<'a>
 }
 
 /// Whether a file is read as several pickles.
-fn many_argument<'a>(alloc: Global) -> Arg<'a>
+fn many_argument<'a>(alloc: Global, help: &'a str) -> Arg<'a>
     ensures rule { rule_of result ≡ many_rule }
     ensures local { result.global ≡ false }
 {
     Arg::new(alloc, "many")
         .long("many")
-        .help("read FILE as pickles that follow one another: go on after each STOP")
+        .help(help)
         .action(ArgAction::SetTrue)
 }
 
-/// Whether only the first pickle is told of.
+/// Whether only the first pickle is read.
 fn first_argument<'a>(alloc: Global) -> Arg<'a>
     ensures rule { rule_of result ≡ first_rule }
     ensures local { result.global ≡ false }
 {
     Arg::new(alloc, "first")
         .long("first")
-        .help("tell of the first pickle alone, up to its STOP")
+        .help("read the first pickle alone, up to its STOP")
         .action(ArgAction::SetTrue)
 }
 
@@ -55,6 +61,17 @@ fn memo_argument<'a>(alloc: Global) -> Arg<'a>
         .action(ArgAction::Set)
 }
 
+/// Whether arguments are shown in full.
+fn full_argument<'a>(alloc: Global) -> Arg<'a>
+    ensures rule { rule_of result ≡ full_rule }
+    ensures local { result.global ≡ false }
+{
+    Arg::new(alloc, "full")
+        .long("full")
+        .help("print arguments in full: whole texts, and all parts of a tuple")
+        .action(ArgAction::SetTrue)
+}
+
 /// How many step records a conversation keeps.
 fn window_argument<'a>(alloc: Global) -> Arg<'a>
     ensures rule { rule_of result ≡ window_rule }
@@ -64,7 +81,7 @@ fn window_argument<'a>(alloc: Global) -> Arg<'a>
         .long("window")
         .value_name("N")
         .help(
-            "keep the records of the latest N steps, and build the machine anew to go back further",
+            "keep the records of the latest N steps; to go back further, run from the start again",
         )
         .value_parser(clap::value_parser!(u32).range(1..=MOST_RECORDS as i64))
         .action(ArgAction::Set)
@@ -83,36 +100,44 @@ fn save_argument<'a>(alloc: Global) -> Arg<'a>
 }
 
 /// A command that is done on one file, as one pickle or as several.
-fn on_file<'a>(alloc: Global, name: &'a str, about: &'a str) -> Result<Command<'a>, AllocError>
+fn on_file<'a>(
+    alloc: Global,
+    name: &'a str,
+    about: &'a str,
+    many: &'a str,
+) -> Result<Command<'a>, AllocError>
     ensures { IfOk result (λ c. app_of c ≡ on_file name.now) }
 {
     Command::new(alloc, name)
         .about(about)
         .arg(file_argument(alloc))?
-        .arg(many_argument(alloc))
+        .arg(many_argument(alloc, many))
 }
 
-/// The command that tells what a file would import and call.
+/// The command that prints what a file would import and call.
 fn calls_command<'a>(alloc: Global) -> Result<Command<'a>, AllocError>
     ensures { IfOk result (λ c. app_of c ≡ calls_app) }
 {
     on_file(
         alloc,
         "calls",
-        "Tells what the pickles of FILE would import and call, a line for each opcode that does so",
+        "Prints what the pickles of FILE would import and call, a line for each opcode that does so",
+        MANY_OF_CALLS,
     )?
     .arg(first_argument(alloc))?
-    .arg(memo_argument(alloc))
+    .arg(memo_argument(alloc))?
+    .arg(full_argument(alloc))
 }
 
-/// The command that talks about a file.
+/// The command that answers lines about a file.
 fn debug_command<'a>(alloc: Global) -> Result<Command<'a>, AllocError>
     ensures { IfOk result (λ c. app_of c ≡ debug_app) }
 {
     on_file(
         alloc,
         "debug",
-        "Obeys the lines of standard input on FILE: steps forwards and back, shows, edits",
+        "Runs the commands of standard input on FILE: steps forwards and back, shows, edits",
+        MANY,
     )?
     .arg(window_argument(alloc))?
     .arg(save_argument(alloc))
@@ -126,11 +151,13 @@ pub fn command_line<'a>(alloc: Global) -> Result<Command<'a>, AllocError>
         alloc,
         "list",
         "Lists the opcodes of FILE with their offsets and arguments",
+        MANY,
     )?;
     let reporting = on_file(
         alloc,
         "objects",
-        "Tells the objects that the opcodes of FILE make, and which of them is the result",
+        "Prints the objects that the opcodes of FILE make, and which of them is the result",
+        MANY,
     )?;
     let calling = calls_command(alloc)?;
     let debugging = debug_command(alloc)?;

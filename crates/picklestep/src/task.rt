@@ -3,12 +3,12 @@
 ghost use Rattle.std.specs.Prelude.{◌≡◌, ◌≤◌, IsTrue, ℕ, Option, Some, None, Ok, IfOk, IfErr, IfSome, map, option_map, true, codes};
 ghost use Rattle.std.specs.String.{string_bytes};
 ghost use Rattle.clap.specs.Words.{found_of, first_of, one_of, rows_of, subcommand_of, subcommand_rows_of, takes};
-ghost use Rattle.picklestep.specs.CommandLine.{program, most_records, GivesReading, HasReading, HasOptions, IsWindow, IsNamed, IsBounded, IsMemory};
+ghost use Rattle.picklestep.specs.CommandLine.{program, most_records, GivesReading, HasReading, HasDetail, HasCallsOptions, HasOptions, IsWindow, IsNamed, IsBounded, IsMemory};
 
 use crate::command_line::{MOST_RECORDS, command_line};
 use clap::error::ErrorKind;
 use clap::{ArgMatches, Error};
-use pickle_script::Pickles;
+use pickle_script::{Detail, Pickles};
 use std::alloc::{AllocError, Global};
 
 /// What is said of options that name no pickles to tell of: other words that are no task clap refuses.
@@ -30,10 +30,19 @@ pub enum Task {
     List(GivenFile),
     /// Print one line per object, in creation order.
     Objects(GivenFile),
-    /// Print what these pickles would import and call. Whether the file is read as several pickles changes nothing.
-    Calls(GivenFile, Pickles),
+    /// Print what pickles would import and call. Whether the file is read as several pickles changes nothing.
+    Calls(GivenFile, CallsOptions),
     /// Read commands from standard input and answer each.
     Debug(GivenFile, Options),
+}
+
+/// The options of what pickles would import and call.
+#[derive(Clone, Copy, Debug, PartialEq, Eq)]
+pub struct CallsOptions {
+    /// Which pickles are read.
+    pub pickles: Pickles,
+    /// How much of an argument is shown.
+    pub detail: Detail,
 }
 
 /// The options of a conversation.
@@ -164,6 +173,31 @@ fn pickles_of(found: &ArgMatches<'_>) -> Option<Pickles>
     reading_of(first, found.get_str("memo"))
 }
 
+/// How much of an argument is shown.
+fn detail_of(found: &ArgMatches<'_>) -> Detail
+    ensures { HasDetail (rows_of (found_of found.now)) result }
+{
+    if is_given(found, "full") {
+        Detail::Full
+    } else {
+        Detail::Cut
+    }
+}
+
+/// The options of what pickles would import and call; no answer where they name no pickles.
+fn calls_options_of(found: &ArgMatches<'_>) -> Option<CallsOptions>
+    ensures some { IfSome result (HasCallsOptions (rows_of (found_of found.now))) }
+    ensures none { result ≡ None → (options : CallsOptions) → HasCallsOptions (rows_of (found_of found.now)) options → ⊥ }
+{
+    match pickles_of(found) {
+        Some(pickles) => {
+            let detail = detail_of(found);
+            Some(CallsOptions { pickles, detail })
+        }
+        None => None,
+    }
+}
+
 /// The task that matches name, if they name one.
 fn named(alloc: Global, matches: &ArgMatches<'_>) -> Result<Option<Task>, AllocError>
     ensures some { IfOk result (λ r. IfSome r (IsNamed (subcommand_rows_of matches.now))) }
@@ -183,11 +217,11 @@ fn named(alloc: Global, matches: &ArgMatches<'_>) -> Result<Option<Task>, AllocE
         let file = String::from_str(alloc, file)?;
         Ok(Some(Task::Objects(GivenFile { file, many })))
     } else if name == "calls" {
-        let Some(pickles) = pickles_of(found) else {
+        let Some(options) = calls_options_of(found) else {
             return Ok(None);
         };
         let file = String::from_str(alloc, file)?;
-        Ok(Some(Task::Calls(GivenFile { file, many }, pickles)))
+        Ok(Some(Task::Calls(GivenFile { file, many }, options)))
     } else if name == "debug" {
         let Some(options) = options_of(alloc, found)? else {
             return Ok(None);

@@ -11,7 +11,7 @@ run_items-requires g c κs =
 pub returns-in_err-ran-clause-err : goal.returns-in_err-ran-clause-err
 returns-in_err-ran-clause-err g c =
     let cut = rw (c.new.ensures, c.are_many-many.ensures) at c.in_err-ran.ensures.err in
-    err_is _ _ _ c.from_residual.ensures.1 (first_cut _ _ _ _ _ cut)
+    err_is _ _ _ c.from_residual.ensures.1 (first_cut _ _ _ _ _ _ cut)
 
 pub returns-in_err-status-clause-err : goal.returns-in_err-status-clause-err
 returns-in_err-status-clause-err g c =

@@ -11,7 +11,7 @@ use Rattle.pickle_show.proofs.Moves.{move_heap}
 use Rattle.pickle_show.proofs.calls.run_items.Goals as goal
 
 pub items-init : goal.items-init
-items-init g c = rw (c.requires.source.first, c.requires.fresh, c.new-course.ensures) (walked_none _ _ _ c.requires.source.document c.requires.source.small)
+items-init g c = rw (c.requires.source.first, c.requires.fresh, c.new-course.ensures) (walked_none _ _ _ _ c.requires.source.document c.requires.source.small)
 
 pub returns-in-Tail-clause-ok : goal.returns-in-Tail-clause-ok
 returns-in-Tail-clause-ok g c =
@@ -50,7 +50,7 @@ returns-in_err-write_line-in-Item-clause-err g c =
     let n : IsNextItem (g.I.ItemSource.unread c.items.reader).left (g.I.ItemSource.unread c.items.reader).rest c.in-Item.op (size_of c.in-Item.op)
     × (g.I.ItemSource.unread c.next.new.self ≡ record { rest = drop (size_of c.in-Item.op) (g.I.ItemSource.unread c.items.reader).rest; left = left_behind (g.I.ItemSource.unread c.items.reader).left c.in-Item.op }) = rw c.in-Item.is at c.next.ensures in
     let line = rw (c.heap.ensures, c.event_of-event.ensures, c.of_ref-row.ensures, c.of-before.ensures) at c.in_err-write_line-in-Item.ensures in
-    cut_failed _ _ _ _ c.from_residual.ensures.1 (line_breaks _ _ _ _ _ _ _ _ c.in-Item.op _ _ _ c.items.invariant n.0 c.in_default.ensures.ok line)
+    cut_failed _ _ _ _ _ c.from_residual.ensures.1 (line_breaks _ _ _ _ _ _ _ _ c.in-Item.op _ _ _ c.items.invariant n.0 c.in_default.ensures.ok line)
 
 pub over-course-requires-clause-imports : goal.over-course-requires-clause-imports
 over-course-requires-clause-imports g c =
