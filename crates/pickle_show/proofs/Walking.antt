@@ -59,7 +59,7 @@ pub entries-zero : (d : Contents) → entries d 0 ≡ no_entry
 unfolding entries
 entries-zero d = refl
 
-text-suc : (d : Contents) (k : ℕ) → (entries d (suc k)).text ≡ (entries d k).text ++ (entry_at d k).text
+pub text-suc : (d : Contents) (k : ℕ) → (entries d (suc k)).text ≡ (entries d k).text ++ (entry_at d k).text
 unfolding entries ◌⧺◌
 text-suc d k = refl
 
@@ -132,7 +132,7 @@ entries_more d k (suc n) =
     (before.0 ++ last, rw e (text-suc d (k + n) ∙ ap (λ (t : List ℕ). t ++ last) before.1 ∙ append_assoc (entries d k).text before.0 last))
 
 -- the first lines come first
-entries_first : (d : Contents) (k n : ℕ) → k ≤ n → (rest : List ℕ) × ((entries d n).text ≡ (entries d k).text ++ rest)
+pub entries_first : (d : Contents) (k n : ℕ) → k ≤ n → (rest : List ℕ) × ((entries d n).text ≡ (entries d k).text ++ rest)
 entries_first d k n h =
     let e : k + (n - k) ≡ n = omega arith in
     let more = entries_more d k (n - k) in
@@ -179,7 +179,7 @@ end_later d k last s (Some j) le r b = b j refl
 end_later d k last s None le r b = rw r le
 
 -- where place k is reached, and no such STOP is before it, the lines end there or behind it
-reaches : (d : Contents) (k : ℕ) (s : State) → run (start d.many) (ops_of d) k ≡ Some s → k ≤ length (ops_of d) → ((n j : ℕ) → first_inside d n ≡ Some j → k ≤ suc j) → k ≤ (calls_end d).place
+pub reaches : (d : Contents) (k : ℕ) (s : State) → run (start d.many) (ops_of d) k ≡ Some s → k ≤ length (ops_of d) → ((n j : ℕ) → first_inside d n ≡ Some j → k ≤ suc j) → k ≤ (calls_end d).place
 unfolding calls_end
 reaches d k s r h b =
     let far = is_reached (start d.many) (ops_of d) (length (ops_of d)) in
