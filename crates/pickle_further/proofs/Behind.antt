@@ -1,5 +1,5 @@
 -- What the lines behind the end promise.
-use Rattle.std.proofs.Common.{◌≡◌, ℕ, zero, suc, ◌<◌, ◌==◌, ◌&&◌, Bool, true, false, List, ◌++◌, length, Option, Some, None, Ok, refl, sym, ap, subst, ◌∙◌, arith}
+use Rattle.std.proofs.Common.{◌≡◌, ℕ, ◌<◌, ◌==◌, ◌&&◌, Bool, true, false, List, length, Option, Some, None, Ok, refl, sym, ap, ◌∙◌, arith}
 use Rattle.std.specs.Prelude.{slice_get, if◌then◌else◌, Result, Err}
 use Rattle.pickle_io.specs.Text.{◌⧺◌}
 use Rattle.pickle_ops.specs.declared.fault.FrontFault.{FrontFault}
@@ -9,7 +9,6 @@ use Rattle.pickle_ops.specs.Spelling.{Operation}
 use Rattle.pickle_ops.specs.Object.{Object}
 use Rattle.pickle_ops.specs.Kind.{is_opaque}
 use Rattle.pickle_ops.specs.Row.{kind_of}
-use Rattle.pickle_doc.specs.Document.{Contents}
 use Rattle.pickle_machine.specs.declared.refusal.Refusal.{Refusal}
 use Rattle.pickle_machine.specs.declared.loader.Fill.{Fill}
 use Rattle.pickle_machine.specs.declared.loader.LoaderMove.{LoaderMove}
@@ -21,7 +20,7 @@ use Rattle.pickle_show.specs.Event.{before_of, event_of}
 use Rattle.pickle_lenient.specs.declared.taken.Taken.{Taken}
 use Rattle.pickle_lenient.specs.Stream.{taken}
 use Rattle.pickle_further.specs.declared.way.Way.{Way}
-use Rattle.pickle_further.specs.Going.{Standing, Going, going, gone_by, gone_as, gone_to, moved_so, then_as, used_op, event_by, keeps, state_after}
+use Rattle.pickle_further.specs.Going.{Standing, going, gone_by, gone_to, moved_so, then_as, used_op, event_by, keeps}
 use Rattle.pickle_further.specs.Parts.{parts}
 use Rattle.pickle_further.specs.Laws.{LinesComeFirst, NoLineNoReachBehind}
 use Rattle.pickle_show.proofs.Walking.{event_by as event_fresh}

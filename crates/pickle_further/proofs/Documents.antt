@@ -1,28 +1,24 @@
 -- The text of a document, with what is behind its end.
-use Rattle.std.proofs.Common.{◌≡◌, ℕ, ◌≤◌, Bool, true, false, List, [], ◌++◌, length, drop, Option, Some, None, Ok, refl, sym, ap, subst, ◌∙◌}
+use Rattle.std.proofs.Common.{◌≡◌, ℕ, true, false, List, [], ◌++◌, drop, Ok, refl, sym, ap, ◌∙◌}
 use Rattle.std.specs.Prelude.{Result, Err, IfOk, IfErr, if◌then◌else◌}
 use Rattle.pickle_io.specs.Text.{◌⧺◌}
-use Rattle.pickle_io.specs.Device.{Told, Wrote, Broke, Writes}
-use Rattle.pickle_io.proofs.Devices.{Wrote-none, Wrote-trans, Broke-after, Broke-more}
-use Rattle.pickle_doc.specs.Document.{Contents, ReadsAs, document_bytes}
-use Rattle.pickle_doc.specs.Place.{ops_of, offset_of}
-use Rattle.pickle_machine.specs.State.{State, start}
-use Rattle.pickle_machine.specs.Run.{run}
+use Rattle.pickle_io.specs.Device.{Told, Wrote, Broke}
+use Rattle.pickle_io.proofs.Devices.{Wrote-trans, Broke-after, Broke-more}
+use Rattle.pickle_machine.specs.State.{State}
 use Rattle.pickle_show.specs.declared.stop.TextStop.{TextStop}
 use Rattle.pickle_show.specs.declared.stop.TextStop.TheVariants as stop
 use Rattle.pickle_show.specs.declared.calls.Ran.{Ran}
 use Rattle.pickle_show.specs.declared.naming.Detail.{Detail}
-use Rattle.pickle_show.specs.declared.naming.Naming.{Naming}
 use Rattle.pickle_show.specs.CallsLine.{calls_end_text, ending_status}
 use Rattle.pickle_show.specs.CallsWritten.{CutsCalls}
-use Rattle.pickle_show.specs.Calls.{CallsEnd, calls, calls_end, entries}
+use Rattle.pickle_show.specs.Calls.{calls, entries}
 use Rattle.pickle_show.specs.Ran.{IsRun}
 use Rattle.pickle_show.proofs.Walking.{run_whole, run_answers}
 use Rattle.pickle_further.specs.declared.way.Pickles.{Pickles}
 use Rattle.pickle_further.specs.declared.way.Pickles.TheVariants as pickles
 use Rattle.pickle_further.specs.Going.{Standing}
-use Rattle.pickle_further.specs.Parts.{are_many, ignoring, standing_at, behind_at, text_from, is_open, lost_text, parts_to, parts}
-use Rattle.pickle_further.specs.CallsText.{CutsText, PutsText, document_calls, CompletesDocument, CutsDocument, CompletesText, CutsCallsText}
+use Rattle.pickle_further.specs.Parts.{are_many, ignoring, text_from, is_open, lost_text, parts_to, parts}
+use Rattle.pickle_further.specs.CallsText.{CutsText, document_calls, CompletesDocument, CutsDocument, CompletesText, CutsCallsText}
 use Rattle.pickle_further.specs.Inside.{standing}
 use Rattle.pickle_further.proofs.Pieces.{cut_after, cut_before}
 

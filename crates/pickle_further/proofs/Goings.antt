@@ -1,6 +1,6 @@
 -- What loaders do with an item.
-use Rattle.std.proofs.Common.{◌≡◌, ◌⊎◌, ℕ, suc, ◌+◌, ◌-◌, ◌≤◌, ◌<◌, Bool, true, false, List, length, drop, Option, Some, None, Ok, refl, sym, ap, ◌∙◌, inl, inr}
-use Rattle.std.specs.Prelude.{Result, Err, IfOk, IfErr}
+use Rattle.std.proofs.Common.{◌≡◌, ℕ, ◌-◌, ◌<◌, List, length, drop, Some, None, Ok, refl, sym, ap, ◌∙◌, inr}
+use Rattle.std.specs.Prelude.{Result, Err, IfOk}
 use Rattle.std.proofs.lemmas.List.{length-drop}
 use Rattle.pickle_ops.specs.declared.fault.FrontFault.{FrontFault}
 use Rattle.pickle_doc.specs.declared.fault.TailFault.TheVariants as tail
@@ -22,7 +22,7 @@ use Rattle.pickle_further.specs.declared.way.Way.{Way}
 use Rattle.pickle_further.specs.declared.way.Spot.{Spot}
 use Rattle.pickle_further.specs.declared.going.Gone.{Gone}
 use Rattle.pickle_show.specs.Naming.{begin}
-use Rattle.pickle_further.specs.Going.{Standing, moved_so, used_op, gone_to, gone_as, gone_by, going, nothing}
+use Rattle.pickle_further.specs.Going.{Standing, moved_so, used_op, gone_to, gone_as, going, nothing}
 use Rattle.pickle_further.specs.Inside.{standing, Goes, EndsAtFault}
 
 goes_over : (w : Way) (p : Standing) (f : FrontFault) (t : State) (gone : Gone) → taken w.frames p.at.left p.rest ≡ Err f

@@ -1,5 +1,5 @@
 -- The text of bytes that one unpickler reads on and on.
-use Rattle.std.proofs.Common.{◌≡◌, ℕ, suc, List, ◌++◌, length, refl, sym, ap, ◌∙◌}
+use Rattle.std.proofs.Common.{◌≡◌, ℕ, List, ◌++◌, length, refl, sym, ap}
 use Rattle.pickle_io.specs.Text.{◌⧺◌}
 use Rattle.pickle_io.specs.Device.{Told, Wrote, Broke}
 use Rattle.pickle_io.proofs.Devices.{Wrote-trans, Broke-after}

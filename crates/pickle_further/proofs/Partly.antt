@@ -1,19 +1,23 @@
 -- What loaders may do behind the end of the lines, as texts.
-use Rattle.std.proofs.Common.{◌≡◌, ℕ, suc, Bool, true, false, List, [], ◌++◌, length, Option, Some, None, Ok, refl, sym, ap, ◌∙◌}
-use Rattle.std.specs.Prelude.{Result, Err, if◌then◌else◌}
+use Rattle.std.proofs.Common.{◌≡◌, ℕ, List, [], ◌++◌, length, Option, Some, None, refl, ap, subst}
+use Rattle.std.specs.Prelude.{Result}
 use Rattle.pickle_io.specs.Text.{◌⧺◌}
 use Rattle.pickle_io.specs.Device.{Told, Wrote, Broke}
 use Rattle.pickle_io.proofs.Devices.{Wrote-none, Wrote-trans, Broke-after, Broke-more}
 use Rattle.pickle_machine.specs.State.{State}
 use Rattle.pickle_show.specs.declared.stop.TextStop.{TextStop}
-use Rattle.pickle_show.specs.declared.stop.TextStop.TheVariants as stop
 use Rattle.pickle_further.specs.declared.way.Way.{Way}
-use Rattle.pickle_further.specs.declared.going.Gone.{Gone}
+use Rattle.pickle_further.specs.declared.way.Spot.{Spot}
+use Rattle.pickle_further.specs.declared.seek.Sought.TheVariants as sought
+use Rattle.pickle_further.specs.declared.seek.Visited.{Visited}
+use Rattle.pickle_show.specs.declared.naming.Detail.{Detail}
+use Rattle.pickle_show.specs.declared.naming.Naming.{Naming}
+use Rattle.pickle_show.specs.Naming.{begin}
 use Rattle.pickle_further.specs.declared.engine.TaleEnd.{TaleEnd}
-use Rattle.pickle_further.specs.Going.{Standing, going, Tale, tale}
-use Rattle.pickle_further.specs.Parts.{part_end, header, tale_text, goes_on, text_from}
+use Rattle.pickle_further.specs.Going.{Standing, going, Tale, search_from}
+use Rattle.pickle_further.specs.Parts.{part_end, header, tale_text, told_text, text_from, found_text}
 use Rattle.pickle_further.specs.CallsText.{CutsText, PutsText}
-use Rattle.pickle_further.specs.Inside.{standing, Goes, tale_here, IsTold}
+use Rattle.pickle_further.specs.Inside.{standing, standing_of, Goes, tale_here, IsTold, Finds}
 use Rattle.pickle_further.proofs.Pieces.{pieces, cut_before}
 use Rattle.pickle_further.proofs.Tales.{next_tale}
 
@@ -33,25 +37,53 @@ end_done t a b c e w q = rw (tale_is t a b e w) (Wrote-trans a b c t.lines.text 
 
 -- ---- from here on
 
-pub text_stays : (w : Way) (p : Standing) (gone : Gone) (t : State) (a : Told) → Goes (going w p) gone t → goes_on gone ≡ false → Wrote a a (text_from w p)
+-- an item that was gone over is told
+told_is : (w : Way) (s t : State) (v : Visited) → Goes (going w (standing_of s v)) v.gone t
+    → told_text w (Some (standing_of s v)) ≡ header w.frames ++ tale_text (tale_here (length v.rest.now) w (standing_of t v) v.gone)
+unfolding ◌⧺◌
+told_is w s t v g = ap (λ (x : Tale). header w.frames ++ tale_text x) (next_tale (length v.rest.now) w (standing_of s v) v.gone t g)
+
+pub header_broken : (w : Way) (s t : State) (v : Visited) (a b : Told) → Goes (going w (standing_of s v)) v.gone t → Broke a b (header w.frames)
+    → Broke a b (told_text w (Some (standing_of s v)))
+header_broken w s t v a b g q = rw (told_is w s t v g) (Broke-more a b (header w.frames) (tale_text (tale_here (length v.rest.now) w (standing_of t v) v.gone)) q)
+
+pub tale_puts : {A : Type 0} (w : Way) (s t : State) (v : Visited) (a b c : Told) (r : Result A TextStop) → Goes (going w (standing_of s v)) v.gone t → Wrote a b (header w.frames)
+    → PutsText b c (tale_text (tale_here (length v.rest.now) w (standing_of t v) v.gone)) r → PutsText a c (told_text w (Some (standing_of s v))) r
+tale_puts w s t v a b c r g q k =
+    rw (told_is w s t v g) (pieces a b c (header w.frames) (tale_text (tale_here (length v.rest.now) w (standing_of t v) v.gone)) r q k)
+
+-- ---- what is looked for
+
+-- from the item on that was found
+found_puts : {A : Type 0} (w : Way) (text : Option Standing → List ℕ) (p : Option Standing) (v : Visited) (t : State) (a b : Told) (r : Result A TextStop)
+    → Finds w p (Some v) t → ((s : State) → Goes (going w (standing_of s v)) v.gone t → PutsText a b (text (Some (standing_of s v))) r) → PutsText a b (text p) r
+found_puts w text (Some p) v t a b r f puts = rw f.1 (puts f.0 f.2)
+found_puts w text None v t a b r f puts = absurd f
+
+-- none was found, and nothing is written
+none_puts : (w : Way) (text : Option Standing → List ℕ) (p : Option Standing) (t : State) (a : Told) → text None ≡ [] → Finds w p None t → Wrote a a (text p)
+none_puts w text (Some p) t a is f = absurd f
+none_puts w text None t a is f = rw is (Wrote-none a)
+
+-- the first item with an event
+pub event_puts : {A : Type 0} (w : Way) (p : Standing) (v : Visited) (x : Option Visited) (t : State) (a b : Told) (r : Result A TextStop) → x ≡ Some v
+    → Finds w (search_from sought.Event w p) x t → ((s : State) → Goes (going w (standing_of s v)) v.gone t → PutsText a b (told_text w (Some (standing_of s v))) r)
+    → PutsText a b (text_from w p) r
 unfolding text_from
-text_stays w p gone t a g off =
-    let stays : goes_on (going w p).gone ≡ false = ap goes_on (sym g.is) ∙ off in
-    rw stays (Wrote-none a)
+event_puts w p v x t a b r is f puts =
+    found_puts w (told_text w) (search_from sought.Event w p) v t a b r (subst (λ (y : Option Visited). Finds w (search_from sought.Event w p) y t) is f) puts
 
-text_goes : (w : Way) (p : Standing) (gone : Gone) (t : State) → Goes (going w p) gone t → goes_on gone ≡ true
-    → text_from w p ≡ header w.frames ++ tale_text (tale_here (length p.rest) w (standing t p.rest p.at p.naming) gone)
-unfolding text_from ◌⧺◌
-text_goes w p gone t g on =
-    let goes : goes_on (going w p).gone ≡ true = ap goes_on (sym g.is) ∙ on in
-    let told : tale (suc (length p.rest)) w p ≡ tale_here (length p.rest) w (standing t p.rest p.at p.naming) gone = next_tale (length p.rest) w p gone t g in
-    rw goes (ap (λ (x : Tale). header w.frames ++ tale_text x) told)
+pub no_event_puts : (w : Way) (p : Standing) (x : Option Visited) (t : State) (a : Told) → x ≡ None → Finds w (search_from sought.Event w p) x t → Wrote a a (text_from w p)
+unfolding text_from
+no_event_puts w p x t a is f =
+    none_puts w (told_text w) (search_from sought.Event w p) t a refl (subst (λ (y : Option Visited). Finds w (search_from sought.Event w p) y t) is f)
 
-pub header_broken : (w : Way) (p : Standing) (gone : Gone) (t : State) (a b : Told) → Goes (going w p) gone t → goes_on gone ≡ true → Broke a b (header w.frames) → Broke a b (text_from w p)
-header_broken w p gone t a b g on q =
-    rw (text_goes w p gone t g on) (Broke-more a b (header w.frames) (tale_text (tale_here (length p.rest) w (standing t p.rest p.at p.naming) gone)) q)
-
-pub tale_puts : {A : Type 0} (w : Way) (p : Standing) (gone : Gone) (t : State) (a b c : Told) (r : Result A TextStop) → Goes (going w p) gone t → goes_on gone ≡ true → Wrote a b (header w.frames)
-    → PutsText b c (tale_text (tale_here (length p.rest) w (standing t p.rest p.at p.naming) gone)) r → PutsText a c (text_from w p) r
-tale_puts w p gone t a b c r g on q k =
-    rw (text_goes w p gone t g on) (pieces a b c (header w.frames) (tale_text (tale_here (length p.rest) w (standing t p.rest p.at p.naming) gone)) r q k)
+-- the first item whose reading loses bytes
+pub lost_puts : {A : Type 0} (how : Detail) (w : Way) (s : State) (bytes : List ℕ) (at : Spot) (m : Naming) (v : Visited) (x : Option Visited) (t : State) (a b : Told) (r : Result A TextStop)
+    → m ≡ begin how 0 → x ≡ Some v → Finds w (search_from sought.Lost w (standing s bytes at m)) x t
+    → ((u : State) → Goes (going w (standing_of u v)) v.gone t → PutsText a b (text_from w (standing_of u v)) r)
+    → PutsText a b (found_text w (search_from sought.Lost w (standing s bytes at (begin how 0)))) r
+lost_puts how w s bytes at m v x t a b r same is f puts =
+    let here : Finds w (search_from sought.Lost w (standing s bytes at (begin how 0))) x t = subst (λ (n : Naming). Finds w (search_from sought.Lost w (standing s bytes at n)) x t) same f in
+    found_puts w (found_text w) (search_from sought.Lost w (standing s bytes at (begin how 0))) v t a b r
+    (subst (λ (y : Option Visited). Finds w (search_from sought.Lost w (standing s bytes at (begin how 0))) y t) is here) puts

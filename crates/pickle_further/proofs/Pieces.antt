@@ -1,11 +1,9 @@
 -- Texts that are written piece by piece.
-use Rattle.std.proofs.Common.{◌≡◌, ℕ, ◌≤◌, Bool, true, false, List, [], ◌++◌, length, refl, sym, ap, ◌∙◌, append_assoc}
-use Rattle.std.specs.Prelude.{Result, Ok, Err, IfOk, IfErr, IsErrAnd}
-use Rattle.std.proofs.lemmas.List.{append-nil}
-use Rattle.pickle_io.specs.Text.{◌⧺◌}
-use Rattle.pickle_io.specs.Device.{Told, Wrote, Broke, Writes, WroteAllBut}
-use Rattle.pickle_io.proofs.Devices.{Wrote-none, Wrote-trans, Broke-after, Broke-more, WroteAllBut-none}
-use Rattle.pickle_doc.specs.Document.{AreBytes, ReadsAs, Contents}
+use Rattle.std.proofs.Common.{◌≡◌, ℕ, true, false, List, ◌++◌, refl, sym, ap, ◌∙◌, append_assoc}
+use Rattle.std.specs.Prelude.{Result, Ok, Err, IsErrAnd}
+use Rattle.pickle_io.specs.Device.{Told, Wrote}
+use Rattle.pickle_io.proofs.Devices.{Wrote-trans, Broke-after, Broke-more, WroteAllBut-none}
+use Rattle.pickle_doc.specs.Document.{AreBytes}
 use Rattle.pickle_doc.proofs.Existence.{some_document}
 use Rattle.pickle_show.specs.declared.naming.Detail.{Detail}
 use Rattle.pickle_show.specs.Output.{Output}

@@ -1,10 +1,10 @@
 -- The lines of what loaders do.
-use Rattle.std.proofs.Common.{◌≡◌, ◌⊎◌, ℕ, zero, suc, ◌+◌, ◌-◌, ◌*◌, ◌^◌, ◌≤◌, ◌==◌, Bool, true, false, List, [], ◌++◌, length, Option, Some, None, refl, sym, ap, subst, ◌∙◌, append_assoc, arith, rules, inl, inr}
-use Rattle.std.specs.Prelude.{if◌then◌else◌, drop, Result, Ok, Err, IfOk, IfErr, IsErrAnd}
+use Rattle.std.proofs.Common.{◌≡◌, ℕ, zero, suc, ◌+◌, ◌-◌, ◌*◌, ◌^◌, ◌≤◌, ◌==◌, Bool, true, false, List, [], ◌++◌, length, Option, Some, None, refl, sym, ap, subst, ◌∙◌, append_assoc, arith, rules, inl, inr}
+use Rattle.std.specs.Prelude.{if◌then◌else◌, drop, Result, Ok, Err, IfErr, IsErrAnd}
 use Rattle.std.specs.Option.{option_map_or}
 use Rattle.std.proofs.lemmas.List.{length-drop, append-nil}
 use Rattle.pickle_io.specs.Text.{◌⧺◌}
-use Rattle.pickle_io.specs.Device.{Told, Wrote, Broke, WroteAllBut}
+use Rattle.pickle_io.specs.Device.{Told, Wrote, Broke}
 use Rattle.pickle_io.proofs.Devices.{Wrote-none, Wrote-trans, Broke-after, Broke-more}
 use Rattle.pickle_ops.specs.declared.fault.FrontFault.TheVariants as front
 use Rattle.pickle_doc.specs.declared.fault.TailFault.TheVariants as tail
@@ -22,8 +22,7 @@ use Rattle.pickle_show.proofs.Walking.{few_imports, few_calls}
 use Rattle.pickle_further.specs.declared.way.Way.{Way}
 use Rattle.pickle_further.specs.declared.way.Spot.{Spot}
 use Rattle.pickle_further.specs.declared.going.Gone.{Gone}
-use Rattle.pickle_further.specs.declared.engine.TaleEnd.{TaleEnd}
-use Rattle.pickle_further.specs.Going.{Standing, Going, going, stands_after, spot_after, Tale, tale_over, tale_after, tale_with, tale}
+use Rattle.pickle_further.specs.Going.{Standing, going, stands_after, spot_after, Tale, tale_over, tale_after, tale}
 use Rattle.pickle_further.specs.CallsText.{CutsText}
 use Rattle.pickle_further.specs.Inside.{standing, Goes, here, tale_here, ended, IsTold, InTale}
 
@@ -133,8 +132,8 @@ pub record InLoop (w : Way) (whole : Tale) (old now : Told) (s : State) (rest : 
   pub few : left ≤ 2 ^ 30
   pub small : length rest ≤ 2 ^ 30
   pub heap : length s.heap + 2 * left ≤ 2 ^ 32 - 8
-  pub offset_fits : at.offset + length rest ≤ 2 ^ 31
-  pub place_fits : at.place + left ≤ 2 ^ 31
+  pub offset_fits : at.offset + length rest ≤ 2 ^ 32
+  pub place_fits : at.place + left ≤ 2 ^ 32
   pub imports : course.imports + left ≤ 2 ^ 30
   pub calls : course.calls + left ≤ 2 ^ 30
 

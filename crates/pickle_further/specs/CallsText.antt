@@ -4,7 +4,6 @@ use Rattle.std.specs.Prelude.{◌≡◌, ℕ, true, false, List, Result, Ok, Err
 use Rattle.pickle_io.specs.Text.{◌⧺◌}
 use Rattle.pickle_io.specs.Device.{Told, Wrote, Broke, WroteAllBut}
 use Rattle.pickle_doc.specs.Document.{Contents, ReadsAs}
-use Rattle.pickle_show.specs.declared.end.Ending.{Ending}
 use Rattle.pickle_show.specs.declared.end.Ending.TheVariants as ending
 use Rattle.pickle_show.specs.declared.stop.TextStop.{TextStop}
 use Rattle.pickle_show.specs.declared.stop.TextStop.TheVariants as stop

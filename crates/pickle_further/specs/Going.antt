@@ -1,6 +1,6 @@
 -- What loaders do, item by item: one machine, which takes at least what each of them does.
 -- Source: CPython's unpicklers in C and in Python, PyPy's, joblib's and torch's, as `taken` and `loader_move` say.
-use Rattle.std.specs.Prelude.{◌≡◌, ℕ, zero, suc, ◌+◌, ◌<◌, ◌||◌, ◌&&◌, ◌==◌, Bool, true, false, List, [], ◌++◌, length, drop, codes, if◌then◌else◌, Option, Some, None, is_some, Result, Ok, Err}
+use Rattle.std.specs.Prelude.{ℕ, zero, suc, ◌+◌, ◌&&◌, ◌==◌, Bool, true, false, List, [], length, drop, if◌then◌else◌, Option, Some, None, is_some, Result, Ok, Err}
 use Rattle.std.specs.Option.{option_map_or}
 use Rattle.pickle_io.specs.Text.{◌⧺◌}
 use Rattle.pickle_ops.specs.declared.opcode.Opcode.{Opcode}
@@ -8,7 +8,6 @@ use Rattle.pickle_ops.specs.declared.opcode.Opcode.TheVariants as op
 use Rattle.pickle_ops.specs.declared.fault.FrontFault.{FrontFault}
 use Rattle.pickle_ops.specs.declared.fault.FrontFault.TheVariants as front
 use Rattle.pickle_ops.specs.Spelling.{Operation}
-use Rattle.pickle_ops.specs.declared.row.Row.{Row}
 use Rattle.pickle_ops.specs.declared.row.Row.TheVariants as row
 use Rattle.pickle_doc.specs.declared.fault.TailFault.TheVariants as tail
 use Rattle.pickle_doc.specs.DocUnit.{is_stop}
@@ -18,7 +17,6 @@ use Rattle.pickle_machine.specs.declared.loader.LoaderMove.{LoaderMove}
 use Rattle.pickle_machine.specs.State.{State}
 use Rattle.pickle_machine.specs.Move.{fresh}
 use Rattle.pickle_machine.specs.Loader.{loader_move, move_as, cleared}
-use Rattle.pickle_lenient.specs.declared.taken.Frames.{Frames}
 use Rattle.pickle_lenient.specs.declared.taken.Taken.{Taken}
 use Rattle.pickle_lenient.specs.Stream.{taken}
 use Rattle.pickle_show.specs.declared.report.Closing.{Closing}
@@ -34,6 +32,8 @@ use Rattle.pickle_further.specs.declared.way.Pickles.TheVariants as pickles
 use Rattle.pickle_further.specs.declared.way.Way.{Way}
 use Rattle.pickle_further.specs.declared.way.Spot.{Spot}
 use Rattle.pickle_further.specs.declared.going.Gone.{Gone}
+use Rattle.pickle_further.specs.declared.seek.Sought.{Sought}
+use Rattle.pickle_further.specs.declared.seek.Sought.TheVariants as sought
 
 -- ---- one item
 
@@ -154,12 +154,20 @@ tale (suc n) w p = tale_with p (going w p) (tale n w (stands_after p (going w p)
 abbrev pub tale_of : Way → Standing → Tale
 tale_of w p = tale (suc (length p.rest)) w p
 
--- ---- the first item whose reading loses bytes
+-- ---- the first item of a kind
 
-abbrev pub search_on : Gone → Standing → Option Standing → Option Standing
-search_on g p more = if g.lost then Some p else (if is_some g.closing then None else more)
+abbrev pub is_sought : Sought → Gone → Bool
+is_sought sought.Event g = is_some g.event
+is_sought sought.Lost g = g.lost
 
--- of at most n items, where it stands before that one; none if it ends before
-unfoldable pub search : ℕ → Way → Standing → Option Standing
-search zero w p = None
-search (suc n) w p = search_on (going w p).gone p (search n w (stands_after p (going w p)))
+abbrev pub search_on : Sought → Gone → Standing → Option Standing → Option Standing
+search_on x g p more = if is_sought x g then Some p else (if is_some g.closing then None else more)
+
+-- of at most n items, where it stands before the first that is sought; none if it ends before
+unfoldable pub search : Sought → ℕ → Way → Standing → Option Standing
+search x zero w p = None
+search x (suc n) w p = search_on x (going w p).gone p (search x n w (stands_after p (going w p)))
+
+-- of all items
+abbrev pub search_from : Sought → Way → Standing → Option Standing
+search_from x w p = search x (suc (length p.rest)) w p

@@ -1,5 +1,5 @@
 -- What the functions are said to do, piece by piece.
-use Rattle.std.specs.Prelude.{◌≡◌, ◌⊎◌, ℕ, suc, ◌+◌, ◌≤◌, ◌==◌, if◌then◌else◌, Bool, List, ◌++◌, length, drop, Option, Some, None}
+use Rattle.std.specs.Prelude.{◌≡◌, ◌⊎◌, ℕ, ◌+◌, ◌-◌, ◌*◌, ◌^◌, ◌≤◌, ◌<◌, ◌==◌, if◌then◌else◌, List, ◌++◌, length, Option, Some, None, ⊤}
 use Rattle.std.specs.Option.{option_map_or}
 use Rattle.pickle_io.specs.Device.{Told, Wrote}
 use Rattle.pickle_ops.specs.declared.fault.FrontFault.TheVariants as front
@@ -15,7 +15,8 @@ use Rattle.pickle_further.specs.declared.way.Way.{Way}
 use Rattle.pickle_further.specs.declared.way.Spot.{Spot}
 use Rattle.pickle_further.specs.declared.engine.TaleEnd.{TaleEnd}
 use Rattle.pickle_further.specs.declared.going.Gone.{Gone}
-use Rattle.pickle_further.specs.Going.{Standing, Going, Tale, tale, tale_with, stands_after, nothing}
+use Rattle.pickle_further.specs.declared.seek.Visited.{Visited}
+use Rattle.pickle_further.specs.Going.{Standing, Going, going, Tale, tale, tale_with, stands_after, nothing}
 
 abbrev pub standing : State → List ℕ → Spot → Naming → Standing
 standing s rest at naming = record { state = s; rest = rest; at = at; naming = naming }
@@ -29,6 +30,10 @@ pub record IsOver (gone : Gone) : Type 0 where
 pub record Goes (g : Going) (gone : Gone) (t : State) : Type 0 where
   pub is : gone ≡ g.gone
   pub state : (t ≡ g.state) ⊎ (IsOver gone)
+
+-- where an item stood that was gone over, by the state before it
+abbrev pub standing_of : State → Visited → Standing
+standing_of s v = standing s v.rest.now v.at v.naming
 
 -- nothing was read for a fault
 abbrev pub EndsAtFault : NotTaken → ℕ → Gone → Type 0
@@ -45,6 +50,33 @@ tale_here n w p gone = tale_with p (here gone p) (tale n w (stands_after p (here
 -- why it ends after this item, n being how many more may come
 abbrev pub ended : Gone → ℕ → ℕ → Option Closing
 ended gone n offset = option_map_or Some gone.closing (if n == 0 then Some (closing.Fault (tail.Front front.Ended) (offset + gone.size)) else None)
+
+-- ---- items one after another
+
+-- it took some bytes where it goes on, and no more than are there; and there is room for what they can make
+pub record HasRoom (s : State) (v : Visited) : Type 0 where
+  pub size : v.gone.size ≤ length v.rest.now
+  pub some : v.gone.closing ≡ None → 0 < v.gone.size
+  pub few : length v.rest.now ≤ 2 ^ 30
+  pub heap : length s.heap + 2 * length v.rest.now ≤ 2 ^ 32 - 16
+  pub offset : v.at.offset + length v.rest.now ≤ 2 ^ 31
+  pub place : v.at.place + length v.rest.now ≤ 2 ^ 31
+
+-- an item is the one behind another, which led to this state, and was gone over
+pub record IsNext (w : Way) (s : State) (v : Visited) (t : State) (next : Visited) : Type 0 where
+  pub stands : standing_of s next ≡ stands_after (standing_of s v) (here v.gone (standing_of s v))
+  pub goes : Goes (going w (standing_of s next)) next.gone t
+
+-- the item that is to be found was found, and gone over
+abbrev pub Finds : Way → Option Standing → Option Visited → State → Type 0
+Finds w (Some p) (Some v) t = (s : State) × (p ≡ standing_of s v) × Goes (going w (standing_of s v)) v.gone t
+Finds w (Some p) None t = ⊥
+Finds w None (Some v) t = ⊥
+Finds w None None t = ⊤
+
+abbrev pub FindsRoom : State → Option Visited → Type 0
+FindsRoom t (Some v) = HasRoom t v
+FindsRoom t None = ⊤
 
 -- ---- the lines of a tale
 

@@ -1,5 +1,5 @@
 -- What the text of `calls` promises whoever reads it, behind the end of the lines too.
-use Rattle.std.specs.Prelude.{◌≡◌, ℕ, ◌<◌, ◌++◌, true, List, slice_get, Option, Some, None}
+use Rattle.std.specs.Prelude.{◌≡◌, ℕ, ◌<◌, ◌++◌, true, List, slice_get, Some, None}
 use Rattle.pickle_ops.specs.Kind.{is_opaque}
 use Rattle.pickle_ops.specs.Object.{Object}
 use Rattle.pickle_doc.specs.Document.{Contents}

@@ -1,6 +1,6 @@
 -- What loaders may do behind the end of the lines, as texts.
 -- Source: own.
-use Rattle.std.specs.Prelude.{◌≡◌, ℕ, suc, ◌||◌, Bool, true, false, List, [], length, drop, codes, if◌then◌else◌, Option, Some, None, is_some}
+use Rattle.std.specs.Prelude.{ℕ, Bool, true, false, List, [], drop, codes, if◌then◌else◌, Option, Some, None}
 use Rattle.pickle_io.specs.Text.{◌⧺◌}
 use Rattle.pickle_doc.specs.Document.{Contents, document_bytes}
 use Rattle.pickle_doc.specs.Place.{ops_of, offset_of}
@@ -21,8 +21,8 @@ use Rattle.pickle_show.specs.Calls.{CallsEnd, calls_end, naming_at}
 use Rattle.pickle_further.specs.declared.way.Pickles.{Pickles}
 use Rattle.pickle_further.specs.declared.way.Pickles.TheVariants as pickles
 use Rattle.pickle_further.specs.declared.way.Way.{Way}
-use Rattle.pickle_further.specs.declared.going.Gone.{Gone}
-use Rattle.pickle_further.specs.Going.{Standing, going, Tale, tale_of, search}
+use Rattle.pickle_further.specs.declared.seek.Sought.TheVariants as sought
+use Rattle.pickle_further.specs.Going.{Standing, Tale, tale_of, search_from}
 
 -- ---- the last lines of a part
 
@@ -59,17 +59,14 @@ header f = header_words f ⧺ newline
 unfoldable pub tale_text : Tale → List ℕ
 tale_text t = t.lines.text ⧺ part_end t.lines.imports t.lines.calls t.closing
 
--- it goes on where it has an event or does not end at the first item
-abbrev pub goes_on : Gone → Bool
-goes_on g = is_some g.event || not_over g.closing
-  where
-    not_over : Option Closing → Bool
-    not_over None = true
-    not_over (Some c) = false
+-- from the first item with an event on, if there is one
+abbrev pub told_text : Way → Option Standing → List ℕ
+told_text w (Some p) = header w.frames ⧺ tale_text (tale_of w p)
+told_text w None = []
 
--- from here on, where it goes on
+-- from here on: nothing where no item has an event
 unfoldable pub text_from : Way → Standing → List ℕ
-text_from w p = if goes_on (going w p).gone then header w.frames ⧺ tale_text (tale_of w p) else []
+text_from w p = told_text w (search_from sought.Event w p)
 
 -- ---- where the lines end
 
@@ -105,7 +102,7 @@ found_text w None = []
 
 -- from the first item on whose reading loses bytes
 abbrev pub lost_text : Detail → Pickles → List ℕ → List ℕ
-lost_text how p bytes = found_text (buffering p) (search (suc (length bytes)) (buffering p) (standing_first how p bytes))
+lost_text how p bytes = found_text (buffering p) (search_from sought.Lost (buffering p) (standing_first how p bytes))
 
 -- ---- both
 

@@ -78,8 +78,8 @@ pub fn write_items<S: Page>(
     requires size { first.size ≤ length bytes.now }
     requires few { length bytes.now ≤ 2 ^ 30 }
     requires heap { length machine.old.state.heap + 2 * length bytes.now ≤ 2 ^ 32 - 8 }
-    requires offset { from.offset ≤ 2 ^ 30 }
-    requires place { from.place ≤ 2 ^ 30 }
+    requires offset { from.offset ≤ 2 ^ 31 }
+    requires place { from.place ≤ 2 ^ 31 }
     ensures ok { IfOk result (IsTold (S.told sink.old) (S.told sink.new) (tale_here (length bytes.now) way (standing machine.old.state bytes.now from naming) first)) }
     ensures err { IfErr result (CutsText (S.told sink.old) (S.told sink.new) (tale_here (length bytes.now) way (standing machine.old.state bytes.now from naming) first).lines.text) }
 {

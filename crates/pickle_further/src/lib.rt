@@ -10,6 +10,7 @@ mod engine;
 mod going;
 mod laws;
 mod parts;
+mod seek;
 mod texts;
 mod way;
 

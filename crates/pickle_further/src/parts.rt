@@ -1,29 +1,23 @@
 //! What loaders may do behind the end of the lines.
 
-ghost use Rattle.std.specs.Prelude.{◌≡◌, ◌<◌, ◌≤◌, ◌+◌, ◌*◌, ◌-◌, ◌^◌, length, suc};
+ghost use Rattle.std.specs.Prelude.{◌≡◌, ◌≤◌, ◌^◌, length, Some};
 ghost use Rattle.pickle_io.specs.Device.{Writes};
 ghost use Rattle.pickle_further.specs.CallsText.{PutsText};
-ghost use Rattle.pickle_further.specs.Going.{going, search};
-ghost use Rattle.pickle_further.specs.Parts.{stop_words, stop_line, ends_line, part_end, ignored_words, buffered_words, header_words, header, tale_text, goes_on, text_from, found_text};
+ghost use Rattle.pickle_further.specs.Going.{going, search_from};
+ghost use Rattle.pickle_further.specs.Parts.{stop_words, stop_line, ends_line, part_end, ignored_words, buffered_words, header_words, header, tale_text, told_text, text_from, found_text};
 ghost use Rattle.pickle_machine.specs.State.{State};
 ghost use Rattle.pickle_show.specs.Naming.{begin};
-ghost use Rattle.pickle_further.specs.Inside.{standing, tale_here, Goes};
+ghost use Rattle.pickle_further.specs.Inside.{standing, standing_of, tale_here, Goes, HasRoom};
 
-use crate::engine::{spot_after, write_items};
-use crate::going::{Gone, go};
+use crate::engine::write_items;
+use crate::going::go;
+use crate::seek::{Sought, Visited, seek};
 use crate::way::{Spot, Way};
 use pickle_lenient::Frames;
 use pickle_machine::Machine;
 use pickle_ops::{Failed, Page, write_all};
 use pickle_show::{Closing, Course, Detail, Naming, TextStop, write_closing, write_totals};
 use std::alloc::Global;
-
-/// Whether it goes on.
-fn goes_on(gone: Gone) -> bool
-    ensures { result ≡ goes_on gone }
-{
-    gone.event.is_some() || gone.closing.is_none()
-}
 
 /// The words of the line above what loaders may do that ignore frames.
 #[tactic(auto, unfolding(crate::specs::Parts::ignored_words))]
@@ -108,51 +102,60 @@ fn write_part_end<S: Page>(course: Course, closing: Closing, sink: &mut S) -> Re
 fn write_tale<S: Page>(
     alloc: Global,
     way: Way,
-    rest: &[u8],
-    at: Spot,
-    naming: Naming,
-    gone: Gone,
+    item: Visited<'_>,
     machine: &mut Machine,
     sink: &mut S,
 ) -> Result<(), TextStop>
-    requires size { gone.size ≤ length rest.now }
-    requires few { length rest.now ≤ 2 ^ 30 }
-    requires heap { length machine.old.state.heap + 2 * length rest.now ≤ 2 ^ 32 - 8 }
-    requires offset { at.offset ≤ 2 ^ 30 }
-    requires place { at.place ≤ 2 ^ 30 }
-    ensures { PutsText (S.told sink.old) (S.told sink.new) (tale_text (tale_here (length rest.now) way (standing machine.old.state rest.now at naming) gone)) result }
+    requires { HasRoom machine.old.state item }
+    ensures { PutsText (S.told sink.old) (S.told sink.new) (tale_text (tale_here (length item.entry.rest.now) way (standing_of machine.old.state item.entry) item.entry.gone)) result }
 {
-    let end = write_items(alloc, way, rest, at, naming, gone, machine, sink)?;
+    let end = write_items(
+        alloc,
+        way,
+        item.rest,
+        item.at,
+        item.naming,
+        item.gone,
+        machine,
+        sink,
+    )?;
     write_part_end(end.course, end.closing, sink)?;
     Ok(())
 }
 
-/// Writes what loaders may do from this item on that was gone over, where they go on.
-fn write_gone<S: Page>(
+/// Writes what loaders may do from this item on, which has an event.
+fn write_told<S: Page>(
     alloc: Global,
     way: Way,
-    rest: &[u8],
-    at: Spot,
-    naming: Naming,
-    gone: Gone,
+    item: Visited<'_>,
     machine: &mut Machine,
     sink: &mut S,
 ) -> Result<(), TextStop>
-    requires size { gone.size ≤ length rest.now }
-    requires few { length rest.now ≤ 2 ^ 30 }
-    requires heap { length machine.old.state.heap + 2 * length rest.now ≤ 2 ^ 32 - 8 }
-    requires offset { at.offset ≤ 2 ^ 30 }
-    requires place { at.place ≤ 2 ^ 30 }
-    ensures { (s : State) → Goes (going way (standing s rest.now at naming)) gone machine.old.state → PutsText (S.told sink.old) (S.told sink.new) (text_from way (standing s rest.now at naming)) result }
+    requires { HasRoom machine.old.state item }
+    ensures { (s : State) → Goes (going way (standing_of s item.entry)) item.entry.gone machine.old.state → PutsText (S.told sink.old) (S.told sink.new) (told_text way (Some (standing_of s item.entry))) result }
 {
-    if !goes_on(gone) {
-        return Ok(());
-    }
     write_header(way.frames, sink)?;
-    write_tale(alloc, way, rest, at, naming, gone, machine, sink)
+    write_tale(alloc, way, item, machine, sink)
 }
 
-/// Writes what loaders may do from here on, where they go on.
+/// Writes what loaders may do from this item on, where it or one behind it has an event.
+fn write_visited<S: Page>(
+    alloc: Global,
+    way: Way,
+    item: Visited<'_>,
+    machine: &mut Machine,
+    sink: &mut S,
+) -> Result<(), TextStop>
+    requires { HasRoom machine.old.state item }
+    ensures { (s : State) → Goes (going way (standing_of s item.entry)) item.entry.gone machine.old.state → PutsText (S.told sink.old) (S.told sink.new) (text_from way (standing_of s item.entry)) result }
+{
+    match seek(alloc, way, Sought::Event, item, machine)? {
+        Some(found) => write_told(alloc, way, found, machine, sink),
+        None => Ok(()),
+    }
+}
+
+/// Writes what loaders may do from here on, where an item has an event.
 pub fn write_from<S: Page>(
     alloc: Global,
     way: Way,
@@ -169,10 +172,17 @@ pub fn write_from<S: Page>(
     ensures { PutsText (S.told sink.old) (S.told sink.new) (text_from way (standing machine.old.state rest.now at naming)) result }
 {
     let gone = go(alloc, way, rest, at, machine)?;
-    write_gone(alloc, way, rest, at, naming, gone, machine, sink)
+    let item = Visited {
+        rest,
+        at,
+        naming,
+        gone,
+    };
+    write_visited(alloc, way, item, machine, sink)
 }
 
-/// Writes what loaders may do from the first item on whose reading loses bytes. The machine has done nothing yet.
+/// Writes what loaders may do from the first item on whose reading loses bytes, where it or one behind it has an event. The machine has
+/// done nothing yet.
 pub fn write_found<S: Page>(
     alloc: Global,
     detail: Detail,
@@ -183,30 +193,23 @@ pub fn write_found<S: Page>(
 ) -> Result<(), TextStop>
     requires few { length bytes.now ≤ 2 ^ 30 }
     requires heap { length machine.old.state.heap ≤ 2 ^ 30 }
-    ensures { PutsText (S.told sink.old) (S.told sink.new) (found_text way (search (suc (length bytes.now)) way (standing machine.old.state bytes.now (record { offset = 0; place = 0; left = 0 }) (begin detail 0)))) result }
+    ensures { PutsText (S.told sink.old) (S.told sink.new) (found_text way (search_from Sought.Lost way (standing machine.old.state bytes.now (record { offset = 0; place = 0; left = 0 }) (begin detail 0)))) result }
 {
-    let mut rest = bytes;
-    let mut at = Spot {
+    let at = Spot {
         offset: 0,
         place: 0,
         left: 0,
     };
-    let mut naming = Naming::begin(detail, 0);
-    let mut more = bytes.len();
-    'items: loop {
-        let gone = go(alloc, way, rest, at, machine)?;
-        if gone.lost {
-            return write_gone(alloc, way, rest, at, naming, gone, machine, sink);
-        }
-        if gone.closing.is_some() {
-            return Ok(());
-        }
-        if more == 0 {
-            return Ok(());
-        }
-        naming = naming.after(gone.row, machine.heap().len() as u32);
-        at = spot_after(at, gone);
-        more -= 1;
-        rest = rest.split_at(gone.size).1;
+    let naming = Naming::begin(detail, 0);
+    let gone = go(alloc, way, bytes, at, machine)?;
+    let first = Visited {
+        rest: bytes,
+        at,
+        naming,
+        gone,
+    };
+    match seek(alloc, way, Sought::Lost, first, machine)? {
+        Some(found) => write_visited(alloc, way, found, machine, sink),
+        None => Ok(()),
     }
 }

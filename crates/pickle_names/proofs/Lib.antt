@@ -1,4 +1,6 @@
 -- Lemmas.
 mod Numbers
+mod Plain
 mod Quotes
+mod Unmapped
 mod Turns

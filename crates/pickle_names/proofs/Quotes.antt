@@ -1,6 +1,6 @@
 -- Texts between quotes, byte by byte.
-use Rattle.std.proofs.Common.{◌≡◌, ℕ, List, [], ◌++◌, Bool, true, false, refl, subst, ◌∙◌, arith, rules}
-use Rattle.std.specs.Prelude.{◌==◌, ◌&&◌, nat_le, if◌then◌else◌}
+use Rattle.std.proofs.Common.{◌≡◌, ℕ, List, ◌++◌, Bool, true, false, refl, subst, ◌∙◌, rules}
+use Rattle.std.specs.Prelude.{◌==◌, ◌&&◌, nat_le}
 use Rattle.std.proofs.lemmas.List.Concat.{flat_map-append}
 use Rattle.pickle_io.specs.Text.{escaped, quoted_byte, quoted_bytes}
 use Rattle.pickle_io.specs.Device.{each}

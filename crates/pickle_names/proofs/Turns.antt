@@ -10,9 +10,8 @@ use Rattle.std.specs.Prelude.{nat_le, if◌then◌else◌}
 use Rattle.std.proofs.lemmas.Bool.{le-leb, lt-leb}
 use Rattle.pickle_names.specs.Value.{if_short, short_value, Decoded, piece_text, piece_size, nothing, after, after_front, front_size, decode}
 use Rattle.pickle_names.specs.Reading.{Says, IsReading}
-use Rattle.std.specs.Prelude.{Result}
-use Rattle.pickle_io.specs.Text.{quoted_bytes, quoted}
-use Rattle.pickle_io.specs.Device.{Told, Wrote, Broke, Writes}
+use Rattle.pickle_io.specs.Text.{quoted_bytes}
+use Rattle.pickle_io.specs.Device.{Told, Wrote, Broke}
 use Rattle.pickle_io.proofs.Devices.{Wrote-none, Wrote-trans, Broke-after, Broke-more}
 use Rattle.pickle_names.proofs.Quotes.{quoted-append}
 

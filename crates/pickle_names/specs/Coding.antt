@@ -3,7 +3,7 @@
 -- Source: Lib/pickle.py: `load_unicode`, `load_string`, `load_binunicode`, `load_global`, `load_inst`, `load_persid`; the codecs
 -- `ascii`, `utf-8` and `raw_unicode_escape` and the handler `surrogatepass` of Python's documentation of `codecs`; `codecs.escape_decode`
 -- (the escapes of a bytes literal); well-formed UTF-8 by table 3-7 of the Unicode standard.
-use Rattle.std.specs.Prelude.{ℕ, suc, zero, ◌+◌, ◌-◌, ◌*◌, ◌/◌, ◌%◌, ◌==◌, ◌&&◌, ◌||◌, not, nat_lt, nat_le, if◌then◌else◌, Bool, true, false, List, [], ◌∷◌, length, take, Option, Some, None}
+use Rattle.std.specs.Prelude.{ℕ, ◌+◌, ◌-◌, ◌*◌, ◌%◌, ◌==◌, ◌&&◌, not, nat_lt, nat_le, if◌then◌else◌, Bool, true, false, List, [], ◌∷◌, length, take, Option, Some, None}
 use Rattle.std.specs.List.{list_all}
 use Rattle.pickle_names.specs.declared.coding.Coding.{Coding}
 use Rattle.pickle_names.specs.declared.coding.Coding.TheVariants as coding
@@ -158,3 +158,7 @@ front_of coding.Utf8 b rest = utf8_front false b rest
 front_of coding.AnyUtf8 b rest = utf8_front true b rest
 front_of coding.RawEscape b rest = raw_front b rest
 front_of coding.StringEscape b rest = string_front b rest
+
+-- a byte of ASCII that begins no escape
+abbrev pub is_plain : ℕ → Bool
+is_plain b = nat_lt b 128 && not (b == 92)

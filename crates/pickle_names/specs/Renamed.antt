@@ -1,8 +1,11 @@
 -- What Python 3 imports for the names of Python 2.
 -- Source: Lib/pickle.py, `find_class`: `NAME_MAPPING` of `Lib/_compat_pickle.py`, and where that has no row, `IMPORT_MAPPING`.
-use Rattle.std.specs.Prelude.{ℕ, ◌&&◌, if◌then◌else◌, Bool, List, [], ◌∷◌, Option, Some, None}
+use Rattle.std.specs.Prelude.{ℕ, ◌==◌, ◌&&◌, if◌then◌else◌, Bool, false, List, [], ◌∷◌, length, slice_get, Option, Some, None}
+use Rattle.std.specs.List.{list_any}
 use Rattle.std.specs.Str.{bytes_eq}
+use Rattle.std.specs.Option.{option_map_or}
 use Rattle.pickle_names.specs.declared.old_names.NewNames.{NewNames}
+use Rattle.pickle_names.specs.declared.old_names.TheConstants.{FIRST_LETTERS}
 use Rattle.pickle_names.specs.declared.rows.TheConstants.{NAMES, MODULES}
 
 -- what is imported: from which module, and which member of it
@@ -28,3 +31,13 @@ by_names old new (r ∷ rows) otherwise from name =
 unfoldable pub renamed : List ℕ → List ℕ → Option Import
 renamed from name =
     by_names (λ r. record { from = r.0.now; name = r.1.now }) (λ r. record { from = r.2.now; name = r.3.now }) NAMES (by_modules (λ r. r.0.now) (λ r. r.1.now) MODULES from name) from name
+
+-- ---- which modules have a row
+
+abbrev pub letters_of : ℕ → List ℕ
+letters_of n = option_map_or (λ letters. letters.now) (slice_get FIRST_LETTERS n) []
+
+-- a module is as long as one that has a row, and begins like it
+abbrev pub may_have_row : List ℕ → Bool
+may_have_row [] = false
+may_have_row (b ∷ rest) = list_any (λ c. c == b) (letters_of (length (b ∷ rest)))

@@ -11,4 +11,4 @@ mod value;
 pub use coding::{Coding, Piece};
 pub use old_names::{NewNames, renamed};
 pub use rows::{MODULES, NAMES};
-pub use value::{Reading, read, short_value, write_text, write_value};
+pub use value::{Reading, is_plain_name, read, short_value, write_text, write_value};

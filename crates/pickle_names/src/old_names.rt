@@ -1,11 +1,19 @@
 //! What Python 3 imports for the names of Python 2.
 
-ghost use Rattle.std.specs.Prelude.{◌≡◌, ◌&&◌};
+ghost use Rattle.std.specs.Prelude.{◌≡◌, ◌&&◌, ◌==◌};
+ghost use Rattle.std.specs.List.{list_any};
 ghost use Rattle.std.specs.Option.{option_map};
 ghost use Rattle.std.specs.Str.{bytes_eq};
-ghost use Rattle.pickle_names.specs.Renamed.{import_of, by_modules, by_names, renamed};
+ghost use Rattle.pickle_names.specs.Renamed.{import_of, by_modules, by_names, letters_of, may_have_row, renamed};
 
 use crate::rows::{MODULES, NAMES};
+
+/// The first letters of the modules that have a row in either table, by how many bytes they have: most modules are known to have none
+/// without a search.
+static FIRST_LETTERS: [&str; 24] = [
+    "", "", "", "Tdt", "gr", "QT", "CDadstu", "T_cdhuw", "SUcu", "cix", "FHUem", "T_r", "CS_dt",
+    "C", "Bht", "Dm", "S_", "t", "S", "", "", "", "", "m",
+];
 
 /// What is imported.
 #[derive(Clone, Copy)]
@@ -66,10 +74,55 @@ fn by_names<'a>(
     otherwise
 }
 
-/// What is imported for names of Python 2, where that is not what they say.
+/// The first letters of the modules of this length that have a row.
+fn letters_of(len: usize) -> &'static [u8]
+    ensures { result.now ≡ letters_of len }
+{
+    if len < FIRST_LETTERS.len() {
+        FIRST_LETTERS[len].as_bytes()
+    } else {
+        &[]
+    }
+}
+
+/// Whether a byte is one of these.
+fn is_one_of(byte: u8, bytes: &[u8]) -> bool
+    ensures { result ≡ list_any (λ b. b == byte) bytes.now }
+{
+    for other in bytes {
+        if *other == byte {
+            return true;
+        }
+    }
+    false
+}
+
+/// Whether a module is as long as one that has a row, and begins like it.
+fn may_have_row(from: &[u8]) -> bool
+    ensures { result ≡ may_have_row from.now }
+{
+    match from.split_first() {
+        None => false,
+        Some((first, _)) => is_one_of(*first, letters_of(from.len())),
+    }
+}
+
+/// What is imported for names of Python 2, where that is not what they say, by a search.
 #[tactic(auto, unfolding(crate::specs::Renamed::renamed))]
-pub fn renamed<'a>(from: &[u8], name: &'a [u8]) -> Option<NewNames<'a>>
+fn search_rows<'a>(from: &[u8], name: &'a [u8]) -> Option<NewNames<'a>>
     ensures { option_map import_of result ≡ renamed from.now name.now }
 {
     by_names(&NAMES, by_modules(&MODULES, from, name), from, name)
+}
+
+/// What is imported for names of Python 2, where that is not what they say.
+#[tactic(auto, using(crate::proofs::Unmapped::no_row))]
+pub fn renamed<'a>(from: &[u8], name: &'a [u8]) -> Option<NewNames<'a>>
+    ensures { option_map import_of result ≡ renamed from.now name.now }
+{
+    if may_have_row(from) {
+        search_rows(from, name)
+    } else {
+        None
+    }
 }

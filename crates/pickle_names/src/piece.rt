@@ -2,7 +2,7 @@
 
 ghost use Rattle.std.specs.Prelude.{◌≡◌, ◌≤◌, ◌<◌, ◌-◌, ◌&&◌, ◌∷◌, length, Some, IfSome};
 ghost use Rattle.std.specs.List.{list_all};
-ghost use Rattle.pickle_names.specs.Coding.{within, ascii_char, ascii_front, tail_count, second_low, second_high, is_second, is_tail, are_tails, goes_with, utf8_front, hex_digit, hex_after, hex_number, numbered, raw_escape, raw_front, is_octal, octal_last, octal_next, byte_of, named_escape, named_or_backslash, string_escape, string_front, front_of};
+ghost use Rattle.pickle_names.specs.Coding.{within, ascii_char, ascii_front, tail_count, second_low, second_high, is_second, is_tail, are_tails, goes_with, utf8_front, hex_digit, hex_after, hex_number, numbered, raw_escape, raw_front, is_plain, is_octal, octal_last, octal_next, byte_of, named_escape, named_or_backslash, string_escape, string_front, front_of};
 
 use crate::coding::{Coding, Piece};
 
@@ -355,9 +355,18 @@ fn string_front(byte: u8, rest: &[u8]) -> Option<Piece>
     }
 }
 
-/// What a byte and those after it begin with, if they can be read.
+/// Whether a byte stands for itself, however the bytes of a text are read: most do.
+#[inline(always)]
+pub(crate) fn is_plain(byte: u8) -> bool
+    ensures { result ≡ is_plain byte }
+{
+    byte < 128 && byte != b'\\'
+}
+
+/// What a byte that may be more than a character of its own and those after it begin with, if they can be read.
 #[tactic(auto, unfolding(crate::specs::Coding::front_of))]
-pub(crate) fn front_of(coding: Coding, byte: u8, rest: &[u8]) -> Option<Piece>
+#[inline(never)]
+fn front_by(coding: Coding, byte: u8, rest: &[u8]) -> Option<Piece>
     ensures { result ≡ front_of coding byte rest.now }
 {
     match coding {
@@ -366,5 +375,18 @@ pub(crate) fn front_of(coding: Coding, byte: u8, rest: &[u8]) -> Option<Piece>
         Coding::AnyUtf8 => utf8_front(true, byte, rest),
         Coding::RawEscape => raw_front(byte, rest),
         Coding::StringEscape => string_front(byte, rest),
+    }
+}
+
+/// What a byte and those after it begin with, if they can be read.
+#[tactic(auto, using(crate::proofs::Plain::plain_front))]
+#[inline(always)]
+pub(crate) fn front_of(coding: Coding, byte: u8, rest: &[u8]) -> Option<Piece>
+    ensures { result ≡ front_of coding byte rest.now }
+{
+    if is_plain(byte) {
+        Some(Piece::Spelled(1))
+    } else {
+        front_by(coding, byte, rest)
     }
 }

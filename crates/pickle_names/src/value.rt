@@ -1,15 +1,17 @@
 //! The values of texts.
 
-ghost use Rattle.std.specs.Prelude.{◌≡◌, ◌≤◌, ◌<◌, ◌^◌, ◌++◌, drop, take, length, true, codes, OnOk, nat_le, ◌&&◌, ◌+◌, false};
+ghost use Rattle.std.specs.Prelude.{◌≡◌, ◌≤◌, ◌<◌, ◌^◌, ◌++◌, drop, take, length, true, codes, OnOk, Some, nat_le, ◌&&◌, ◌+◌, false};
 ghost use Rattle.std.specs.Option.{option_map};
 ghost use Rattle.pickle_io.specs.Device.{Wrote, Writes};
 ghost use Rattle.pickle_io.specs.Text.{◌⧺◌, escaped, quoted_byte, quoted_bytes, quoted};
-ghost use Rattle.pickle_names.specs.Coding.{front_of};
+ghost use Rattle.std.specs.List.{list_all};
+ghost use Rattle.pickle_names.specs.declared.coding.Coding.{Coding};
+ghost use Rattle.pickle_names.specs.Coding.{front_of, is_plain};
 ghost use Rattle.pickle_names.specs.Value.{utf8_of, piece_text, piece_size, decode, decode_all, raw_text, short_value, whole_text};
 ghost use Rattle.pickle_names.specs.Reading.{IsReading};
 
 use crate::coding::{Coding, Piece};
-use crate::piece::front_of;
+use crate::piece::{front_of, is_plain};
 use arrayvec::ArrayVec;
 use pickle_io::{Failed, Page, write_all, write_hex, write_quoted};
 
@@ -279,6 +281,26 @@ pub fn write_text<P: Page>(coding: Coding, bytes: &[u8], page: &mut P) -> Result
     } else {
         write_raw(bytes, page)
     }
+}
+
+/// Whether each byte stands for itself, however the bytes of a text are read.
+fn are_plain(bytes: &[u8]) -> bool
+    ensures { result ≡ list_all is_plain bytes.now }
+{
+    for byte in bytes {
+        if !is_plain(*byte) {
+            return false;
+        }
+    }
+    true
+}
+
+/// Whether a text is known to be its own short value, however its bytes are read. Most names are.
+#[tactic(auto, using(crate::proofs::Plain::plain_short))]
+pub fn is_plain_name(bytes: &[u8]) -> bool
+    ensures { result ≡ true → (c : Coding) → short_value c bytes.now ≡ Some bytes.now }
+{
+    bytes.len() <= 32 && are_plain(bytes)
 }
 
 /// Keeps what a piece at the front of bytes is, and answers whether there was room.

@@ -5,6 +5,10 @@ pub mod Steps
 pub mod Reaches
 pub mod Exact
 pub mod LinesApart
+pub mod FirstLines
+pub mod WithinLines
+pub mod TextLines
+pub mod QuotesApart
 pub mod Codes
 pub mod Names
 pub mod Namings

@@ -6,20 +6,20 @@ use Rattle.hex.specs.Hex.{encode_with, lower_digits}
 use Rattle.pickle_io.specs.Text.{◌⧺◌, hexadecimal, escaped, quoted_byte, quoted_bytes, quoted}
 use Rattle.pickle_show.specs.LineLaws.{is_within_line, QuotesStay}
 
-both_hold : (a b : Bool) → a ≡ true → b ≡ true → (a && b) ≡ true
+pub both_hold : (a b : Bool) → a ≡ true → b ≡ true → (a && b) ≡ true
 both_hold true true p q = refl
 both_hold true false p q = absurd cc
 both_hold false b p q = absurd cc
 
-first_of : (a b : Bool) → (a && b) ≡ true → a ≡ true
+pub first_of : (a b : Bool) → (a && b) ≡ true → a ≡ true
 first_of true b e = refl
 first_of false b e = absurd cc
 
-rest_of : (a b : Bool) → (a && b) ≡ true → b ≡ true
+pub rest_of : (a b : Bool) → (a && b) ≡ true → b ≡ true
 rest_of true b e = e
 rest_of false b e = absurd cc
 
-joined : (a b : List ℕ) → is_within_line a ≡ true → is_within_line b ≡ true → is_within_line (a ++ b) ≡ true
+pub joined : (a b : List ℕ) → is_within_line a ≡ true → is_within_line b ≡ true → is_within_line (a ++ b) ≡ true
 joined [] b p q = q
 joined (x ∷ a) b p q = both_hold (not (x == 10)) (is_within_line (a ++ b)) (first_of (not (x == 10)) (is_within_line a) p) (joined a b (rest_of (not (x == 10)) (is_within_line a) p) q)
 
@@ -29,13 +29,13 @@ digit [] n p = refl
 digit (x ∷ t) zero p = first_of (not (x == 10)) (is_within_line t) p
 digit (x ∷ t) (suc n) p = digit t n (rest_of (not (x == 10)) (is_within_line t) p)
 
-digits : (byte : ℕ) → is_within_line (hexadecimal (byte ∷ [])) ≡ true
+pub digits : (byte : ℕ) → is_within_line (hexadecimal (byte ∷ [])) ≡ true
 unfolding hexadecimal encode_with
 digits byte =
     both_hold (not (slice_index lower_digits (byte / 16) == 10)) _ (digit lower_digits (byte / 16) refl)
     (both_hold (not (slice_index lower_digits (byte % 16) == 10)) true (digit lower_digits (byte % 16) refl) refl)
 
-escape : (byte : ℕ) → is_within_line (escaped byte) ≡ true
+pub escape : (byte : ℕ) → is_within_line (escaped byte) ≡ true
 unfolding escaped ◌⧺◌
 escape byte = joined (codes "\\x") (hexadecimal (byte ∷ [])) refl (digits byte)
 

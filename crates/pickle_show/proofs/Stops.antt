@@ -33,11 +33,11 @@ no_bytes (b ∷ bytes) h = absurd (omega (arith, eqb-true (length (b ∷ bytes))
 
 -- ---- the machine
 
-abbrev stops : Row → Bool
+abbrev pub stops : Row → Bool
 stops row.Stop = true
 stops _ = false
 
-row_stops : (o : Opcode) (arg : List ℕ) → stops (row_of_opcode o arg) ≡ is_stop o
+pub row_stops : (o : Opcode) (arg : List ℕ) → stops (row_of_opcode o arg) ≡ is_stop o
 row_stops op.Stop arg = refl
 row_stops _ arg = refl
 

@@ -60,7 +60,7 @@ pub entries-zero : (how : Detail) (d : Contents) → entries how d 0 ≡ no_entr
 unfolding entries
 entries-zero how d = refl
 
-text-suc : (how : Detail) (d : Contents) (k : ℕ) → (entries how d (suc k)).text ≡ (entries how d k).text ++ (entry_at how d k).text
+pub text-suc : (how : Detail) (d : Contents) (k : ℕ) → (entries how d (suc k)).text ≡ (entries how d k).text ++ (entry_at how d k).text
 unfolding entries ◌⧺◌
 text-suc how d k = refl
 
@@ -133,7 +133,7 @@ entries_more how d k (suc n) =
     (before.0 ++ last, rw e (text-suc how d (k + n) ∙ ap (λ (t : List ℕ). t ++ last) before.1 ∙ append_assoc (entries how d k).text before.0 last))
 
 -- the first lines come first
-entries_first : (how : Detail) (d : Contents) (k n : ℕ) → k ≤ n → (rest : List ℕ) × ((entries how d n).text ≡ (entries how d k).text ++ rest)
+pub entries_first : (how : Detail) (d : Contents) (k n : ℕ) → k ≤ n → (rest : List ℕ) × ((entries how d n).text ≡ (entries how d k).text ++ rest)
 entries_first how d k n h =
     let e : k + (n - k) ≡ n = omega arith in
     let more = entries_more how d k (n - k) in
@@ -180,7 +180,7 @@ end_later d k last s (Some j) le r b = b j refl
 end_later d k last s None le r b = rw r le
 
 -- where place k is reached, and no such STOP is before it, the lines end there or behind it
-reaches : (d : Contents) (k : ℕ) (s : State) → run (start d.many) (ops_of d) k ≡ Some s → k ≤ length (ops_of d) → ((n j : ℕ) → first_inside d n ≡ Some j → k ≤ suc j) → k ≤ (calls_end d).place
+pub reaches : (d : Contents) (k : ℕ) (s : State) → run (start d.many) (ops_of d) k ≡ Some s → k ≤ length (ops_of d) → ((n j : ℕ) → first_inside d n ≡ Some j → k ≤ suc j) → k ≤ (calls_end d).place
 unfolding calls_end
 reaches d k s r h b =
     let far = is_reached (start d.many) (ops_of d) (length (ops_of d)) in

@@ -1,5 +1,5 @@
 -- What the lines promise whoever reads them.
-use Rattle.std.specs.Prelude.{◌≡◌, ◌≢◌, ◌⊎◌, ℕ, suc, ◌<◌, ◌^◌, Bool, true, false, List, [], length, slice_get, Some, None}
+use Rattle.std.specs.Prelude.{◌≡◌, ◌≢◌, ◌⊎◌, ℕ, suc, ◌<◌, ◌^◌, Bool, true, false, List, [], ◌++◌, length, slice_get, Some, None}
 use Rattle.pickle_ops.specs.Spelling.{Operation}
 use Rattle.pickle_ops.specs.declared.opcode.Opcode.TheVariants as op
 use Rattle.pickle_doc.specs.Document.{Contents, ReadsAs, AreBytes}
@@ -17,7 +17,7 @@ use Rattle.pickle_machine.specs.Loader.{loose_at}
 use Rattle.pickle_show.specs.declared.naming.Detail.{Detail}
 use Rattle.pickle_show.specs.Output.{Output}
 use Rattle.pickle_show.specs.Event.{is_view, top_of}
-use Rattle.pickle_show.specs.Calls.{calls, entry_at}
+use Rattle.pickle_show.specs.Calls.{calls, calls_end, entries, entry_at}
 
 -- ---- one text
 
@@ -89,3 +89,10 @@ IsShown d k s t = Makes s t ⊎ (Changes s t ⊎ (Adds d k t ⊎ Builds d k))
 -- an accepted item has a line exactly where it is shown
 abbrev pub LineExactly : Type 0
 LineExactly = (how : Detail) (d : Contents) (k : ℕ) (s t : State) → IsStep d k s t → ((entry_at how d k).text ≢ [] → IsShown d k s t) × (IsShown d k s t → (entry_at how d k).text ≢ [])
+
+-- ---- the first pickle
+
+-- of several pickles the lines of the first come first, up to where those of one pickle end
+abbrev pub FirstLinesComeFirst : Type 0
+FirstLinesComeFirst = (how : Detail) (bytes : List ℕ) (d e : Contents) → length bytes < 2 ^ 64 → ReadsAs false bytes d → ReadsAs true bytes e
+    → (more : List ℕ) × ((entries how e (calls_end e).place).text ≡ (entries how d (calls_end d).place).text ++ more)

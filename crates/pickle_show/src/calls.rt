@@ -71,7 +71,7 @@ pub fn run_items<'a, I: ItemSource<'a>, S: Page>(
             NextRef::Item(op) => {
                 let row = Row::of_ref(&op);
                 let before = Before::of(machine);
-                if let Err(refusal) = step_over(alloc, &op, place, machine) {
+                if let Err(refusal) = step_over(alloc, row, &op, place, machine) {
                     if refusal == Refusal::Memory {
                         return Err(TextStop::Memory);
                     }

@@ -1,7 +1,7 @@
 //! Laws of the definitions. The functions do nothing: what they ensure holds of all documents.
 
-ghost use Rattle.pickle_show.specs.CallsLaws.{OneText, NoLineNoReach, LineExactly};
-ghost use Rattle.pickle_show.specs.LineLaws.{QuotesStay};
+ghost use Rattle.pickle_show.specs.CallsLaws.{OneText, NoLineNoReach, LineExactly, FirstLinesComeFirst};
+ghost use Rattle.pickle_show.specs.LineLaws.{QuotesStay, TextIsItsLines, QuotesReadBack};
 
 /// Each byte string has just one text, with just one status.
 pub fn one_text()
@@ -22,4 +22,20 @@ pub fn line_exactly()
 /// Whatever a name or a text of a pickle is, in quotes it does not end its line.
 pub fn quotes_stay()
     ensures { QuotesStay }
+{}
+
+/// Of several pickles the lines of the first come first: those that are shown where only one pickle is read.
+pub fn first_lines_come_first()
+    ensures { FirstLinesComeFirst }
+{}
+
+/// Cut behind its newlines, a text is the line of each item that has one, in order, and the last lines: no name and no text of a pickle
+/// makes a line of its own.
+pub fn text_is_its_lines()
+    ensures { TextIsItsLines }
+{}
+
+/// What is in quotes is read back, whatever is behind it: the names and texts of two equal lines are equal.
+pub fn quotes_read_back()
+    ensures { QuotesReadBack }
 {}

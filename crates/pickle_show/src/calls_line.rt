@@ -264,6 +264,7 @@ fn write_event<S: Page>(
 
 /// Writes the line of an event whose item is at this offset.
 #[tactic(auto, using(pickle_io::proofs::Devices::text_steps), unfolding(crate::specs::CallsLine::event_line))]
+#[inline(never)]
 fn write_event_line<S: Page>(
     offset: u64,
     naming: Naming,
@@ -281,6 +282,7 @@ fn write_event_line<S: Page>(
 
 /// Writes the line of a step, if it has an event.
 #[tactic(auto, using(pickle_io::proofs::Devices::text_steps))]
+#[inline(always)]
 pub fn write_line<S: Page>(
     offset: u64,
     naming: Naming,

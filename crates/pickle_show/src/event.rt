@@ -143,6 +143,7 @@ fn is_view(heap: &[Object], object: &Object) -> bool
 }
 
 /// Whether the making of an object is shown.
+#[inline(always)]
 fn is_shown(heap: &[Object], object: &Object) -> bool
     ensures { result ≡ is_shown heap.now object.now }
 {
@@ -150,6 +151,7 @@ fn is_shown(heap: &[Object], object: &Object) -> bool
 }
 
 /// The event of a step that made the object of this number, if it made one.
+#[inline(always)]
 fn made_event(heap: &[Object], id: ObjId) -> Option<Event>
     ensures { result ≡ made_event heap.now id }
 {
@@ -206,6 +208,7 @@ fn into(filling: Filling, count: usize, machine: &Machine) -> Option<Event>
 }
 
 /// The event of a step that put objects into another.
+#[inline(never)]
 fn filled_event(filling: Filling, before: Before, machine: &Machine) -> Option<Event>
     ensures { result ≡ filled_event filling before machine.now.state }
 {
@@ -217,6 +220,7 @@ fn filled_event(filling: Filling, before: Before, machine: &Machine) -> Option<E
 }
 
 /// The event of a step of this row, if any: this was looked at before it, and this is the machine after it.
+#[inline(always)]
 pub fn event_of(row: Row, before: Before, machine: &Machine) -> Option<Event>
     ensures { result ≡ event_of row before machine.now.state }
 {

@@ -43,7 +43,10 @@ mod words;
 
 pub use begins::{CONTAINERS, write_begins};
 pub use calls::{Ran, calls_of_bytes, run_items};
-pub use calls_laws::{line_exactly, no_line_no_reach, one_text, quotes_stay};
+pub use calls_laws::{
+    first_lines_come_first, line_exactly, no_line_no_reach, one_text, quotes_read_back,
+    quotes_stay, text_is_its_lines,
+};
 pub use calls_line::write_line;
 pub use course::Course;
 pub use end::{Ending, write_end, write_totals};

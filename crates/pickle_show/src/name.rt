@@ -1,6 +1,6 @@
 //! The names of objects.
 
-ghost use Rattle.std.specs.Prelude.{◌≡◌, ◌&&◌, if◌then◌else◌, None, Some};
+ghost use Rattle.std.specs.Prelude.{◌≡◌, ◌&&◌, if◌then◌else◌, IfSome, None, Some};
 ghost use Rattle.std.specs.Option.{option_map, option_map_or};
 ghost use Rattle.pickle_io.specs.Device.{Writes};
 ghost use Rattle.pickle_io.specs.Text.{◌⧺◌};
@@ -13,7 +13,7 @@ use crate::kind::write_kind;
 use crate::naming::Naming;
 use crate::words::write_id;
 use arrayvec::ArrayVec;
-use pickle_names::{Coding, NewNames, renamed, short_value, write_text};
+use pickle_names::{Coding, NewNames, is_plain_name, renamed, short_value, write_text};
 use pickle_ops::{Failed, Kind, ObjId, Object, Page, write_all, write_quoted};
 
 /// A text as it is in a pickle.
@@ -195,6 +195,22 @@ fn short_of(spelled: Option<SpelledText<'_>>) -> Option<ArrayVec<u8, 32>>
     }
 }
 
+/// A name that needs no decoding.
+fn plain_of<'a>(spelled: Option<SpelledText<'a>>) -> Option<&'a [u8]>
+    ensures { IfSome result (λ v. short_of (option_map spelled_view spelled.entry) ≡ Some v.now) }
+{
+    match spelled {
+        Some(text) => {
+            if is_plain_name(text.bytes) {
+                Some(text.bytes)
+            } else {
+                None
+            }
+        }
+        None => None,
+    }
+}
+
 /// Writes what is imported.
 #[tactic(auto, using(pickle_io::proofs::Devices::text_steps), unfolding(crate::specs::Naming::import_text))]
 fn write_import<S: Page>(new: NewNames<'_>, sink: &mut S) -> Result<(), Failed>
@@ -290,8 +306,8 @@ fn write_names_by<S: Page>(
     }
 }
 
-/// Writes names of which the module has this value.
-fn write_names_of<S: Page>(
+/// Writes names of which the module has this value, and the member is decoded.
+fn write_decoded_of<S: Page>(
     naming: Naming,
     object: Option<ObjId>,
     from: &[u8],
@@ -306,9 +322,25 @@ fn write_names_of<S: Page>(
     }
 }
 
-/// Writes names by their rows, if they have one.
+/// Writes names of which the module has this value.
+fn write_names_of<S: Page>(
+    naming: Naming,
+    object: Option<ObjId>,
+    from: &[u8],
+    pair: NamePair<'_>,
+    sink: &mut S,
+) -> Result<(), Failed>
+    ensures { Writes (S.told sink.old) (S.told sink.new) result (names_by naming object (renamed_by (Some from.now) (short_of (option_map spelled_view pair.entry.name))) (pair_view pair.entry)) }
+{
+    match plain_of(pair.name) {
+        Some(name) => write_names_by(naming, object, renamed(from, name), pair, sink),
+        None => write_decoded_of(naming, object, from, pair, sink),
+    }
+}
+
+/// Writes names by their rows, if they have one, of which the module is decoded.
 #[tactic(auto, unfolding(crate::specs::Naming::names_text, crate::specs::Naming::pair_renamed))]
-fn write_names_slowly<S: Page>(
+fn write_decoded<S: Page>(
     naming: Naming,
     object: Option<ObjId>,
     pair: NamePair<'_>,
@@ -319,6 +351,22 @@ fn write_names_slowly<S: Page>(
     match short_of(pair.from) {
         Some(from) => write_names_of(naming, object, from.as_slice(), pair, sink),
         None => write_said_names(object, pair, sink),
+    }
+}
+
+/// Writes names by their rows, if they have one.
+#[tactic(auto, unfolding(crate::specs::Naming::names_text, crate::specs::Naming::pair_renamed))]
+fn write_names_by_rows<S: Page>(
+    naming: Naming,
+    object: Option<ObjId>,
+    pair: NamePair<'_>,
+    sink: &mut S,
+) -> Result<(), Failed>
+    ensures { Writes (S.told sink.old) (S.told sink.new) result (names_text naming object (pair_view pair.entry)) }
+{
+    match plain_of(pair.from) {
+        Some(from) => write_names_of(naming, object, from, pair, sink),
+        None => write_decoded(naming, object, pair, sink),
     }
 }
 
@@ -345,7 +393,7 @@ fn write_names<S: Page>(
     if is_as_said(naming, object) {
         write_said_names(object, pair, sink)
     } else {
-        write_names_slowly(naming, object, pair, sink)
+        write_names_by_rows(naming, object, pair, sink)
     }
 }
 

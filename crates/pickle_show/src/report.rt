@@ -2,6 +2,7 @@
 
 ghost use Rattle.std.specs.Prelude.{◌≡◌, ◌≢◌, ◌+◌, ◌-◌, ◌^◌, ◌<◌, ◌≤◌, ◌==◌, ◌&&◌, length, Ok, Err, OnOk, OnErr, IfOk, IfErr};
 ghost use Rattle.pickle_doc.specs.Document.{size_limit};
+ghost use Rattle.pickle_ops.specs.Row.{row_of};
 ghost use Rattle.pickle_machine.specs.State.{start};
 ghost use Rattle.pickle_machine.specs.Move.{move, refusal_at};
 ghost use Rattle.pickle_io.specs.Device.{Writes, each};
@@ -16,7 +17,7 @@ use pickle_doc::{
     Document, DocumentItems, ItemSource, Items, NextRef, TailFault, ends_reading, is_stop,
 };
 use pickle_machine::{Machine, Refusal};
-use pickle_ops::{Failed, ObjId, OpRef, Page, write_all};
+use pickle_ops::{Failed, ObjId, OpRef, Page, Row, write_all};
 use std::alloc::Global;
 
 /// How a run over the items of a document ended.
@@ -106,15 +107,17 @@ fn write_report<S: Page>(machine: &Machine, closing: Closing, sink: &mut S) -> R
     Ok(status_of(closing))
 }
 
-/// Steps a machine over an item, and keeps no record. Refused, it changes nothing. `Refusal::Memory` comes also where there is no
-/// memory for a copy of the item's argument.
+/// Steps a machine over an item, whose row this is, and keeps no record. Refused, it changes nothing. `Refusal::Memory` comes also where
+/// there is no memory for a copy of the item's argument.
 pub fn step_over(
     alloc: Global,
+    row: Row,
     op: &OpRef<'_>,
     place: usize,
     machine: &mut Machine,
 ) -> Result<(), Refusal>
-    requires { length machine.old.state.heap < 2 ^ 32 - 1 }
+    requires heap { length machine.old.state.heap < 2 ^ 32 - 1 }
+    requires row { row ≡ row_of op.now }
     ensures ok { OnOk result (move op.now place machine.old.state ≡ Ok machine.new.state) }
     ensures objects { length machine.new.state.heap ≤ length machine.old.state.heap + 1 }
     ensures err { OnErr result (machine.new.state ≡ machine.old.state) }
@@ -123,8 +126,7 @@ pub fn step_over(
     let Ok(op) = op.copied(alloc) else {
         return Err(Refusal::Memory);
     };
-    machine.step(alloc, &op, place)?;
-    Ok(())
+    machine.step_as(alloc, row, &op, place)
 }
 
 /// How a run ends that went over all items: `stop` says whether the last of them is STOP, and the tail has `left` bytes, this fault
@@ -163,7 +165,8 @@ fn run_items<'a, I: ItemSource<'a>>(
                 return Ok(closing_at(stop, left, fault, total - left));
             }
             NextRef::Item(op) => {
-                if let Err(refusal) = step_over(alloc, &op, place, machine) {
+                let row = Row::of_ref(&op);
+                if let Err(refusal) = step_over(alloc, row, &op, place, machine) {
                     if refusal == Refusal::Memory {
                         return Err(TextStop::Memory);
                     }

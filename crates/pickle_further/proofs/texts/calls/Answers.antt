@@ -1,5 +1,3 @@
-use Rattle.std.proofs.Common.{arith}
-use Rattle.pickle_further.proofs.Pieces.{no_text_yet}
 use Rattle.pickle_further.proofs.Documents.{first_ok, first_err, all_ok, all_err}
 use Rattle.pickle_further.proofs.texts.calls.Goals as goal
 

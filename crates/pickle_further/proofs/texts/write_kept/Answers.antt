@@ -1,7 +1,7 @@
-use Rattle.std.proofs.Common.{refl, arith, ap, ◌∙◌}
+use Rattle.std.proofs.Common.{arith}
 use Rattle.pickle_further.specs.declared.way.Pickles.TheVariants as pickles
 use Rattle.pickle_further.proofs.Pieces.{no_text_yet}
-use Rattle.pickle_further.proofs.Tales.{err_is, memory_is}
+use Rattle.pickle_further.proofs.Tales.{err_is}
 use Rattle.pickle_further.proofs.Kept.{kept_cut, kept_broken, kept_done}
 use Rattle.pickle_further.proofs.texts.write_kept.Goals as goal
 

@@ -1,5 +1,5 @@
 -- One character more.
-use Rattle.std.proofs.Common.{◌≡◌, true, sym, ◌∙◌, ap, refl, rules}
+use Rattle.std.proofs.Common.{ap, rules}
 use Rattle.pickle_names.proofs.Turns.{reads-next}
 use Rattle.pickle_names.proofs.value.read.Goals as goal
 

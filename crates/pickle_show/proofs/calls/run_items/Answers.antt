@@ -26,8 +26,8 @@ of-before-requires g c =
     let b = bounds _ _ _ _ _ _ _ c.in-Item.op _ _ c.items.invariant n.0 in
     omega (arith, b.heap, b.place, c.requires.source.small)
 
-pub step_over-requires : goal.step_over-requires
-step_over-requires g c =
+pub step_over-requires-clause-heap : goal.step_over-requires-clause-heap
+step_over-requires-clause-heap g c =
     let n : IsNextItem (g.I.ItemSource.unread c.items.reader).left (g.I.ItemSource.unread c.items.reader).rest c.in-Item.op (size_of c.in-Item.op)
     × (g.I.ItemSource.unread c.next.new.self ≡ record { rest = drop (size_of c.in-Item.op) (g.I.ItemSource.unread c.items.reader).rest; left = left_behind (g.I.ItemSource.unread c.items.reader).left c.in-Item.op }) = rw c.in-Item.is at c.next.ensures in
     let b = bounds _ _ _ _ _ _ _ c.in-Item.op _ _ c.items.invariant n.0 in

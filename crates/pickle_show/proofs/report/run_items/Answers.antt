@@ -23,8 +23,8 @@ returns-in-Tail-clause-closes g c =
     let left : c.unread_len-left.result ≡ length (g.I.ItemSource.unread c.items.reader).rest = c.unread_len-left.ensures ∙ ap (λ (u : Unread). length u.rest) f.1 in
     rw (c.closing_at.ensures, left, c.unread_len-total.ensures) (tail_ends _ _ _ _ _ _ _ c.in-Tail.fault c.items.invariant f.0)
 
-pub step_over-requires : goal.step_over-requires
-step_over-requires g c =
+pub step_over-requires-clause-heap : goal.step_over-requires-clause-heap
+step_over-requires-clause-heap g c =
     let n : IsNextItem (g.I.ItemSource.unread c.items.reader).left (g.I.ItemSource.unread c.items.reader).rest c.in-Item.op (size_of c.in-Item.op)
     × (g.I.ItemSource.unread c.next.new.self ≡ record { rest = drop (size_of c.in-Item.op) (g.I.ItemSource.unread c.items.reader).rest; left = left_behind (g.I.ItemSource.unread c.items.reader).left c.in-Item.op }) = rw c.in-Item.is at c.next.ensures in
     omega (arith, c.items.invariant.heap, place_within _ _ _ _ _ c.in-Item.op _ _ c.items.invariant n.0, c.requires.document.small)
