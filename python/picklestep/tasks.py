@@ -43,12 +43,12 @@ def objects(source: Source, *, many: bool = False, timeout: Optional[float] = No
     return _report(Objects, 'objects', source, _many(many), _many(many), timeout, memory)
 
 
-def calls(source: Source, *, first: bool = False, memo_kept: bool = False, many: bool = True, timeout: Optional[float] = None,
-          memory: Optional[int] = None) -> Calls:
+def calls(source: Source, *, first: bool = False, memo_kept: bool = False, full: bool = False, many: bool = True,
+          timeout: Optional[float] = None, memory: Optional[int] = None) -> Calls:
     """What pickles that follow one another import and call. An opcode that has no line here reaches nothing outside the pickle.
 
     With `first` only the first pickle is read. With `memo_kept` they are read as by one unpickler that loads again and again, and keeps
-    its memo. `many` changes nothing.
+    its memo. With `full` arguments are whole: texts of more than 64 characters, tuples of more than 16 parts. `many` changes nothing.
 
     >>> for reach in calls(b'cposix\\nsystem\\n(X\\x02\\x00\\x00\\x00idtR.'):
     ...     print(reach.offset, reach.text)
@@ -58,6 +58,7 @@ def calls(source: Source, *, first: bool = False, memo_kept: bool = False, many:
     if first and memo_kept:
         raise ValueError('first and memo_kept are two readings')
     options = ['--first'] if first else ['--memo', 'kept'] if memo_kept else []
+    options += ['--full'] if full else []
     # (A listing does not read on as one unpickler does, so where that was refused only the place is known.)
     return _report(Calls, 'calls', source, options, None if memo_kept else _many(not first), timeout, memory)
 
