@@ -403,6 +403,12 @@ class Parts(unittest.TestCase):
         with self.assertRaises(ValueError):
             picklestep.calls(b'N.', first=True, memo_kept=True)
 
+    def test_arguments_in_full(self) -> None:
+        content = b'cm\nn\n(' + b'X' + (70).to_bytes(4, 'little') + b'a' * 70 + b'N' * 17 + b'tR.'
+        cut, full = picklestep.calls(content)[1], picklestep.calls(content, full=True)[1]
+        self.assertEqual(cut.text, f"call 'm' 'n' ('{'a' * 64}'+6{', none' * 15}, +2) as #20")
+        self.assertEqual(full.text, f"call 'm' 'n' ('{'a' * 70}'{', none' * 17}) as #20")
+
 
 if __name__ == '__main__':
     unittest.main()

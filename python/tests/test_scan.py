@@ -306,6 +306,12 @@ class TheCommand(ScanCase):
         self.assertEqual(self.scan('a.pkl', 'b.pkl', '--allow', 'torch', '--allow', 'mine').returncode, 0)
         self.assertEqual(self.scan('a.pkl', '--allow', 'no_such_file').returncode, 2)
 
+    def test_arguments_in_full(self) -> None:
+        self.file('a.pkl', b'cposix\nsystem\nX' + (70).to_bytes(4, 'little') + b'a' * 70 + b'\x85R.')
+        cut, full = self.scan('a.pkl', '--brief').stdout, self.scan('a.pkl', '--brief', '--full').stdout
+        self.assertIn(f"call 'posix' 'system' ('{'a' * 64}'+6) as #3\n", cut)
+        self.assertIn(f"call 'posix' 'system' ('{'a' * 70}') as #3\n", full)
+
     def test_a_pickle_without_stop(self) -> None:
         self.file('a.pkl', HARMLESS[:-1])
         run = self.scan('a.pkl')

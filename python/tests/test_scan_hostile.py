@@ -280,6 +280,12 @@ class Bombs(ScanCase):
                 result = self.look('a.pkl', content, Options(Limits(), lines))
                 self.assertIn('! : the answer about it has more than 10,000 bytes of different lines', notes_of(result))
             self.assertTrue(self.look('a.pkl', many).pickles[0].end.is_stopped)
+        # And a line that does not end.
+        with mock.patch('picklestep.scan.reading._MOST_KEPT', 100_000):
+            long = b'cm\nn\nX' + (200_000).to_bytes(4, 'little') + b'a' * 200_000 + b'\x85R.'
+            result = self.look('a.pkl', long, Options(full=True))
+            self.assertIn('! : the answer about it has more than 100,000 bytes of different lines', notes_of(result))
+            self.assertTrue(self.look('a.pkl', long).pickles[0].end.is_stopped)
 
     def test_an_answer_that_takes_long(self) -> None:
         program = self.file('program', b"#!/bin/sh\necho '    0: import '\"'os' 'x'\"' as #0'\nexec sleep 300\n")

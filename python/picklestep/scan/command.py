@@ -64,6 +64,7 @@ def _parser() -> argparse.ArgumentParser:
     parser.add_argument('--sarif', metavar='FILE', help='write what to look at as SARIF 2.1.0 too')
     parser.add_argument('--brief', action='store_true', help='only lines to look at, and the summary')
     parser.add_argument('--lines', action='store_true', help="each pickle with all of the program's lines")
+    parser.add_argument('--full', action='store_true', help='arguments in full: whole texts, and all parts of a tuple')
     parser.add_argument('--everywhere', action='store_true', help='try each offset at which a pickle may begin, and texts that stand for bytes')
     parser.add_argument('--jobs', metavar='N', type=_positive, default=1, help='files at once')
     parser.add_argument('--cluster', metavar='ADDRESS', help='hand the files to the Dask cluster at this address')
@@ -132,7 +133,7 @@ def _is_same(path: str, earlier: Result) -> bool:
 
 def _options(words: argparse.Namespace) -> Options:
     limits = Limits(words.max_bytes, words.max_members, words.max_depth, words.max_seconds, words.max_memory, words.max_lines)
-    return Options(limits, words.lines, words.everywhere)
+    return Options(limits, words.lines, words.everywhere, words.full)
 
 
 def _results(words: argparse.Namespace, paths: Iterable[Union[str, Task]]) -> Generator[Result, None, None]:

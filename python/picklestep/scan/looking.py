@@ -57,12 +57,13 @@ _Reads = Callable[[Blob, Budget], Layout]
 
 @dataclass(frozen=True)
 class Options:
-    """How files are looked at: the limits for each of them, whether every line of the program is kept, and whether each offset is tried
-    at which a pickle may begin."""
+    """How files are looked at: the limits for each of them, whether every line of the program is kept, whether each offset is tried at
+    which a pickle may begin, and whether arguments are kept in full."""
 
     limits: Limits = Limits()
     lines: bool = False
     everywhere: bool = False
+    full: bool = False
 
 
 class Looker:
@@ -210,7 +211,7 @@ class Looker:
             opcodes = opcodes.part(0, first)
         self.budget.look(max(0, opcodes.size - _GLANCE))
         with held(opcodes) as path:
-            answer = asks_program(path, opcodes.size, self.budget, self.options.lines, offset_of)
+            answer = asks_program(path, opcodes.size, self.budget, self.options.lines, offset_of, self.options.full)
             is_pickle = is_pickle or answer.is_sure or answer.end.is_stopped or answer.end.code in _FRAME_FAULTS
             if answer.trouble is not None:
                 self.note(where, answer.trouble, missed=True)

@@ -18,7 +18,7 @@ from .begins import is_dotted
 from .blobs import Blob, Budget, FileBlob, spooled
 from .results import Call, Import, Pickle, Place
 
-__all__ = ['Enough', 'Summary', 'WAITING', 'asks_program', 'held', 'offset_of_item', 'shown_name', 'why_unread']
+__all__ = ['Enough', 'Summary', 'WAITING', 'asks_program', 'full_option', 'held', 'offset_of_item', 'shown_name', 'why_unread']
 
 # These lines are about an import.
 _IMPORTS = ('import', 'inst')
@@ -74,6 +74,7 @@ class Summary:
         self._lines: Optional[List[str]] = [] if keep_lines else None
         self._count = 0
         self._kept = 0
+        self._begun = 0
         self._part = ''
         self._leads_nowhere = False
 
@@ -84,17 +85,24 @@ class Summary:
 
     def take(self, pieces: Iterator[bytes]) -> None:
         """Reads the program's answer to its end."""
-        rest, tail = b'', ''
+        rest: List[bytes] = []
+        tail = ''
         for piece in pieces:
-            whole, newline, rest = (rest + piece).rpartition(b'\n')
-            text = (whole + newline).decode('ascii')
+            whole, newline, begun = piece.rpartition(b'\n')
+            if not newline:
+                rest.append(begun)
+                self._begun += len(begun)
+                self._check_kept()
+                continue
+            text = b''.join([*rest, whole, newline]).decode('ascii')
+            rest, self._begun = [begun], len(begun)
             at = 0
             for heading in HEADING.finditer(text):
                 tail = self._take_lines(text, at, heading.start(), tail)
                 self._begin_part(heading[1], tail)
                 at = heading.end()
             tail = self._take_lines(text, at, len(text), tail)
-        if rest or not tail:
+        if any(rest) or not tail:
             raise ProgramError('the program gave no whole answer')
         if not self._part:
             self._take_end(tail)
@@ -171,7 +179,11 @@ class Summary:
 
     def _keep(self, text: str) -> None:
         self._kept += len(text)
-        if self._kept > _MOST_KEPT:
+        self._check_kept()
+
+    def _check_kept(self) -> None:
+        """Counts a line that has not ended yet, too: an argument in full may be long."""
+        if self._kept + self._begun > _MOST_KEPT:
             raise Enough(f'the answer about it has more than {_MOST_KEPT:,} bytes of different lines')
 
     def pickle(self, where: Place, size: int) -> Pickle:
@@ -227,14 +239,17 @@ def held(blob: Blob) -> Iterator[str]:
         yield copy.path()
 
 
-def asks_program(path: str, size: int, budget: Budget, keep_lines: bool = False,
-                 offset_of: Optional[Callable[[int], int]] = None) -> Summary:
-    """What the bytes import and call, as one pickle or several in a row. What was found before a limit or a failure is kept."""
+def asks_program(path: str, size: int, budget: Budget, keep_lines: bool = False, offset_of: Optional[Callable[[int], int]] = None,
+                 full: bool = False) -> Summary:
+    """What the bytes import and call, as one pickle or several in a row. What was found before a limit or a failure is kept.
+
+    With `full` arguments are whole.
+    """
     summary = Summary(budget, keep_lines, offset_of)
     budget.spend()
     may_take, seconds = budget.memory(), budget.limits.seconds
     try:
-        process = Process(['calls', path], memory=may_take if size * _MEMORY_OF_A_BYTE > may_take else None)
+        process = Process(['calls', path, *full_option(full)], memory=may_take if size * _MEMORY_OF_A_BYTE > may_take else None)
         process.limit_seconds(budget.seconds)
         with closing(process.blocks(max(0.5, budget.seconds) * WAITING)) as pieces:
             summary.take(pieces)
@@ -249,6 +264,11 @@ def asks_program(path: str, size: int, budget: Budget, keep_lines: bool = False,
         if error.signal in (signal.SIGXCPU, signal.SIGKILL) and budget.seconds <= 1:
             summary.trouble = f'the program took more than {seconds:g} seconds: the rest of it is not looked at'
     return summary
+
+
+def full_option(full: bool) -> List[str]:
+    """The option of the program by which arguments are whole."""
+    return ['--full'] if full else []
 
 
 def offset_of_item(path: str, item: int, budget: Budget) -> Optional[int]:

@@ -16,7 +16,7 @@ from ...errors import PicklestepError
 from ...program import Process
 from ...texts import HEADING, OFFSET, QUOTED_OR_NUMBER
 from ..blobs import Budget, Limits, spooled
-from ..reading import WAITING, Enough, Summary, asks_program, offset_of_item
+from ..reading import WAITING, Enough, Summary, asks_program, full_option, offset_of_item
 
 __all__ = ['MOST_BYTES', 'MOST_PICKLES', 'answers']
 
@@ -34,30 +34,31 @@ _MEMORY_OF_A_BYTE = 4096
 _COUNTED = ('buffer', 'readonly')
 
 
-def answers(contents: Sequence[bytes], budget: Budget, keep_lines: bool = False) -> Iterator[Summary]:
-    """What each of these bytes imports and calls, in their order. Each is known to end with an opcode STOP."""
+def answers(contents: Sequence[bytes], budget: Budget, keep_lines: bool = False, full: bool = False) -> Iterator[Summary]:
+    """What each of these bytes imports and calls, in their order. Each is known to end with an opcode STOP. With `full` arguments are
+    whole."""
     at, most = 0, MOST_PICKLES
     while at < len(contents):
-        found = _together(contents[at:at + most], budget, keep_lines) if most > 1 else []
+        found = _together(contents[at:at + most], budget, keep_lines, full) if most > 1 else []
         yield from found
         whole = len(found) == len(contents[at:at + most])
         at += len(found)
         if not whole:
-            yield _alone(contents[at], budget, keep_lines)
+            yield _alone(contents[at], budget, keep_lines, full)
             at += 1
         most = min(MOST_PICKLES, most * 4) if whole or most == 1 else max(1, most // 4)
 
 
-def _alone(content: bytes, budget: Budget, keep_lines: bool) -> Summary:
+def _alone(content: bytes, budget: Budget, keep_lines: bool, full: bool) -> Summary:
     copy = spooled([content])
     with copy.file:
-        answer = asks_program(copy.path(), copy.size, budget, keep_lines)
+        answer = asks_program(copy.path(), copy.size, budget, keep_lines, full=full)
         if answer.end.item is not None:
             answer.end = replace(answer.end, offset=offset_of_item(copy.path(), answer.end.item, budget))
         return answer
 
 
-def _together(contents: Sequence[bytes], budget: Budget, keep_lines: bool) -> List[Summary]:
+def _together(contents: Sequence[bytes], budget: Budget, keep_lines: bool, full: bool) -> List[Summary]:
     """The answers about the first of them, up to one that has to be asked about alone."""
     budget.spend()
     name = secrets.token_hex(8)
@@ -67,7 +68,7 @@ def _together(contents: Sequence[bytes], budget: Budget, keep_lines: bool) -> Li
     text = bytearray()
     with copy.file:
         try:
-            process = Process(['calls', copy.path()], memory=may_take if copy.size * _MEMORY_OF_A_BYTE > may_take else None)
+            process = Process(['calls', copy.path(), *full_option(full)], memory=may_take if copy.size * _MEMORY_OF_A_BYTE > may_take else None)
             process.limit_seconds(budget.seconds)
             with closing(process.blocks(max(0.5, budget.seconds) * WAITING)) as pieces:
                 for piece in pieces:

@@ -332,7 +332,7 @@ class Values:
             contents = [each.content for each in waiting]
             self._asked = waiting
             budget = self._outer
-            self._told = self._background.submit(lambda: list(answers(contents, budget, options.lines)))
+            self._told = self._background.submit(lambda: list(answers(contents, budget, options.lines, options.full)))
 
     def _settle(self) -> None:
         asked, told = self._asked, self._told
