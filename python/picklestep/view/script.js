@@ -4,14 +4,15 @@
 const SLOW = 300; // milliseconds, after which the page says that it waits
 
 const by = (id) => document.getElementById(id);
-const view = { state: null, top: 0, selected: 0, chunks: new Map(), waiting: new Set(), objects: 0, reaches: 0, pending: 0, busy: Promise.resolve(), rows: [], opcodes: {} };
+const view = { state: null, top: 0, selected: 0, chunks: new Map(), waiting: new Set(), objects: 0, reaches: 0, asks: 0, pending: 0, busy: Promise.resolve(), rows: [], opcodes: {} };
 
 const formOf = (name) => (view.opcodes[name] ? view.opcodes[name].form : '');
 
 // --- Asking ---
 
 async function ask(word, asked) {
-  const answer = await host.ask(word, asked);
+  view.asks += 1;
+  const answer = await host.ask(word, asked).finally(() => { view.asks -= 1; });
   if (answer.failed) say(answer.said, true);
   return answer;
 }

@@ -9,9 +9,8 @@ const described = (thing) => (thing ? shownObject(thing[0], thing[1]) : '');
 async function things() {
   const state = view.state;
   const numbers = [...numbersIn([...state.stack.words, ...state.memo.words]).slice(-490), ...state.results];
-  const [named, made, reached] = await Promise.all([ask('briefs', { numbers }), ask('objects', { start: view.objects, count: PAGE }),
-    ask('reached', { start: view.reaches, count: PAGE })]);
-  if (state !== view.state || !named.briefs || !made.objects || !reached.reached) return;
+  const [named, made] = await Promise.all([ask('briefs', { numbers }), ask('objects', { start: view.objects, count: PAGE }), reaches()]);
+  if (state !== view.state || !named.briefs || !made.objects) return;
   const stack = state.stack.words.map((word) => word[0] === '(' ? mark(word.slice(1)) : item('', Number(word.slice(1)), described(named.briefs[word.slice(1)])));
   list(by('stack'), stack.reverse(), state.stack.more && [`${state.stack.more} more below`, 'after']);
   list(by('memo'), state.memo.words.map((word) => {
@@ -20,9 +19,20 @@ async function things() {
   }), state.memo.more && [`${state.memo.more} more before`, 'before']);
   by('memo').scrollTop = by('memo').scrollHeight;
   showObjects(made.objects);
-  showReaches(reached.reached);
   tree(by('result'), state.results.map((number) => node('', number, described(named.briefs[number]), [])),
     state.results_before ? `after ${state.results_before} others` : state.results.length ? '' : 'none so far: a STOP takes it');
+}
+
+// What is imported and called: asked for again only where it may be other than before. What is before the cursor is done.
+async function reaches() {
+  const state = view.state, key = `${state.version} ${view.reaches}`;
+  if (view.reachesShown !== key) {
+    const answer = await ask('reached', { start: view.reaches, count: PAGE });
+    if (state !== view.state || !answer.reached) return;
+    view.reachesShown = key;
+    showReaches(answer.reached);
+  }
+  by('reaches').querySelectorAll('.thing').forEach((thing) => thing.classList.toggle('done', Number(thing.dataset.place) < state.place));
 }
 
 function showObjects(objects) {
@@ -35,14 +45,13 @@ function showObjects(objects) {
   by('objects-on').disabled = last >= state.made;
 }
 
-// The imports and calls, each with the opcode that does it. Those before the cursor are done.
 function showReaches(reached) {
   const state = view.state, last = view.reaches + reached.length;
   list(by('reaches'), reached.map(([place, offset, kind, text]) => {
     const made = element('li', kind), button = element('button', 'thing');
     button.type = 'button';
     button.append(element('span', 'key', `${offset} `), document.createTextNode((kind === 'import' ? 'import ' : '') + reachOfRow(text)));
-    button.classList.toggle('done', place < state.place);
+    button.dataset.place = place;
     button.title = button.textContent;
     button.addEventListener('click', () => select(place));
     made.append(button);
