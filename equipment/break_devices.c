@@ -4,7 +4,10 @@
  * Calls of read and of write are counted from 1, each kind by itself; the loader's own are not counted, nor are those to standard
  * error. READ_MOST=C and WRITE_MOST=C give or take at most C bytes a call. READ_FAIL=N and WRITE_FAIL=N let the Nth call and
  * each later one fail, as a broken disk does. SHRINK=FILE with SHRINK_AT=N empties that file before the Nth read.
- * FAIL=fsync, rename, fchmod or fchown lets each call of this name fail.
+ * FAIL=fsync, rename, fchmod or fchown lets each call of this name fail. READ_SIGNAL=N and WRITE_SIGNAL=N let the Nth call do nothing, as
+ * where a signal interrupts it.
+ * CALLS=FILE gets a line for each fchmod, fchown, fsync and rename and for each write to a regular file, in their order: the name, and but
+ * for rename the kind and the mode of what it is made of.
  * At the end DEVICES=FILE has a line: how many reads and writes there were, and how many of them were made of a device that had
  * failed before.
  */
@@ -19,7 +22,7 @@
 #include <unistd.h>
 
 static unsigned long reads, writes, again;
-static unsigned long read_most, write_most, read_fail, write_fail, shrink_at;
+static unsigned long read_most, write_most, read_fail, write_fail, read_signal, write_signal, shrink_at;
 static int failed_file[64]; /* by descriptor: whether a call of it failed */
 
 static unsigned long number_of(const char *name)
@@ -35,6 +38,8 @@ __attribute__((constructor)) static void begin(void)
     write_most = number_of("WRITE_MOST");
     read_fail = number_of("READ_FAIL");
     write_fail = number_of("WRITE_FAIL");
+    read_signal = number_of("READ_SIGNAL");
+    write_signal = number_of("WRITE_SIGNAL");
     shrink_at = number_of("SHRINK_AT");
 }
 
@@ -47,6 +52,38 @@ __attribute__((destructor)) static void end(void)
 
     if (file >= 0 && syscall(SYS_write, file, text, (size_t)size) != size)
         abort();
+}
+
+/* Adds a line to the file that CALLS names. */
+static void note(const char *line)
+{
+    const char *name = getenv("CALLS");
+    int file = name ? open(name, O_WRONLY | O_CREAT | O_APPEND, 0600) : -1;
+
+    if (file >= 0 && (syscall(SYS_write, file, line, strlen(line)) < 0 || close(file) != 0))
+        abort();
+}
+
+/* Notes a call that is made of an open file, with the mode that the file has before it. */
+static void note_file(const char *call, int file)
+{
+    struct stat about;
+    char line[60];
+
+    if (!getenv("CALLS") || fstat(file, &about) != 0)
+        return;
+    snprintf(line, sizeof line, "%s %s %o\n", call, S_ISDIR(about.st_mode) ? "folder" : "file", about.st_mode & 07777);
+    if (S_ISREG(about.st_mode) || S_ISDIR(about.st_mode))
+        note(line);
+}
+
+/* Whether call `number` is the one that a signal interrupts. */
+static int is_interrupted(unsigned long number, unsigned long which)
+{
+    if (which == 0 || number != which)
+        return 0;
+    errno = EINTR;
+    return 1;
 }
 
 /* Whether call `number` of this file fails, where those from `first` on do. */
@@ -67,7 +104,7 @@ ssize_t read(int file, void *bytes, size_t count)
     reads++;
     if (shrink_at == reads && getenv("SHRINK") && truncate(getenv("SHRINK"), 0) != 0)
         abort();
-    if (fails(file, reads, read_fail))
+    if (is_interrupted(reads, read_signal) || fails(file, reads, read_fail))
         return -1;
     return syscall(SYS_read, file, bytes, read_most && read_most < count ? read_most : count);
 }
@@ -77,7 +114,8 @@ ssize_t write(int file, const void *bytes, size_t count)
     if (file == 2)
         return syscall(SYS_write, file, bytes, count);
     writes++;
-    if (fails(file, writes, write_fail))
+    note_file("write", file);
+    if (is_interrupted(writes, write_signal) || fails(file, writes, write_fail))
         return -1;
     return syscall(SYS_write, file, bytes, write_most && write_most < count ? write_most : count);
 }
@@ -95,20 +133,24 @@ static int is_broken(const char *name)
 
 int fsync(int file)
 {
+    note_file("fsync", file);
     return is_broken("fsync") ? -1 : (int)syscall(SYS_fsync, file);
 }
 
 int rename(const char *from, const char *to)
 {
+    note("rename\n");
     return is_broken("rename") ? -1 : (int)syscall(SYS_rename, from, to);
 }
 
 int fchmod(int file, mode_t mode)
 {
+    note_file("fchmod", file);
     return is_broken("fchmod") ? -1 : (int)syscall(SYS_fchmod, file, mode);
 }
 
 int fchown(int file, uid_t owner, gid_t group)
 {
+    note_file("fchown", file);
     return is_broken("fchown") ? -1 : (int)syscall(SYS_fchown, file, owner, group);
 }

@@ -139,6 +139,24 @@ class Devices:
                 return f"with write {number} of {most} bytes failing: {why}"
         return ""
 
+    def interrupt(self, words: list[str], script: str, text: str, most: int, saved: bool) -> str:
+        """A signal interrupts each write in turn: it is made again, and nothing is lost or written twice."""
+        _, _, writes, _ = self.run(words, script, WRITE_MOST=most)
+        for number in range(1, writes + 1):
+            done, _, more, _ = self.run(words, script, WRITE_MOST=most, WRITE_SIGNAL=number)
+            self.broken += 1
+            if (done.stdout.decode(), done.stderr) != (text, b"") or more != writes + 1:
+                return f"with write {number} of {writes} interrupted there are {more}, and the output is {done.stdout!r}"
+            if saved and self.out.read_bytes() != self.file.read_bytes():
+                return f"with write {number} interrupted other bytes are saved"
+        return "" if writes else "nothing was written"
+
+    def interrupt_all(self) -> str:
+        """A task, and a conversation that is saved."""
+        why = self.interrupt(["list", str(self.file)], "", LISTING, 7, False)
+        words = ["debug", str(self.file), "--save", str(self.out)]
+        return why or self.interrupt(words, BY_MEMO[1], BY_MEMO[2], 2, True)
+
     def shrink(self) -> str:
         """The file is emptied while it is read: what was read until then is listed, or reading fails."""
         for number in range(1, 8):
@@ -151,7 +169,6 @@ class Devices:
             if (done.stdout, done.returncode, done.stderr) != (wanted.stdout, wanted.returncode, b""):
                 return f"emptied before read {number}, the output is {done.stdout!r}, status {done.returncode}"
         return ""
-
 
     def fault_of_script(self, words: list[str], script: str, text: str, most: int, is_reading: bool) -> str:
         """Breaks each read, or each write, of a conversation that is saved."""
@@ -192,4 +209,9 @@ def trials(devices: Devices) -> list[Trial]:
         for is_reading in (True, False)
     ]
     shrink = functools.partial(devices.with_file, BY_MEMO[0], devices.shrink)
-    return [*found, Trial("a file that is emptied while it is read", shrink)]
+    interrupt = functools.partial(devices.with_file, BY_MEMO[0], devices.interrupt_all)
+    return [
+        *found,
+        Trial("a file that is emptied while it is read", shrink),
+        Trial("writes that a signal interrupts", interrupt),
+    ]

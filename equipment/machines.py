@@ -168,7 +168,7 @@ def made_again(machines: Machines) -> str:
         fault = make(machines, to)
     if fault:
         return beginning(fault)
-    for file in (STATIC, ARM, MODULE, "picklestep.mjs", "SHA256SUMS", "TOOLS"):
+    for file in (STATIC, ARM, MODULE, "picklestep.mjs", "picklestep.html", "SHA256SUMS", "TOOLS"):
         if not filecmp.cmp(to / file, machines.dist / file, shallow=False):
             return f"{file} differs from that in dist"
     return ""

@@ -91,6 +91,12 @@ further_fault() {
     fi
 }
 
+# Whether dist/picklestep.html is the page that its sources make with the module as it is; else it says that it is not. (What the page is
+# made from is not among the sources of the program: a change of it makes no program anew.)
+page_fault() {
+    python3 -I -B "$root/targets/page.py" --check "$further" 2>&1
+}
+
 # Whether the machine has a C library that the released program can be started with: glibc of that version or later.
 has_glibc() {
     local needs there

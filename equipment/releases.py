@@ -296,6 +296,24 @@ def further_changed(releases: Releases) -> str:
     return ""
 
 
+def page_changed(releases: Releases) -> str:
+    """A source of the page for browsers that was changed: the check says it, and the page alone is made again, twice the same."""
+    at = releases.copy("page")
+    page, source = at / "dist/picklestep.html", at / "python/picklestep/view/script.js"
+    made = page.read_bytes()
+    source.write_bytes(source.read_bytes() + b"\n")
+    check = releases.run("./release", "--check", at=at)
+    if check.status != 1 or "dist/picklestep.html" not in check.errors:
+        return f"status {check.status}, errors {check.errors[:200]!r}"
+    run = releases.run("./release", "--page", at=at)
+    check = releases.run("./release", "--check", at=at)
+    if (run.status, check.status, check.errors) != (0, 0, "") or len(page.read_bytes()) != len(made) + 1:
+        return f"made again: status {run.status} and {check.status}, errors {run.errors[:200]!r} {check.errors[:200]!r}"
+    source.write_bytes(source.read_bytes()[:-1])
+    run = releases.run("./release", "--page", at=at)
+    return "" if run.status == 0 and page.read_bytes() == made else "the same sources make another page"
+
+
 def builds(releases: Releases) -> str:
     """From nothing what earlier runs kept of the program's crates is taken away; else it stays."""
     at = releases.copy("built")
@@ -518,6 +536,7 @@ TRIED: list[tuple[str, Callable[[Releases], str]]] = [
     ("crates that come to it", crates_changed),
     ("another machine", other_machine),
     ("a program for a further machine that was changed", further_changed),
+    ("a page for browsers that was changed", page_changed),
     ("a build", builds),
     ("a release from a built program", release_again),
     ("the released program with the C library alone", runs_bare),

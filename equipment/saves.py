@@ -17,6 +17,7 @@ from trials.trial import Noted, Trial
 
 OLD = b"K\x01."
 NEW = b"K\x02."
+LONGER = b"K\x01" * 100 + b"."
 CANNOT = b"picklestep: cannot write\n"
 UNFINISHED = "picklestep-save-*.unfinished"
 
@@ -237,13 +238,14 @@ def writes_devices(saves: Saves) -> str:
 
 
 def writes_standard_output(saves: Saves) -> str:
-    """Standard output is a file, or one that was removed while it is open."""
+    """Standard output is a file, or one that was removed while it is open and had more bytes."""
     saves.begin()
     why = saves.stored(saves.save("/dev/stdout", before=["bash", "-c", 'exec "$@" >out', "bash"]), "out")
     if why:
         return why
     saves.begin()
-    shell = ["bash", "-c", 'exec >out; rm out; "$@"; status=$?; cat /proc/$$/fd/1 >&2; exit $status', "bash"]
+    (saves.room / "out").write_bytes(LONGER)
+    shell = ["bash", "-c", 'exec 1<>out; rm out; "$@"; status=$?; cat /proc/$$/fd/1 >&2; exit $status', "bash"]
     run = saves.save("/dev/stdout", before=shell)
     if (run.status, run.errors) != (0, NEW) or os.listdir(saves.room) != ["new"]:
         return f"removed: {run}, and there are {os.listdir(saves.room)}"
@@ -348,6 +350,43 @@ def fails_without_owner(saves: Saves) -> str:
     return saves.stored(saves.save("out", LD_PRELOAD=str(saves.library()), FAIL="fchown"), "out")
 
 
+# --- In which order it is done ---
+
+
+def calls_of(saves: Saves, out: str) -> tuple[Run, list[str]]:
+    """A save, and the calls that change files in their order, where several writes in a row are one."""
+    calls = saves.room / "calls"
+    run = saves.save(out, LD_PRELOAD=str(saves.library()), CALLS=str(calls), WRITE_MOST="1")
+    lines = calls.read_text().splitlines()
+    calls.unlink()
+    return run, [line for number, line in enumerate(lines) if number == 0 or lines[number - 1] != line]
+
+
+def stores_before_it_renames(saves: Saves) -> str:
+    """A new file is private until it has the mode of the old one, which is before its first byte; it is stored before it gets the name of
+    the old one, and the folder after that."""
+    for mode in (0o600, 0o640, 0o644):
+        saves.begin()
+        saves.room.chmod(0o755)
+        (saves.room / "out").write_bytes(OLD)
+        (saves.room / "out").chmod(mode)
+        run, calls = calls_of(saves, "out")
+        wanted = ["fchown file 600", "fchmod file 600", f"write file {mode:o}", f"fsync file {mode:o}", "rename", "fsync folder 755"]
+        why = saves.stored(run, "out") or ("" if calls == wanted else f"the calls are {calls}")
+        if why:
+            return f"mode {mode:o}: {why}"
+    return ""
+
+
+def stores_a_new_file(saves: Saves) -> str:
+    saves.begin()
+    saves.room.chmod(0o755)
+    run, calls = calls_of(saves, "out")
+    mode = saves.mode_of("out")
+    wanted = [f"write file {mode:o}", f"fsync file {mode:o}", "rename", "fsync folder 755"]
+    return saves.stored(run, "out") or ("" if calls == wanted else f"the calls are {calls}")
+
+
 # --- Runs that are killed, and runs side by side ---
 
 
@@ -422,6 +461,8 @@ TRIED: list[tuple[str, Callable[[Saves], str]]] = [
     ("a run that the limit ends", is_killed_by_the_limit),
     ("a folder and a file that may not be written", may_not_write),
     ("a call of the system that fails", breaks_calls),
+    ("a saved file is private, and stored before it is renamed", stores_before_it_renames),
+    ("a new file is stored before it is renamed", stores_a_new_file),
     ("runs that are killed while they save", is_killed),
     ("runs that save one file side by side", run_side_by_side),
 ]

@@ -2,8 +2,8 @@
 
     python3 targets/make.py FOLDER
 
-FOLDER gets linux-x86_64-static/picklestep (musl, static), linux-aarch64/picklestep (glibc, static), picklestep.wasm and picklestep.mjs,
-SHA256SUMS over them, and TOOLS, the versions of what made them. Status 2 and a sentence where a tool is missing or has another
+FOLDER gets linux-x86_64-static/picklestep (musl, static), linux-aarch64/picklestep (glibc, static), picklestep.wasm, picklestep.mjs and
+picklestep.html (page.py), SHA256SUMS over them, and TOOLS, the versions of what made them. Status 2 and a sentence where a tool is missing or has another
 version than the one that the released sums were made with: equipment/install_targets installs them.
 
 Rattle hands clang one LLVM module. It is kept here, and compiled for each machine: it names no machine, has 64-bit pointers and lays all
@@ -22,6 +22,8 @@ import tempfile
 from concurrent.futures import ThreadPoolExecutor
 from dataclasses import dataclass
 from pathlib import Path
+
+import page
 
 HERE = Path(__file__).resolve().parent
 ROOT = HERE.parent
@@ -46,7 +48,7 @@ COMPILE = ['-O3', '-ffunction-sections', '-fdata-sections', '-mllvm', '-trap-unr
 FEATURES = ['-mcpu=mvp', '-mbulk-memory', '-mbulk-memory-opt', '-msign-ext', '-mnontrapping-fptoint', '-mmutable-globals']
 LOWERING = ['--enable-memory64', '--enable-bulk-memory', '--enable-sign-ext', '--enable-nontrapping-float-to-int', '--enable-mutable-globals',
             '--memory64-lowering']
-MADE = ('linux-x86_64-static/picklestep', 'linux-aarch64/picklestep', 'picklestep.wasm', 'picklestep.mjs')
+MADE = ('linux-x86_64-static/picklestep', 'linux-aarch64/picklestep', 'picklestep.wasm', 'picklestep.mjs', page.NAME)
 # The keeper stands in for clang while rattle builds.
 KEEPER = """#!/bin/bash
 [ ! -f module.bc ] || cp -- module.bc '{kept}'
@@ -213,6 +215,7 @@ def make_all(to: Path) -> None:
             for done in [pool.submit(make, made / file) for make, file in zip((maker.make_static, maker.make_arm, maker.make_wasm), MADE)]:
                 done.result()
         shutil.copy(HERE / 'picklestep.mjs', made / MADE[3])
+        (made / page.NAME).write_bytes(page.make((made / MADE[2]).read_bytes()))
         (made / 'SHA256SUMS').write_text(''.join(f'{hashlib.sha256((made / file).read_bytes()).hexdigest()}  {file}\n' for file in MADE))
         (made / 'TOOLS').write_text(tools)
         for file in (*MADE, 'SHA256SUMS', 'TOOLS'):
@@ -234,7 +237,7 @@ def main() -> int:
         return 2
     try:
         make_all(Path(sys.argv[1]))
-    except (Fault, OSError) as fault:
+    except (Fault, OSError, ValueError) as fault:
         print(f'picklestep: {fault}', file=sys.stderr)
         return 2
     return 0

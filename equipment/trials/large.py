@@ -8,7 +8,7 @@ import subprocess
 from collections.abc import Callable, Iterator
 
 from .room import Room, Word, beginning
-from .row import Row, trials_of
+from .row import Row, fails, trials_of
 from .samples import LARGE, LARGEST
 from .trial import Skip, Trial
 
@@ -31,6 +31,22 @@ LONGER = Row(
     "insert 0 NONE\n",
     status=1,
     output="refused: C9 E8 too large\n",
+)
+# Through a pipe, of which the system says no size: the most bytes are read, and one more is too many.
+PIPES = (
+    Row(
+        "the largest input through a pipe",
+        ("calls", "/dev/stdin"),
+        output="0 imports, 0 calls\n",
+        through='cat largest.pickle | "$@"',
+    ),
+    fails(
+        "an input past the size limit through a pipe",
+        "too large",
+        "calls",
+        "/dev/stdin",
+        through='{ cat largest.pickle; printf N; } | "$@"',
+    ),
 )
 GIGABYTES = 6
 LISTING_SECONDS = 300
@@ -87,6 +103,6 @@ def trials(room: Room) -> list[Trial]:
     return [
         Trial("a large input", functools.partial(reads_large, room)),
         *trials_of(EDITS, room),
-        Trial(LONGER.name, functools.partial(with_gigabytes, room, LONGER.fault)),
+        *(Trial(row.name, functools.partial(with_gigabytes, room, row.fault)) for row in (LONGER, *PIPES)),
         Trial("the listing of the largest input", functools.partial(with_gigabytes, room, lists_largest)),
     ]

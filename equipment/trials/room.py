@@ -5,6 +5,7 @@ from __future__ import annotations
 import functools
 import itertools
 import os
+import shlex
 import subprocess
 from collections.abc import Iterable, Sequence
 from dataclasses import dataclass
@@ -86,16 +87,28 @@ def run(words: Sequence[Word], at: Path, given: Optional[bytes] = None, seconds:
 
 @dataclass
 class Room:
-    """`program` is the binary. `start` is the script that users start, which chooses a program itself."""
+    """`program` is the binary. `start` is the script that users start, except that it does not choose a program but starts this one."""
 
     root: Path
     program: Path
     folder: Path
     requests: int = 0
 
-    @property
+    @functools.cached_property
     def start(self) -> Path:
-        return self.root / "picklestep"
+        made = self.folder / "start" / "picklestep"
+        made.parent.mkdir()
+        text = (self.root / "picklestep").read_text("utf-8")
+        for place, words in (
+            ("root=${here%/*}", f"root={shlex.quote(str(self.root))}"),
+            ('. "$root/equipment/program.sh"', f"choose_program() {{ chosen={shlex.quote(str(self.program))}; }}"),
+        ):
+            if text.count(place) != 1:
+                raise ValueError(f"./picklestep has no line {place}, or two")
+            text = text.replace(place, words)
+        made.write_text(text, "utf-8")
+        made.chmod(0o755)
+        return made
 
     @property
     def equipment(self) -> Path:

@@ -146,8 +146,8 @@ class Session(contextlib.AbstractContextManager['Session']):
     """A conversation with the program about one pickle, or with `many` about several that follow one another.
 
     A place counts the opcodes before it; `at` names it by its offset in the pickle as it is. What the program refuses raises `Refused`,
-    and the session is as it was before. With `window`, only that many steps are remembered to go back by; the answers are the same.
-    `timeout` is in seconds for each line, and `memory` the most bytes of address space that the program may take.
+    and the session is as it was before. With `window`, only that many steps are remembered to go back by; unless memory runs out the
+    answers are the same. `timeout` is in seconds for each line, and `memory` the most bytes of address space that the program may take.
 
     >>> with Session(b'cos\\ngetcwd\\n)R.') as session:
     ...     session.run().why, session.show(2)[0].object.kind

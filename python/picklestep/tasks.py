@@ -45,7 +45,7 @@ def objects(source: Source, *, many: bool = False, timeout: Optional[float] = No
 
 def calls(source: Source, *, first: bool = False, memo_kept: bool = False, full: bool = False, many: bool = True,
           timeout: Optional[float] = None, memory: Optional[int] = None) -> Calls:
-    """What pickles that follow one another import and call. An opcode that has no line here reaches nothing outside the pickle.
+    """What pickles that follow one another import and call. An opcode without a line makes no object from elsewhere or from a call, and changes none.
 
     With `first` only the first pickle is read. With `memo_kept` they are read as by one unpickler that loads again and again, and keeps
     its memo. With `full` arguments are whole: texts of more than 64 characters, tuples of more than 16 parts. `many` changes nothing.

@@ -315,6 +315,28 @@ class Bytes(ScanCase):
             if ' > '.join(each.where) in found:
                 self.assertEqual((each.imports, each.calls, each.end), (alone.imports, alone.calls, alone.end))
 
+    def test_values_that_only_begin_and_end_as_pickles(self) -> None:
+        """They are looked at as all others, and so are those behind them."""
+        odd = [b'\x80\x02\xff' + HOSTILE, b'\x80\x04K\x05.' + zlib.compress(HOSTILE) + b'.', b'\x80\x02X\x40\0\0\0.', b'\x80\x05.', b'\x80\x04.']
+        rows = [value for each in odd for value in (HARMLESS, each, HOSTILE)] * 3
+        path = self.folder / 'a.db'
+        connection = sqlite3.connect(path)
+        connection.execute('CREATE TABLE t (v BLOB)')
+        connection.executemany('INSERT INTO t VALUES (?)', ((row,) for row in rows))
+        connection.commit()
+        connection.close()
+        result = look(str(path))
+        found = {' > '.join(each.where): each for each in result.pickles}
+        hostile = [place for place, each in found.items() if 'posix.system' in {name.name for name in each.imports}]
+        self.assertEqual(sorted(hostile), sorted(f't.v row {number}' for number, row in enumerate(rows, 1) if row == HOSTILE))
+        for number, row in enumerate(rows, 1):
+            answer = found.get(f't.v row {number}')
+            assert answer is not None
+            self.assertEqual(answer.end.is_stopped, row not in odd)
+            if row != odd[1]:  # (which is a file of Django's cache where it is alone)
+                alone = self.look('alone.pkl', row).pickles[0]
+                self.assertEqual((answer.imports, answer.end), (alone.imports, alone.end), number)
+
     def test_limits_are_those_of_the_file(self) -> None:
         path = self.folder / 'a.db'
         connection = sqlite3.connect(path)

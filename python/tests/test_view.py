@@ -28,8 +28,9 @@ import picklestep
 from picklestep import Refused, Session
 from pickles import real_pickles
 from picklestep.view import export, lines, main
-from picklestep.view.document import Document, argument_of
-from picklestep.view.server import Viewer
+from picklestep.view.document import Document
+from picklestep.view.opcodes import opcode_table
+from picklestep.view.server import SCRIPTS, Viewer
 
 PACKAGE = Path(picklestep.__file__).resolve().parent.parent
 DATA = Path(__file__).resolve().parent / 'data' / 'models'
@@ -77,7 +78,7 @@ class Documents(unittest.TestCase):
             names = [opcode.name.encode('ascii') for opcode in listing][:listing.end.item]
             seen |= {*names}
             self.assertEqual(sum(name not in lines.MAKE_NONE for name in names), len(picklestep.objects(data)), name)
-        self.assertEqual(seen, {*map(str.encode, lines.opcode_names())})
+        self.assertEqual(seen, {*map(str.encode, opcode_table())})
 
     def test_views_of_what_is_only_read(self) -> None:
         """READONLY_BUFFER makes no object where its own can only be read already."""
@@ -109,14 +110,14 @@ class Documents(unittest.TestCase):
             document.move('goto', 5)
             state = document.state()
             self.assertEqual((state['stack']['words'], state['memo']['words']), (['(0', '#0'], ['5=#0']))
-            self.assertEqual(document.objects(0, 10), ['list +#1', 'int 7'])
-            self.assertEqual(document.holds(0), {'parts': [['append', 1, 'int 7']], 'more': 0})
+            self.assertEqual(document.objects(0, 10), [('list +#1', ''), ('int 7', '')])
+            self.assertEqual(document.holds(0), {'parts': [['append', 1, 'int 7', '']], 'more': 0})
             about = document.about(0)
             self.assertEqual((about['maker'], about['stack'], about['memo'], about['held']), (1, [1], [5], []))
             self.assertEqual(document.about(1)['held'], [0])
             document.move('goto', 3)
             document.state()
-            self.assertEqual(document.objects(0, 10), ['list'])
+            self.assertEqual(document.objects(0, 10), [('list', '')])
 
     def test_holders_are_not_read_out_of_texts(self) -> None:
         with opened(pickle.dumps([('(#1 #2)', "' #1"), {'#0': 1}], 2)) as document:
@@ -130,10 +131,24 @@ class Documents(unittest.TestCase):
                         self.assertIn(thing.number, held[part])
                 self.assertEqual(sum(map(len, held.values())), 6)
 
+    def test_what_is_imported_and_called(self) -> None:
+        with opened(pickle.dumps([len, len], 4) + b'(.') as document, opened(SYSTEM) as other:
+            place = next(place for place in range(len(document.lines)) if document.lines.at(place).name == 'STACK_GLOBAL')
+            imported = "import 'builtins' 'len' as #3"
+            self.assertEqual(document.reached(0, 9), [[place, document.lines.offset(place), 'import', imported]])
+            self.assertEqual(document.slice(place, 1)[0][8], imported)
+            document.move('goto', place + 1)
+            document.state()
+            self.assertEqual((document.thing(3), document.thing(2)), (('stack-global (#1 #2)', imported), ("text 'len'", '')))
+            self.assertEqual([row[3] for row in other.reached(0, 9)], ["import 'posix' 'system' as #0", "call 'posix' 'system' ('id') as #3"])
+            self.assertEqual((other.reached(1, 9)[0][0], other.reached(2, 9)), (4, []))
+
     def test_finding(self) -> None:
         with opened(SYSTEM) as document:
             self.assertEqual([document.find(text, 0) for text in ('TUPLE', '16', "'id'", 'absent', '')], [3, 2, 2, None, None])
             self.assertEqual(document.find('posix', 3), 0)
+        with opened(pickle.dumps(['a', 'caf\xe9'], 4)) as document:
+            self.assertEqual(document.lines.at(document.find('f\xe9', 0) or 0).argument, r"'caf\xc3\xa9'")
 
     def test_refused_opcodes_stay_in_view(self) -> None:
         with opened(b'N0R\x8c\x01a.') as document:
@@ -153,7 +168,7 @@ class Documents(unittest.TestCase):
             self.assertEqual((document.state()['results'], document.state()['results_before']), (list(session.where().results[-5:]), 6))
             self.assertEqual(document.state()['made'], len(session.objects()))
             self.assertEqual(document.move('previous', 0), 'at 9')
-            self.assertEqual(document.edit('delete', 9, '', '', '', 0), 'edited 9')
+            self.assertEqual(document.edit('delete', 9, '', '', 0), 'edited 9')
             self.assertEqual((document.session.bytes(), len(document.lines)), (data.replace(b'tR', b't'), session.where().places - 1))
 
     def test_long_texts_are_cut(self) -> None:
@@ -191,21 +206,21 @@ class Edits(unittest.TestCase):
     def test_edits(self) -> None:
         with opened(SYSTEM) as document:
             document.toggle_break(4)
-            self.assertEqual(document.edit('insert', 1, 'GLOBAL', 'text', 'os getcwd', 0), 'edited 1')
+            self.assertEqual(document.edit('insert', 1, 'GLOBAL', b'os\ngetcwd\n'.hex(), 0), 'edited 1')
             self.assertEqual((document.breaks, document.edited), ({5}, {1}))
             self.assertEqual(document.session.bytes(), b'cposix\nsystem\ncos\ngetcwd\n(X\x02\x00\x00\x00idtR.')
-            self.assertEqual(document.undo(), 'undone 1')
+            self.assertEqual((document.state()['undo'], document.undo()), ('insert GLOBAL at 1', 'undone 1: insert GLOBAL at 1'))
             self.assertEqual((document.breaks, document.edited, document.session.bytes()), ({4}, set(), SYSTEM))
-            self.assertEqual(document.redo(), 'redone 1')
-            self.assertEqual(document.edit('delete', 1, '', '', '', 0), 'edited 1')
-            self.assertEqual(document.edit('frame', 0, '', '', '', 2), 'edited 0')
-            self.assertEqual(document.edit('unframe', 0, '', '', '', 0), 'edited 0')
+            self.assertEqual((document.state()['redo'], document.redo()), ('insert GLOBAL at 1', 'redone 1: insert GLOBAL at 1'))
+            self.assertEqual(document.edit('delete', 1, '', '', 0), 'edited 1')
+            self.assertEqual(document.edit('frame', 0, '', '', 2), 'edited 0')
+            self.assertEqual(document.edit('unframe', 0, '', '', 0), 'edited 0')
             self.assertEqual(document.session.bytes(), SYSTEM)
 
     def test_a_breakpoint_comes_back_with_its_opcode(self) -> None:
         with opened(SYSTEM) as document:
             document.toggle_break(3)
-            document.edit('delete', 3, '', '', '', 0)
+            document.edit('delete', 3, '', '', 0)
             self.assertEqual(document.breaks, set())
             document.undo()
             self.assertEqual(document.breaks, {3})
@@ -215,23 +230,34 @@ class Edits(unittest.TestCase):
             document.move('goto', 3)
             for what, place, name in (('replace', 0, 'NONE'), ('delete', 99, ''), ('insert', 4, 'NOTHING')):
                 with self.assertRaises(Refused):
-                    document.edit(what, place, name, 'none', '', 0)
+                    document.edit(what, place, name, '', 0)
             self.assertEqual((document.version, document._edits, document.session.bytes()), (1, [], SYSTEM))
 
-    def test_arguments(self) -> None:
-        self.assertEqual(argument_of('BININT', 'number', '0x10'), ([16], None))
-        self.assertEqual(argument_of('BINFLOAT', 'number', '1.5'), ([1.5], None))
-        self.assertEqual(argument_of('GLOBAL', 'text', 'os a b'), (['os', 'a b'], None))
-        self.assertEqual(argument_of('BINUNICODE', 'text', 'a b'), (['a b'], None))
-        self.assertEqual(argument_of('BININT', 'hex', '01 02 03 04'), ([], b'\1\2\3\4'))
-        self.assertEqual(argument_of('NONE', 'text', ''), ([], None))
-        for words in (('BININT', 'number', 'x'), ('GLOBAL', 'text', 'os'), ('BININT', 'hex', '0')):
-            self.assertRaises(ValueError, argument_of, *words)
+    def test_arguments_as_they_stand(self) -> None:
+        with opened(SYSTEM) as document:
+            self.assertEqual([document.argument(place) for place in (0, 1, 2)],
+                             [{'raw': b'posix\nsystem\n'.hex()}, {'raw': ''}, {'raw': b'\x02\0\0\0id'.hex()}])
+            document.edit('replace', 2, 'BINUNICODE', b'\x04\0\0\0safe'.hex(), 0)
+            self.assertEqual(document.argument(2), {'raw': b'\x04\0\0\0safe'.hex()})
+            self.assertRaises(ValueError, document.argument, 6)
+        with opened(pickle.dumps('x' * 70_000, 4)) as document:
+            self.assertEqual([document.argument(place)['raw'] for place in range(4)], ['04', None, '', ''])
+
+    def test_reading_on(self) -> None:
+        with opened(b'NN0.' + SYSTEM) as document:
+            document.edit('delete', 1, '', '', 0)
+            document.edit('insert', 1, 'NONE', '', 0)
+            document.toggle_break(2)
+            self.assertEqual(document.read_on(), 'open')
+            state = document.state()
+            self.assertEqual((state['places'], state['reaches'], state['undo'], state['breaks'], state['closing']),
+                             (10, 2, '', 0, ['highest protocol among opcodes = 1']))
+            self.assertEqual(document.session.bytes(), b'NN0.' + SYSTEM)
 
     def test_saving(self) -> None:
         with tempfile.TemporaryDirectory() as folder, opened(SYSTEM) as document:
             path = Path(folder) / 'saved.pickle'
-            document.edit('insert', 0, 'NONE', 'none', '', 0)
+            document.edit('insert', 0, 'NONE', '', 0)
             document.save(str(path), False)
             self.assertEqual(path.read_bytes(), b'N' + SYSTEM)
             document.undo()
@@ -286,7 +312,8 @@ class Asking(unittest.TestCase):
         self.assertEqual(self.viewer._server.server_address[0], '127.0.0.1')
 
     def test_the_page(self) -> None:
-        for name, kind in (('', 'text/html'), ('style.css', 'text/css'), ('script.js', 'text/javascript'), ('icon.svg', 'image/svg+xml')):
+        kinds = {'': 'text/html', 'style.css': 'text/css', 'icon.svg': 'image/svg+xml', **dict.fromkeys(SCRIPTS, 'text/javascript')}
+        for name, kind in kinds.items():
             status, headers, body = self.ask('GET', f'/{self.viewer.token}/{name}')
             self.assertEqual((status, headers['Content-Type'].split(';')[0]), (200, kind))
             self.assertTrue(headers['Content-Security-Policy'].startswith("default-src 'none'; script-src 'self'; style-src 'self';"))

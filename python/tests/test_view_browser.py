@@ -29,6 +29,7 @@ SYSTEM = b'cposix\nsystem\n(X\x02\x00\x00\x00idtR.'
 HOSTILE_NAME = '</script><img src=x onerror="document.title=1">'
 HOSTILE = b'c' + HOSTILE_NAME.encode('ascii') + b'\n<b>&amp;\n\x8c\x1c<img src=x onerror=alert(1)>\x85R.'
 READY = "document.querySelector('#where')?.textContent.startsWith('at ')"
+FILLED = "document.querySelector('#edit-form').getAttribute('aria-busy') === 'false'"
 # How much each text that is seen stands out from what is behind it, by the formula of the Web Content Accessibility Guidelines.
 CONTRASTS = '''(() => {
     const parts = (colour) => colour.match(/[0-9.]+/g).map(Number);
@@ -149,6 +150,7 @@ class InBrowser(unittest.TestCase):
         self.browser.key('e')
         self.browser.wait("document.querySelector('#edit-dialog').open && document.activeElement.id === 'edit-name'")
         for field, value in (('what', what), ('place', place), ('name', name), ('argument', argument), ('count', count)):
+            self.browser.wait(FILLED)
             self.browser.js(f"(() => {{ const field = document.querySelector('#edit-{field}'); field.value = {json.dumps(value)};"
                             "field.dispatchEvent(new Event('change')); })()")
         self.browser.click('#edit-form button[type=submit]')
@@ -174,17 +176,22 @@ class InBrowser(unittest.TestCase):
         for _ in range(4):
             self.browser.key('ArrowDown')
         self.browser.key('e')
-        self.browser.wait("document.querySelector('#edit-dialog').open && document.activeElement.id === 'edit-name'")
-        self.browser.type('SHORT_BINUNICODE')
-        self.browser.js("document.querySelector('#edit-argument').focus()")
+        self.browser.wait(f"document.querySelector('#edit-dialog').open && document.activeElement.id === 'edit-name' && {FILLED}")
+        fields = "['what', 'place', 'name', 'as', 'argument'].map((name) => document.querySelector('#edit-' + name).value)"
+        self.assertEqual(self.browser.js(fields), ['replace', '4', 'SHORT_BINUNICODE', 'value', "'DecisionTreeClassifier'"])
+        self.browser.js("document.querySelector('#edit-argument').select()")
         self.browser.type('ExtraTreeClassifier')
+        self.browser.key('Enter')
+        self.browser.wait("document.querySelector('#edit-error').textContent.startsWith('this is no value as Python writes it')")
+        self.browser.js("document.querySelector('#edit-argument').select()")
+        self.browser.type("'ExtraTreeClassifier'")
         self.browser.key('Enter')
         self.edited('edited 4')
         argument = "document.querySelector('.row[data-place=\"4\"] .argument').textContent"
         self.browser.wait(f"{argument} === \"'ExtraTreeClassifier'\"")
         self.assertEqual(self.browser.js("document.querySelectorAll('.row.edited').length"), 1)
         self.browser.key('u')
-        self.said('undone 4')
+        self.said('undone 4: replace SHORT_BINUNICODE at 4')
         self.browser.wait(f"{argument} === \"'DecisionTreeClassifier'\"")
         self.assertEqual(self.saved(), REAL.read_bytes())
         self.browser.key('r')
@@ -195,14 +202,14 @@ class InBrowser(unittest.TestCase):
 
     def test_insert_delete_unframe_and_frame(self) -> None:
         self.open(REAL)
-        self.edit('insert', 2, 'GLOBAL', 'builtins')
-        self.browser.wait("document.querySelector('#edit-error').textContent.includes('a blank between them')")
+        self.edit('insert', 2, 'GLOBAL', "'builtins'")
+        self.browser.wait("document.querySelector('#edit-error').textContent === \"two texts are wanted: 'module', 'name'\"")
         self.browser.js("document.querySelector('#edit-argument').focus()")
         self.browser.key('End')
-        self.browser.type(' len')
+        self.browser.type(", 'len'")
         self.browser.key('Enter')
         self.edited('edited 2')
-        self.browser.wait("document.querySelector('.row.edited.import .argument')?.textContent === \"'builtins' 'len'\"")
+        self.browser.wait("document.querySelector('.row.edited.import .argument')?.textContent === \"'builtins' 'len'→ builtins.len\"")
         with Session(REAL) as session:
             session.insert(2, 'GLOBAL', 'builtins', 'len')
             self.assertEqual(self.saved(), session.bytes())
@@ -232,8 +239,9 @@ class InBrowser(unittest.TestCase):
         self.open(HOSTILE)
         self.press('End', 5)
         self.browser.wait("document.querySelectorAll('#objects .thing').length === 4")
-        self.assertIn(f"'{HOSTILE_NAME}' '<b>&amp;'", self.texts('.row .argument'))
-        self.assertIn(f"#0 global '{HOSTILE_NAME}' '<b>&amp;'", self.texts('#objects .thing'))
+        self.assertIn(f"'{HOSTILE_NAME}' '<b>&amp;'", self.texts('.row .value'))
+        self.assertIn(f"→ '{HOSTILE_NAME}'.'<b>&amp;'", self.texts('.row .reach'))
+        self.assertIn(f"#0 '{HOSTILE_NAME}'.'<b>&amp;'", self.texts('#objects .thing'))
         self.assertEqual(self.browser.js("document.querySelectorAll('img, b, script:not([src])').length"), 0)
         self.assertEqual(self.browser.js('document.title'), 'a pickle: picklestep')
 
@@ -305,9 +313,14 @@ class InBrowser(unittest.TestCase):
             backgrounds.append(self.browser.js('getComputedStyle(document.body).backgroundColor'))
         self.assertEqual(backgrounds, ['rgb(255, 255, 255)', 'rgb(20, 24, 31)'])
 
-    def test_bytes_after_stop_are_told(self) -> None:
+    def test_bytes_after_stop_are_read_on(self) -> None:
         self.open(b'N.' + SYSTEM)
-        self.assertIn(f'kept: {len(SYSTEM)} bytes after STOP (view --many reads on)', self.texts('#closing')[0])
+        self.assertIn(f'kept: {len(SYSTEM)} bytes after STOP', self.texts('#closing')[0])
+        self.browser.click('#read-on')
+        self.browser.wait("document.querySelector('#where').textContent.startsWith('at 0 of 8')")
+        self.assertNotIn('kept', self.texts('#closing')[0])
+        self.assertTrue(self.browser.js("document.querySelector('#read-on').hidden"))
+        self.press('n', 6)
 
     def test_several_pickles(self) -> None:
         self.open(b'N.' + SYSTEM, many=True)
@@ -396,7 +409,7 @@ class InBrowser(unittest.TestCase):
             new MutationObserver(() => window.told.push(said.textContent)).observe(said, { childList: true }); })()""")
         self.edit_and_undo()
         told = self.browser.js('window.told')
-        self.assertEqual([told[told.index(text) - 1] for text in ('edited 0', 'undone 0')], ['working ..'] * 2)
+        self.assertEqual([told[told.index(text) - 1] for text in ('edited 0', 'undone 0: insert MARK at 0')], ['working ..'] * 2)
 
     @unittest.skipUnless(os.environ.get('PICKLESTEP_LARGE'), 'PICKLESTEP_LARGE is not set')
     def test_200_megabytes(self) -> None:

@@ -1,11 +1,11 @@
 -- What Python 3 imports for the names of Python 2.
 -- Source: Lib/pickle.py, `find_class`: `NAME_MAPPING` of `Lib/_compat_pickle.py`, and where that has no row, `IMPORT_MAPPING`.
-use Rattle.std.specs.Prelude.{ℕ, ◌==◌, ◌&&◌, if◌then◌else◌, Bool, false, List, [], ◌∷◌, length, slice_get, Option, Some, None}
+use Rattle.std.specs.Prelude.{ℕ, ◌/◌, ◌==◌, ◌&&◌, if◌then◌else◌, Bool, false, List, [], ◌∷◌, length, slice_get, slice_index, Option, Some, None}
 use Rattle.std.specs.List.{list_any}
 use Rattle.std.specs.Str.{bytes_eq}
 use Rattle.std.specs.Option.{option_map_or}
 use Rattle.pickle_names.specs.declared.old_names.NewNames.{NewNames}
-use Rattle.pickle_names.specs.declared.old_names.TheConstants.{FIRST_LETTERS}
+use Rattle.pickle_names.specs.declared.old_names.TheConstants.{FIRST_LETTERS, MIDDLE_LETTERS}
 use Rattle.pickle_names.specs.declared.rows.TheConstants.{NAMES, MODULES}
 
 -- what is imported: from which module, and which member of it
@@ -34,10 +34,19 @@ renamed from name =
 
 -- ---- which modules have a row
 
-abbrev pub letters_of : ℕ → List ℕ
-letters_of n = option_map_or (λ letters. letters.now) (slice_get FIRST_LETTERS n) []
+-- the first letters of modules of this length
+abbrev pub first_letters : ℕ → List ℕ
+first_letters n = option_map_or (λ letters. letters.now) (slice_get FIRST_LETTERS n) []
 
--- a module is as long as one that has a row, and begins like it
+-- the letters in their middle
+abbrev pub middle_letters : ℕ → List ℕ
+middle_letters n = option_map_or (λ letters. letters.now) (slice_get MIDDLE_LETTERS n) []
+
+abbrev pub is_among : List ℕ → ℕ → Bool
+is_among letters b = list_any (λ c. c == b) letters
+
+-- a module is as long as one that has a row, begins like one, and has the letter of one in its middle
 abbrev pub may_have_row : List ℕ → Bool
 may_have_row [] = false
-may_have_row (b ∷ rest) = list_any (λ c. c == b) (letters_of (length (b ∷ rest)))
+may_have_row (b ∷ rest) =
+    is_among (first_letters (length (b ∷ rest))) b && is_among (middle_letters (length (b ∷ rest))) (slice_index (b ∷ rest) (length (b ∷ rest) / 2))

@@ -4,15 +4,21 @@ ghost use Rattle.std.specs.Prelude.{◌≡◌, ◌&&◌, ◌==◌};
 ghost use Rattle.std.specs.List.{list_any};
 ghost use Rattle.std.specs.Option.{option_map};
 ghost use Rattle.std.specs.Str.{bytes_eq};
-ghost use Rattle.pickle_names.specs.Renamed.{import_of, by_modules, by_names, letters_of, may_have_row, renamed};
+ghost use Rattle.pickle_names.specs.Renamed.{import_of, by_modules, by_names, first_letters, middle_letters, may_have_row, renamed};
 
 use crate::rows::{MODULES, NAMES};
 
-/// The first letters of the modules that have a row in either table, by how many bytes they have: most modules are known to have none
-/// without a search.
+/// The first letters of the modules that have a row in either table, by how many bytes they have. With the letters in the middle they tell
+/// of most modules without a search that these have none.
 static FIRST_LETTERS: [&str; 24] = [
     "", "", "", "Tdt", "gr", "QT", "CDadstu", "T_cdhuw", "SUcu", "cix", "FHUem", "T_r", "CS_dt",
     "C", "Bht", "Dm", "S_", "t", "S", "", "", "", "", "m",
+];
+
+/// The letters in the middle of these modules.
+static MIDDLE_LETTERS: [&str; 24] = [
+    "", "", "", "bit", "bp", "de", "adeklo", "bclnp", "DL_an", "ipt", "aipt", "lps", "DPSaent",
+    "P", "CPein", "Po", "To", "t", "R", "", "", "", "", "s",
 ];
 
 /// What is imported.
@@ -75,11 +81,22 @@ fn by_names<'a>(
 }
 
 /// The first letters of the modules of this length that have a row.
-fn letters_of(len: usize) -> &'static [u8]
-    ensures { result.now ≡ letters_of len }
+fn first_letters(len: usize) -> &'static [u8]
+    ensures { result.now ≡ first_letters len }
 {
     if len < FIRST_LETTERS.len() {
         FIRST_LETTERS[len].as_bytes()
+    } else {
+        &[]
+    }
+}
+
+/// The letters in the middle of them.
+fn middle_letters(len: usize) -> &'static [u8]
+    ensures { result.now ≡ middle_letters len }
+{
+    if len < MIDDLE_LETTERS.len() {
+        MIDDLE_LETTERS[len].as_bytes()
     } else {
         &[]
     }
@@ -97,13 +114,16 @@ fn is_one_of(byte: u8, bytes: &[u8]) -> bool
     false
 }
 
-/// Whether a module is as long as one that has a row, and begins like it.
+/// Whether a module is as long as one that has a row, begins like one, and has the letter of one in its middle.
 fn may_have_row(from: &[u8]) -> bool
     ensures { result ≡ may_have_row from.now }
 {
     match from.split_first() {
         None => false,
-        Some((first, _)) => is_one_of(*first, letters_of(from.len())),
+        Some((first, _)) => {
+            is_one_of(*first, first_letters(from.len()))
+                && is_one_of(from[from.len() / 2], middle_letters(from.len()))
+        }
     }
 }
 

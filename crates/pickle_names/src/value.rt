@@ -52,8 +52,29 @@ fn behind(piece: Piece, bytes: &[u8]) -> &[u8]
     &bytes[size.min(bytes.len())..]
 }
 
-/// Reads the first characters of a text, at most so many.
-pub fn read(coding: Coding, most: usize, bytes: &[u8]) -> Reading
+/// Whether each byte stands for itself, however the bytes of a text are read.
+fn are_plain(bytes: &[u8]) -> bool
+    ensures { result ≡ list_all is_plain bytes.now }
+{
+    for byte in bytes {
+        if !is_plain(*byte) {
+            return false;
+        }
+    }
+    true
+}
+
+/// The first bytes, at most so many.
+#[tactic(auto, using(crate::proofs::Plain::front_steps))]
+fn front(most: usize, bytes: &[u8]) -> &[u8]
+    ensures { result.now ≡ take most bytes.now }
+{
+    &bytes[..most.min(bytes.len())]
+}
+
+/// Reads the first characters of a text, at most so many, one by one.
+#[inline(never)]
+fn read_slowly(coding: Coding, most: usize, bytes: &[u8]) -> Reading
     ensures { IsReading coding most bytes.now result }
 {
     let mut rest = bytes;
@@ -81,6 +102,20 @@ pub fn read(coding: Coding, most: usize, bytes: &[u8]) -> Reading
         good: true,
         plain,
     }
+}
+
+/// Reads the first characters of a text, at most so many.
+pub fn read(coding: Coding, most: usize, bytes: &[u8]) -> Reading
+    ensures { IsReading coding most bytes.now result }
+{
+    if are_plain(front(most, bytes)) {
+        return Reading {
+            left: bytes.len().saturating_sub(most),
+            good: true,
+            plain: true,
+        };
+    }
+    read_slowly(coding, most, bytes)
 }
 
 /// Writes the number of a byte that would not stand for itself between quotes.
@@ -281,18 +316,6 @@ pub fn write_text<P: Page>(coding: Coding, bytes: &[u8], page: &mut P) -> Result
     } else {
         write_raw(bytes, page)
     }
-}
-
-/// Whether each byte stands for itself, however the bytes of a text are read.
-fn are_plain(bytes: &[u8]) -> bool
-    ensures { result ≡ list_all is_plain bytes.now }
-{
-    for byte in bytes {
-        if !is_plain(*byte) {
-            return false;
-        }
-    }
-    true
 }
 
 /// Whether a text is known to be its own short value, however its bytes are read. Most names are.

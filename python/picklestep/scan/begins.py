@@ -8,7 +8,7 @@ from typing import Dict, Iterator, Optional, Tuple
 
 from .blobs import Blob, BytesBlob
 
-__all__ = ['HEAD', 'is_dotted', 'is_pickle_name', 'is_storage_name', 'kind_of', 'may_be_pickle', 'tar_number',
+__all__ = ['HEAD', 'is_dotted', 'is_pickle_name', 'is_storage_name', 'kind_of', 'may_be_container', 'may_be_pickle', 'tar_number',
            'tar_sum_fits', 'unread_kind_of']
 
 # The first bytes of a member, which show what it is.
@@ -33,6 +33,12 @@ _UNREAD_AT = {
     (12, b'\0\x04\x22\x53'): 'Berkeley DB of another kind',
 }
 _REDIS_DUMP = re.compile(rb'REDIS[0-9]{4}')
+# A first look at both: most bytes begin as none of them.
+_MAY_BE_UNREAD = re.compile(b'|'.join([rb'[\x50-\x5f]\x2a\x4d\x18|REDIS', *map(re.escape, _UNREAD),
+                                       *(b'.{%d}%b' % (at, re.escape(begin)) for at, begin in _UNREAD_AT)]), re.DOTALL)
+# The same for containers that are opened, in bytes that are too few for the sum in the header of a tar archive.
+_MAY_BE_CONTAINER = re.compile(rb'PK|\x93NUMPY|\x1f\x8b\x08|BZh|\xfd7zXZ\0|\x5d\0|ZF|[\x08\x18(8HXhx]|.{257}ustar', re.DOTALL)
+_BLOCK_OF_TAR = 512
 
 _SHAPES: Dict[int, 'pickletools.OpcodeInfo'] = {ord(each.code): each for each in pickletools.opcodes}
 
@@ -79,7 +85,7 @@ def tar_number(field: bytes) -> int:
 
 def tar_sum_fits(block: bytes) -> bool:
     """Whether a block of 512 bytes has the sum of a tar header. Some writers count bytes above 127 as numbers below zero."""
-    if len(block) < 512:
+    if len(block) < _BLOCK_OF_TAR:
         return False
     told = tar_number(block[148:156])
     if not told:
@@ -102,12 +108,23 @@ def _is_hexadecimal(text: bytes) -> bool:
         return False
 
 
+def _may_be_known(head: bytes) -> bool:
+    return len(head) >= _BLOCK_OF_TAR or _MAY_BE_CONTAINER.match(head) is not None
+
+
+def may_be_container(head: bytes) -> bool:
+    """Whether `kind_of` or `unread_kind_of` may know what begins so: a quick test, which says yes too often and never no too often."""
+    return _may_be_known(head) or _MAY_BE_UNREAD.match(head) is not None
+
+
 def kind_of(head: bytes) -> Optional[str]:
     """The container that begins so.
 
     >>> kind_of(b'PK\\x03\\x04'), kind_of(b'BZh9'), kind_of(b'N.')
     ('zip', 'bz2', None)
     """
+    if not _may_be_known(head):
+        return None
     if head[:4] in (b'PK\x03\x04', b'PK\x05\x06', b'PK\x06\x06', b'PK\x01\x02', b'PK\x07\x08'):
         return 'zip'
     if head[:6] == b'\x93NUMPY':
@@ -133,6 +150,8 @@ def unread_kind_of(head: bytes) -> Optional[str]:
     >>> unread_kind_of(b'LZIP' + bytes(9)), unread_kind_of(b'\x50\x2a\x4d\x18')
     ('lzip', 'zstd or lz4 (a frame that is skipped)')
     """
+    if _MAY_BE_UNREAD.match(head) is None:
+        return None
     if len(head) > 3 and 0x50 <= head[0] <= 0x5F and head[1:4] == b'\x2a\x4d\x18':
         return 'zstd or lz4 (a frame that is skipped)'
     if _REDIS_DUMP.match(head):

@@ -1,10 +1,10 @@
-"""What each opcode does, in a sentence."""
+"""What each opcode does, in a sentence, and what it takes from the stack and leaves there."""
 
 from __future__ import annotations
 
-from typing import Dict
+from typing import Dict, Tuple
 
-__all__ = ['EXPLAINED']
+__all__ = ['EFFECTS', 'EXPLAINED']
 
 EXPLAINED: Dict[str, str] = {
     'INT': 'Puts an integer from a line on the stack; the lines 00 and 01 are False and True.',
@@ -75,4 +75,76 @@ EXPLAINED: Dict[str, str] = {
     'FRAME': 'Says how many bytes come in one piece; it builds nothing.',
     'PERSID': 'Asks the loading program for the object of a name, which is a line.',
     'BINPERSID': 'Takes the top of the stack, and asks the loading program for the object of this name.',
+}
+
+# What an opcode takes from the stack and what it leaves there, each from the bottom to the top.
+EFFECTS: Dict[str, Tuple[str, str]] = {
+    'INT': ('', 'int or bool'),
+    'BININT': ('', 'int'),
+    'BININT1': ('', 'int'),
+    'BININT2': ('', 'int'),
+    'LONG': ('', 'int'),
+    'LONG1': ('', 'int'),
+    'LONG4': ('', 'int'),
+    'STRING': ('', 'string'),
+    'BINSTRING': ('', 'string'),
+    'SHORT_BINSTRING': ('', 'string'),
+    'BINBYTES': ('', 'bytes'),
+    'SHORT_BINBYTES': ('', 'bytes'),
+    'BINBYTES8': ('', 'bytes'),
+    'BYTEARRAY8': ('', 'bytearray'),
+    'NEXT_BUFFER': ('', 'buffer'),
+    'READONLY_BUFFER': ('buffer', 'read-only buffer'),
+    'NONE': ('', 'None'),
+    'NEWTRUE': ('', 'True'),
+    'NEWFALSE': ('', 'False'),
+    'UNICODE': ('', 'text'),
+    'SHORT_BINUNICODE': ('', 'text'),
+    'BINUNICODE': ('', 'text'),
+    'BINUNICODE8': ('', 'text'),
+    'FLOAT': ('', 'float'),
+    'BINFLOAT': ('', 'float'),
+    'EMPTY_LIST': ('', 'list'),
+    'APPEND': ('list, item', 'list'),
+    'APPENDS': ('list, mark, items ..', 'list'),
+    'LIST': ('mark, items ..', 'list'),
+    'EMPTY_TUPLE': ('', 'tuple'),
+    'TUPLE': ('mark, items ..', 'tuple'),
+    'TUPLE1': ('item', 'tuple'),
+    'TUPLE2': ('item, item', 'tuple'),
+    'TUPLE3': ('item, item, item', 'tuple'),
+    'EMPTY_DICT': ('', 'dict'),
+    'DICT': ('mark, keys and values ..', 'dict'),
+    'SETITEM': ('dict, key, value', 'dict'),
+    'SETITEMS': ('dict, mark, keys and values ..', 'dict'),
+    'EMPTY_SET': ('', 'set'),
+    'ADDITEMS': ('set, mark, items ..', 'set'),
+    'FROZENSET': ('mark, items ..', 'frozenset'),
+    'POP': ('object or mark', ''),
+    'DUP': ('object', 'object, object'),
+    'MARK': ('', 'mark'),
+    'POP_MARK': ('mark, objects ..', ''),
+    'GET': ('', 'object of the memo'),
+    'BINGET': ('', 'object of the memo'),
+    'LONG_BINGET': ('', 'object of the memo'),
+    'PUT': ('object', 'object'),
+    'BINPUT': ('object', 'object'),
+    'LONG_BINPUT': ('object', 'object'),
+    'MEMOIZE': ('object', 'object'),
+    'EXT1': ('', 'what is imported'),
+    'EXT2': ('', 'what is imported'),
+    'EXT4': ('', 'what is imported'),
+    'GLOBAL': ('', 'what is imported'),
+    'STACK_GLOBAL': ('module, name', 'what is imported'),
+    'REDUCE': ('function, arguments', 'what the call gives'),
+    'BUILD': ('object, state', 'object'),
+    'INST': ('mark, arguments ..', 'object'),
+    'OBJ': ('mark, class, arguments ..', 'object'),
+    'NEWOBJ': ('class, arguments', 'object'),
+    'NEWOBJ_EX': ('class, arguments, keywords', 'object'),
+    'PROTO': ('', ''),
+    'FRAME': ('', ''),
+    'STOP': ('result', ''),
+    'PERSID': ('', 'object from elsewhere'),
+    'BINPERSID': ('name', 'object from elsewhere'),
 }

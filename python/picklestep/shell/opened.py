@@ -10,7 +10,7 @@ from ..comparing import shown_value
 from ..records import Global, Object
 from ..texts import LinesError, object_of
 from ..values import PLAIN_KINDS, kind_value
-from ..view.document import Document
+from ..view.document import Document, Done
 from .history import History
 
 __all__ = ['Edit', 'Opened']
@@ -32,16 +32,9 @@ class Edit(NamedTuple):
 class Opened(Document):
     """A document whose objects can be described by their values, and that is edited at any place."""
 
-    _bytes: Tuple[int, bytes] = (0, b'')
     _history: Tuple[int, Dict[int, List[int]]] = (0, {})
 
     # --- The pickle ---
-
-    def content(self) -> bytes:
-        """The bytes of the pickle as it is."""
-        if self._bytes[0] != self.version:
-            self._bytes = self.version, self.session.bytes()
-        return self._bytes[1]
 
     def maker(self, number: int) -> Optional[int]:
         """The place of the opcode that makes an object, if there is such an object."""
@@ -112,7 +105,7 @@ class Opened(Document):
             place = session.frame(edit.place, edit.members)
         else:
             place = session.delete(edit.place) if edit.word == 'delete' else session.unframe(edit.place)
-        self._edits.append((edit.word, place))
+        self._edits.append(Done(edit.word, place, edit.name))
         return place
 
     def undo_back(self, is_redo: bool) -> str:
@@ -125,7 +118,7 @@ class Opened(Document):
             self._return(here)
 
     @property
-    def edits_made(self) -> Tuple[Tuple[str, int], ...]:
+    def edits_made(self) -> Tuple[Done, ...]:
         """The edits that are not undone."""
         return tuple(self._edits)
 

@@ -13,6 +13,7 @@ from ..records import Ref
 from ..python_source import source
 from ..sources import Source
 from ..texts import LinesError, opcode_of
+from ..view.document import Done
 from .breaks import BREAKS, Break, next_break
 from .edits import OPCODES, EditError, of_object, of_value, of_words, renaming
 from .explain import EXPLAINED
@@ -50,7 +51,7 @@ class Shell:
         self._path = path
         self.ask = ask
         self._original = self.pickle.content()
-        self._saved: Tuple[Tuple[str, int], ...] = ()
+        self._saved: Tuple[Done, ...] = ()
         self._saved_bytes = self._original
         self._breaks: List[Break] = []
         self._last = ''
@@ -346,7 +347,7 @@ class Shell:
             raise WordError(f'object #{number} is not made yet')
         held = self.pickle.holds(number)
         rows = [f'#{number} {self.pickle.described(number)}']
-        rows += [f'    {what or "of"} #{part} {self.pickle.described(part)}' for what, part, _ in held['parts'][:_MOST_LINES]]
+        rows += [f'    {what or "of"} #{part} {self.pickle.described(part)}' for what, part, *_ in held['parts'][:_MOST_LINES]]
         more = held['more'] + max(0, len(held['parts']) - _MOST_LINES)
         return '\n'.join(rows + ([f'    .. {more} more'] if more > 0 else []))
 

@@ -8,17 +8,16 @@ from array import array
 from bisect import bisect_left, bisect_right
 from itertools import islice
 from pathlib import Path
-from typing import Any, Dict, List, Optional, Set, Tuple
+from typing import Any, Dict, List, NamedTuple, Optional, Set, Tuple
 
 from ..answers import Calls
-from ..arguments import ArgumentValue
 from ..errors import Refused
 from ..program import run_program
 from ..session import Session
 from ..sources import Input, Source
-from .lines import Lines, add_items, lines_of, makers_of, opcode_names, read_listing, read_objects
+from .lines import Lines, add_items, lines_of, makers_of, read_listing, read_objects
 
-__all__ = ['Document', 'Fields']
+__all__ = ['Document', 'Done', 'Fields']
 
 Fields = Dict[str, Any]
 
@@ -31,6 +30,7 @@ _MOST_PARTS = 500
 _MOST_ENTRIES = 500
 _MOST_HOLDERS = 20
 _MOST_RESULTS = 5
+_MOST_ARGUMENT = 1 << 16
 _IMPORTS = ('import', 'inst')
 _CALLS = ('inst', 'call', 'new', 'state', 'append', 'set', 'add')
 _PLACES = {'replace': 0, 'insert': 1, 'delete': -1, 'frame': 1, 'unframe': -1}
@@ -43,14 +43,24 @@ class Reaches:
         self.answer = answer
         self.offsets = array('Q')
         self.kinds: List[str] = []
+        self._made = array('Q')  # the objects that lines name, which go up, and where these lines are
+        self._makers = array('Q')
+        self._places = array('Q')
         for match in answer.matches():
+            made = _MADE.search(match[2])
+            if made is not None:
+                self._made.append(int(made[1]))
+                self._makers.append(len(self.kinds))
             self.offsets.append(int(match[1]))
             self.kinds.append(match[3])
+            self._places.append(match.start(2))
 
     @property
     def behind(self) -> List[str]:
-        """A line for each part: what loaders may reach where this reading has ended."""
-        return [f'{part.heading}: {part.imports} imports, {part.calls} calls (picklestep calls shows them)' for part in self.answer.parts]
+        """The container that the bytes begin like, and a line for each part: what loaders may reach where this reading has ended."""
+        container = self.answer.container
+        within = [f'begins like a container: {container} (picklestep scan looks into it)'] if container else []
+        return within + [f'{part.heading}: {part.imports} imports, {part.calls} calls (picklestep calls shows them)' for part in self.answer.parts]
 
     def kind_at(self, offset: int) -> str:
         """How the line at an offset is coloured: 'call', 'import', 'other' or ''."""
@@ -61,6 +71,21 @@ class Reaches:
         if any(kind in _IMPORTS for kind in kinds):
             return 'import'
         return 'other' if kinds else ''
+
+    def text(self, at: int) -> str:
+        """A line, without its offset."""
+        start = self._places[at]
+        return self.answer.text[start:self.answer.text.index('\n', start)]
+
+    def text_at(self, offset: int) -> str:
+        """What the opcode at an offset imports or calls, or ''."""
+        at = bisect_left(self.offsets, offset)
+        return self.text(at) if at < len(self.offsets) and self.offsets[at] == offset else ''
+
+    def text_of(self, number: int) -> str:
+        """What is imported, called or asked for as the object of a number, or ''."""
+        at = bisect_left(self._made, number)
+        return self.text(self._makers[at]) if at < len(self._made) and self._made[at] == number else ''
 
     def before(self, offset: int) -> Tuple[int, int]:
         """How many imports and calls are before an offset."""
@@ -77,8 +102,20 @@ class Reaches:
         return None
 
 
+_MADE = re.compile(' as #([0-9]+)$')
 _IMPORTS_COUNT = _IMPORTS.__contains__
 _CALLS_COUNT = _CALLS.__contains__
+
+
+class Done(NamedTuple):
+    """An edit that was made: its word, its place, and the opcode that was put there."""
+
+    what: str
+    place: int
+    name: str = ''
+
+    def __str__(self) -> str:
+        return f'{self.what}{self.name and " " + self.name} at {self.place}'
 
 
 class Document:
@@ -90,10 +127,11 @@ class Document:
         self._options = ['--many'] if many else []
         self.breaks: Set[int] = set()
         self._has_breaks = False
-        self._edits: List[Tuple[str, int]] = []
-        self._undone: List[Tuple[str, int]] = []
+        self._edits: List[Done] = []
+        self._undone: List[Done] = []
         self.version = 0
         self.place = 0
+        self._content: Tuple[int, bytes] = (0, b'')
         try:
             self._read()
         except BaseException:
@@ -141,13 +179,14 @@ class Document:
         return True
 
     def slice(self, start: int, count: int) -> List[List[Any]]:
-        """Lines of the listing, each as offset, code, name, argument, marks, kind, whether it has a breakpoint and was edited."""
+        """Lines of the listing, each as offset, code, name, argument, marks, kind, whether it has a breakpoint and was edited, and what it
+        imports or calls."""
         stop = min(len(self.lines), start + min(count, _MOST_LINES))
         rows = []
         for place in range(max(0, start), stop):
             line = self.lines.at(place)
             rows.append([line.offset, line.code, line.name, line.argument, line.marks, self.reaches.kind_at(line.offset),
-                         place in self.breaks, place in self.edited])
+                         place in self.breaks, place in self.edited, self.reaches.text_at(line.offset)])
         return rows
 
     def state(self) -> Fields:
@@ -160,9 +199,10 @@ class Document:
             'version': self.version, 'name': self.name, 'place': where.place, 'places': where.places, 'offset': where.offset,
             'results': list(where.results[-_MOST_RESULTS:]), 'results_before': max(0, len(where.results) - _MOST_RESULTS),
             'end': where.end.text, 'imports': [imports, self.reaches.answer.imports],
-            'calls': [calls_before, self.reaches.answer.calls], 'stack': _last(self.session.ask('stack')),
-            'memo': _last(self.session.ask('memo')), 'made': self._made(), 'exact': self._is_exact(), 'edits': len(self._edits),
-            'undone': len(self._undone), 'breaks': len(self.breaks), 'closing': self.lines.closing}
+            'calls': [calls_before, self.reaches.answer.calls], 'reaches': len(self.reaches.offsets),
+            'stack': _last(self.session.ask('stack')), 'memo': _last(self.session.ask('memo')), 'made': self._made(),
+            'exact': self._is_exact(), 'undo': _latest(self._edits), 'redo': _latest(self._undone), 'breaks': len(self.breaks),
+            'closing': self.lines.closing}
 
     # --- Objects ---
 
@@ -186,13 +226,26 @@ class Document:
         heap = self._objects()
         return heap.brief(number).partition(' ')[2] if 0 <= number < len(heap) else ''
 
-    def objects(self, start: int, count: int) -> List[str]:
-        """Objects that were made before the cursor, each in a line."""
-        return [self.brief(number) for number in range(max(0, start), min(self._made(), start + min(count, _MOST_LINES)))]
+    def thing(self, number: int) -> Tuple[str, str]:
+        """An object in a line, and what it imports or calls."""
+        brief = self.brief(number)
+        return brief, self.reaches.text_of(number) if brief else ''
 
-    def briefs(self, numbers: List[int]) -> Dict[str, str]:
-        """Some objects, each in a line."""
-        return {str(number): self.brief(number) for number in numbers[:_MOST_ENTRIES]}
+    def objects(self, start: int, count: int) -> List[Tuple[str, str]]:
+        """Objects that were made before the cursor."""
+        return [self.thing(number) for number in range(max(0, start), min(self._made(), start + min(count, _MOST_LINES)))]
+
+    def briefs(self, numbers: List[int]) -> Dict[str, Tuple[str, str]]:
+        """Some objects."""
+        return {str(number): self.thing(number) for number in numbers[:_MOST_ENTRIES]}
+
+    def reached(self, start: int, count: int) -> List[List[Any]]:
+        """What is imported and called: the place and the offset of each opcode that does it, how its line is coloured, and what it does."""
+        rows = []
+        for at in range(max(0, start), min(len(self.reaches.offsets), start + min(count, _MOST_LINES))):
+            offset = self.reaches.offsets[at]
+            rows.append([self.lines.place_of(offset), offset, self.reaches.kind_at(offset), self.reaches.text(at)])
+        return rows
 
     def holds(self, number: int) -> Fields:
         """What an object holds: each with what it is to the object."""
@@ -202,7 +255,7 @@ class Document:
         start, end = heap.starts[number], heap.starts[number + 1] - 1
         after = max(heap.text.rfind(b"'", start, end), start)
         held = islice(_HELD.finditer(heap.text, after + 1, end), _MOST_PARTS)
-        shown = [[_HOW.get(match[1][-1:], ''), int(match[2]), self.brief(int(match[2]))] for match in held]
+        shown = [[_HOW.get(match[1][-1:], ''), int(match[2]), *self.thing(int(match[2]))] for match in held]
         return {'parts': shown, 'more': heap.text.count(b'#', after + 1, end) - len(shown)}
 
     def about(self, number: int) -> Fields:
@@ -274,23 +327,37 @@ class Document:
         """The place that a search finds: an offset, a name or a text."""
         if text.isdecimal() and len(self.lines) and int(text) <= self.lines.offset(len(self.lines) - 1):
             return self.lines.place_of(int(text))
-        return self.lines.find(text.encode('ascii', 'backslashreplace'), after) if text else None
+        return self.lines.find(_written(text), after) if text else None
 
     # --- Edits ---
 
-    def edit(self, what: str, place: int, name: str, form: str, argument: str, count: int) -> str:
-        """Makes an edit, and returns the program's words."""
-        if what in ('replace', 'insert'):
-            values, raw = argument_of(name, form, argument)
+    def content(self) -> bytes:
+        """The bytes of the pickle as it is."""
+        if self._content[0] != self.version:
+            self._content = self.version, self.session.bytes()
+        return self._content[1]
+
+    def argument(self, place: int) -> Fields:
+        """The whole argument of the opcode at a place, in hexadecimal; none where it is long."""
+        if not 0 <= place < len(self.lines):
+            raise ValueError('there is no such opcode')
+        start = self.lines.offset(place) + 1
+        end = self.lines.offset(place + 1) if place + 1 < len(self.lines) else start
+        return {'raw': None if end - start > _MOST_ARGUMENT else self.content()[start:end].hex()}
+
+    def edit(self, what: str, place: int, name: str, raw: str, count: int) -> str:
+        """Makes an edit, of which `raw` is the whole argument in hexadecimal, and returns the program's words."""
+        puts = what in ('replace', 'insert')
+        if puts:
             put = self.session.replace if what == 'replace' else self.session.insert
-            done = put(place, name, *values, raw=raw)
+            done = put(place, name, raw=bytes.fromhex(raw))
         elif what == 'frame':
             done = self.session.frame(place, count)
         elif what in ('delete', 'unframe'):
             done = self.session.delete(place) if what == 'delete' else self.session.unframe(place)
         else:
             raise ValueError('this is no edit')
-        self._edits.append((what, done))
+        self._edits.append(Done(what, done, name if puts else ''))
         self._undone.clear()
         self._read()
         return f'edited {done}'
@@ -300,14 +367,25 @@ class Document:
         place = self.session.undo()
         self._undone.append(self._edits.pop())
         self._read()
-        return f'undone {place}'
+        return f'undone {place}: {self._undone[-1]}'
 
     def redo(self) -> str:
         """Makes the edit again that was taken back last."""
         place = self.session.redo()
         self._edits.append(self._undone.pop())
         self._read()
-        return f'redone {place}'
+        return f'redone {place}: {self._edits[-1]}'
+
+    def read_on(self) -> str:
+        """Reads all pickles of the file, as it is, from its start. What was edited cannot be undone any more."""
+        session = Session(self.session.bytes(), many=True)
+        self.session.close()
+        self.session, self._options, self.place = session, ['--many'], 0
+        self._edits.clear()
+        self._undone.clear()
+        self.breaks.clear()
+        self._read()
+        return 'open'
 
     def save(self, name: str, over: bool) -> str:
         """Writes the pickle as it is. A file that is there is written over only where that is asked for."""
@@ -330,21 +408,14 @@ class Document:
             raise
 
 
-def argument_of(name: str, form: str, argument: str) -> Tuple[List[ArgumentValue], Optional[bytes]]:
-    """The values of an argument that was typed, or its bytes where it was given in hexadecimal."""
-    if form == 'hex':
-        return [], bytes.fromhex(argument)
-    kind = opcode_names().get(name, '')
-    if not kind or form == 'none':
-        return [], None
-    if form == 'number':
-        return [float(argument) if kind.startswith('float') else int(argument, 0)], None
-    if kind == 'stringnl_noescape_pair':
-        module, blank, other = argument.partition(' ')
-        if not blank:
-            raise ValueError(f'{name} takes a module and a name with a blank between them')
-        return [module, other], None
-    return [argument], None
+def _latest(edits: List[Done]) -> str:
+    """The edit that comes next, in words, or nothing."""
+    return str(edits[-1]) if edits else ''
+
+
+def _written(text: str) -> bytes:
+    """A text as the program writes it: its bytes, with escapes for those that are no signs of ASCII."""
+    return b''.join(b'%c' % byte if 0x20 <= byte <= 0x7e else b'\\x%02x' % byte for byte in text.encode('utf-8', 'surrogatepass'))
 
 
 def _last(answer: str) -> Fields:
@@ -360,10 +431,10 @@ _HOW = {b'+': 'append', b'&': 'add', b'!': 'state', b'[': 'key', b'=': 'value'}
 _BROKEN = re.compile(r'^[> ]\* *([0-9]+) ', re.MULTILINE)
 
 
-def _edited(edits: List[Tuple[str, int]]) -> Set[int]:
+def _edited(edits: List[Done]) -> Set[int]:
     """The places that edits touched, each where it is after those that came later."""
     places: Set[int] = set()
-    for what, at in edits:
+    for what, at, _ in edits:
         shift = _PLACES[what]
         if shift > 0:
             places = {place + 1 if place >= at else place for place in places}

@@ -15,7 +15,7 @@ from ..errors import ProgramError
 from ..program import Process
 from ..sources import Input
 
-__all__ = ['CUT', 'Line', 'Lines', 'OpcodeLines', 'add_items', 'makers_of', 'opcode_names', 'read_listing', 'read_objects']
+__all__ = ['CUT', 'Line', 'Lines', 'OpcodeLines', 'add_items', 'makers_of', 'read_listing', 'shown_code', 'read_objects']
 
 # The most bytes that are kept of a text.
 CUT = 500
@@ -217,12 +217,12 @@ def lines_of(text: str) -> Lines:
     return lines
 
 
-def _shown(code: str) -> bytes:
-    """A code as a listing shows it."""
-    return code.encode('ascii') if '!' <= code <= '~' else b'\\x%02x' % ord(code)
+def shown_code(code: str) -> str:
+    """The code of an opcode as a listing shows it."""
+    return code if '!' <= code <= '~' else f'\\x{ord(code):02x}'
 
 
-_CODES: Dict[bytes, bytes] = {opcode.name.encode('ascii'): _shown(opcode.code) for opcode in pickletools.opcodes}
+_CODES: Dict[bytes, bytes] = {opcode.name.encode('ascii'): shown_code(opcode.code).encode('ascii') for opcode in pickletools.opcodes}
 
 # Opcodes that make no object. READONLY_BUFFER makes one or none.
 MAKE_NONE = frozenset(
@@ -247,8 +247,3 @@ def makers_of(listing: OpcodeLines, objects: Lines, makes_view: Callable[[int, i
         if name not in MAKE_NONE and (name != _VIEW or each_makes or makes_view(place, len(makers))):
             makers.append(place)
     return makers
-
-
-def opcode_names() -> Dict[str, str]:
-    """The names of all opcodes, each with what its argument is."""
-    return {opcode.name: opcode.arg.name if opcode.arg else '' for opcode in pickletools.opcodes}

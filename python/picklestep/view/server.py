@@ -13,11 +13,11 @@ import time
 from http import HTTPStatus
 from http.server import BaseHTTPRequestHandler, ThreadingHTTPServer
 from pathlib import Path
-from typing import Any, Callable, Dict, Optional, Tuple
+from typing import Any, Callable, Dict, Optional
 
 from ..errors import ProgramError, Refused
 from .document import Document, Fields
-from .lines import opcode_names
+from .opcodes import opcode_table
 
 __all__ = ['IDLE', 'Viewer']
 
@@ -26,8 +26,9 @@ IDLE = 150.0
 # After a page was closed it waits for others, which may speak but once a minute.
 _CLOSED = 75.0
 _HERE = Path(__file__).parent
-_FILES = {'': ('page.html', 'text/html'), 'style.css': ('style.css', 'text/css'), 'script.js': ('script.js', 'text/javascript'),
-          'icon.svg': ('icon.svg', 'image/svg+xml')}
+SCRIPTS = tuple(re.findall(r'<script src="([a-z]+\.js)"', (_HERE / 'page.html').read_text(encoding='utf-8')))
+_FILES = {'': ('page.html', 'text/html'), 'style.css': ('style.css', 'text/css'), 'icon.svg': ('icon.svg', 'image/svg+xml'),
+          **{name: (name, 'text/javascript') for name in SCRIPTS}}
 _POLICY = ("default-src 'none'; script-src 'self'; style-src 'self'; img-src 'self'; connect-src 'self'; base-uri 'none'; "
            "form-action 'none'; frame-ancestors 'none'")
 _HEADERS = {'Content-Security-Policy': _POLICY, 'X-Content-Type-Options': 'nosniff', 'Referrer-Policy': 'same-origin',
@@ -107,6 +108,9 @@ class _Handler(BaseHTTPRequestHandler):
     server_version = 'picklestep'
     sys_version = ''
     timeout = 60
+    # Headers and body go out together: apart, the second would wait for the browser to confirm the first.
+    wbufsize = -1
+    disable_nagle_algorithm = True
 
     def do_GET(self) -> None:
         """Gives a file of the page."""
@@ -206,7 +210,7 @@ def _after(said: str, document: Document) -> Fields:
 
 
 def _open(document: Document, asked: Fields) -> Fields:
-    return {'said': 'open', 'opcodes': opcode_names(), **document.state()}
+    return {'said': 'open', 'opcodes': opcode_table(), **document.state()}
 
 
 def _lines(document: Document, asked: Fields) -> Fields:
@@ -232,8 +236,7 @@ def _find(document: Document, asked: Fields) -> Fields:
 
 
 def _edit(document: Document, asked: Fields) -> Fields:
-    words: Tuple[str, ...] = tuple(_text(asked, name) for name in ('name', 'form', 'argument'))
-    said = document.edit(_text(asked, 'what'), _number(asked, 'place'), words[0], words[1], words[2], _number(asked, 'count'))
+    said = document.edit(_text(asked, 'what'), _number(asked, 'place'), _text(asked, 'name'), _text(asked, 'raw'), _number(asked, 'count'))
     return _after(said, document)
 
 
@@ -241,6 +244,9 @@ _ANSWERS: Dict[str, Callable[[Document, Fields], Fields]] = {
     'open': _open, 'lines': _lines, 'objects': _objects, 'briefs': _briefs, 'move': _move, 'find': _find, 'edit': _edit,
     'holds': lambda document, asked: document.holds(_number(asked, 'number')),
     'about': lambda document, asked: document.about(_number(asked, 'number')),
+    'reached': lambda document, asked: {'reached': document.reached(_number(asked, 'start'), _number(asked, 'count'))},
+    'argument': lambda document, asked: document.argument(_number(asked, 'place')),
+    'again': lambda document, asked: _after(document.read_on(), document),
     'break': lambda document, asked: _after(document.toggle_break(_number(asked, 'place')), document),
     'undo': lambda document, asked: _after(document.undo(), document),
     'redo': lambda document, asked: _after(document.redo(), document),

@@ -10,18 +10,19 @@ from __future__ import annotations
 import secrets
 from contextlib import closing
 from dataclasses import replace
-from typing import Iterator, List, Sequence
+from typing import Iterator, List, Optional, Sequence
 
 from ...errors import PicklestepError
 from ...program import Process
 from ...texts import HEADING, OFFSET, QUOTED_OR_NUMBER
 from ..blobs import Budget, Limits, spooled
-from ..reading import WAITING, Enough, Summary, asks_program, full_option, offset_of_item
+from ..reading import WAITING, Enough, Summary, asks_program, offset_of_item
+from .walk import stops_at_end
 
-__all__ = ['MOST_BYTES', 'MOST_PICKLES', 'answers']
+__all__ = ['MOST_BYTES', 'MOST_PICKLES', 'NOTHING', 'answers']
 
 # So many pickles, and bytes of them, are asked about at once.
-MOST_PICKLES = 512
+MOST_PICKLES = 2048
 MOST_BYTES = 4 << 20
 
 # An answer about them that is longer is not read to its end: each is asked about alone.
@@ -34,9 +35,13 @@ _MEMORY_OF_A_BYTE = 4096
 _COUNTED = ('buffer', 'readonly')
 
 
-def answers(contents: Sequence[bytes], budget: Budget, keep_lines: bool = False, full: bool = False) -> Iterator[Summary]:
-    """What each of these bytes imports and calls, in their order. Each is known to end with an opcode STOP. With `full` arguments are
-    whole."""
+def answers(contents: Sequence[bytes], is_whole: Sequence[bool], budget: Budget, keep_lines: bool = False,
+            full: bool = False) -> Iterator[Optional[Summary]]:
+    """What each of these bytes imports and calls, in their order; NOTHING where that is nothing.
+
+    Each that is whole is known to end with an opcode STOP. The others only have its byte at their end. None stands for one of these that
+    does not end so. With `full` arguments are whole.
+    """
     at, most = 0, MOST_PICKLES
     while at < len(contents):
         found = _together(contents[at:at + most], budget, keep_lines, full) if most > 1 else []
@@ -44,7 +49,7 @@ def answers(contents: Sequence[bytes], budget: Budget, keep_lines: bool = False,
         whole = len(found) == len(contents[at:at + most])
         at += len(found)
         if not whole:
-            yield _alone(contents[at], budget, keep_lines, full)
+            yield _alone(contents[at], budget, keep_lines, full) if is_whole[at] or stops_at_end(contents[at]) else None
             at += 1
         most = min(MOST_PICKLES, most * 4) if whole or most == 1 else max(1, most // 4)
 
@@ -106,8 +111,8 @@ def _taken_apart(told: str, sizes: Sequence[int], marker: str, width: int, budge
 
 
 # The answer about each pickle that imports and calls nothing.
-_NOTHING = Summary(Budget(Limits()), False)
-_NOTHING.take(iter([b'0 imports, 0 calls\n']))
+NOTHING = Summary(Budget(Limits()), False)
+NOTHING.take(iter([b'0 imports, 0 calls\n']))
 
 
 def _lowered(text: str, objects: int) -> str:
@@ -117,7 +122,7 @@ def _lowered(text: str, objects: int) -> str:
 
 def _summary(lines: List[str], budget: Budget, keep_lines: bool) -> Summary:
     if not lines:
-        return _NOTHING
+        return NOTHING
     summary = Summary(budget, keep_lines)
     try:
         summary.take(iter([''.join([*lines, '0 imports, 0 calls\n']).encode()]))

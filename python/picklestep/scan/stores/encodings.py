@@ -4,7 +4,10 @@ from __future__ import annotations
 
 import binascii
 import re
-from typing import Iterator, Tuple
+from typing import Iterator, List, Tuple
+
+from ..begins import may_be_container
+from .framed import may_be_framed
 
 __all__ = ['decoded', 'prefixes']
 
@@ -18,6 +21,13 @@ _ESCAPED = {b'n': b'\n', b'r': b'\r', b't': b'\t'}
 _STANDARD = bytes.maketrans(b'-_', b'+/')
 _MOST_INSIDE = 16
 
+# What bytes have that a text may stand for, and in which something is: one of these, and then more.
+_TELLING = b'\n\x80\x93'
+_NOT_TELLING = bytes(set(range(256)) - set(_TELLING))
+_NAMES = re.compile(rb'\x80[\x02-\x05]|\n[A-Za-z_\x80-\xff][^\n]*\n|[\x8cXUTVS\x8d](?s:.*?)\x93')
+_LEAST = 8
+_NOT_SEARCHED = 512
+
 # A text has such bytes alone among its first ones.
 _NO_TEXT = re.compile(rb'[^\t\n\r -~]')
 _LOOKED_AT = 512
@@ -28,7 +38,7 @@ _PROTO = re.compile(rb'\x80[\x02-\x05]')
 
 
 def decoded(content: bytes) -> Iterator[Tuple[int, str, bytes]]:
-    """The bytes that runs of a text may stand for: where each begins, how it is written, and the bytes.
+    """The bytes that runs of a text may stand for, where something may be in them: where each begins, how it is written, and the bytes.
 
     >>> list(decoded(b'{"body": "gASVAgAAAAAAAABOLg=="}'))
     [(10, 'base64', b'\\x80\\x04\\x95\\x02\\x00\\x00\\x00\\x00\\x00\\x00\\x00N.')]
@@ -40,8 +50,24 @@ def decoded(content: bytes) -> Iterator[Tuple[int, str, bytes]]:
     for run in _RUN.finditer(content):
         text = run[0]
         if _HEXADECIMAL.fullmatch(text):
-            yield run.start(), 'hexadecimal', binascii.unhexlify(text[:len(text) // 2 * 2])
-        yield from _base64(text, run.start())
+            inner = binascii.unhexlify(text[:len(text) // 2 * 2])
+            if _may_hold(inner):
+                yield run.start(), 'hexadecimal', inner
+        for start, inner in _base64(text):
+            if _may_hold(inner):
+                yield run.start() + start, 'base64', inner
+
+
+def _may_hold(inner: bytes) -> bool:
+    """Whether bytes may be a container, a record with a length before it, or a pickle that is worth a note. Most texts, such as names and
+    checksums, stand for none of these."""
+    if len(inner) < _LEAST:
+        return False
+    if len(inner) > _NOT_SEARCHED or inner[-1] == 0x2e or may_be_framed(inner) or may_be_container(inner):
+        return True
+    if inner.translate(None, _NOT_TELLING) and _NAMES.search(inner):
+        return True
+    return inner.isascii() and _RUN.search(inner) is not None
 
 
 def _unescaped(match: 're.Match[bytes]') -> bytes:
@@ -50,20 +76,22 @@ def _unescaped(match: 're.Match[bytes]') -> bytes:
     return _ESCAPED.get(match[2], match[2])
 
 
-def _base64(text: bytes, at: int) -> Iterator[Tuple[int, str, bytes]]:
+def _base64(text: bytes) -> List[Tuple[int, bytes]]:
     """What a run is as base64, from its beginning and from places inside at which something known begins."""
     plain = text.translate(_STANDARD, b'\r\n')
     starts = [0]
-    if len(plain) == len(text):  # (elsewhere places would not be those of the run)
-        starts.extend(match.start() for _, match in zip(range(_MOST_INSIDE), _INSIDE.finditer(plain)) if match.start())
+    if len(plain) == len(text) and _INSIDE.search(plain, 1):  # (elsewhere places would not be those of the run)
+        starts.extend(match.start() for _, match in zip(range(_MOST_INSIDE), _INSIDE.finditer(plain, 1)))
+    found = []
     for start in starts:
         part = plain[start:]
         if len(part) % 4 == 1:
             part = part[:-1]
         try:
-            yield at + start, 'base64', binascii.a2b_base64(part + b'=' * (-len(part) % 4))
+            found.append((start, binascii.a2b_base64(part + b'=' * (-len(part) % 4))))
         except binascii.Error:
             continue
+    return found
 
 
 def prefixes(content: bytes) -> Iterator[int]:

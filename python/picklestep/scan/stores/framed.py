@@ -12,12 +12,13 @@ from ..begins import kind_of
 from ..blobs import Blob
 from .walk import stops_at_end
 
-__all__ = ['Framing', 'framing_of']
+__all__ = ['Framing', 'framing_of', 'may_be_framed']
 
 # So many records are tried before it is settled that none of them is a pickle.
 _TRIED = 16
 
 _IS_LONG = 0xffff_ffff
+_LARGE = 1 << 24
 _PACKED = ('zlib', 'gzip', 'bz2', 'xz')
 
 
@@ -55,6 +56,11 @@ class Framing:
 FRAMINGS = tuple(Framing(width, order) for width in (4, 8) for order in ('big', 'little'))
 
 
+def may_be_framed(begin: bytes) -> bool:
+    """Whether bytes of less than 16 MB that begin so may begin with a length that fits: it has a zero first or last of four bytes."""
+    return len(begin) > 3 and (not begin[0] or not begin[3] or begin[:4] == b'\xff\xff\xff\xff')
+
+
 def framing_of(blob: Blob) -> Optional[Framing]:
     """How lengths are written in a stream of records of which one of the first is a pickle (or packed). None where it is no such stream.
 
@@ -64,6 +70,8 @@ def framing_of(blob: Blob) -> Optional[Framing]:
     >>> framing_of(BytesBlob(b'\\x00\\x00\\x00\\x05hello'))
     """
     begin = blob.read(0, 12)
+    if blob.size < _LARGE and not may_be_framed(begin):
+        return None
     for framing in FRAMINGS:
         start, length = framing._length(begin, 0)
         if 0 < length <= blob.size - start and _has_pickle(framing, blob):

@@ -7,8 +7,7 @@ from __future__ import annotations
 
 import re
 from concurrent.futures import Future, ThreadPoolExecutor
-from dataclasses import dataclass
-from typing import TYPE_CHECKING, Callable, List, Optional, Set
+from typing import TYPE_CHECKING, Callable, List, NamedTuple, Optional, Set, Tuple
 
 from ..begins import HEAD, kind_of, may_be_pickle, unread_kind_of
 from ..blobs import STEPS, Blob, BytesBlob, LimitMet
@@ -16,10 +15,10 @@ from ..packed import METHODS, Unpacking
 from ..reading import Summary
 from ..results import Place
 from . import anywhere
-from .asking import MOST_BYTES, MOST_PICKLES, answers
+from .asking import MOST_BYTES, MOST_PICKLES, NOTHING, answers
 from .encodings import decoded, prefixes
 from .framed import framing_of
-from .walk import stops_at_end, walk
+from .walk import is_opcode, stops_at_end, walk
 
 if TYPE_CHECKING:
     from ..looking import Looker
@@ -38,8 +37,16 @@ _MOST_TIMES = 100
 # A value takes as long as so many opcodes, after which the time is looked at.
 _STEPS_OF_A_VALUE = 64
 
+# The time is looked at after so many values that take little.
+_QUICK_ONES = 512
+
+# Values up to this size are kept in mind, up to so many, where nothing is in them: a column often has the same few again and again.
+_SHORT = 64
+_MOST_SHORT = 10_000
+
 # No other container begins with this byte than a tar archive, whose sign is here.
 _PROTO, _TAR = 0x80, 257
+_STOP = ord('.')
 
 _PACKED = ('zlib', 'gzip', 'bz2', 'xz', 'lzma')
 _MOST_OF_KEY = 200
@@ -65,14 +72,23 @@ def _names_something(answer: Summary) -> bool:
     return answer.is_empty or any(_PLAIN.fullmatch(found.name) for found in imports)
 
 
-@dataclass(frozen=True)
-class _Waiting:
-    """Bytes that end with an opcode STOP, and of which value they are. `guessed`: nothing but these bytes says that they are a pickle."""
+def _with_others(limit: LimitMet, count: int) -> str:
+    """What is said of a limit that others meet as well."""
+    return f'{limit} (this value, and {count} behind it)'
+
+
+class _Waiting(NamedTuple):
+    """Bytes that end with an opcode STOP, and of which value they are.
+
+    `guessed`: nothing but these bytes says that they are a pickle. `depth` is set where they only begin and end as one, and may be
+    something else: how deep they are in others.
+    """
 
     content: bytes
     where: Place
     value: int
     guessed: bool
+    depth: Optional[int] = None
 
 
 class Values:
@@ -83,15 +99,19 @@ class Values:
         self.count = 0
         # Set where values come again and again.
         self.is_new: Optional[Callable[[bytes, Place], bool]] = None
-        self._size = self._unpacked = 0
+        self._size = self._unpacked = self._quick = 0
         self._outer = looker.budget
         self._found: Set[int] = set()
         self._waiting: List[_Waiting] = []
         # While the program reads, the next values are looked at.
         self._background = ThreadPoolExecutor(1)
         self._asked: List[_Waiting] = []
-        self._told: 'Optional[Future[List[Summary]]]' = None
+        self._told: 'Optional[Future[List[Optional[Summary]]]]' = None
         self._bytes = 0
+        # Whether what begins and ends as a pickle is taken for one until the program says that it is none; and what was none.
+        self._trusts = True
+        self._again: List[_Waiting] = []
+        self._nothing: Set[Tuple[bytes, int]] = set()
 
     # --- Values ---
 
@@ -99,11 +119,41 @@ class Values:
         """Looks at a value in memory, if it is new."""
         if self.is_new is not None and not self.is_new(content, where):
             return
+        if self._again:
+            self._look_again()
+        if self._is_quick(content, where, depth):
+            return
         self.begin(where, len(content))
+        notes = len(self.looker.notes)
         try:
-            self._look(content, where, depth, guessed=False)
+            found = self._look(content, where, depth, guessed=False)
         except LimitMet as limit:
             self._met(limit)
+            return
+        if not found and len(content) <= _SHORT and len(self._nothing) < _MOST_SHORT and len(self.looker.notes) == notes:
+            self._nothing.add((content, depth))
+
+    def _is_quick(self, content: bytes, where: Place, depth: int) -> bool:
+        """Takes a value that begins and ends as a pickle: the program says whether it is one. Takes a short one that held nothing before.
+
+        Raises LimitMet as `begin`.
+        """
+        if len(content) <= _SHORT and (content, depth) in self._nothing:
+            is_pickle = False
+        elif self._trusts and content[:1] == b'\x80' and content[-1] == _STOP and content[1] <= 5 and content[_TAR:_TAR + 5] != b'ustar':
+            is_pickle = True
+        else:
+            return False
+        self._size += len(content)
+        self.looker.at = where
+        self._quick += 1
+        if self._quick >= _QUICK_ONES:
+            self._quick = 0
+            self._spend(STEPS)
+        self.count += 1
+        if is_pickle:
+            self._wait(_Waiting(content, where, self.count, False, depth))
+        return True
 
     def add_blob(self, blob: Blob, where: Place, depth: int = 0) -> None:
         """Looks at a value that may be large."""
@@ -153,10 +203,32 @@ class Values:
         self._spend(STEPS)
         self.looker.note(self.looker.at, str(limit), missed=True)
 
+    def _look_again(self) -> None:
+        """Looks anew at values that only begin and end as a pickle."""
+        again, self._again = self._again, []
+        for number, each in enumerate(again):
+            count, self.count = self.count, each.value
+            budget = self.looker.budget = self._outer.of_value(len(each.content))
+            try:
+                self._look(each.content, each.where, each.depth or 0, each.guessed)
+            except LimitMet as limit:
+                is_last = self._outer.seconds <= 0
+                self.looker.note(each.where, _with_others(limit, len(again) - number - 1) if is_last else str(limit), missed=True)
+                if is_last:
+                    return
+            finally:
+                self.count = count
+                self._unpacked += budget.unpacked
+                self.looker.budget = self._outer
+
     def flush(self) -> None:
         """Asks about what waits. It counts the values that are no pickles, too."""
         self._ask()
         self._settle()
+        while self._again:
+            self._look_again()
+            self._ask()
+            self._settle()
         self._background.shutdown()
         self.looker.budget = self._outer
         self._found.discard(0)  # (what a search before the first value found)
@@ -169,11 +241,11 @@ class Values:
             return False
         self.looker.at = where
         if content[0] == _PROTO and stops_at_end(content) and content[_TAR:_TAR + 5] != b'ustar':
-            return self._wait(content, where, guessed)
+            return self._wait(_Waiting(content, where, self.count, guessed))
         head = content[:HEAD]
         found = self._look_into(head, content, where, depth)
         if stops_at_end(content):
-            return self._wait(content, where, guessed) or found
+            return self._wait(_Waiting(content, where, self.count, guessed)) or found
         if found:
             return True
         if self._may_begin(head, content, guessed):
@@ -183,17 +255,17 @@ class Values:
     @staticmethod
     def _may_begin(head: bytes, content: bytes, guessed: bool) -> bool:
         """Whether a pickle may begin here that does not end where the bytes do."""
-        if not may_be_pickle(head, len(content)):
+        if not is_opcode(content[0]):
             return False
         way = walk(content, 0)
-        return way.is_likely if guessed else way.imports or not way.lacks
+        return (way.is_likely if guessed else way.imports or not way.lacks) and may_be_pickle(head, len(content))
 
     def _is_read(self, content: bytes, where: Place, guessed: bool) -> bool:
         """Asks about bytes that are not a pickle and nothing else."""
         before, notes = len(self.looker.pickles), len(self.looker.notes)
         way = walk(content, 0)
         if guessed and way.stops:
-            return self._wait(content[:way.end], where, guessed)
+            return self._wait(_Waiting(content[:way.end], where, self.count, guessed))
         self.looker.is_read(BytesBlob(content), content[:HEAD], where, ())
         if len(self.looker.pickles) == before:
             return False
@@ -294,7 +366,7 @@ class Values:
             return False
         inner = content[offset:way.end if way.stops else None]
         place = where + (f'(at {offset})',)
-        return self._wait(inner, place, True) if stops_at_end(inner) else self._is_read(inner, place, True)
+        return self._take(inner, place)
 
     def look_at_texts(self, blob: Blob, where: Place, depth: int) -> None:
         """Looks at what texts in these bytes stand for."""
@@ -309,16 +381,22 @@ class Values:
         try:
             for offset, inner in anywhere.candidates(blob):
                 place = where + (f'(at {offset + shift})',)
-                found = (self._wait(inner, place, True) if stops_at_end(inner) else self._is_read(inner, place, True)) or found
+                found = self._take(inner, place) or found
         except LimitMet as limit:
             self.looker.note(where, str(limit), missed=True)
         return found
 
     # --- Questions ---
 
-    def _wait(self, content: bytes, where: Place, guessed: bool) -> bool:
-        self._waiting.append(_Waiting(content, where, self.count, guessed))
-        self._bytes += len(content)
+    def _take(self, inner: bytes, where: Place) -> bool:
+        """Asks about bytes that are only guessed to be a pickle."""
+        if stops_at_end(inner):
+            return self._wait(_Waiting(inner, where, self.count, True))
+        return self._is_read(inner, where, True)
+
+    def _wait(self, each: _Waiting) -> bool:
+        self._waiting.append(each)
+        self._bytes += len(each.content)
         if len(self._waiting) >= MOST_PICKLES or self._bytes >= MOST_BYTES:
             self._ask()
         return True
@@ -330,9 +408,10 @@ class Values:
         options = self.looker.options
         if waiting:
             contents = [each.content for each in waiting]
+            is_whole = [each.depth is None for each in waiting]
             self._asked = waiting
             budget = self._outer
-            self._told = self._background.submit(lambda: list(answers(contents, budget, options.lines, options.full)))
+            self._told = self._background.submit(lambda: list(answers(contents, is_whole, budget, options.lines, options.full)))
 
     def _settle(self) -> None:
         asked, told = self._asked, self._told
@@ -340,10 +419,17 @@ class Values:
         try:
             found = told.result() if told is not None else []
         except LimitMet as limit:
-            self.looker.note(asked[0].where, f'{limit} (this value, and {len(asked) - 1} behind it)', missed=True)
+            self.looker.note(asked[0].where, _with_others(limit, len(asked) - 1), missed=True)
             return
         for each, answer in zip(asked, found):
-            self._keep(each, answer)
+            if answer is NOTHING:
+                self.looker.plain += 1
+                self._found.add(each.value)
+            elif answer is None:
+                self._trusts = False
+                self._again.append(each)
+            else:
+                self._keep(each, answer)
 
     def _keep(self, each: _Waiting, answer: Summary) -> None:
         if answer.trouble is not None:

@@ -10,7 +10,7 @@ import pickletools
 import re
 from typing import List, Optional, Set, Tuple
 
-__all__ = ['MOST', 'Walk', 'stops_at_end', 'walk']
+__all__ = ['MOST', 'Walk', 'is_opcode', 'stops_at_end', 'walk']
 
 _PAIR, _LINE, _ONE, _FOUR, _EIGHT, _UNKNOWN = -1, -2, -3, -4, -5, -6
 
@@ -67,6 +67,15 @@ def _variable(content: bytes, at: int, step: int) -> int:
         return 0
     width = 1 if step == _ONE else 4 if step == _FOUR else 8
     return 1 + width + int.from_bytes(content[at + 1:at + 1 + width], 'little')
+
+
+def is_opcode(byte: int) -> bool:
+    """Whether a byte is an opcode.
+
+    >>> is_opcode(ord('N')), is_opcode(ord('w'))
+    (True, False)
+    """
+    return _STEPS[byte] != _UNKNOWN
 
 
 def stops_at_end(content: bytes) -> bool:

@@ -1,9 +1,11 @@
--- One character more.
-use Rattle.std.proofs.Common.{ap, rules}
-use Rattle.pickle_names.proofs.Turns.{reads-next}
+-- What stands for itself is what it is read as.
+use Rattle.std.proofs.Common.{◌∙◌, sym, ap}
+use Rattle.std.specs.List.{list_all}
+use Rattle.pickle_names.specs.Coding.{is_plain}
+use Rattle.pickle_names.proofs.Plain.{plain_reading}
 use Rattle.pickle_names.proofs.value.read.Goals as goal
 
-pub loop-preserved : goal.loop-preserved
-loop-preserved c =
-    rw c.behind-rest.ensures (reads-next c.args.coding c.args.most c.loop.counter c.in-Some.byte.now c.args.bytes.now c.loop.rest.now c.in-Some.more.now c.loop.plain c.in-Some-front_of.piece
-    c.stays_plain-plain.result c.loop-test.true (search rules) (search rules) c.stays_plain-plain.ensures.before (λ t. ap (λ f. f c.loop.rest.now) (c.stays_plain-plain.ensures.now t)) c.loop.invariant)
+pub returns-then-are_plain : goal.returns-then-are_plain
+returns-then-are_plain c =
+    rw c.saturating_sub.ensures
+    (plain_reading c.args.coding c.args.most c.args.bytes.now (ap (list_all is_plain) (sym c.front.ensures) ∙ sym c.are_plain.ensures ∙ c.if-are_plain.true))

@@ -1,0 +1,298 @@
+'use strict';
+// What the page shows of one pickle: a session, and what the program says of the pickle as it is. It answers the questions that a server
+// answers for the page of a file, with the same words.
+
+const MOST_EXACT = 20000; // up to so many objects are asked of the session at each step,
+const MOST_TEXT = 1 << 24; // with texts of so many bytes; above that they are shown as they are at the end
+const MOST_LINES = 2000;
+const MOST_PARTS = 500;
+const MOST_ENTRIES = 500;
+const MOST_HOLDERS = 20;
+const MOST_RESULTS = 5;
+const MOST_ARGUMENT = 1 << 16;
+const SHIFTS = { replace: 0, insert: 1, delete: -1, frame: 1, unframe: -1 };
+const HOW = { '+': 'append', '&': 'add', '!': 'state', '[': 'key', '=': 'value' };
+
+let versions = 0; // (of all documents, so that the page never shows the lines of one in another)
+
+class Document {
+  static async open(module, opcodes, file, name, many, isLive, progress) {
+    const document = new Document();
+    Object.assign(document, { module, opcodes, name, file, progress, options: many ? ['--many'] : [], breaks: new Set(), edits: [], undone: [], version: 0, place: 0 });
+    progress('opening');
+    document.session = await Session.open(module, file, many, isLive);
+    await document.read();
+    return document;
+  }
+
+  // --- The pickle as it is ---
+
+  async read() {
+    this.content = this.session.bytes();
+    const { places, place } = await this.session.where();
+    this.lines = readListing((words, into) => this.run(words, into), this.options);
+    if (this.lines.length < places) await this.readItems();
+    this.final = readObjects((words, into) => this.run(words, into), this.options);
+    const calls = new Lines(Infinity);
+    this.run(['calls', ...(this.options.length ? [] : ['--first'])], calls);
+    this.reaches = new Reaches(calls);
+    this.lines.closing.push(...this.reaches.behind);
+    await this.findMakers();
+    await this.session.ask(`goto ${place}`);
+    this.version = versions += 1;
+    this.heap = null;
+    this.edited = editedPlaces(this.edits);
+    if (this.hasBreaks) this.breaks = new Set([...(await this.session.ask('items')).matchAll(/^[> ]\* *(\d+) /gm)].map((match) => Number(match[1])));
+  }
+
+  // Runs a task over the pickle as it is, and says how far it is.
+  run(words, into) {
+    let told = 0;
+    runTask(this.module, [words[0], 'file', ...words.slice(1)], this.content, (bytes) => {
+      into.feed(bytes);
+      if (into.length - told < 200000) return;
+      told = into.length;
+      this.progress(`${words[0]}: ${told.toLocaleString('en')} lines`);
+    });
+  }
+
+  async readItems() {
+    const items = new Lines();
+    items.feed(new TextEncoder().encode(await this.session.ask('items')));
+    addItems(this.lines, items, this.opcodes);
+  }
+
+  // The places of the opcodes that make the objects, in the order of these. READONLY_BUFFER makes none where its object can only be read
+  // already: where some do not, the session is asked of each.
+  async findMakers() {
+    const makes = new Uint8Array(256);
+    for (const opcode of Object.values(this.opcodes)) makes[codeOf(opcode.code)] = Number(opcode.makes);
+    const view = codeOf(this.opcodes.READONLY_BUFFER.code), views = [];
+    this.makers = new Numbers();
+    for (let place = 0; place < this.lines.length; place += 1) if (this.lines.code(place) === view) views.push(place);
+    const eachMakes = views.length === (views.length ? this.countViews() : 0);
+    for (let place = 0; place < this.lines.length; place += 1) {
+      const code = this.lines.code(place);
+      if (makes[code] && (code !== view || eachMakes || await this.makesObject(place, this.makers.length))) this.makers.add(place);
+    }
+  }
+
+  countViews() {
+    let count = 0;
+    for (let at = 0; at < this.final.length; at += 1) count += Number(/^#\d+ readonly /.test(this.final.slice(this.final.start(at), this.final.start(at) + 40)));
+    return count;
+  }
+
+  async makesObject(place, number) {
+    try {
+      await this.session.ask(`goto ${place + 1}`);
+      await this.session.ask(`show ${number}`);
+    } catch (error) {
+      if (error instanceof Refused) return false;
+      throw error;
+    }
+    return true;
+  }
+
+  // Lines of the listing, each as offset, code, name, argument, marks, kind, whether it has a breakpoint and was edited, and what it reaches.
+  slice(start, count) {
+    const rows = [];
+    for (let place = start; place < Math.min(this.lines.length, start + Math.min(count, MOST_LINES)); place += 1) {
+      const { offset, code, name, argument, marks } = this.lines.at(place);
+      rows.push([offset, code, name, argument, marks, this.reaches.kindAt(offset), this.breaks.has(place), this.edited.has(place), this.reaches.textAt(offset)]);
+    }
+    return rows;
+  }
+
+  // Where the session is, with the stack and the memo.
+  async state() {
+    const where = await this.session.where();
+    this.place = where.place;
+    this.heap = null;
+    const [imports, calls] = this.reaches.before(where.offset);
+    const [stack, memo] = [await this.session.ask('stack'), await this.session.ask('memo')];
+    if (this.isExact()) await this.readHeap();
+    return {
+      version: this.version, name: this.name, place: where.place, places: where.places, offset: where.offset,
+      results: where.results.slice(-MOST_RESULTS), results_before: Math.max(0, where.results.length - MOST_RESULTS), end: where.end,
+      imports: [imports, this.reaches.counts[0]], calls: [calls, this.reaches.counts[1]], reaches: this.reaches.length, stack: lastWords(stack),
+      memo: lastWords(memo), made: this.made(), exact: this.isExact(), edits: this.edits.length, undone: this.undone.length,
+      undo: describeEdit(this.edits.at(-1)), redo: describeEdit(this.undone.at(-1)), breaks: this.breaks.size, closing: this.lines.closing };
+  }
+
+  // --- Objects ---
+
+  // How many objects were made before the cursor.
+  made() {
+    return Math.min(this.makers.below(this.place), this.final.length);
+  }
+
+  isExact() {
+    return this.final.whole <= MOST_TEXT && this.made() <= MOST_EXACT;
+  }
+
+  async readHeap() {
+    this.heap = new Lines();
+    this.heap.feed(new TextEncoder().encode(await this.session.ask('objects')));
+  }
+
+  // The objects at the cursor; where they are many, as they are at the end.
+  objectLines() {
+    return this.isExact() ? this.heap : this.final;
+  }
+
+  // An object in a line, and what it imports or calls.
+  thing(number) {
+    const heap = this.objectLines();
+    if (number < 0 || number >= heap.length) return ['', ''];
+    return [heap.brief(number).replace(/^\S+ /, ''), this.reaches.textOf(number)];
+  }
+
+  objects(start, count) {
+    const end = Math.min(this.made(), start + Math.min(count, MOST_LINES));
+    return Array.from({ length: Math.max(0, end - start) }, (_, at) => this.thing(start + at));
+  }
+
+  briefs(numbers) {
+    return Object.fromEntries(numbers.slice(0, MOST_ENTRIES).map((number) => [number, this.thing(number)]));
+  }
+
+  // What an object holds: each with what it is to the object.
+  holds(number) {
+    const heap = this.objectLines();
+    if (number < 0 || number >= heap.length) return { parts: [], more: 0 };
+    const line = heap.raw(number), held = line.slice(Math.max(line.lastIndexOf("'"), 0) + 1);
+    const parts = [];
+    for (const match of held.matchAll(/([ (+&!=]|\[)#(\d+)/g)) {
+      if (parts.length === MOST_PARTS) break;
+      parts.push([HOW[match[1]] || '', Number(match[2]), ...this.thing(Number(match[2]))]);
+    }
+    return { parts, more: held.split('#').length - 1 - parts.length };
+  }
+
+  // The opcode that made an object, and where the object is: on the stack, in the memo, in other objects.
+  async about(number) {
+    const maker = number >= 0 && number < this.made() ? this.makers.at(number) : null;
+    const stack = (await this.session.ask('stack')).trimEnd().split(' ').slice(1);
+    const memo = (await this.session.ask('memo')).trimEnd().split(' ').slice(1).map((word) => word.split('=#'));
+    return { maker, line: maker === null ? null : this.lines.raw(maker).trim(),
+      stack: stack.flatMap((word, at) => (word === `#${number}` ? [at] : [])).slice(0, MOST_HOLDERS),
+      memo: memo.filter(([, other]) => Number(other) === number).map(([key]) => Number(key)).slice(0, MOST_HOLDERS), held: this.holders(number) };
+  }
+
+  // The objects that hold an object, the first of them.
+  holders(number) {
+    const heap = this.objectLines(), made = this.made(), found = [];
+    const sought = new TextEncoder().encode(`#${number}`), text = heap.text.data;
+    for (let at = heap.seek(sought, 0); at >= 0 && found.length < MOST_HOLDERS; at = heap.seek(sought, at + 1)) {
+      const holder = heap.numberAt(at), after = text[at + sought.length];
+      if (holder >= made) break;
+      const isPart = at > heap.start(holder) && ' (+&![='.includes(String.fromCharCode(text[at - 1])) && !(after >= 48 && after <= 57);
+      const quote = isPart ? text.subarray(at, heap.end(holder)).indexOf(QUOTE) : -1;
+      if (isPart && quote < 0 && !found.includes(holder)) found.push(holder);
+    }
+    return found;
+  }
+
+  // --- What is imported and called ---
+
+  reached(start, count) {
+    const end = Math.min(this.reaches.length, start + Math.min(count, MOST_LINES)), rows = [];
+    for (let at = start; at < end; at += 1) {
+      const offset = this.reaches.offsets.at(at);
+      rows.push([this.lines.placeOf(offset), offset, this.reaches.kindAt(offset), this.reaches.text(at)]);
+    }
+    return rows;
+  }
+
+  // --- Moving ---
+
+  async move(what, place) {
+    if (what === 'run') return (await this.session.ask('run')).trimEnd();
+    if (what === 'next' || what === 'previous') return this.toCall(what === 'next' ? 1 : -1);
+    return `at ${await this.session.placeAfter(what === 'step' || what === 'back' ? what : `goto ${place}`)}`;
+  }
+
+  async toCall(direction) {
+    const { offset } = await this.session.where(), call = this.reaches.nextCall(offset, direction);
+    return call === null ? 'no call there' : `at ${await this.session.placeAfter(`goto ${this.lines.placeOf(call)}`)}`;
+  }
+
+  async toggleBreak(place) {
+    const word = this.breaks.has(place) ? 'clear' : 'break';
+    this.hasBreaks = true;
+    await this.session.ask(`${word} ${place}`);
+    if (word === 'break') this.breaks.add(place);
+    else this.breaks.delete(place);
+    return `${word} ${place}`;
+  }
+
+  // The place that a search finds: an offset, a name or a text.
+  find(text, after) {
+    const last = this.lines.length - 1;
+    if (/^[0-9]+$/.test(text) && last >= 0 && Number(text) <= this.lines.offset(last)) return this.lines.placeOf(Number(text));
+    return text ? this.lines.find(written(text), after) : null;
+  }
+
+  // --- Edits ---
+
+  // The whole argument of the opcode at a place, in hexadecimal; none where it is long.
+  argument(place) {
+    const start = this.lines.offset(place) + 1, next = place + 1 < this.lines.length ? this.lines.offset(place + 1) : start;
+    return { raw: next - start > MOST_ARGUMENT ? null : hexOf(this.content.subarray(start, next)) };
+  }
+
+  async edit(what, place, name, raw, count) {
+    if (!(what in SHIFTS)) throw new Error('this is no edit');
+    const puts = what === 'replace' || what === 'insert';
+    const done = await this.session.edit(what, place, ...(puts ? [name, raw] : what === 'frame' ? [String(count)] : []));
+    this.edits.push([what, done, puts ? name : '']);
+    this.undone = [];
+    await this.read();
+    return `edited ${done}`;
+  }
+
+  async undo() {
+    const place = await this.session.undo();
+    this.undone.push(this.edits.pop());
+    await this.read();
+    return `undone ${place}: ${describeEdit(this.undone.at(-1))}`;
+  }
+
+  async redo() {
+    const place = await this.session.redo();
+    this.edits.push(this.undone.pop());
+    await this.read();
+    return `redone ${place}: ${describeEdit(this.edits.at(-1))}`;
+  }
+}
+
+// The last words of an answer of one line, and how many are before them.
+function lastWords(answer) {
+  const words = answer.trimEnd().split(' ').slice(1);
+  return { words: words.slice(-MOST_ENTRIES), more: Math.max(0, words.length - MOST_ENTRIES) };
+}
+
+// An edit in words, or nothing.
+function describeEdit(edit) {
+  return edit ? `${edit[0]}${edit[2] && ' ' + edit[2]} at ${edit[1]}` : '';
+}
+
+// The places that edits touched, each where it is after those that came later.
+function editedPlaces(edits) {
+  let places = new Set();
+  for (const [what, at] of edits) {
+    const shift = SHIFTS[what];
+    if (shift > 0) places = new Set([...places].map((place) => place + Number(place >= at)));
+    if (shift < 0) places = new Set([...places].filter((place) => place !== at).map((place) => place - Number(place > at)));
+    places.add(at);
+  }
+  return places;
+}
+
+const codeOf = (shown) => (shown.length > 1 ? parseInt(shown.slice(2), 16) : shown.charCodeAt(0));
+
+// A text as the program writes it: its bytes, with escapes for those that are no signs of ASCII.
+function written(text) {
+  return [...new TextEncoder().encode(text)].map((byte) => (byte < 32 || byte > 126 ? '\\x' + byte.toString(16).padStart(2, '0') : String.fromCharCode(byte))).join('');
+}

@@ -1,0 +1,161 @@
+'use strict';
+// The page without a server: how a pickle gets into it, and the worker that answers its questions.
+
+const MOST_SIZE = 1073741824; // the program refuses more
+
+const worker = { asked: new Map(), next: 0, file: null };
+
+const host = {
+  saves: 'The browser puts it among your downloads.',
+
+  ask(word, asked, moved) {
+    const id = worker.next += 1;
+    worker.thread.postMessage({ id, word, asked: asked || {} }, moved || []);
+    return new Promise((answer) => worker.asked.set(id, answer));
+  },
+
+  // Gives the pickle to the browser as a download.
+  async save(name) {
+    const answer = await host.ask('bytes');
+    if (answer.failed) return answer;
+    const link = element('a');
+    link.href = URL.createObjectURL(new Blob([answer.bytes], { type: 'application/octet-stream' }));
+    link.download = name;
+    link.click();
+    setTimeout(() => URL.revokeObjectURL(link.href), 60000);
+    say(`saved ${name} among your downloads`);
+    return {};
+  },
+
+  shown: () => showStory(),
+
+  async begin() {
+    wireOpening();
+    const code = new Blob([by('worker-code').textContent], { type: 'text/javascript' });
+    worker.thread = new Worker(URL.createObjectURL(code));
+    worker.thread.onmessage = (event) => heard(event.data);
+    worker.thread.onerror = (event) => say(`the worker has ended: ${event.message}`, true);
+    view.opcodes = JSON.parse(by('opcodes').textContent);
+    const module = Uint8Array.from(atob(by('module').textContent.trim()), (sign) => sign.charCodeAt(0));
+    by('module').remove();
+    const started = await host.ask('start', { module, opcodes: view.opcodes, isLive: 'Suspending' in WebAssembly }, [module.buffer]);
+    if (started.failed) { say(started.said, true); return; }
+    by('where').textContent = '';
+    say('Open a pickle, or choose an example.');
+    by('opening').dataset.ready = 'yes';
+  },
+};
+
+function heard({ id, answer, progress }) {
+  if (progress !== undefined) { say(progress); return; }
+  worker.asked.get(id)(answer);
+  worker.asked.delete(id);
+}
+
+// --- Opening ---
+
+async function openFile(file) {
+  if (!file) return;
+  if (file.size > MOST_SIZE) { say(`too large: ${file.size.toLocaleString('en')} bytes, and at most ${MOST_SIZE.toLocaleString('en')} are read`, true); return; }
+  say(`reading ${file.name} ..`);
+  try {
+    await openBytes(new Uint8Array(await file.arrayBuffer()), file.name);
+  } catch (error) {
+    say(`not opened: ${error.message}`, true);
+  }
+}
+
+async function openBytes(bytes, name, isPickle, story) {
+  worker.file = { bytes, name };
+  await loaded(() => command('load', { bytes, name, isPickle: Boolean(isPickle) }), story);
+}
+
+// Shows what was opened: a pickle from its start, or the members of a container.
+async function loaded(load, story) {
+  view.state = null;
+  view.story = story || null;
+  const answer = await load();
+  if (answer.members) showMembers(answer);
+  else if (!answer.failed) { by('save-name').value = ''; by('listing').focus(); }
+}
+
+function showMembers({ members, more, said }) {
+  by('members-note').textContent = said + (more ? `; the last ${more} are not shown` : '');
+  by('members').replaceChildren(...members.map((member, number) => {
+    const made = element('li'), button = element('button', 'thing', `${plain(member.name)}  ${member.size.toLocaleString('en')} bytes ${member.note}`);
+    button.type = 'button';
+    button.disabled = Boolean(member.note);
+    button.addEventListener('click', () => { by('members-dialog').close(); loaded(() => command('member', { number })); });
+    made.append(button);
+    return made;
+  }));
+  by('members-dialog').showModal();
+}
+
+// The bytes that a text says: in hexadecimal (with 0x, \x, colons or commas between), or in base64.
+function pastedBytes(text) {
+  const hex = text.replace(/\\x|0x|[\s:,;'"]+/gi, '');
+  if (hex && /^([0-9a-f]{2})+$/i.test(hex)) return bytesOfHex(hex);
+  const packed = text.replace(/\s+/g, '').replace(/^data:[^,]*,/, '').replace(/-/g, '+').replace(/_/g, '/');
+  if (!packed || !/^[0-9a-z+/]+={0,2}$/i.test(packed)) throw new Error('this is neither hexadecimal nor base64');
+  try {
+    return Uint8Array.from(atob(packed), (sign) => sign.charCodeAt(0));
+  } catch (error) {
+    throw new Error('this is neither hexadecimal nor base64');
+  }
+}
+
+async function sendPaste(event) {
+  event.preventDefault();
+  try {
+    const bytes = pastedBytes(by('pasted').value);
+    by('paste-dialog').close();
+    await openBytes(bytes, 'pasted');
+  } catch (error) {
+    by('paste-error').textContent = error.message;
+  }
+}
+
+// --- Worked examples ---
+
+function openExample() {
+  const example = EXAMPLES[Number(by('example').value)];
+  if (by('example').value === '' || !example) return;
+  openBytes(bytesOfHex(example.hex), example.name, true, example);
+}
+
+// What the example says of the place where the cursor is.
+function showStory() {
+  const told = view.story && view.state ? view.story.text.filter(([place]) => place <= view.state.place).at(-1) : null;
+  by('story').hidden = !told;
+  by('story').textContent = told ? told[1] : '';
+}
+
+// --- Beginning ---
+
+function wireOpening() {
+  const openPaste = () => { by('paste-error').textContent = ''; by('paste-dialog').showModal(); };
+  by('open').addEventListener('click', () => by('file').click());
+  by('file').addEventListener('change', () => { openFile(by('file').files[0]); by('file').value = ''; });
+  by('paste').addEventListener('click', openPaste);
+  by('paste-form').addEventListener('submit', sendPaste);
+  by('as-pickle').addEventListener('click', () => { by('members-dialog').close(); openBytes(worker.file.bytes, worker.file.name, true); });
+  by('example').append(...EXAMPLES.map((example, at) => { const made = element('option', '', example.name); made.value = at; return made; }));
+  by('example').addEventListener('change', openExample);
+  document.addEventListener('dragover', (event) => { event.preventDefault(); document.body.classList.add('dropping'); });
+  document.addEventListener('dragleave', (event) => { if (!event.relatedTarget) document.body.classList.remove('dropping'); });
+  document.addEventListener('drop', (event) => {
+    event.preventDefault();
+    document.body.classList.remove('dropping');
+    openFile(event.dataTransfer.files[0]);
+  });
+  document.addEventListener('keydown', (event) => {
+    const isTyped = event.ctrlKey || event.metaKey || event.altKey || event.target.matches('input:not([type=range], [type=checkbox]), textarea, select');
+    if (isTyped || document.querySelector('dialog[open]')) return;
+    if (event.key === 'o') by('file').click();
+    else if (event.key === 'v') { event.preventDefault(); openPaste(); }
+  });
+  by('save-over-label').hidden = true;
+}
+
+begin();

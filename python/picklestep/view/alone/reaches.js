@@ -1,0 +1,93 @@
+'use strict';
+// What the pickle imports and calls, by the offsets of the opcodes: the lines of `calls`.
+
+const IMPORTS = ['import', 'inst'];
+const CALLS = ['inst', 'call', 'new', 'state', 'append', 'set', 'add'];
+
+class Reaches {
+  constructor(lines) {
+    this.lines = lines;
+    this.offsets = new Numbers();
+    this.kinds = [];
+    this.imported = new Numbers(); // how many imports, and calls, are before a line
+    this.called = new Numbers();
+    this.made = new Numbers(); // the objects that lines name, which go up, and the lines
+    this.makers = new Numbers();
+    this.behind = [];
+    this.counts = [0, 0];
+    this.read();
+  }
+
+  read() {
+    const sums = [0, 0];
+    let at = 0;
+    for (; at < this.lines.length; at += 1) {
+      const line = this.lines.raw(at), match = /^ *(\d+): (\w+)/.exec(line);
+      if (!match) break;
+      this.offsets.add(Number(match[1]));
+      this.kinds.push(match[2]);
+      this.imported.add(sums[0]);
+      this.called.add(sums[1]);
+      sums[0] += Number(IMPORTS.includes(match[2]));
+      sums[1] += Number(CALLS.includes(match[2]));
+      const made = /(?: as|inst .* as) #(\d+)$/.exec(line);
+      if (made) { this.made.add(Number(made[1])); this.makers.add(at); }
+    }
+    this.sums = sums;
+    this.readEnd(at);
+  }
+
+  // The counts, the container that the bytes begin like, and a line for each part: what loaders may reach where this reading has ended.
+  readEnd(from) {
+    let heading = null;
+    for (let at = from; at < this.lines.length; at += 1) {
+      const line = this.lines.raw(at);
+      heading = /^(a loader may go on|a loader that buffers frames may go on):$/.exec(line) || heading;
+      const container = /^begins like an? (.*): picklestep scan looks into it$/.exec(line);
+      if (container && !heading) this.behind.push(`begins like a container: ${container[1]} (picklestep scan looks into it)`);
+      const counts = /^(\d+) imports, (\d+) calls$/.exec(line);
+      if (counts && !heading) this.counts = [Number(counts[1]), Number(counts[2])];
+      else if (counts) this.behind.push(`${heading[1]}: ${counts[1]} imports, ${counts[2]} calls (picklestep calls shows them)`);
+    }
+  }
+
+  get length() {
+    return this.offsets.length;
+  }
+
+  text(at) {
+    return this.lines.raw(at).replace(/^ *\d+: /, '');
+  }
+
+  // How the line at an offset is coloured: 'call', 'import', 'other' or ''.
+  kindAt(offset) {
+    const kinds = this.kinds.slice(this.offsets.below(offset), this.offsets.below(offset, true));
+    if (kinds.some((kind) => CALLS.includes(kind))) return 'call';
+    if (kinds.some((kind) => IMPORTS.includes(kind))) return 'import';
+    return kinds.length ? 'other' : '';
+  }
+
+  textAt(offset) {
+    const at = this.offsets.below(offset);
+    return at < this.length && this.offsets.at(at) === offset ? this.text(at) : '';
+  }
+
+  // What is said of the object of a number, where it is imported, called or asked for.
+  textOf(number) {
+    const at = this.made.below(number);
+    return at < this.made.length && this.made.at(at) === number ? this.text(this.makers.at(at)) : '';
+  }
+
+  // How many imports and calls are before an offset.
+  before(offset) {
+    const at = this.offsets.below(offset);
+    return at < this.length ? [this.imported.at(at), this.called.at(at)] : this.sums;
+  }
+
+  // The offset of the next call behind an offset, or before it.
+  nextCall(offset, direction) {
+    let at = direction > 0 ? this.offsets.below(offset, true) : this.offsets.below(offset) - 1;
+    for (; at >= 0 && at < this.length; at += direction) if (CALLS.includes(this.kinds[at])) return this.offsets.at(at);
+    return null;
+  }
+}

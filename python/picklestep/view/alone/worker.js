@@ -1,0 +1,70 @@
+'use strict';
+// The worker of the page without a server: it holds the pickle, runs the program, and answers the page's questions one after another.
+
+const MOST_MEMBERS = 2000;
+
+const page = { module: null, opcodes: null, isLive: false, document: null, archive: null };
+
+const after = async (said) => ({ said, ...await page.document.state() });
+
+const ANSWERS = {
+  start: async ({ module, opcodes, isLive }) => {
+    Object.assign(page, { module: await WebAssembly.compile(module), opcodes, isLive });
+    return {};
+  },
+  load: ({ bytes, name, isPickle }) => load(bytes, name, isPickle),
+  member: async ({ number }) => {
+    const { bytes, members } = page.archive;
+    return load(await memberBytes(bytes, members[number]), members[number].name, false);
+  },
+  again: async ({ many }) => {
+    const { content, name } = page.document;
+    return open(content, name, many);
+  },
+  open: () => after('open'),
+  lines: ({ start, count }) => ({ version: page.document.version, lines: page.document.slice(start, count) }),
+  objects: ({ start, count }) => ({ objects: page.document.objects(start, count) }),
+  briefs: ({ numbers }) => ({ briefs: page.document.briefs(numbers) }),
+  reached: ({ start, count }) => ({ reached: page.document.reached(start, count) }),
+  holds: ({ number }) => page.document.holds(number),
+  about: ({ number }) => page.document.about(number),
+  argument: ({ place }) => page.document.argument(place),
+  find: ({ text, after: from }) => ({ place: page.document.find(text, from) }),
+  move: async ({ what, place }) => after(await page.document.move(what, place)),
+  break: async ({ place }) => after(await page.document.toggleBreak(place)),
+  edit: async ({ what, place, name, raw, count }) => after(await page.document.edit(what, place, name, raw, count)),
+  undo: async () => after(await page.document.undo()),
+  redo: async () => after(await page.document.redo()),
+  bytes: () => ({ bytes: page.document.content }),
+};
+
+async function open(bytes, name, many) {
+  page.document = await Document.open(page.module, page.opcodes, bytes, name, many, page.isLive, progress);
+  return after('open');
+}
+
+// Opens a pickle, or answers what a container holds.
+async function load(bytes, name, isPickle) {
+  if (isPickle) return open(bytes, name, false);
+  const inner = await unzipped(bytes, name), members = directoryOf(inner.bytes);
+  if (!members) return open(inner.bytes, inner.name, false);
+  page.archive = { bytes: inner.bytes, members };
+  const shown = members.slice(0, MOST_MEMBERS).map((member) => ({ name: member.name, size: member.size, note: member.note }));
+  return { said: `a zip archive with ${members.length} members`, members: shown, more: members.length - shown.length };
+}
+
+function progress(text) {
+  postMessage({ progress: text });
+}
+
+async function answer({ id, word, asked }) {
+  try {
+    postMessage({ id, answer: await ANSWERS[word](asked) });
+  } catch (error) {
+    const said = error instanceof Refused ? `refused: ${error.message}` : `not done: ${error.message}`;
+    postMessage({ id, answer: { said, failed: true } });
+  }
+}
+
+let busy = Promise.resolve();
+onmessage = (event) => { busy = busy.then(() => answer(event.data)); };

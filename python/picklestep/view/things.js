@@ -1,0 +1,216 @@
+'use strict';
+// Stack, memo and objects, what is imported and called, the result, and what the page says about an opcode and an object.
+
+const PAGE = 200;
+
+const numbersIn = (words) => words.map((word) => /#([0-9]+)$/.exec(word)).filter(Boolean).map((match) => Number(match[1]));
+const described = (thing) => (thing ? shownObject(thing[0], thing[1]) : '');
+
+async function things() {
+  const state = view.state;
+  const numbers = [...numbersIn([...state.stack.words, ...state.memo.words]).slice(-490), ...state.results];
+  const [named, made] = await Promise.all([ask('briefs', { numbers }), ask('objects', { start: view.objects, count: PAGE }), reaches()]);
+  if (state !== view.state || !named.briefs || !made.objects) return;
+  const stack = state.stack.words.map((word) => word[0] === '(' ? mark(word.slice(1)) : item('', Number(word.slice(1)), described(named.briefs[word.slice(1)])));
+  list(by('stack'), stack.reverse(), state.stack.more && [`${state.stack.more} more below`, 'after']);
+  list(by('memo'), state.memo.words.map((word) => {
+    const [key, number] = word.split('=#');
+    return item(key + ' = ', Number(number), described(named.briefs[number]));
+  }), state.memo.more && [`${state.memo.more} more before`, 'before']);
+  by('memo').scrollTop = by('memo').scrollHeight;
+  showObjects(made.objects);
+  tree(by('result'), state.results.map((number) => node('', number, described(named.briefs[number]), [])),
+    state.results_before ? `after ${state.results_before} others` : state.results.length ? '' : 'none so far: a STOP takes it');
+}
+
+// What is imported and called: asked for again only where it may be other than before. What is before the cursor is done.
+async function reaches() {
+  const state = view.state, key = `${state.version} ${view.reaches}`;
+  if (view.reachesShown !== key) {
+    const answer = await ask('reached', { start: view.reaches, count: PAGE });
+    if (state !== view.state || !answer.reached) return;
+    view.reachesShown = key;
+    showReaches(answer.reached);
+  }
+  by('reaches').querySelectorAll('.thing').forEach((thing) => thing.classList.toggle('done', Number(thing.dataset.place) < state.place));
+}
+
+function showObjects(objects) {
+  const state = view.state, last = view.objects + objects.length;
+  tree(by('objects'), objects.map((thing, at) => node('', view.objects + at, described(thing), [])), '', true);
+  by('objects').scrollTop = by('objects').scrollHeight;
+  by('objects-shown').textContent = (objects.length ? `#${view.objects} to #${last - 1} of ${state.made}` : 'none made') +
+    (state.exact ? '' : ', as they are at the end');
+  by('objects-back').disabled = view.objects === 0;
+  by('objects-on').disabled = last >= state.made;
+}
+
+function showReaches(reached) {
+  const state = view.state, last = view.reaches + reached.length;
+  list(by('reaches'), reached.map(([place, offset, kind, text]) => {
+    const made = element('li', kind), button = element('button', 'thing');
+    button.type = 'button';
+    button.append(element('span', 'key', `${offset} `), document.createTextNode((kind === 'import' ? 'import ' : '') + reachOfRow(text)));
+    button.dataset.place = place;
+    button.title = button.textContent;
+    button.addEventListener('click', () => select(place));
+    made.append(button);
+    return made;
+  }));
+  by('reaches-shown').textContent = reached.length ? `${view.reaches + 1} to ${last} of ${state.reaches}` : '';
+  by('reaches-back').disabled = view.reaches === 0;
+  by('reaches-on').disabled = last >= state.reaches;
+}
+
+// Puts the entries into a list. `more` are words for those that are left out, and 'before' or 'after'.
+function list(into, entries, more) {
+  if (more) entries.splice(more[1] === 'before' ? 0 : entries.length, 0, element('li', 'note', more[0]));
+  if (!entries.length) entries.push(element('li', 'note', 'empty'));
+  into.replaceChildren(...entries);
+}
+
+// Puts nodes into a tree, of which one can be reached by Tab.
+function tree(into, nodes, note, isLast) {
+  into.replaceChildren(...nodes, ...(note ? [element('p', 'note', note)] : []));
+  const all = into.querySelectorAll('.thing');
+  if (all.length) all[isLast ? all.length - 1 : 0].tabIndex = 0;
+}
+
+function mark(place) {
+  return element('li', 'mark', `mark, set by the opcode at place ${place}`);
+}
+
+function item(key, number, text) {
+  const made = element('li');
+  made.append(thing(key, number, text));
+  return made;
+}
+
+function thing(key, number, text) {
+  const made = element('button', 'thing');
+  made.type = 'button';
+  made.append(element('span', 'key', key), element('span', 'number', '#' + number), document.createTextNode(' ' + text));
+  made.title = `#${number} ${text}`;
+  made.dataset.number = number;
+  let waiting = 0;
+  made.addEventListener('mouseenter', () => { waiting = setTimeout(point, 80, number); });
+  made.addEventListener('mouseleave', () => clearTimeout(waiting));
+  made.addEventListener('focus', () => point(number));
+  made.addEventListener('click', () => { point(number); if (!made.closest('[role=tree]')) reveal(number); });
+  return made;
+}
+
+// An object of a tree, which opens to what it holds. `above` are the objects that it is in: one of these is not opened again.
+function node(key, number, text, above) {
+  const made = element('div', 'node'), isAbove = above.includes(number);
+  made.setAttribute('role', 'treeitem');
+  const button = thing(key, number, isAbove ? text + ' (holds itself: a cycle)' : text);
+  button.tabIndex = -1;
+  made.append(button);
+  if (isAbove) return made;
+  made.setAttribute('aria-expanded', 'false');
+  button.addEventListener('click', () => open(made, number, above));
+  return made;
+}
+
+async function open(made, number, above) {
+  const inner = made.querySelector(':scope > .inner');
+  made.setAttribute('aria-expanded', String(!inner));
+  if (inner) { inner.remove(); return; }
+  const group = made.appendChild(element('div', 'inner'));
+  group.setAttribute('role', 'group');
+  const answer = await ask('holds', { number });
+  if (!answer.parts) return;
+  group.append(...answer.parts.map(([how, part, ...shown]) => node(how ? how + ' ' : '', part, described(shown), [...above, number])));
+  if (answer.more) group.append(element('p', 'note', `${answer.more} more`));
+  if (!answer.parts.length) group.append(element('p', 'note', 'holds no object'));
+}
+
+async function reveal(number) {
+  view.objects = Math.max(0, number - PAGE / 2);
+  showPane('objects');
+  await things();
+  const found = by('objects').querySelector(`.thing[data-number="${number}"]`);
+  if (found) { found.scrollIntoView({ block: 'center' }); found.focus(); }
+}
+
+// --- About ---
+
+// What the selected opcode does, takes and makes.
+function explain() {
+  const line = lineAt(view.selected), state = view.state;
+  const key = line && state.places ? `${view.selected} ${line[2]} ${line[8]}` : '';
+  if (by('opcode').dataset.key === key) return;
+  by('opcode').dataset.key = key;
+  if (!key) { by('opcode').replaceChildren(); return; }
+  const { says, takes, leaves } = view.opcodes[line[2]];
+  const first = element('p');
+  first.append(element('span', 'word', line[2]), document.createTextNode(` ${says}`));
+  const effect = element('p', 'effect');
+  effect.append(element('span', 'key', 'stack: '), document.createTextNode(takes || 'nothing'), element('span', 'key', ' → '), document.createTextNode(leaves || 'nothing'));
+  by('opcode').replaceChildren(first, effect, ...(line[8] ? [element('p', 'reach', '→ ' + reachOfRow(line[8]))] : []));
+}
+
+// Which opcode made an object, and where else it is.
+async function point(number) {
+  if (view.pointed === number && view.pointedIn === view.state) return;
+  view.pointed = number;
+  view.pointedIn = view.state;
+  const answer = await ask('about', { number });
+  if (view.pointed !== number || !answer.stack) return;
+  document.querySelectorAll('.thing').forEach((thing) => thing.classList.toggle('pointed', thing.dataset.number === String(number)));
+  const lines = [element('p', '', `#${number}` + (answer.line === null ? '' : ' was made at place ' + answer.maker + ' by'))];
+  if (answer.line !== null) {
+    const button = element('button', 'thing', answer.line);
+    button.type = 'button';
+    button.addEventListener('click', () => { select(answer.maker); by('listing').focus(); });
+    lines.push(button);
+  }
+  const places = [answer.stack.length && 'on the stack at ' + answer.stack.join(', '), answer.memo.length && 'in the memo under ' + answer.memo.join(', '),
+    answer.held.length && 'in ' + answer.held.map((holder) => '#' + holder).join(', ')].filter(Boolean);
+  lines.push(element('p', '', places.length ? 'It stands ' + places.join('; ') : 'It stands nowhere else now.'));
+  by('about').replaceChildren(...lines);
+}
+
+// --- Panes ---
+
+const PANES = ['objects', 'reached', 'result'];
+
+function showPane(name) {
+  for (const pane of PANES) {
+    const isShown = pane === name, tab = by(`tab-${pane}`);
+    by(`pane-${pane}`).hidden = !isShown;
+    tab.setAttribute('aria-selected', String(isShown));
+    tab.tabIndex = isShown ? 0 : -1;
+  }
+}
+
+function wirePanes() {
+  PANES.forEach((pane, at) => {
+    const tab = by(`tab-${pane}`);
+    tab.addEventListener('click', () => showPane(pane));
+    tab.addEventListener('keydown', (event) => {
+      const other = { ArrowRight: at + 1, ArrowLeft: at - 1, Home: 0, End: PANES.length - 1 }[event.key];
+      if (other === undefined) return;
+      const to = PANES[(other + PANES.length) % PANES.length];
+      event.preventDefault();
+      event.stopPropagation();
+      showPane(to);
+      by(`tab-${to}`).focus();
+    });
+  });
+}
+
+// The keys of a tree: up and down go from line to line, right opens, left closes.
+function inTree(event) {
+  const target = event.target;
+  if (!target.matches('.thing')) return false;
+  const all = [...target.closest('[role=tree]').querySelectorAll('.thing')];
+  const to = all[all.indexOf(target) + { ArrowDown: 1, ArrowUp: -1 }[event.key]];
+  const isOpen = target.closest('[role=treeitem]').getAttribute('aria-expanded');
+  if (to) { target.tabIndex = -1; to.tabIndex = 0; to.focus(); } else if (event.key === 'ArrowRight' && isOpen === 'false') target.click();
+  else if (event.key === 'ArrowLeft' && isOpen === 'true') target.click();
+  else return ['ArrowDown', 'ArrowUp', 'ArrowRight', 'ArrowLeft'].includes(event.key);
+  event.preventDefault();
+  return true;
+}

@@ -1,0 +1,175 @@
+'use strict';
+// What the program prints of a pickle, as people and Python write it. Nothing here is markup: all that comes out of it is put in as text.
+
+// Signs that are shown as escapes: those that Python's repr escapes, and all that are written from right to left, since these would
+// move what stands beside them.
+const HIDDEN = /[\p{C}\p{Z}\u0590-\u08ff\ufb1d-\ufdff\ufe70-\ufeff\u{10800}-\u{10fff}\u{1e800}-\u{1efff}]/u;
+
+const SHORT = { '\\': '\\\\', '\n': '\\n', '\r': '\\r', '\t': '\\t' };
+
+function escapedSign(sign) {
+  if (SHORT[sign]) return SHORT[sign];
+  if (sign === ' ' || !HIDDEN.test(sign)) return sign;
+  const code = sign.codePointAt(0).toString(16);
+  return code.length <= 2 ? '\\x' + code.padStart(2, '0') : code.length <= 4 ? '\\u' + code.padStart(4, '0') : '\\U' + code.padStart(8, '0');
+}
+
+// A text from outside, on one line.
+const plain = (text) => [...text].map((sign) => (sign === '\\' ? sign : escapedSign(sign))).join('');
+
+// A text as Python writes it.
+function pythonText(text) {
+  const quote = text.includes("'") && !text.includes('"') ? '"' : "'";
+  return quote + [...text].map((sign) => (sign === quote ? '\\' + sign : escapedSign(sign))).join('') + quote;
+}
+
+function pythonBytes(bytes) {
+  const text = Array.from(bytes, (byte) => String.fromCharCode(byte)).join('');
+  const quote = text.includes("'") && !text.includes('"') ? '"' : "'";
+  return 'b' + quote + [...text].map((sign) => {
+    if (sign === quote) return '\\' + sign;
+    const code = sign.charCodeAt(0);
+    return SHORT[sign] || (code < 32 || code > 126 ? '\\x' + code.toString(16).padStart(2, '0') : sign);
+  }).join('') + quote;
+}
+
+// A float as Python writes it: the shortest digits that give it back.
+function pythonFloat(value) {
+  if (!Number.isFinite(value)) return Number.isNaN(value) ? 'nan' : value < 0 ? '-inf' : 'inf';
+  if (Object.is(value, -0)) return '-0.0';
+  const size = Math.abs(value);
+  if (size !== 0 && (size < 1e-4 || size >= 1e16)) return value.toExponential().replace(/e([+-])(\d)$/, 'e$10$2');
+  const text = String(value);
+  return /[.e]/.test(text) ? text : text + '.0';
+}
+
+function floatOfHex(hex) {
+  return new DataView(bytesOfHex(hex).buffer).getFloat64(0);
+}
+
+// A whole number from its bytes, the lowest first, with its sign.
+function wholeOfHex(hex) {
+  if (!hex) return 0n;
+  const bytes = hex.match(/../g).reverse();
+  return BigInt.asIntN(4 * hex.length, BigInt('0x' + bytes.join('')));
+}
+
+// The bytes that a quoted text of the program stands for.
+function unquoted(quotedText) {
+  const inner = quotedText.slice(1, -1).replace(/\\(?:x([0-9a-f]{2})|(.))/g, (_, hex, sign) => (hex ? String.fromCharCode(parseInt(hex, 16)) : sign));
+  return Uint8Array.from(inner, (sign) => sign.charCodeAt(0));
+}
+
+// The text of bytes in UTF-8, or null.
+function utf8(bytes) {
+  try {
+    return new TextDecoder('utf-8', { fatal: true, ignoreBOM: true }).decode(bytes);
+  } catch (error) {
+    return null;
+  }
+}
+
+// A quoted text of the program as Python writes it. `kind` is 'text' or 'bytes'. Where a part was cut off, that is said behind it.
+function pythonOfQuoted(quotedText, kind) {
+  const cut = /^('.*) \.\. ([0-9]+) bytes more'$/.exec(quotedText);
+  if (cut) return pythonOfCut(cut[1].replace(/\\(x.?)?$/, ''), kind) + ` .. ${cut[2]} bytes more`;
+  const bytes = unquoted(quotedText);
+  const text = kind === 'bytes' ? null : utf8(bytes);
+  return text === null ? pythonBytes(bytes) : pythonText(text);
+}
+
+// The beginning of a text, which may end within a sign.
+function pythonOfCut(beginning, kind) {
+  let bytes = unquoted(beginning + "'");
+  if (kind === 'bytes') return pythonBytes(bytes);
+  for (let less = 0; less < 4; less += 1, bytes = bytes.subarray(0, -1)) {
+    const text = utf8(bytes);
+    if (text !== null) return pythonText(text);
+  }
+  return pythonBytes(unquoted(beginning + "'"));
+}
+
+const QUOTED = "'[^'\\\\]*(?:\\\\.[^'\\\\]*)*'";
+const ATOMS = new RegExp(`(?:(raw|bytes|bytearray|string|text|int|float) )?(?:(raw) )?(${QUOTED})|(?:(?:int|float) )?(le:[0-9a-f]*|f8:[0-9a-f]{16})|\\b(none|true|false)\\b|\\bint (-?[0-9]+)`, 'g');
+const CONSTANTS = { none: 'None', true: 'True', false: 'False' };
+
+function pythonNumber(text) {
+  if (text.startsWith('f8:')) return pythonFloat(floatOfHex(text.slice(3)));
+  return text.length > 131 ? text : String(wholeOfHex(text.slice(3)));
+}
+
+// The values in a line of the program, as Python writes them. The rest of the line stays.
+function pythonValues(line) {
+  return line.replace(ATOMS, (all, kind, raw, quotedText, number, constant, whole) => {
+    if (whole !== undefined) return whole;
+    if (constant) return CONSTANTS[constant];
+    if (number !== undefined) return pythonNumber(number);
+    return pythonOfQuoted(quotedText, kind === 'bytes' || kind === 'bytearray' || kind === 'raw' || raw ? 'bytes' : 'text');
+  });
+}
+
+// The argument of an opcode, as a row shows it.
+function shownArgument(argument, form) {
+  if (!argument) return '';
+  const kind = form.startsWith('bytes') || form === 'bytearray8' ? 'bytes' : 'text';
+  return argument.replace(new RegExp(`(${QUOTED})|(le:[0-9a-f]*|f8:[0-9a-f]{16})`, 'g'),
+    (all, quotedText, number) => (number === undefined ? (form === 'stringnl' ? plain(quotedText.slice(1, -1).replace(/\\(['\\])/g, '$1')) : pythonOfQuoted(quotedText, kind)) : pythonNumber(number)));
+}
+
+// --- What an opcode imports or calls ---
+
+const NAME = `(?:raw )?${QUOTED}`;
+const REACH = new RegExp(`^(import|call|new|inst) (?:(${NAME}) (${NAME})|ext ([0-9]+)|(#[0-9]+))(?: (.*?))??(?: for (${NAME}) (${NAME}))?(?: as #[0-9]+)?$`);
+
+// A name of a module, or in it. What is no name is shown with quotes.
+function shownName(quotedText) {
+  const isRaw = quotedText.startsWith('raw ');
+  const bytes = unquoted(isRaw ? quotedText.slice(4) : quotedText), text = isRaw ? null : utf8(bytes);
+  if (text === null) return pythonBytes(bytes);
+  return /^[\p{L}\p{Nl}_][\p{L}\p{Nl}\p{M}\p{Nd}\p{Pc}]*(\.[\p{L}\p{Nl}_][\p{L}\p{Nl}\p{M}\p{Nd}\p{Pc}]*)*$/u.test(text) && !HIDDEN.test(text) ? text : pythonText(text);
+}
+
+// What is given to a call, with imported names and values as Python writes them.
+function pythonGiven(line) {
+  let shown = '', at = 0;
+  for (const match of line.matchAll(new RegExp(`global (${NAME}) (${NAME})`, 'g'))) {
+    shown += pythonValues(line.slice(at, match.index)) + `${shownName(match[1])}.${shownName(match[2])}`;
+    at = match.index + match[0].length;
+  }
+  return shown + pythonValues(line.slice(at));
+}
+
+// What an object is that a line of `calls` ends in, or '' where the line does not say it: `posix.system`, `posix.system('id')`.
+function shownReach(line) {
+  const match = REACH.exec(line);
+  if (!match) return '';
+  const [, what, module, name, extension, number, given, oldModule, oldName] = match;
+  const called = module ? `${shownName(module)}.${shownName(name)}` : extension ? `extension ${extension}` : number;
+  const old = oldModule ? ` (for ${shownName(oldModule)}.${shownName(oldName)})` : '';
+  if (what === 'import') return called + old;
+  const values = pythonGiven(given || '()');
+  return `${what === 'new' ? 'new ' : ''}${called}${values.startsWith('(') ? values : `(*${values})`}${old}`;
+}
+
+// What a row or the list of imports and calls says of an opcode.
+function reachOfRow(line) {
+  if (!line) return '';
+  return shownReach(line) || pythonGiven(line.replace(/ as #[0-9]+$/, ''));
+}
+
+// --- Objects ---
+
+// An object in a line: its kind and value, or what it imports or calls, and what was done to it since.
+function shownObject(text, reach) {
+  if (!text) return '';
+  const known = reach ? shownReach(reach) : '';
+  if (!known) return pythonOfObject(text);
+  const changes = /^[a-z-]+(?: (?:raw )?(?:'[^'\\]*(?:\\.[^'\\]*)*'|-?[0-9]+))*(?: \((?:#[^)]*)?\))?(.*)$/.exec(text);
+  return known + (changes ? changes[1] : '');
+}
+
+function pythonOfObject(text) {
+  const [, kind, rest] = /^([a-z-]+)(.*)$/.exec(text) || ['', '', text];
+  const form = kind === 'bytes' || kind === 'bytearray' ? 'bytes' : kind === 'string-line' ? 'stringnl' : 'text';
+  return kind + shownArgument(rest, form);
+}

@@ -1,0 +1,361 @@
+"""The page without a server, dist/picklestep.html: it shows the same as the page with a server, opens what people have, and asks nobody."""
+
+from __future__ import annotations
+
+import base64
+import gzip
+import hashlib
+import io
+import json
+import pickle
+import pickletools
+import subprocess
+import sys
+import tempfile
+import threading
+import time
+import unittest
+import zipfile
+from pathlib import Path
+from typing import Any, Dict, List
+
+from chromium import PROGRAM, Browser
+from pickles import REAL, ROOT
+from picklestep.view.document import Document
+from picklestep.view.server import Viewer
+
+PAGE = ROOT / 'dist' / 'picklestep.html'
+MODELS = Path(__file__).resolve().parent / 'data' / 'models'
+SYSTEM = b'cposix\nsystem\n(X\x02\x00\x00\x00idtR.'
+# Of all real pickles of the repository every so many, with those of libraries: twenty.
+SHOWN = [*REAL[::max(1, len(REAL) // 15)][:15], *sorted(MODELS.glob('sklearn_*.pkl'))[:5]]
+READY = "document.querySelector('#opening')?.dataset.ready === 'yes'"
+# Everything that was asked for is shown.
+SETTLED = '''(async () => {
+    do {
+        await view.busy;
+        await new Promise(requestAnimationFrame);
+    } while (view.asks || view.drawing || view.pending);
+    return true; })()'''
+SEEN = '''(() => {
+    const texts = (selector) => [...document.querySelectorAll(selector)].map((each) => each.textContent);
+    return { rows: Object.fromEntries([...document.querySelectorAll('.row:not([hidden])')].map((row) =>
+            [row.dataset.place, [row.className, row.getAttribute('aria-label'), row.textContent]])),
+        title: document.title, ...Object.fromEntries(['#name', '#where', '#reached', '#closing', '#said', '#stack li', '#memo li', '#objects .thing',
+            '#objects-shown', '#reaches li', '#reaches-shown', '#result .thing', '#result .note', '#opcode', '#about', '#undo', '#redo']
+            .map((selector) => [selector, texts(selector)])), titles: ['undo', 'redo'].map((id) => document.getElementById(id).title),
+        readOn: document.querySelector('#read-on').hidden }; })()'''
+# The same keys for both pages. What begins with a sharp is clicked.
+KEYS = ['n', 'ArrowRight', 'p', 'ArrowDown', 'b', ' ', 'End', '#objects .thing', '#result .thing', 'Home', 'Delete', 'u', 'r', '#read-on:not([hidden])']
+
+
+@unittest.skipIf(PROGRAM is None, 'there is no chromium')
+class Alone(unittest.TestCase):
+    """The page from a file, in a browser that all tests use one after another."""
+
+    browser: Browser
+
+    @classmethod
+    def setUpClass(cls) -> None:
+        cls.browser = Browser(1200, 800)
+        cls.browser.call('Network.enable')
+        cls.addClassCleanup(cls.browser.close)
+
+    def setUp(self) -> None:
+        held = tempfile.TemporaryDirectory()
+        self.addCleanup(held.cleanup)
+        self.folder = Path(held.name)
+
+    def load(self) -> None:
+        """Opens the page, without a pickle."""
+        self.browser.told.clear()
+        self.browser.size(1200, 800)
+        self.browser.go(PAGE.as_uri())
+        self.browser.wait(READY)
+
+    def give(self, path: Path) -> None:
+        """Chooses a file, as the button does."""
+        field = self.browser.call('Runtime.evaluate', expression="document.querySelector('#file')")['result']['objectId']
+        self.browser.js('void (view.state = null)')
+        self.browser.call('DOM.setFileInputFiles', files=[str(path)], objectId=field)
+        self.browser.wait('view.state !== null')
+        self.browser.js(SETTLED)
+
+    def file(self, name: str, data: bytes) -> Path:
+        path = self.folder / name
+        path.write_bytes(data)
+        return path
+
+    def texts(self, selector: str) -> List[str]:
+        found: List[str] = self.browser.js(f'[...document.querySelectorAll({json.dumps(selector)})].map((each) => each.textContent)')
+        return found
+
+    def said(self, text: str) -> None:
+        self.browser.wait(f"document.querySelector('#said').textContent.startsWith({json.dumps(text)})")
+
+    def requests(self) -> List[str]:
+        """What the browser asked for: the page itself and its worker are not counted."""
+        asked = [told['params']['request']['url'] for told in self.browser.told if told.get('method') == 'Network.requestWillBeSent']
+        return [url for url in asked if url != PAGE.as_uri() and not url.startswith(('blob:null/', 'data:image/svg+xml;base64,'))]
+
+    # --- The same in both pages ---
+
+    def drive(self) -> List[Dict[str, Any]]:
+        """What is seen after each key."""
+        seen = [self.browser.js(SEEN)]
+        for key in KEYS:
+            if key[0] == '#':
+                self.browser.js(f'document.querySelector({json.dumps(key)})?.click()')
+            else:
+                self.browser.js("document.querySelector('#listing').focus()")
+                self.browser.key(key)
+            self.browser.js(SETTLED)
+            seen.append(self.browser.js(SEEN))
+        return seen
+
+    def with_server(self, path: Path) -> List[Dict[str, Any]]:
+        """What the page with a server shows."""
+        document = Document(path, path.name)
+        viewer = Viewer(document)
+        thread = threading.Thread(target=viewer.serve, daemon=True)
+        thread.start()
+        try:
+            self.browser.go(viewer.address)
+            self.browser.wait("document.querySelector('#where')?.textContent.startsWith('at ')")
+            self.browser.js(SETTLED)
+            return self.drive()
+        finally:
+            self.browser.go('about:blank')
+            viewer.stop()
+            thread.join()
+            viewer.__exit__()
+            document.close()
+
+    def compare(self, paths: List[Path]) -> None:
+        wanted = [self.with_server(path) for path in paths]
+        self.load()
+        for path, seen in zip(paths, wanted):
+            self.give(path)
+            for at, (here, there) in enumerate(zip(self.drive(), seen)):
+                self.equal(here, there, f'{path.name} after {KEYS[:at]}')
+        self.assertEqual((self.requests(), self.browser.errors()), ([], []))
+
+    def equal(self, here: Dict[str, Any], there: Dict[str, Any], what: str) -> None:
+        """Compares what two pages show. One has a bar more, and so some rows less: those count that both show."""
+        rows, others = here.pop('rows'), there.pop('rows')
+        both = rows.keys() & others.keys()
+        self.assertGreaterEqual(len(both), min(15, len(others)), what)
+        for part in both:
+            self.assertEqual(rows[part], others[part], f'{what}: row {part}')
+        for part, shown in there.items():
+            self.assertEqual(here[part], shown, f'{what}: {part}')
+
+    def test_twenty_real_pickles_show_the_same(self) -> None:
+        self.assertEqual(len(SHOWN), 20)
+        self.compare(SHOWN)
+
+    def test_without_a_conversation_that_stays_alive(self) -> None:
+        script = self.browser.call('Page.addScriptToEvaluateOnNewDocument', source='delete WebAssembly.Suspending')['identifier']
+        self.addCleanup(self.browser.call, 'Page.removeScriptToEvaluateOnNewDocument', identifier=script)
+        self.compare([*SHOWN[1:20:5], self.file('two.pickle', b'NN(N.' + SYSTEM), self.file('views.pickle', b'C\x01a\x98\x97\x98\x98N\x87.')])
+        self.assertEqual(self.browser.js("'Suspending' in WebAssembly"), False)
+
+
+    # --- What is opened ---
+
+    def paste(self, text: str) -> None:
+        self.browser.key('v')
+        self.browser.wait("document.querySelector('#paste-dialog').open")
+        self.browser.js("document.querySelector('#pasted').select()")
+        self.browser.type(text)
+        self.browser.click('#paste-form button[type=submit]')
+
+    def pasted(self, text: str, places: int) -> None:
+        self.browser.js('void (view.state = null)')
+        self.paste(text)
+        self.browser.wait(f"document.querySelector('#where').textContent.startsWith('at 0 of {places},')")
+        self.browser.js(SETTLED)
+
+    def test_pasting(self) -> None:
+        self.load()
+        hexadecimal = SYSTEM.hex()
+        for text in (hexadecimal, hexadecimal.upper(), ' '.join(f'0x{byte:02x},' for byte in SYSTEM), ''.join(f'\\x{byte:02x}' for byte in SYSTEM),
+                     base64.b64encode(SYSTEM).decode('ascii'), base64.urlsafe_b64encode(SYSTEM + b'\xff\xfe').decode('ascii')):
+            self.pasted(text, 6)
+            self.assertEqual(self.texts('.row .reach')[:5], ['→ posix.system', '', '', '', "→ posix.system('id')"])
+        self.paste('no pickle!')
+        self.browser.wait("document.querySelector('#paste-error').textContent === 'this is neither hexadecimal nor base64'")
+        self.assertEqual(self.browser.errors(), [])
+
+    def test_dropping(self) -> None:
+        self.load()
+        path = self.file('dropped.pickle', SYSTEM)
+        data = {'items': [], 'files': [str(path)], 'dragOperationsMask': 1}
+        for kind in ('dragEnter', 'dragOver', 'drop'):
+            self.browser.call('Input.dispatchDragEvent', type=kind, x=300, y=300, data=data)
+        self.browser.wait("document.querySelector('#where').textContent.startsWith('at 0 of 6,')")
+        self.assertEqual(self.texts('#name'), ['dropped.pickle'])
+
+    def members(self, path: Path) -> List[str]:
+        """Chooses an archive, and answers what its members are."""
+        self.load()
+        field = self.browser.call('Runtime.evaluate', expression="document.querySelector('#file')")['result']['objectId']
+        self.browser.call('DOM.setFileInputFiles', files=[str(path)], objectId=field)
+        self.browser.wait("document.querySelector('#members-dialog').open")
+        return self.texts('#members .thing')
+
+    def test_containers(self) -> None:
+        packed = io.BytesIO()
+        with zipfile.ZipFile(packed, 'w') as archive:
+            archive.writestr('model/data.pkl', SYSTEM, zipfile.ZIP_STORED)
+            archive.writestr('model/', b'')
+            archive.writestr('a \u202e name', SYSTEM * 9, zipfile.ZIP_DEFLATED)
+            archive.writestr('bz', SYSTEM, zipfile.ZIP_BZIP2)
+            archive.writestr('inner.gz', gzip.compress(SYSTEM))
+        path = self.file('model.pt', packed.getvalue())
+        shown = self.members(path)
+        self.assertEqual(shown, ['model/data.pkl  25 bytes ', 'a \\u202e name  225 bytes ', 'bz  25 bytes packed by method 12: not read here',
+                                 f'inner.gz  {len(gzip.compress(SYSTEM))} bytes '])
+        self.assertEqual(self.browser.js("[...document.querySelectorAll('#members .thing')].map((each) => each.disabled)"), [False, False, True, False])
+        for number, name in ((0, 'model/data.pkl'), (1, 'a \\u202e name'), (3, 'inner')):
+            if number:
+                self.members(path)
+            self.browser.js(f"document.querySelectorAll('#members .thing')[{number}].click()")
+            self.browser.wait("document.querySelector('#where').textContent.startsWith('at 0 of 6,')")
+            self.browser.js(SETTLED)
+            self.assertEqual(self.texts('#name'), [name])
+        self.members(path)
+        self.browser.click('#as-pickle')
+        self.browser.wait("document.querySelector('#closing').textContent.includes('begins like a container: zip archive')")
+        self.give(self.file('a.pickle.gz', gzip.compress(gzip.compress(SYSTEM))))
+        self.assertEqual((self.texts('#name'), self.texts('#where')[0][:9]), (['a.pickle'], 'at 0 of 6'))
+        self.give(self.file('b.tar', b'a'.ljust(257, b'\0') + b'ustar\x0000'.ljust(255, b'\0') + bytes(1024)))
+        self.assertIn('begins like a container: tar archive', self.texts('#closing')[0])
+        self.assertEqual((self.requests(), self.browser.errors()), ([], []))
+
+    def test_what_cannot_be_opened_is_said(self) -> None:
+        self.load()
+        for data, said in ((gzip.compress(SYSTEM)[:-12], 'not done: the packed bytes cannot be unpacked to their end'),):
+            field = self.browser.call('Runtime.evaluate', expression="document.querySelector('#file')")['result']['objectId']
+            self.browser.call('DOM.setFileInputFiles', files=[str(self.file('cut.gz', data))], objectId=field)
+            self.said(said)
+        self.give(self.file('empty.pickle', b''))
+        self.assertIn('F1 ended at 0', self.texts('#where')[0])
+        self.assertEqual(self.browser.errors(), [])
+
+    def test_edit_and_save(self) -> None:
+        self.browser.call('Browser.setDownloadBehavior', behavior='allow', downloadPath=str(self.folder))
+        self.load()
+        self.give(self.file('a.pickle', SYSTEM))
+        self.browser.js('select(2)')
+        self.browser.key('e')
+        self.browser.wait("document.querySelector('#edit-form').getAttribute('aria-busy') === 'false' && document.querySelector('#edit-argument').value")
+        self.assertEqual(self.browser.js("document.querySelector('#edit-argument').value"), "'id'")
+        self.browser.js("document.querySelector('#edit-argument').select()")
+        self.browser.type("'caf\\xe9'")
+        self.browser.key('Enter')
+        self.said('edited 2')
+        self.browser.key('s')
+        self.browser.wait("document.querySelector('#save-dialog').open")
+        self.assertEqual(self.browser.js("document.querySelector('#save-name').value"), 'a.edited.pickle')
+        self.browser.key('Enter')
+        self.said('saved a.edited.pickle among your downloads')
+        saved = self.folder / 'a.edited.pickle'
+        for _ in range(200):
+            if saved.exists() and saved.stat().st_size:
+                break
+            time.sleep(0.05)
+        self.assertEqual(saved.read_bytes(), SYSTEM.replace(b'\x02\0\0\0id', b'\x05\0\0\0caf\xc3\xa9'))
+        self.browser.key('u')
+        self.said('undone 2: replace BINUNICODE at 2')
+        self.assertEqual(self.requests(), [])
+
+    def test_worked_examples(self) -> None:
+        self.load()
+        examples = self.browser.js('EXAMPLES')
+        self.assertEqual(len(examples), 6)
+        for at, example in enumerate(examples):
+            data = bytes.fromhex(example['hex'])
+            places = len(list(pickletools.genops(data)))
+            told = dict(example['text'])
+            self.assertLessEqual(max(told), places)
+            self.browser.js(f"void (view.state = null, document.querySelector('#example').value = {at}, document.querySelector('#example').dispatchEvent(new Event('change')))")
+            self.browser.wait(f"document.querySelector('#where').textContent.startsWith('at 0 of {places},')")
+            self.browser.js("document.querySelector('#listing').focus()")
+            for place in range(places):
+                self.browser.js(SETTLED)
+                self.assertEqual(self.texts('#story'), [told[max(key for key in told if key <= place)]])
+                self.browser.key('ArrowRight')
+            self.browser.wait(f"document.querySelector('#where').textContent.startsWith('at {places} of ')")
+        self.assertEqual(self.browser.errors(), [])
+
+    # --- What is hostile stays text ---
+
+    def test_hostile_texts_stay_text(self) -> None:
+        self.load()
+        hostile = ['</script><img src=x onerror="document.title=1">', '<b>bold</b>', '\u202eevil', '\u05d0\u05d1', '\x1b[31m\r\n', '\u200b\ufeff\u2028', '\0']
+        shown = [repr(text) if text != '\u05d0\u05d1' else r"'\u05d0\u05d1'" for text in hostile]
+        names = b''.join(b'c%s\n%s\n0' % (text.encode('utf-8').replace(b'\n', b' '), b'<i>x</i>') for text in hostile)
+        self.give(self.file('<img src=x>.pickle', b'\x80\x04' + names + pickle.dumps(hostile, 4)[2:]))
+        self.browser.key('End')
+        self.browser.js(SETTLED)
+        values = self.texts('.row .value')
+        for text in shown:
+            self.assertIn(text, values)
+        objects = self.texts('#objects .thing')
+        for text in shown:
+            self.assertTrue(any(each.endswith(f'text {text}') for each in objects), text)
+        self.browser.click('#tab-reached')
+        everything = self.browser.js('document.body.innerText + document.title + [...document.querySelectorAll("[title], [aria-label]")].map((each) => each.title + each.ariaLabel)')
+        self.assertNotRegex(everything, '[\u0590-\u08ff\u200b-\u200f\u202a-\u202e\u2028\u2066-\u2069\ufeff\x1b\0]')
+        self.assertEqual(self.browser.js("document.querySelectorAll('img, b, i').length"), 0)
+        self.assertEqual(self.texts('#name'), ['<img src=x>.pickle'])
+        self.assertEqual((self.requests(), self.browser.errors()), ([], []))
+
+    def test_the_policy_lets_nothing_out(self) -> None:
+        self.load()
+        for attempt in ("fetch('http://127.0.0.1:9/')", "new Promise((done, fail) => { const image = new Image(); image.onload = done; image.onerror = () => fail(new Error('refused')); image.src = 'http://127.0.0.1:9/x.png'; })",
+                        "new Promise((done, fail) => { const made = document.createElement('script'); made.textContent = 'window.ran = 1'; document.body.append(made); fail(new Error(String(window.ran))); })"):
+            self.assertRegex(str(self.browser.js(f'({attempt}).then(() => "done", (error) => "refused: " + error.message)')), '^refused: ')
+        self.assertEqual(self.browser.js('window.ran'), None)
+
+    def test_many_bytes(self) -> None:
+        """A list of 5 MB is there within seconds, and the page answers meanwhile."""
+        self.load()
+        path = self.file('large.pickle', b'\x80\x04](' + b'K\x01' * 2_500_000 + b'e.')
+        field = self.browser.call('Runtime.evaluate', expression="document.querySelector('#file')")['result']['objectId']
+        self.browser.js('void (window.said = [], new MutationObserver(() => window.said.push(document.querySelector("#said").textContent)).observe(document.querySelector("#said"), { childList: true }))')
+        self.browser.call('DOM.setFileInputFiles', files=[str(path)], objectId=field)
+        self.browser.wait("document.querySelector('#where').textContent.startsWith('at 0 of 2500005,')")
+        self.assertTrue(any(text.startswith('list: ') for text in self.browser.js('window.said')))
+        self.browser.js("document.querySelector('#listing').focus()")
+        self.browser.key('End')
+        self.browser.wait("document.querySelector('#where').textContent.startsWith('at 2500005 of 2500005,')")
+
+
+class Made(unittest.TestCase):
+    """The file itself."""
+
+    def test_it_is_made_again_byte_for_byte(self) -> None:
+        with tempfile.TemporaryDirectory() as name:
+            folder = Path(name)
+            (folder / 'picklestep.wasm').write_bytes((PAGE.parent / 'picklestep.wasm').read_bytes())
+            command = [sys.executable, '-I', '-B', str(ROOT / 'targets' / 'page.py')]
+            for options in ([], [], ['--check']):
+                self.assertEqual(subprocess.run([*command, *options, name], capture_output=True, check=False).returncode, 0)
+            self.assertEqual((folder / 'picklestep.html').read_bytes(), PAGE.read_bytes())
+            digest = hashlib.sha256(PAGE.read_bytes()).hexdigest()
+            self.assertEqual((folder / 'SHA256SUMS').read_text(), f'{digest}  picklestep.html\n')
+            self.assertIn(f'{digest}  picklestep.html\n', (PAGE.parent / 'SHA256SUMS').read_text())
+            (folder / 'picklestep.wasm').write_bytes(b'other')
+            self.assertEqual(subprocess.run([*command, '--check', name], capture_output=True, check=False).returncode, 1)
+
+    def test_it_is_small_and_names_no_other_place(self) -> None:
+        text = PAGE.read_text(encoding='utf-8')
+        self.assertLess(len(text.encode('utf-8')), 3_000_000)
+        self.assertNotRegex(text, r'https?://|src="(?!data:)|@import|url\(')
+        self.assertNotIn('innerHTML', text)
+
+
+if __name__ == '__main__':
+    unittest.main()

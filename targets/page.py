@@ -1,0 +1,111 @@
+"""Makes the page that needs no server: one file with the module, the page and its scripts in it.
+
+    python3 targets/page.py FOLDER          makes FOLDER/picklestep.html of FOLDER/picklestep.wasm, and puts its sum into FOLDER/SHA256SUMS
+    python3 targets/page.py --check FOLDER  only compares; status 1 where the page is not the one that would be made
+
+The page is that of `picklestep view` (python/picklestep/view), with a worker in the place of the server. The same sources give the same bytes:
+nothing is compressed, and no time and no path is in it.
+"""
+
+from __future__ import annotations
+
+import base64
+import hashlib
+import json
+import re
+import sys
+from pathlib import Path
+
+ROOT = Path(__file__).resolve().parent.parent
+sys.path.insert(0, str(ROOT / 'python'))
+sys.dont_write_bytecode = True
+
+from picklestep.view.opcodes import opcode_table  # noqa: E402
+
+VIEW = ROOT / 'python/picklestep/view'
+NAME = 'picklestep.html'
+MOST = 3_000_000
+# The scripts of the worker; those of the page are what page.html names, with these in the place of the server.
+WORKER = ('bytes.js', 'alone/wasi.js', 'alone/session.js', 'alone/lines.js', 'alone/reaches.js', 'alone/document.js', 'alone/containers.js',
+          'alone/worker.js')
+ALONE = ('alone/examples.js', 'alone/opening.js')
+# What the page may do: its own script and style, the module, a worker and a download of its own; no request to anywhere.
+POLICY = ("default-src 'none'; script-src 'sha256-{script}' 'wasm-unsafe-eval'; style-src 'sha256-{style}'; worker-src blob:; img-src data:; "
+          "base-uri 'none'; form-action 'none'")
+
+
+def read(*names: str) -> str:
+    return '\n'.join((VIEW / name).read_text(encoding='utf-8') for name in names)
+
+
+def digest(text: str) -> str:
+    """The sum of a script or a style, as a policy names it."""
+    return base64.b64encode(hashlib.sha256(text.encode('utf-8')).digest()).decode('ascii')
+
+
+def element(tag: str, text: str, attributes: str = '') -> str:
+    """An element that holds a text as it is."""
+    if re.search(rf'</{tag}|<!--', text, re.IGNORECASE):
+        raise ValueError(f'a {tag} would end within its text')
+    return f'<{tag}{attributes}>{text}</{tag}>'
+
+
+def make(module: bytes) -> bytes:
+    """The page."""
+    page = read('page.html')
+    scripts = [name for name in re.findall(r'<script src="([a-z]+\.js)" defer></script>\n', page) if name != 'server.js']
+    script, style = read(*scripts, *ALONE), read('style.css')
+    icon = base64.b64encode((VIEW / 'icon.svg').read_bytes()).decode('ascii')
+    policy = POLICY.format(script=digest(script), style=digest(style))
+    page = re.sub(r'<script src="[a-z]+\.js" defer></script>\n', '', page)
+    data = [element('script', read(*WORKER), ' type="text/plain" id="worker-code"'),
+            element('script', json.dumps(opcode_table(), separators=(',', ':')), ' type="application/json" id="opcodes"'),
+            element('script', base64.b64encode(module).decode('ascii'), ' type="text/plain" id="module"')]
+    for old, new in (('<meta charset="utf-8">', f'<meta charset="utf-8">\n<meta http-equiv="Content-Security-Policy" content="{policy}">'),
+                     ('href="icon.svg"', f'href="data:image/svg+xml;base64,{icon}"'),
+                     ('<link rel="stylesheet" href="style.css">', element('style', style)),
+                     ('<!-- opening -->\n', read('alone/opening.html')),
+                     ('</body>', '\n'.join([*data, element('script', script), '</body>']))):
+        if page.count(old) != 1:
+            raise ValueError(f'page.html has not one {old}')
+        page = page.replace(old, new)
+    made = page.encode('utf-8')
+    if len(made) > MOST:
+        raise ValueError(f'the page has {len(made):,} bytes, and at most {MOST:,} are wanted')
+    return made
+
+
+def put(folder: Path, made: bytes) -> None:
+    """Puts the page into its place, whole or not at all, and its sum among the others."""
+    sums = folder / 'SHA256SUMS'
+    others = [line for line in sums.read_text().splitlines(keepends=True) if not line.endswith(f'  {NAME}\n')] if sums.exists() else []
+    wanted = ''.join([*others, f'{hashlib.sha256(made).hexdigest()}  {NAME}\n'])
+    for file, content in ((folder / NAME, made), (sums, wanted.encode('ascii'))):
+        if not file.exists() or file.read_bytes() != content:
+            new = file.with_name(f'{file.name}.new')
+            new.write_bytes(content)
+            new.chmod(0o644)
+            new.replace(file)
+
+
+def main() -> int:
+    *options, name = sys.argv[1:] or ['']
+    if not name or options not in ([], ['--check']):
+        print('usage: page.py [--check] FOLDER', file=sys.stderr)
+        return 2
+    folder = Path(name)
+    try:
+        made = make((folder / 'picklestep.wasm').read_bytes())
+        if not options:
+            put(folder, made)
+        elif not (folder / NAME).exists() or (folder / NAME).read_bytes() != made:
+            print(f'{folder.name}/{NAME} is not the page of its sources')
+            return 1
+    except (OSError, ValueError) as error:
+        print(f'picklestep: {error}', file=sys.stderr)
+        return 2
+    return 0
+
+
+if __name__ == '__main__':
+    sys.exit(main())
