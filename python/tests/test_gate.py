@@ -10,8 +10,9 @@ import shutil
 import subprocess
 import unittest
 from pathlib import Path
-from typing import Any, Dict, List
+from typing import Any, Dict, List, Tuple
 
+from json_schema import faults
 from pickles import ROOT
 from scan_support import HARMLESS, HOSTILE, MODELS, ScanCase, python_with
 
@@ -48,15 +49,22 @@ class Findings(ScanCase):
         self.assertEqual({each['ruleId'] for each in inner}, {'not-allowed'})
 
     def test_sarif_fits_its_schema(self) -> None:
+        schema = json.loads(SCHEMA.read_text())
         python = python_with('jsonschema')
-        if python is None:
-            self.skipTest('jsonschema is not installed')
         for words in ((), ('--allow', 'torch')):
-            self.sarif(*words)
-            done = subprocess.run([python, '-c', VALIDATE, str(SCHEMA), 'out.sarif'], cwd=self.folder, capture_output=True, text=True)
-            self.assertEqual((done.returncode, done.stderr), (0, ''))
-        (self.folder / 'out.sarif').write_text('{"version": "2.1.0", "runs": [{"results": []}]}')
-        self.assertNotEqual(subprocess.run([python, '-c', VALIDATE, str(SCHEMA), 'out.sarif'], cwd=self.folder, capture_output=True).returncode, 0)
+            self.assertEqual(list(faults(schema, self.sarif(*words))), [])
+            if python is not None:
+                done = subprocess.run([python, '-c', VALIDATE, str(SCHEMA), 'out.sarif'], cwd=self.folder, capture_output=True, text=True)
+                self.assertEqual((done.returncode, done.stderr), (0, ''))
+
+    def test_other_files_do_not_fit_it(self) -> None:
+        schema, made = json.loads(SCHEMA.read_text()), self.sarif()
+        self.assertTrue(list(faults(schema, {'version': '2.1.0', 'runs': [{'results': []}]})))
+        changes: Tuple[Tuple[str, object], ...] = (('level', 'bad'), ('ruleIndex', -2), ('ruleId', 1), ('message', {}), ('other', 1), ('locations', {}))
+        for name, value in changes:
+            other = json.loads(json.dumps(made))
+            other['runs'][0]['results'][0][name] = value
+            self.assertTrue(list(faults(schema, other)), name)
 
     def test_lines_of_json(self) -> None:
         lines = {each['path']: each for each in map(json.loads, self.scan('.', '--json').stdout.splitlines())}
