@@ -507,6 +507,7 @@ def completions(releases: Releases) -> str:
         (["one"], ["one.pickle"]),
         (["list", "--"], ["--help", "--many"]),
         (["calls", "--m"], ["--memo"]),
+        (["calls", "--f"], ["--first", "--full"]),
         (["debug", "--"], ["--help", "--many", "--save", "--window"]),
         (["scan", "--sar"], ["--sarif"]),
         (["one.pickle", "--j"], ["--jobs", "--json"]),

@@ -1,15 +1,28 @@
-"""Writes real files with the libraries of this machine: real_files.py FOLDER LIBRARY. A file of its own, for an interpreter that has them.
+"""Writes real files with the libraries of this machine. A file of its own, for an interpreter that has them.
 
-Each library's writer is a function of its name here. `test_sets` looks at what they write; each writes ten files or more.
+    real_files.py FOLDER LIBRARY    writes the files of a library into a folder
+    real_files.py --keep            writes those of each library that is installed into data/real, as an archive
+
+Each library's writer is a function of its name here. `test_sets` looks at what they write, and at what is kept, so that it needs no
+library; each writes ten files or more. Numbers at random have a seed, and the clock stands still, so that the files are the same again.
 """
 
 from __future__ import annotations
 
+import importlib
+import io
+import lzma
 import pickle
+import random
 import sys
+import tarfile
+import tempfile
+import time
 import warnings
 from pathlib import Path
 from typing import Any, Callable, Dict
+
+KEPT = Path(__file__).resolve().parent / 'data' / 'real'
 
 
 def dump(folder: Path, values: Dict[str, Any]) -> None:
@@ -29,7 +42,6 @@ def plain(folder: Path) -> None:
     import ipaddress
     import logging
     import pathlib
-    import random
     import re
     import types
     import uuid
@@ -179,9 +191,100 @@ def xarray(folder: Path) -> None:
                   'index': array.t})
 
 
+def transformers(folder: Path) -> None:
+    """What transformers' Trainer keeps beside settings, which are its own: state dictionaries and states of random numbers, by torch alone."""
+    import numpy as np
+    import torch
+    from torch import nn
+    model = nn.Sequential(nn.Embedding(8, 4), nn.LayerNorm(4), nn.Linear(4, 2))
+    optimizer = torch.optim.AdamW(model.parameters(), lr=0.1)
+    model(torch.tensor([1, 2])).sum().backward()
+    optimizer.step()
+    schedule = torch.optim.lr_scheduler.LambdaLR(optimizer, lambda step: 1 / (1 + step))
+    states: Dict[str, Any] = {'python': random.getstate(), 'numpy': np.random.get_state(), 'cpu': torch.random.get_rng_state()}
+    halves = {name: value.half() for name, value in model.state_dict().items()}
+    values: Dict[str, Any] = {'pytorch_model.bin': model.state_dict(), 'optimizer.pt': optimizer.state_dict(), 'scheduler.pt': schedule.state_dict(),
+                              'rng_state.pth': states, 'scaler.pt': torch.cuda.amp.GradScaler(enabled=False).state_dict(),
+                              'pytorch_model-00001-of-00002.bin': dict(list(halves.items())[:2]),
+                              'pytorch_model-00002-of-00002.bin': dict(list(halves.items())[2:]), 'adapter_model.bin': {'lora_A.weight': torch.ones(2, 4)},
+                              'rng_state_0.pth': {**states, 'cuda': [torch.zeros(16, dtype=torch.uint8)]}, 'learned_embeds.bin': {'<a>': torch.ones(4)}}
+    for name, value in values.items():
+        torch.save(value, folder / name)
+
+
+def lightning(folder: Path) -> None:
+    """Checkpoints of Lightning in their documented layout, by torch alone: settings and callbacks are dictionaries there."""
+    import torch
+    from torch import nn
+    for number, kind in enumerate((torch.optim.SGD, torch.optim.Adam, torch.optim.AdamW, torch.optim.RMSprop, torch.optim.Adagrad) * 2):
+        model = nn.Sequential(nn.Linear(2, 3), nn.Tanh(), nn.Linear(3, 1))
+        optimizer = kind(model.parameters(), lr=0.1)
+        schedule = torch.optim.lr_scheduler.StepLR(optimizer, 2)
+        model(torch.ones(1, 2)).sum().backward()
+        optimizer.step()
+        stopped = {'wait_count': 0, 'stopped_epoch': 0, 'best_score': torch.tensor(0.5), 'patience': 3}
+        best = {'monitor': 'loss', 'best_model_score': torch.tensor(0.5), 'best_model_path': 'a.ckpt', 'best_k_models': {'a.ckpt': torch.tensor(0.5)}}
+        fit = {'state_dict': {}, 'epoch_progress': {'total': {'ready': 1, 'completed': 1}, 'current': {'ready': 1, 'completed': 1}}}
+        made = {'epoch': number, 'global_step': 10, 'pytorch-lightning_version': '2.4.0', 'state_dict': model.state_dict(),
+                'loops': {'fit_loop': fit}, 'callbacks': {'EarlyStopping{}': stopped, "ModelCheckpoint{'monitor': 'loss'}": best},
+                'optimizer_states': [optimizer.state_dict()], 'lr_schedulers': [schedule.state_dict()],
+                'hparams_name': 'kwargs', 'hyper_parameters': {'rate': 0.1, 'layers': [2, 3, 1], 'name': None}}
+        if number >= 5:
+            made['MixedPrecision'] = {'scale': 65536.0, 'growth_factor': 2.0, 'backoff_factor': 0.5, 'growth_interval': 2000, '_growth_tracker': 0}
+            made['datamodule_hyper_parameters'] = {'folder': 'data', 'size': 32}
+        torch.save(made, folder / f'epoch={number}-step=10.ckpt')
+
+
 WRITERS: Dict[str, Callable[[Path], None]] = {each.__name__: each for each in (
-    plain, numpy, scipy, pandas, sklearn, torch, joblib, xgboost, networkx, xarray)}
+    plain, numpy, scipy, pandas, sklearn, torch, joblib, xgboost, networkx, xarray, transformers, lightning)}
+# Which module a writer needs, where that is another than its name says.
+MODULES = {'plain': 'pickle', 'transformers': 'torch', 'lightning': 'torch'}
+
+
+def write(folder: Path, library: str) -> None:
+    """Writes the files of a library, the same ones each time."""
+    warnings.simplefilter('ignore')
+    time.time = lambda: 1.6e9  # (formats keep the time of day)
+    random.seed(0)
+    for name, seed in (('numpy', 'random.seed'), ('torch', 'manual_seed')):
+        try:
+            module = importlib.import_module(name)
+        except ImportError:
+            continue
+        function: Any = module
+        for part in seed.split('.'):
+            function = getattr(function, part)
+        function(0)
+    WRITERS[library](folder)
+
+
+def keep(library: str) -> None:
+    """Keeps the files of a library as an archive."""
+    KEPT.mkdir(exist_ok=True)
+    with tempfile.TemporaryDirectory() as folder:
+        write(Path(folder), library)
+        archive = io.BytesIO()
+        with tarfile.open(fileobj=archive, mode='w', format=tarfile.USTAR_FORMAT) as tar:
+            for file in sorted(Path(folder).iterdir()):
+                member = tarfile.TarInfo(file.name)
+                member.size = file.stat().st_size
+                tar.addfile(member, io.BytesIO(file.read_bytes()))
+    (KEPT / f'{library}.tar.xz').write_bytes(lzma.compress(archive.getvalue(), preset=9))
+
+
+def is_installed(library: str) -> bool:
+    """Whether the module that a writer needs is here."""
+    try:
+        importlib.import_module(MODULES.get(library, library))
+    except ImportError:
+        return False
+    return True
+
 
 if __name__ == '__main__':
-    warnings.simplefilter('ignore')
-    WRITERS[sys.argv[2]](Path(sys.argv[1]))
+    if sys.argv[1:] == ['--keep']:
+        for each in WRITERS:
+            if each != 'plain' and is_installed(each):
+                keep(each)
+    else:
+        write(Path(sys.argv[1]), sys.argv[2])

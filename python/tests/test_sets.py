@@ -4,6 +4,7 @@ from __future__ import annotations
 
 import subprocess
 import sys
+import tarfile
 import tempfile
 import unittest
 from pathlib import Path
@@ -12,6 +13,7 @@ from typing import Dict, Tuple
 from picklestep.scan import Judge, look
 from picklestep.scan.allow import SETS, read_names
 from picklestep.scan.known import known_names
+from real_files import KEPT, MODULES
 from scan_support import ScanCase, python_with
 
 WRITER = Path(__file__).resolve().parent / 'real_files.py'
@@ -19,8 +21,10 @@ WRITER = Path(__file__).resolve().parent / 'real_files.py'
 NEEDED: Dict[str, Tuple[str, ...]] = {
     'plain': ('plain',), 'numpy': ('numpy', 'plain'), 'scipy': ('scipy', 'numpy', 'plain'), 'pandas': ('pandas', 'numpy', 'plain'),
     'sklearn': ('sklearn', 'scipy', 'numpy', 'plain'), 'torch': ('torch', 'torch-modules'), 'joblib': ('joblib', 'sklearn', 'numpy', 'plain'),
-    'xgboost': ('xgboost', 'numpy', 'plain'), 'networkx': ('networkx', 'plain'), 'xarray': ('xarray', 'pandas', 'numpy', 'plain')}
-# No package of the machine has these: files with their documented names are made here.
+    'xgboost': ('xgboost', 'numpy', 'plain'), 'networkx': ('networkx', 'plain'), 'xarray': ('xarray', 'pandas', 'numpy', 'plain'),
+    'transformers': ('torch', 'numpy', 'plain'), 'lightning': ('torch', 'plain')}
+# No package of the machine has these. What torch alone writes of them is among the real files; files with the documented names of their
+# settings are made here.
 BY_NAMES = {'transformers': ('transformers', 'torch', 'plain'), 'lightning': ('lightning', 'torch', 'plain')}
 
 
@@ -45,31 +49,47 @@ class Names(unittest.TestCase):
 
 
 class RealFiles(ScanCase):
-    """Files that the libraries of this machine write."""
+    """Files that libraries wrote: kept ones, and what those of this machine write."""
 
-    def tried(self, library: str) -> int:
-        """Looks at what a library writes, and answers how many files that are."""
-        python = sys.executable if library == 'plain' else python_with(library)
-        if python is None:
-            self.skipTest(f'{library} is not installed')
-        subprocess.run([python, str(WRITER), str(self.folder), library], check=True, timeout=900, cwd=tempfile.gettempdir())
-        judge = Judge(read_names(NEEDED[library]))
+    def tried(self, library: str, sets: Tuple[str, ...]) -> None:
+        """Looks at the files in the folder."""
+        judge = Judge(read_names(sets))
         files = sorted(self.folder.iterdir())
         for file in files:
             looks = [each.lines for each in judge.looks(look(str(file)))]
             self.assertEqual(looks, [], f'{library}: {file.name}')
         self.assertGreaterEqual(len(files), 10)
-        return len(files)
+
+    def kept(self, library: str, sets: Tuple[str, ...]) -> None:
+        """Looks at the files of a library that are kept."""
+        with tarfile.open(KEPT / f'{library}.tar.xz') as archive:
+            for member in archive:
+                content = archive.extractfile(member)
+                assert content is not None
+                self.file(member.name, content.read())
+        self.tried(library, sets)
+
+    def written(self, library: str, sets: Tuple[str, ...]) -> None:
+        """Looks at what a library of this machine writes."""
+        python = sys.executable if library == 'plain' else python_with(MODULES.get(library, library))
+        if python is None:
+            self.skipTest(f'{library} is not installed; its kept files are looked at')
+        subprocess.run([python, str(WRITER), str(self.folder), library], check=True, timeout=900, cwd=tempfile.gettempdir())
+        self.tried(library, sets)
+
+    def test_all_are_kept(self) -> None:
+        self.assertEqual({path.name.partition('.')[0] for path in KEPT.iterdir()}, set(NEEDED) - {'plain'})
+        self.assertLess(sum(path.stat().st_size for path in KEPT.iterdir()), 300_000)
 
 
-def _add(library: str) -> None:
-    def test(self: RealFiles) -> None:
-        self.tried(library)
-    setattr(RealFiles, f'test_{library}', test)
+def _add(library: str, sets: Tuple[str, ...]) -> None:
+    setattr(RealFiles, f'test_{library}', lambda self: self.written(library, sets))
+    if library != 'plain':  # (the standard library is on each machine)
+        setattr(RealFiles, f'test_{library}_kept', lambda self: self.kept(library, sets))
 
 
-for _library in NEEDED:
-    _add(_library)
+for _library, _sets in NEEDED.items():
+    _add(_library, _sets)
 
 
 class ByNames(ScanCase):
