@@ -388,6 +388,10 @@ class Case:
         closing = unsure[0] if unsure else report.splitlines(keepends=True)[-1] if wanted else ""
         if not re.search(re.escape(counts + closing) + r"(?:kept: \d+ bytes after STOP\n)?$", text):
             raise Broken(f"calls does not end in {counts + closing!r}")
+        full, ended = self.answers(["calls", "--full", *first, str(self.file)])
+        lines, whole = told.splitlines(), full.splitlines()
+        if ended != status or len(lines) != len(whole) or any(line != other for line, other in zip(lines, whole) if "+" not in line):
+            raise Broken("calls --full has other lines where nothing is cut")
 
     def check_ways(self, far):
         """What is shown at the places that can be reached, going there, coming back, and from elsewhere."""
