@@ -15,3 +15,7 @@ pub mod FlatStacks
 pub mod Beyond
 pub mod Missing
 pub mod Viewed
+pub mod Wholes
+pub mod Origins
+pub mod Refused
+pub mod Steps

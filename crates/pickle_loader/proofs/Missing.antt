@@ -26,7 +26,7 @@ use Rattle.pickle_machine.specs.State.{Marked, State}
 use Rattle.pickle_machine.specs.Move.{unless, if_deep, if_paired, if_target, if_viewable, object_meets, taking_refusal, cutting_refusal, deep, under, cut, last_of, without, memo_at, refusal_of}
 use Rattle.pickle_machine.specs.Loader.{takes_call, takes_call_with, takes_obj, asks_less, is_inst}
 use Rattle.pickle_loader.specs.Environment.{Value, Act, Given, Persist, Find, Call, New, NewEx, SetState, Method, PyTuple, PyList, PyFrozenSet, PyDict}
-use Rattle.pickle_loader.specs.Unpickler.{Unpickler, Step, Ran, Stopped, Raised, append, ask, make, get, is_str, viewed, fills, fill_pairs, pop, item, on_top, to_mark, pop_mark, instantiated, load_pop, load_pop_mark, load_get, got, tell}
+use Rattle.pickle_loader.specs.Unpickler.{Unpickler, Step, Ran, Stopped, Raised, append, ask, make, get, if_able, can_call, can_call_with, is_str, viewed, fills, fill_pairs, pop, item, on_top, to_mark, pop_mark, instantiated, load_pop, load_pop_mark, load_get, got, tell}
 use Rattle.pickle_loader.specs.Dispatch.{dispatch, load_op}
 use Rattle.pickle_loader.specs.Laws.{sections, entries}
 use Rattle.pickle_loader.specs.Beyond.{is_missing, WhatIsMissingRaises}
@@ -199,9 +199,9 @@ missing h op.Tuple2 arg i = take_misses h taking.Two (λ items q. make PyTuple i
 missing h op.Tuple3 arg i = take_misses h taking.Three (λ items q. make PyTuple items q)
 missing h op.StackGlobal arg i =
     take_misses h taking.Names (λ vs q. if is_str h.w (item 1 vs) then (if is_str h.w (item 0 vs) then get h.w (Find q.proto (Given (item 0 vs)) (Given (item 1 vs))) q else Raised q.acts) else Raised q.acts)
-missing h op.Reduce arg i = call_misses h (takes_call 0 h.s) (λ vs q. get h.w (Call (item 0 vs) (item 1 vs)) q)
-missing h op.NewObj arg i = call_misses h (takes_call 0 h.s) (λ vs q. get h.w (New (item 0 vs) (item 1 vs)) q)
-missing h op.NewObjEx arg i = call_with_misses h (takes_call_with h.s) (λ vs q. get h.w (NewEx (item 0 vs) (item 1 vs) (item 2 vs)) q)
+missing h op.Reduce arg i = call_misses h (takes_call 0 h.s) (λ vs q. if_able h.w (can_call (item 0 vs) (item 1 vs)) q (get h.w (Call (item 0 vs) (item 1 vs)) q))
+missing h op.NewObj arg i = call_misses h (takes_call 0 h.s) (λ vs q. if_able h.w (can_call (item 0 vs) (item 1 vs)) q (get h.w (New (item 0 vs) (item 1 vs)) q))
+missing h op.NewObjEx arg i = call_with_misses h (takes_call_with h.s) (λ vs q. if_able h.w (can_call_with h.w (item 0 vs) (item 1 vs) (item 2 vs)) q (get h.w (NewEx (item 0 vs) (item 1 vs) (item 2 vs)) q))
 missing h op.Tuple arg i = any_misses h (λ items q. make PyTuple items q)
 missing h op.List arg i = any_misses h (λ items q. make PyList items q)
 missing h op.FrozenSet arg i = any_misses h (λ items q. ask h.w Method q (λ v r. make PyFrozenSet items r))
