@@ -19,3 +19,4 @@ pub mod Wholes
 pub mod Origins
 pub mod Refused
 pub mod Steps
+pub mod Items

@@ -10,3 +10,4 @@ pub mod Bytes
 pub mod FlatStack
 pub mod Whole
 pub mod Beyond
+pub mod Onward
