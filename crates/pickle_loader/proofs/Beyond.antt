@@ -77,7 +77,7 @@ op_good h o false e = wide_good h o.opcode o.arg e
 
 -- ---- one step
 
-has_moved : (x : Option Refusal) (u t : State) → outcome x u ≡ Ok t → (x ≡ None) × (u ≡ t)
+pub has_moved : (x : Option Refusal) (u t : State) → outcome x u ≡ Ok t → (x ≡ None) × (u ≡ t)
 has_moved None u t e = let same : u ≡ t = cc in (refl, same)
 has_moved (Some r) u t e = absurd cc
 

@@ -20,3 +20,6 @@ pub mod Origins
 pub mod Refused
 pub mod Steps
 pub mod Items
+pub mod Leads
+pub mod Onwards
+pub mod Ways

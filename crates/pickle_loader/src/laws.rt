@@ -4,6 +4,7 @@ ghost use Rattle.pickle_loader.specs.Laws.{LoadsAreListed, ToldHasLine, AllTold,
 ghost use Rattle.pickle_loader.specs.Reader.{OpsAreFetched};
 ghost use Rattle.pickle_loader.specs.FlatStack.{OneStack};
 ghost use Rattle.pickle_loader.specs.Beyond.{WideMovesAreFollowed, WhatIsMissingRaises, FillsAreFollowed, AStepBeyond};
+ghost use Rattle.pickle_loader.specs.Onward.{NothingBeyond};
 ghost use Rattle.pickle_loader.specs.Bytes.{BytesAreListed, NothingElse};
 
 /// What the unpickler does in any environment is what the lines tell, as far as it does not raise.
@@ -65,4 +66,9 @@ pub fn fills_are_followed()
 /// unpickler does what the event of that move tells, or raises and did a beginning of it.
 pub fn a_step_beyond()
     ensures { AStepBeyond }
+{}
+
+/// Behind an end too, whatever an unpickler does that reads as loaders read is a beginning of what the lines of that reading tell.
+pub fn nothing_beyond()
+    ensures { NothingBeyond }
 {}
