@@ -19,15 +19,16 @@ use Rattle.pickle_machine.specs.Move.{last_of, without, refusal_of, next_of, fre
 use Rattle.pickle_machine.specs.Loader.{takes_call, takes_call_with, takes_obj, asks_less}
 use Rattle.pickle_show.specs.Event.{before_of, event_of}
 use Rattle.pickle_loader.specs.Environment.{Value, Act, Call, New, NewEx, World}
-use Rattle.pickle_loader.specs.Unpickler.{Unpickler, Step, Ran, Stopped, Raised, item, get, instantiated, load_reduce, load_newobj, load_newobj_ex, load_obj}
+use Rattle.pickle_loader.specs.Unpickler.{Unpickler, Step, Ran, Stopped, Raised, item, get, if_able, can_call, can_call_with, instantiated, load_reduce, load_newobj, load_newobj_ex, load_obj}
 use Rattle.pickle_loader.specs.Dispatch.{dispatch, load_op}
 use Rattle.pickle_loader.specs.Told.{told_of, acts_told, protocol_after}
+use Rattle.pickle_loader.specs.Values.{Knows}
 use Rattle.pickle_loader.specs.Laws.{sections, entries, IsSame}
 use Rattle.pickle_loader.specs.Beyond.{less_of, StepFollows, MapsNew, WideMovesAreFollowed}
 use Rattle.pickle_loader.proofs.Images.{image}
 use Rattle.pickle_loader.proofs.Pushes.{Good}
 use Rattle.pickle_loader.proofs.Still.{fresh_same}
-use Rattle.pickle_loader.proofs.Methods.{Here, unpickler, fresh_acts, RowGood, raised_good, stays_good, got_good, taken_good, cut_good, obj_by, reduce_good, newobj_good, newobj_ex_good, obj_good}
+use Rattle.pickle_loader.proofs.Methods.{Here, unpickler, fresh_acts, RowGood, raised_good, stays_good, able_got, taken_good, cut_good, obj_by, reduce_good, newobj_good, newobj_ex_good, obj_good}
 use Rattle.pickle_loader.proofs.Opcodes.{opcode_good}
 
 -- ---- rows that ask for less
@@ -37,16 +38,16 @@ proto_by h true n e = stays_good h h.s n (record (unpickler h) { proto = n }) []
 proto_by h false n e = raised_good h.V h.w h.s.heap h.acts h.s _ n h.acts refl
 
 reduce_less : (h : Here) (b : Bool) → RowGood h (cond b (row.Take taking.Two) (row.Take taking.Call)) kind.Call h.proto (load_reduce h.w (unpickler h))
-reduce_less h true = taken_good h taking.Two kind.Call (λ vs q. get h.w (Call (item 0 vs) (item 1 vs)) q) (λ e. got_good h (without 2 h.s) kind.Call (last_of 2 h.s) (λ proto. Call (item 0 (map h.V (last_of 2 h.s))) (item 1 (map h.V (last_of 2 h.s)))) refl refl refl)
+reduce_less h true = taken_good h taking.Two kind.Call (λ vs q. if_able h.w (can_call (item 0 vs) (item 1 vs)) q (get h.w (Call (item 0 vs) (item 1 vs)) q)) (λ e. able_got h (without 2 h.s) kind.Call (last_of 2 h.s) (λ proto. Call (item 0 (map h.V (last_of 2 h.s))) (item 1 (map h.V (last_of 2 h.s)))) (can_call (item 0 (map h.V (last_of 2 h.s))) (item 1 (map h.V (last_of 2 h.s)))) refl refl refl)
 reduce_less h false = reduce_good h
 
 newobj_less : (h : Here) (b : Bool) → RowGood h (cond b (row.Take taking.Two) (row.Take taking.Call)) kind.New h.proto (load_newobj h.w (unpickler h))
-newobj_less h true = taken_good h taking.Two kind.New (λ vs q. get h.w (New (item 0 vs) (item 1 vs)) q) (λ e. got_good h (without 2 h.s) kind.New (last_of 2 h.s) (λ proto. New (item 0 (map h.V (last_of 2 h.s))) (item 1 (map h.V (last_of 2 h.s)))) refl refl refl)
+newobj_less h true = taken_good h taking.Two kind.New (λ vs q. if_able h.w (can_call (item 0 vs) (item 1 vs)) q (get h.w (New (item 0 vs) (item 1 vs)) q)) (λ e. able_got h (without 2 h.s) kind.New (last_of 2 h.s) (λ proto. New (item 0 (map h.V (last_of 2 h.s))) (item 1 (map h.V (last_of 2 h.s)))) (can_call (item 0 (map h.V (last_of 2 h.s))) (item 1 (map h.V (last_of 2 h.s)))) refl refl refl)
 newobj_less h false = newobj_good h
 
 newobj_ex_less : (h : Here) (b : Bool) → RowGood h (cond b (row.Take taking.Three) (row.Take taking.CallWith)) kind.NewEx h.proto (load_newobj_ex h.w (unpickler h))
 newobj_ex_less h true =
-    taken_good h taking.Three kind.NewEx (λ vs q. get h.w (NewEx (item 0 vs) (item 1 vs) (item 2 vs)) q) (λ e. got_good h (without 3 h.s) kind.NewEx (last_of 3 h.s) (λ proto. NewEx (item 0 (map h.V (last_of 3 h.s))) (item 1 (map h.V (last_of 3 h.s))) (item 2 (map h.V (last_of 3 h.s)))) refl refl refl)
+    taken_good h taking.Three kind.NewEx (λ vs q. if_able h.w (can_call_with h.w (item 0 vs) (item 1 vs) (item 2 vs)) q (get h.w (NewEx (item 0 vs) (item 1 vs) (item 2 vs)) q)) (λ e. able_got h (without 3 h.s) kind.NewEx (last_of 3 h.s) (λ proto. NewEx (item 0 (map h.V (last_of 3 h.s))) (item 1 (map h.V (last_of 3 h.s))) (item 2 (map h.V (last_of 3 h.s)))) (can_call_with h.w (item 0 (map h.V (last_of 3 h.s))) (item 1 (map h.V (last_of 3 h.s))) (item 2 (map h.V (last_of 3 h.s)))) refl refl refl)
 newobj_ex_less h false = newobj_ex_good h
 
 both_hold : (b c : Bool) → (b && c) ≡ true → b ≡ true
@@ -76,7 +77,7 @@ op_good h o false e = wide_good h o.opcode o.arg e
 
 -- ---- one step
 
-has_moved : (x : Option Refusal) (u t : State) → outcome x u ≡ Ok t → (x ≡ None) × (u ≡ t)
+pub has_moved : (x : Option Refusal) (u t : State) → outcome x u ≡ Ok t → (x ≡ None) × (u ≡ t)
 has_moved None u t e = let same : u ≡ t = cc in (refl, same)
 has_moved (Some r) u t e = absurd cc
 
@@ -88,19 +89,20 @@ same_image w V s u i =
     ∙ ap (λ (l : List (ℕ × Value)). record { stack = map V s.top; metastack = sections V s.marked; memo = l; proto = u.proto; buffers = u.buffers; acts = u.acts }) i.memo
     ∙ ap (λ (n : ℕ). record { stack = map V s.top; metastack = sections V s.marked; memo = entries V s.memo; proto = u.proto; buffers = n; acts = u.acts }) i.buffers
 
-pub follows_by : (w : World) (V : ℕ → Value) (s t : State) (acts new : List Act) (proto : ℕ) (x : Step) → MapsNew V s t x → Good V w s.heap acts t new proto x → StepFollows w V (told_of acts ++ new) t x
+same_of : (w : World) (V : ℕ → Value) (t : State) (proto : ℕ) (q : Unpickler) → q ≡ image V t proto q.acts → Knows w V q.acts t.heap → IsSame w V t q
+same_of w V t proto q is knows = record {
+  stack = ap (λ (x : Unpickler). x.stack) is;
+  metastack = ap (λ (x : Unpickler). x.metastack) is;
+  memo = ap (λ (x : Unpickler). x.memo) is;
+  buffers = ap (λ (x : Unpickler). x.buffers) is;
+  objects = knows;
+}
+
+pub follows_by : (w : World) (V : ℕ → Value) (s t : State) (acts new : List Act) (proto : ℕ) (x : Step) → MapsNew V s t x → Good V w s.heap acts t new proto x → StepFollows w V (told_of acts ++ new) proto t x
 follows_by w V s t acts new proto (Ran q) maps good =
-    let all = good maps in (
-      record {
-        stack = ap (λ (x : Unpickler). x.stack) all.0;
-        metastack = ap (λ (x : Unpickler). x.metastack) all.0;
-        memo = ap (λ (x : Unpickler). x.memo) all.0;
-        buffers = ap (λ (x : Unpickler). x.buffers) all.0;
-        objects = all.1;
-      },
-      all.2,
-    )
-follows_by w V s t acts new proto (Stopped v q) maps good = (good.1, good.0, good.5)
+    let all = good maps in
+    (same_of w V t proto q all.0 all.1, all.2, ap (λ (x : Unpickler). x.proto) all.0)
+follows_by w V s t acts new proto (Stopped v q) maps good = (same_of w V t q.proto q good.6 good.1, good.0, good.5, good.2)
 follows_by w V s t acts new proto (Raised done) maps good = good
 
 pub wide_moves_are_followed : WideMovesAreFollowed

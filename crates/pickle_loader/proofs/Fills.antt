@@ -1,5 +1,5 @@
 -- What the methods come to that put objects into others.
-use Rattle.std.proofs.Common.{◌≡◌, ◌≢◌, ℕ, zero, suc, ◌+◌, ◌-◌, ◌<◌, Bool, true, false, List, [], ◌∷◌, ◌++◌, length, map, take, drop, get_or, Option, Some, None, refl, sym, ap, subst, ◌∙◌, arith, length-append}
+use Rattle.std.proofs.Common.{◌≡◌, ◌≢◌, ℕ, zero, suc, ◌+◌, ◌-◌, ◌<◌, ◌≤◌, Bool, true, false, List, [], ◌∷◌, ◌++◌, length, map, take, drop, get_or, Option, Some, None, refl, sym, ap, subst, ◌∙◌, arith, length-append, take_all}
 use Rattle.std.specs.Prelude.{slice_get, slice_set, nat_le, nat_lt, ◌&&◌, ◌||◌, ◌%◌, ◌==◌, if◌then◌else◌}
 use Rattle.std.specs.Option.{option_map_or}
 use Rattle.std.proofs.Math.Seq.{drop-append_seam}
@@ -30,7 +30,7 @@ use Rattle.pickle_show.specs.Event.{top_of, before_of, object_is, taken_count, f
 use Rattle.pickle_show.proofs.Steps.{top_is, is_there, Same, Grown, after_changes}
 use Rattle.pickle_loader.specs.Environment.{PyType, PyList, PyDict, PySet, PyByteArray, Value, Plain, Own, Foreign, Act, SetState, Fill, Method, Reply, Raises, Answers, World}
 use Rattle.pickle_loader.specs.Unpickler.{Unpickler, Step, Ran, item, answered, tell, pop, on_top, pop_mark, put_in, fill_own, fill, fill_none, fills, fill_pairs, then_raises, load_append, load_appends, load_setitem, load_setitems, load_additems, load_build}
-use Rattle.pickle_loader.specs.Told.{told_of, acts_told, taken}
+use Rattle.pickle_loader.specs.Told.{told_of, acts_told, taken, objects_in}
 use Rattle.pickle_loader.proofs.Images.{image, pop_image, on_top_image, mark_image, last_image}
 use Rattle.pickle_loader.specs.Values.{origin, IsFrom, Knows}
 use Rattle.pickle_loader.proofs.Pushes.{StandsAs, stands_as, knows_more, Good, told_one}
@@ -57,7 +57,7 @@ knows_changed w V acts heap j more knows id o e = elim (after_changes heap j mor
 -- ---- what is told
 
 into_told : (V : ℕ → Value) (proto : ℕ) (s t : State) (f : Filling) (n : ℕ) (b : Bool)
-    → acts_told V proto s t (if b then Some (event.Filled f n (top_of t)) else None) ≡ (if nat_lt 0 n && b then Fill f (V (top_of t)) (map V (taken s t)) ∷ [] else [])
+    → acts_told V proto s t (if b then Some (event.Filled f n (top_of t)) else None) ≡ (if nat_lt 0 n && b then Fill f (V (top_of t)) (map V (take (objects_in f n) (taken s t))) ∷ [] else [])
 into_told V proto s t f n true = go (nat_lt 0 n) _
   where
     go : (c : Bool) (acts : List Act) → (if c then acts else []) ≡ (if c && true then acts else [])
@@ -121,18 +121,18 @@ told_into false f v vs = []
 abbrev pub IsFill : Filling → Type 0
 IsFill f = (b : Before) (t : State) → filled_event f b t ≡ into f (filled_count f (taken_count b t)) t
 
-pub filled_told : (h : Here) (f : Filling) (u : State) (items : List ℕ) (more : List Change) → IsFill f → Splits h.s u items → (n : ℕ) → filled_count f (length items) ≡ n
+pub filled_told : (h : Here) (f : Filling) (u : State) (items : List ℕ) (more : List Change) → IsFill f → Splits h.s u items → (n : ℕ) → filled_count f (length items) ≡ n → length items ≤ objects_in f n
     → (nat_lt 0 n && touches f n (change_top more u).heap (top_of u)) ≡ (nat_lt 0 n && object_is is_opaque (change_top more u).heap (top_of u))
     → acts_told h.V h.proto h.s (change_top more u) (filled_event f (before_of h.s) (change_top more u))
     ≡ (if nat_lt 0 n && object_is is_opaque (change_top more u).heap (top_of u) then Fill f (h.V (top_of u)) (map h.V items) ∷ [] else [])
-filled_told h f u items more fe split n same agrees =
+filled_told h f u items more fe split n same whole agrees =
     let t : State = change_top more u in
     let count : filled_count f (taken_count (before_of h.s) t) ≡ n = ap (filled_count f) (count_is h.s u items split) ∙ same in
     ap (acts_told h.V h.proto h.s t) (fe (before_of h.s) t)
     ∙ ap (λ (m : ℕ). acts_told h.V h.proto h.s t (into f m t)) count
     ∙ into_told h.V h.proto h.s t f n (touches f n t.heap (top_of t))
-    ∙ ap (λ (b : Bool). if b then Fill f (h.V (top_of t)) (map h.V (taken h.s t)) ∷ [] else []) agrees
-    ∙ ap (λ (l : List ℕ). if nat_lt 0 n && object_is is_opaque t.heap (top_of t) then Fill f (h.V (top_of t)) (map h.V l) ∷ [] else []) (taken_is h.s u items split)
+    ∙ ap (λ (b : Bool). if b then Fill f (h.V (top_of t)) (map h.V (take (objects_in f n) (taken h.s t))) ∷ [] else []) agrees
+    ∙ ap (λ (l : List ℕ). if nat_lt 0 n && object_is is_opaque t.heap (top_of t) then Fill f (h.V (top_of t)) (map h.V l) ∷ [] else []) (ap (take (objects_in f n)) (taken_is h.s u items split) ∙ take_all (objects_in f n) items whole)
 
 -- ---- what is put in
 
@@ -204,14 +204,14 @@ none_good h u more new (Plain k) e none = λ foretold. (refl, knows_at_once h u 
 
 -- an object is known by its class
 told_by_class : (h : Here) (f : Filling) (u : State) (items : List ℕ) (more : List Change) (o : Object) (n : ℕ) → IsFill f → Splits h.s u items → u.heap ≡ h.s.heap → 0 < length u.top
-    → filled_count f (length items) ≡ n → 0 < n → slice_get u.heap (deep 0 u.top) ≡ Some o → f ≢ filling.Build → class_meets (demand.Target f) (class_of o.kind) ≡ true
+    → filled_count f (length items) ≡ n → length items ≤ objects_in f n → 0 < n → slice_get u.heap (deep 0 u.top) ≡ Some o → f ≢ filling.Build → class_meets (demand.Target f) (class_of o.kind) ≡ true
     → acts_told h.V h.proto h.s (change_top more u) (filled_event f (before_of h.s) (change_top more u)) ≡ told_into (is_any (class_of o.kind)) f (h.V (deep 0 u.top)) (map h.V items)
-told_by_class h f u items more o n fe split same top count some there ne fine =
+told_by_class h f u items more o n fe split same top count whole some there ne fine =
     let t : State = change_top more u in
     let target : top_of u ≡ deep 0 u.top = top_is u top in
     let here : slice_get t.heap (top_of u) ≡ Some (record o { changes = o.changes ++ more }) = ap (slice_get t.heap) target ∙ changed_get u.heap (deep 0 u.top) more o there in
     let opaque : object_is is_opaque t.heap (top_of u) ≡ is_any (class_of o.kind) = ap (λ (g : Option Object). option_map_or (λ (x : Object). is_opaque x.kind) g false) here in
-    filled_told h f u items more fe split n count (ap (λ (b : Bool). nat_lt 0 n && b) (touched f n t.heap (top_of u) (record o { changes = o.changes ++ more }) ne some here fine))
+    filled_told h f u items more fe split n count whole (ap (λ (b : Bool). nat_lt 0 n && b) (touched f n t.heap (top_of u) (record o { changes = o.changes ++ more }) ne some here fine))
     ∙ ap (λ (b : Bool). if b && object_is is_opaque t.heap (top_of u) then Fill f (h.V (top_of u)) (map h.V items) ∷ [] else []) (lt-ltb 0 n some)
     ∙ ap (λ (b : Bool). if b then Fill f (h.V (top_of u)) (map h.V items) ∷ [] else []) opaque
     ∙ ap (λ (i : ℕ). if is_any (class_of o.kind) then Fill f (h.V i) (map h.V items) ∷ [] else []) target
@@ -223,7 +223,7 @@ told_by_class h f u items more o n fe split same top count some there ne fine =
 
 told_none : (h : Here) (f : Filling) (u : State) (more : List Change) → IsFill f → Splits h.s u [] → filled_count f 0 ≡ 0
     → acts_told h.V h.proto h.s (change_top more u) (filled_event f (before_of h.s) (change_top more u)) ≡ []
-told_none h f u more fe split count = filled_told h f u [] more fe split 0 count refl
+told_none h f u more fe split count = filled_told h f u [] more fe split 0 count (omega arith) refl
 
 -- what is needed to fill
 record CanFill (h : Here) (f : Filling) (u : State) (items : List ℕ) : Type 0 where
@@ -234,6 +234,7 @@ record CanFill (h : Here) (f : Filling) (u : State) (items : List ℕ) : Type 0 
   split : Splits h.s u items
   zero_count : filled_count f 0 ≡ 0
   count : 0 < length items → 0 < filled_count f (length items)
+  whole : 0 < length items → length items ≤ objects_in f (filled_count f (length items))
   target : 0 < length items → object_meets (demand.Target f) h.s (deep 0 u.top) ≡ true
 
 fills_good : (h : Here) (f : Filling) (u : State) (items : List ℕ) (more : List Change) → CanFill h f u items
@@ -244,7 +245,7 @@ fills_good h f u (x ∷ xs) more c =
     let o = is_there (meets (demand.Target f)) h.s.heap (deep 0 u.top) (c.target (omega arith)) in
     let there : slice_get u.heap (deep 0 u.top) ≡ Some o.0 = ap (λ (l : List Object). slice_get l (deep 0 u.top)) c.same ∙ o.1 in
     by_class h u more _ f (map h.V (x ∷ xs)) (h.V (deep 0 u.top)) (class_of o.0.kind) c.same c.ne o.2 (stands_as h.w h.acts o.0.kind (map h.V o.0.parts) (h.V (deep 0 u.top)) (h.knows (deep 0 u.top) o.0 o.1))
-    (told_by_class h f u (x ∷ xs) more o.0 (filled_count f (length (x ∷ xs))) c.fe c.split c.same c.top refl (c.count (omega arith)) there c.ne o.2)
+    (told_by_class h f u (x ∷ xs) more o.0 (filled_count f (length (x ∷ xs))) c.fe c.split c.same c.top refl (c.whole (omega arith)) (c.count (omega arith)) there c.ne o.2)
 
 -- ---- rows that take objects from the top
 
@@ -262,10 +263,10 @@ split_without n s =
 enough : (h : Here) (f : Filling) → nat_le (values_of f + 1) (length h.s.top) ≡ true → values_of f < length h.s.top
 enough h f e = omega (arith, leb-true _ _ e)
 
-change_good : (h : Here) (f : Filling) (k : Kind) → IsFill f → f ≢ filling.Build → filled_count f 0 ≡ 0 → (0 < filled_count f (values_of f)) → 0 < values_of f
+change_good : (h : Here) (f : Filling) (k : Kind) → IsFill f → f ≢ filling.Build → filled_count f 0 ≡ 0 → (0 < filled_count f (values_of f)) → values_of f ≤ objects_in f (filled_count f (values_of f)) → 0 < values_of f
     → RowGood h (row.Change f) k h.proto (pop (values_of f) (unpickler h) (λ vs q. on_top q (λ target. fills h.w f target vs q)))
 unfolding Filled
-change_good h f k fe ne zero_count some values e =
+change_good h f k fe ne zero_count some whole values e =
     let n : ℕ = values_of f in
     let u : State = without n h.s in
     let items : List ℕ = last_of n h.s in
@@ -284,6 +285,7 @@ change_good h f k fe ne zero_count some values e =
       split = split_without n h.s;
       zero_count = zero_count;
       count = λ _. subst (λ (m : ℕ). 0 < filled_count f m) (sym count) some;
+      whole = λ _. subst (λ (m : ℕ). m ≤ objects_in f (filled_count f m)) (sym count) whole;
       target = λ _. ap (object_meets (demand.Target f) h.s) (deep_without n h.s.top below) ∙ meets;
     } in
     subst (λ (x : Step). Good h.V h.w h.s.heap h.acts (change_top more u) new h.proto x) (sym (pop_image h.V h.s h.proto h.acts n (λ vs q. on_top q (λ target. fills h.w f target vs q)) (le-leb n (length h.s.top) (omega (arith, below)))))
@@ -291,10 +293,10 @@ change_good h f k fe ne zero_count some values e =
     (fills_good h f u items more can))
 
 pub append_good : (h : Here) (k : Kind) → RowGood h (row.Change filling.Append) k h.proto (load_append h.w (unpickler h))
-append_good h k = change_good h filling.Append k (λ b t. refl) (λ e. absurd cc) refl (omega arith) (omega arith)
+append_good h k = change_good h filling.Append k (λ b t. refl) (λ e. absurd cc) refl (omega arith) (omega arith) (omega arith)
 
 pub setitem_good : (h : Here) (k : Kind) → RowGood h (row.Change filling.SetItem) k h.proto (load_setitem h.w (unpickler h))
-setitem_good h k = change_good h filling.SetItem k (λ b t. refl) (λ e. absurd cc) (omega arith) (omega arith) (omega arith)
+setitem_good h k = change_good h filling.SetItem k (λ b t. refl) (λ e. absurd cc) (omega arith) (omega arith) (omega arith) (omega arith)
 
 -- ---- rows that take what is above the mark
 
@@ -311,7 +313,7 @@ filled_target f items s id e h =
     (passes (object_meets (demand.Target f) s id) (refusal.WrongKind id) None (ap (λ (b : Bool). if b then if_target f s id else None) (sym (lt-ltb 0 (length items) h)) ∙ e)).0
 
 cut_fill_good : (h : Here) (f : Filling) (k : Kind) (go : List Value → Value → Unpickler → Step) → IsFill f → f ≢ filling.Build → filled_count f 0 ≡ 0
-    → (if_paired f h.s.top None ≡ None → (0 < length h.s.top → 0 < filled_count f (length h.s.top)) × ((v : Value) (q : Unpickler) → go (map h.V h.s.top) v q ≡ fills h.w f v (map h.V h.s.top) q))
+    → (if_paired f h.s.top None ≡ None → (0 < length h.s.top → 0 < filled_count f (length h.s.top)) × (length h.s.top ≤ objects_in f (filled_count f (length h.s.top))) × ((v : Value) (q : Unpickler) → go (map h.V h.s.top) v q ≡ fills h.w f v (map h.V h.s.top) q))
     → ((rest : Option Refusal) → if_paired f h.s.top rest ≡ None → (if_paired f h.s.top None ≡ None) × (rest ≡ None))
     → RowGood h (row.CutChange f) k h.proto (pop_mark (unpickler h) (λ items q. on_top q (λ target. go items target q)))
 unfolding Filled
@@ -331,18 +333,19 @@ cut_fill_good h f k go fe ne zero_count right paired e =
       split = split_cut h.s marked.0;
       zero_count = zero_count;
       count = fine.0;
+      whole = λ _. fine.1;
       target = λ some. filled_target f h.s.top h.s (deep 0 (under h.s.marked)) pairs.1 some;
     } in
     subst (λ (x : Step). Good h.V h.w h.s.heap h.acts (change_top more u) new h.proto x) (sym (mark_image h.V h.s h.proto h.acts (λ items q. on_top q (λ target. go items target q)) marked.0))
     (subst (λ (x : Step). Good h.V h.w h.s.heap h.acts (change_top more u) new h.proto x) (sym (on_top_image h.V u h.proto h.acts (λ target. go (map h.V h.s.top) target (image h.V u h.proto h.acts)) there.0))
-    (subst (λ (x : Step). Good h.V h.w h.s.heap h.acts (change_top more u) new h.proto x) (sym (fine.1 (h.V (deep 0 u.top)) (image h.V u h.proto h.acts)))
+    (subst (λ (x : Step). Good h.V h.w h.s.heap h.acts (change_top more u) new h.proto x) (sym (fine.2 (h.V (deep 0 u.top)) (image h.V u h.proto h.acts)))
     (fills_good h f u h.s.top more can)))
 
 pub appends_good : (h : Here) (k : Kind) → RowGood h (row.CutChange filling.Append) k h.proto (load_appends h.w (unpickler h))
-appends_good h k = cut_fill_good h filling.Append k (λ items target q. fills h.w filling.Append target items q) (λ b t. refl) (λ e. absurd cc) refl (λ _. (λ some. some, λ v q. refl)) (λ rest e. (refl, e))
+appends_good h k = cut_fill_good h filling.Append k (λ items target q. fills h.w filling.Append target items q) (λ b t. refl) (λ e. absurd cc) refl (λ _. (λ some. some, omega arith, λ v q. refl)) (λ rest e. (refl, e))
 
 pub additems_good : (h : Here) (k : Kind) → RowGood h (row.CutChange filling.Add) k h.proto (load_additems h.w (unpickler h))
-additems_good h k = cut_fill_good h filling.Add k (λ items target q. fills h.w filling.Add target items q) (λ b t. refl) (λ e. absurd cc) refl (λ _. (λ some. some, λ v q. refl)) (λ rest e. (refl, e))
+additems_good h k = cut_fill_good h filling.Add k (λ items target q. fills h.w filling.Add target items q) (λ b t. refl) (λ e. absurd cc) refl (λ _. (λ some. some, omega arith, λ v q. refl)) (λ rest e. (refl, e))
 
 pub is_even : (n : ℕ) → (n % 2 == 0) ≡ true → n % 2 ≡ 0
 is_even n e = grind arith
@@ -354,6 +357,7 @@ setitems_good h k =
     let even : (length h.s.top % 2 == 0) ≡ true = (passes (length h.s.top % 2 == 0) refusal.OddItems None e).0 in
     let none : length h.s.top % 2 ≡ 0 = is_even (length h.s.top) even in (
       λ some. omega (arith, none, some),
+      omega (arith, none),
       λ v q.
           ap (λ (n : ℕ). if n % 2 == 0 then fills h.w filling.SetItem v (map h.V h.s.top) q else then_raises (fills h.w filling.SetItem v (take (length (map h.V h.s.top) - 1) (map h.V h.s.top)) q)) (length-map h.s.top h.V)
           ∙ ap (λ (b : Bool). if b then fills h.w filling.SetItem v (map h.V h.s.top) q else then_raises (fills h.w filling.SetItem v (take (length (map h.V h.s.top) - 1) (map h.V h.s.top)) q)) even,

@@ -15,3 +15,11 @@ pub mod FlatStacks
 pub mod Beyond
 pub mod Missing
 pub mod Viewed
+pub mod Wholes
+pub mod Origins
+pub mod Refused
+pub mod Steps
+pub mod Items
+pub mod Leads
+pub mod Onwards
+pub mod Ways

@@ -20,8 +20,8 @@ use Rattle.pickle_machine.specs.declared.refusal.Refusal.TheVariants as refusal
 use Rattle.pickle_machine.specs.State.{State}
 use Rattle.pickle_machine.specs.Move.{deep, last_of, without, cut, push, put_on, put, memo_at, unless, refusal_of, next_of, taking_refusal, cutting_refusal, if_deep}
 use Rattle.pickle_show.specs.Event.{made_event, event_of, before_of}
-use Rattle.pickle_loader.specs.Environment.{PyType, PyTuple, PyList, PyDict, PyFrozenSet, Value, Plain, Own, Line, Given, Act, Make, Find, Extension, Call, New, NewEx, Instance, Persist, NextBuffer, Method, Reply, Raises, Answers, World}
-use Rattle.pickle_loader.specs.Unpickler.{Unpickler, Step, Ran, Stopped, Raised, item, append, answered, ask, get, tell, acted, make, got, instantiated, is_str, load_proto, load_frame, load_binpersid, load_literal, load_next_buffer, load_tuple, load_tuple_of, load_frozenset, load_list, load_dict, load_inst, load_obj, load_newobj, load_newobj_ex, load_stack_global, load_ext, load_reduce, load_pop, load_pop_mark, load_dup, load_get, load_put, load_memoize, load_mark, load_stop, pop, pop_mark, on_top}
+use Rattle.pickle_loader.specs.Environment.{PyType, PyTuple, PyList, PyDict, PyFrozenSet, Value, Plain, Own, is_elsewhere, Line, Given, Act, Make, Find, Extension, Call, New, NewEx, Instance, Persist, NextBuffer, Method, Reply, Raises, Answers, World}
+use Rattle.pickle_loader.specs.Unpickler.{Unpickler, Step, Ran, Stopped, Raised, item, append, answered, ask, get, tell, acted, make, got, if_able, can_call, can_call_with, instantiated, is_str, load_proto, load_frame, load_binpersid, load_literal, load_next_buffer, load_tuple, load_tuple_of, load_frozenset, load_list, load_dict, load_inst, load_obj, load_newobj, load_newobj_ex, load_stack_global, load_ext, load_reduce, load_pop, load_pop_mark, load_dup, load_get, load_put, load_memoize, load_mark, load_stop, pop, pop_mark, on_top}
 use Rattle.pickle_loader.specs.Told.{told_of, making, acts_told}
 use Rattle.pickle_loader.specs.Laws.{entries}
 use Rattle.pickle_loader.proofs.Images.{image, told-append, pop_image, on_top_image, mark_image, insert_image, lookup_image, last_image, within_le}
@@ -128,6 +128,21 @@ pub got_good : (h : Here) (u : State) (k : Kind) (parts : List ℕ) (a : ℕ →
 got_good h u k parts a e from is =
     asked_good h.V h.w (h.w.reply h.acts (a h.proto)) u k parts h.proto h.acts h.acts _ a from (subst (λ (l : List Object). Knows h.w h.V h.acts l) (sym e) h.knows) (told_new h u k parts (a h.proto) h.acts refl is)
 
+-- where it is able to: else it raises, and what runs before is not told
+able_by : (h : Here) (heap : List Object) (t : State) (new : List Act) (u : State) (r : Reply) → Good h.V h.w heap h.acts t new h.proto (answered r Method (image h.V u h.proto h.acts) (λ v q. Raised q.acts))
+able_by h heap t new u Raises = raised_good h.V h.w heap h.acts t new h.proto (h.acts ++ Method ∷ []) (quiet h.acts Method refl)
+able_by h heap t new u (Answers x) = raised_good h.V h.w heap h.acts t new h.proto (h.acts ++ Method ∷ []) (quiet h.acts Method refl)
+
+able_good : (h : Here) (heap : List Object) (t : State) (new : List Act) (u : State) (b : Bool) (step : Step) → Good h.V h.w heap h.acts t new h.proto step
+    → Good h.V h.w heap h.acts t new h.proto (if_able h.w b (image h.V u h.proto h.acts) step)
+able_good h heap t new u true step good = good
+able_good h heap t new u false step good = able_by h heap t new u (h.w.reply h.acts Method)
+
+pub able_got : (h : Here) (u : State) (k : Kind) (parts : List ℕ) (a : ℕ → Act) (b : Bool) → u.heap ≡ h.s.heap → origin k (map h.V parts) ≡ AsAnswer a → told_of (a h.proto ∷ []) ≡ making h.proto k (map h.V parts)
+    → Good h.V h.w u.heap h.acts (push k parts u) (acts_told h.V h.proto h.s (push k parts u) (made_event (push k parts u).heap (length u.heap))) h.proto (if_able h.w b (image h.V u h.proto h.acts) (get h.w (a h.proto) (image h.V u h.proto h.acts)))
+able_got h u k parts a b e from is =
+    able_good h u.heap (push k parts u) (acts_told h.V h.proto h.s (push k parts u) (made_event (push k parts u).heap (length u.heap))) u b (get h.w (a h.proto) (image h.V u h.proto h.acts)) (got_good h u k parts a e from is)
+
 pub get_good : (h : Here) (k : Kind) (a : ℕ → Act) → origin k [] ≡ AsAnswer a → told_of (a h.proto ∷ []) ≡ making h.proto k [] → RowGood h row.Push k h.proto (get h.w (a h.proto) (unpickler h))
 get_good h k a from is e = got_good h h.s k [] a refl from is
 
@@ -159,14 +174,14 @@ pub binpersid_good : (h : Here) → RowGood h (row.Take taking.One) kind.Persist
 binpersid_good h = taken_good h taking.One kind.Persistent (λ vs q. get h.w (Persist (Given (item 0 vs))) q) (λ e. got_good h (without 1 h.s) kind.Persistent (last_of 1 h.s) (λ proto. Persist (Given (item 0 (map h.V (last_of 1 h.s))))) refl refl refl)
 
 pub reduce_good : (h : Here) → RowGood h (row.Take taking.Call) kind.Call h.proto (load_reduce h.w (unpickler h))
-reduce_good h = taken_good h taking.Call kind.Call (λ vs q. get h.w (Call (item 0 vs) (item 1 vs)) q) (λ e. got_good h (without 2 h.s) kind.Call (last_of 2 h.s) (λ proto. Call (item 0 (map h.V (last_of 2 h.s))) (item 1 (map h.V (last_of 2 h.s)))) refl refl refl)
+reduce_good h = taken_good h taking.Call kind.Call (λ vs q. if_able h.w (can_call (item 0 vs) (item 1 vs)) q (get h.w (Call (item 0 vs) (item 1 vs)) q)) (λ e. able_got h (without 2 h.s) kind.Call (last_of 2 h.s) (λ proto. Call (item 0 (map h.V (last_of 2 h.s))) (item 1 (map h.V (last_of 2 h.s)))) (can_call (item 0 (map h.V (last_of 2 h.s))) (item 1 (map h.V (last_of 2 h.s)))) refl refl refl)
 
 pub newobj_good : (h : Here) → RowGood h (row.Take taking.Call) kind.New h.proto (load_newobj h.w (unpickler h))
-newobj_good h = taken_good h taking.Call kind.New (λ vs q. get h.w (New (item 0 vs) (item 1 vs)) q) (λ e. got_good h (without 2 h.s) kind.New (last_of 2 h.s) (λ proto. New (item 0 (map h.V (last_of 2 h.s))) (item 1 (map h.V (last_of 2 h.s)))) refl refl refl)
+newobj_good h = taken_good h taking.Call kind.New (λ vs q. if_able h.w (can_call (item 0 vs) (item 1 vs)) q (get h.w (New (item 0 vs) (item 1 vs)) q)) (λ e. able_got h (without 2 h.s) kind.New (last_of 2 h.s) (λ proto. New (item 0 (map h.V (last_of 2 h.s))) (item 1 (map h.V (last_of 2 h.s)))) (can_call (item 0 (map h.V (last_of 2 h.s))) (item 1 (map h.V (last_of 2 h.s)))) refl refl refl)
 
 pub newobj_ex_good : (h : Here) → RowGood h (row.Take taking.CallWith) kind.NewEx h.proto (load_newobj_ex h.w (unpickler h))
 newobj_ex_good h =
-    taken_good h taking.CallWith kind.NewEx (λ vs q. get h.w (NewEx (item 0 vs) (item 1 vs) (item 2 vs)) q) (λ e. got_good h (without 3 h.s) kind.NewEx (last_of 3 h.s) (λ proto. NewEx (item 0 (map h.V (last_of 3 h.s))) (item 1 (map h.V (last_of 3 h.s))) (item 2 (map h.V (last_of 3 h.s)))) refl refl refl)
+    taken_good h taking.CallWith kind.NewEx (λ vs q. if_able h.w (can_call_with h.w (item 0 vs) (item 1 vs) (item 2 vs)) q (get h.w (NewEx (item 0 vs) (item 1 vs) (item 2 vs)) q)) (λ e. able_got h (without 3 h.s) kind.NewEx (last_of 3 h.s) (λ proto. NewEx (item 0 (map h.V (last_of 3 h.s))) (item 1 (map h.V (last_of 3 h.s))) (item 2 (map h.V (last_of 3 h.s)))) (can_call_with h.w (item 0 (map h.V (last_of 3 h.s))) (item 1 (map h.V (last_of 3 h.s))) (item 2 (map h.V (last_of 3 h.s)))) refl refl refl)
 
 by_strings : (V : ℕ → Value) (w : World) (heap : List Object) (acts : List Act) (t : State) (new : List Act) (proto : ℕ) (b c : Bool) (x : Step) (done : List Act) → told_of done ≡ told_of acts
     → Good V w heap acts t new proto x → Good V w heap acts t new proto (if b then (if c then x else Raised done) else Raised done)
@@ -251,7 +266,7 @@ pub obj_by : (h : Here) (xs : List ℕ) → h.s.top ≡ xs → nat_le 1 (length 
     → Good h.V h.w h.s.heap h.acts (push kind.Obj h.s.top (cut h.s)) (fresh_acts h (row.Cut cutting.Callable) (push kind.Obj h.s.top (cut h.s))) h.proto (instantiated h.w (map h.V xs) (image h.V (cut h.s) h.proto h.acts))
 obj_by h [] e m = absurd cc
 obj_by h (x ∷ xs) e m =
-    got_good h (cut h.s) kind.Obj h.s.top (λ proto. Instance (Some (h.V x)) (map h.V xs)) refl (ap (λ (l : List ℕ). origin kind.Obj (map h.V l)) e)
+    able_got h (cut h.s) kind.Obj h.s.top (λ proto. Instance (Some (h.V x)) (map h.V xs)) (is_elsewhere (h.V x)) refl (ap (λ (l : List ℕ). origin kind.Obj (map h.V l)) e)
     (ap (λ (l : List ℕ). making h.proto kind.Obj (map h.V l)) (sym e))
 
 pub obj_good : (h : Here) → RowGood h (row.Cut cutting.Callable) kind.Obj h.proto (load_obj h.w (unpickler h))
@@ -318,7 +333,7 @@ stop_good h k e =
     let value : item 0 (map h.V (last_of 1 h.s)) ≡ h.V (deep 0 h.s.top) = last_image h.V h.s (omega (arith, within_le 1 (length h.s.top) fine.0)) in
     subst (λ (x : Step). Good h.V h.w h.s.heap h.acts (next_of row.Stop k h.place h.s) (fresh_acts h row.Stop (next_of row.Stop k h.place h.s)) 0 x)
     (sym (pop_image h.V h.s h.proto h.acts 1 (λ vs q. Stopped (item 0 vs) q) fine.0))
-    (nothing_new _ _ (told_stays h.V h.proto h.s (next_of row.Stop k h.place h.s) h.s.heap refl), h.knows, refl, refl, omega (arith, length-append h.s.results (deep 0 h.s.top ∷ [])), (deep 0 h.s.top, last, value))
+    (nothing_new _ _ (told_stays h.V h.proto h.s (next_of row.Stop k h.place h.s) h.s.heap refl), h.knows, refl, refl, omega (arith, length-append h.s.results (deep 0 h.s.top ∷ [])), (deep 0 h.s.top, last, value), refl)
 
 -- POP takes a value, or the mark
 popped : Here → Unpickler

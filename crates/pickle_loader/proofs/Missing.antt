@@ -26,7 +26,7 @@ use Rattle.pickle_machine.specs.State.{Marked, State}
 use Rattle.pickle_machine.specs.Move.{unless, if_deep, if_paired, if_target, if_viewable, object_meets, taking_refusal, cutting_refusal, deep, under, cut, last_of, without, memo_at, refusal_of}
 use Rattle.pickle_machine.specs.Loader.{takes_call, takes_call_with, takes_obj, asks_less, is_inst}
 use Rattle.pickle_loader.specs.Environment.{Value, Act, Given, Persist, Find, Call, New, NewEx, SetState, Method, PyTuple, PyList, PyFrozenSet, PyDict}
-use Rattle.pickle_loader.specs.Unpickler.{Unpickler, Step, Ran, Stopped, Raised, append, ask, make, get, is_str, viewed, fills, fill_pairs, pop, item, on_top, to_mark, pop_mark, instantiated, load_pop, load_pop_mark, load_get, got, tell}
+use Rattle.pickle_loader.specs.Unpickler.{Unpickler, Step, Ran, Stopped, Raised, append, ask, make, get, if_able, can_call, can_call_with, is_str, viewed, fills, fill_pairs, pop, item, on_top, to_mark, pop_mark, instantiated, load_pop, load_pop_mark, load_get, got, tell}
 use Rattle.pickle_loader.specs.Dispatch.{dispatch, load_op}
 use Rattle.pickle_loader.specs.Laws.{sections, entries}
 use Rattle.pickle_loader.specs.Beyond.{is_missing, WhatIsMissingRaises}
@@ -36,10 +36,10 @@ use Rattle.pickle_loader.proofs.Beyond.{same_image}
 
 -- ---- refusals for which nothing is missing
 
-abbrev Never : Option Refusal → Type 0
+abbrev pub Never : Option Refusal → Type 0
 Never x = (r : Refusal) → x ≡ Some r → is_missing r ≡ true → ⊥
 
-never_none : Never None
+pub never_none : Never None
 never_none r e m = absurd cc
 
 never_unless : (b : Bool) (x : Refusal) (rest : Option Refusal) → is_missing x ≡ false → Never rest → Never (unless b x rest)
@@ -73,7 +73,7 @@ paired_never filling.Build items rest never = never
 -- ---- parts of methods
 
 -- the step raises before it does anything, where a refusal says that something is missing
-abbrev Misses : Here → Option Refusal → Step → Type 0
+abbrev pub Misses : Here → Option Refusal → Step → Type 0
 Misses h x step = (r : Refusal) → x ≡ Some r → is_missing r ≡ true → step ≡ Raised h.acts
 
 misses_never : (h : Here) (x : Option Refusal) (step : Step) → Never x → Misses h x step
@@ -139,7 +139,7 @@ call_with_misses h true go = take_misses h taking.Three go
 call_with_misses h false go = take_misses h taking.CallWith go
 
 -- one object on top, and nothing more is asked for that could be missing
-top_misses : (h : Here) (go : Value → Step) (rest : Option Refusal) → Never rest → Misses h (if_deep 1 h.s.top rest) (on_top (unpickler h) go)
+pub top_misses : (h : Here) (go : Value → Step) (rest : Option Refusal) → Never rest → Misses h (if_deep 1 h.s.top rest) (on_top (unpickler h) go)
 top_misses h go rest never =
     by_test h (nat_le 1 (length h.s.top)) refusal.Underflow rest _ (λ none. top_short h.V h.s h.proto h.acts go (no_length (length h.s.top) none)) (λ _. misses_never h _ _ never)
 
@@ -176,7 +176,7 @@ pop_misses h = by (nat_lt 0 (length h.s.top)) refl
 pop_mark_misses : (h : Here) → Misses h (refusal_of row.PopMark h.s) (load_pop_mark h.w (unpickler h))
 pop_mark_misses h = by_test h (nat_lt 0 (length h.s.marked)) refusal.NoMark None _ (mark_short h.V h.s.marked (unpickler h) (λ items q. tell h.w Method q)) (λ _. misses_never h None _ never_none)
 
-get_misses : (h : Here) (key : ℕ) → Misses h (refusal_of (row.Get key) h.s) (load_get key (unpickler h))
+pub get_misses : (h : Here) (key : ℕ) → Misses h (refusal_of (row.Get key) h.s) (load_get key (unpickler h))
 get_misses h key = by (memo_at key h.s) refl
   where
     by : (x : Option ℕ) → memo_at key h.s ≡ x → Misses h (unless (is_some x) (refusal.NoMemoEntry key) None) (load_get key (unpickler h))
@@ -199,9 +199,9 @@ missing h op.Tuple2 arg i = take_misses h taking.Two (λ items q. make PyTuple i
 missing h op.Tuple3 arg i = take_misses h taking.Three (λ items q. make PyTuple items q)
 missing h op.StackGlobal arg i =
     take_misses h taking.Names (λ vs q. if is_str h.w (item 1 vs) then (if is_str h.w (item 0 vs) then get h.w (Find q.proto (Given (item 0 vs)) (Given (item 1 vs))) q else Raised q.acts) else Raised q.acts)
-missing h op.Reduce arg i = call_misses h (takes_call 0 h.s) (λ vs q. get h.w (Call (item 0 vs) (item 1 vs)) q)
-missing h op.NewObj arg i = call_misses h (takes_call 0 h.s) (λ vs q. get h.w (New (item 0 vs) (item 1 vs)) q)
-missing h op.NewObjEx arg i = call_with_misses h (takes_call_with h.s) (λ vs q. get h.w (NewEx (item 0 vs) (item 1 vs) (item 2 vs)) q)
+missing h op.Reduce arg i = call_misses h (takes_call 0 h.s) (λ vs q. if_able h.w (can_call (item 0 vs) (item 1 vs)) q (get h.w (Call (item 0 vs) (item 1 vs)) q))
+missing h op.NewObj arg i = call_misses h (takes_call 0 h.s) (λ vs q. if_able h.w (can_call (item 0 vs) (item 1 vs)) q (get h.w (New (item 0 vs) (item 1 vs)) q))
+missing h op.NewObjEx arg i = call_with_misses h (takes_call_with h.s) (λ vs q. if_able h.w (can_call_with h.w (item 0 vs) (item 1 vs) (item 2 vs)) q (get h.w (NewEx (item 0 vs) (item 1 vs) (item 2 vs)) q))
 missing h op.Tuple arg i = any_misses h (λ items q. make PyTuple items q)
 missing h op.List arg i = any_misses h (λ items q. make PyList items q)
 missing h op.FrozenSet arg i = any_misses h (λ items q. ask h.w Method q (λ v r. make PyFrozenSet items r))

@@ -1,5 +1,5 @@
 -- What a method comes to where a row makes an object.
-use Rattle.std.proofs.Common.{◌≡◌, ℕ, ◌-◌, ◌<◌, Bool, true, false, List, [], ◌∷◌, ◌++◌, length, map, Option, Some, None, refl, sym, ap, subst, ◌∙◌, inl, inr, arith, length-append}
+use Rattle.std.proofs.Common.{◌≡◌, ◌⊎◌, ℕ, ◌-◌, ◌<◌, Bool, true, false, List, [], ◌∷◌, ◌++◌, length, map, Option, Some, None, refl, sym, ap, subst, ◌∙◌, inl, inr, arith, length-append}
 use Rattle.std.specs.Prelude.{slice_get, ◌||◌, if◌then◌else◌}
 use Rattle.std.specs.Option.{unwrap_or, option_map_or}
 use Rattle.std.proofs.lemmas.Bool.{cases_lt}
@@ -18,25 +18,38 @@ use Rattle.pickle_machine.proofs.Shown.{last_of_more}
 use Rattle.pickle_show.specs.declared.event.Event.TheVariants as event
 use Rattle.pickle_show.specs.Event.{made_event, made_as, is_shown, is_view}
 use Rattle.pickle_show.proofs.Steps.{some_same, none_made}
-use Rattle.pickle_loader.specs.Environment.{PyType, PyTuple, PyList, PyDict, PySet, PyByteArray, Value, Plain, Own, Foreign, Act, Make, Reply, Raises, Answers, World}
-use Rattle.pickle_loader.specs.Unpickler.{Step, Ran, Stopped, Raised, item, append, answered}
+use Rattle.pickle_loader.specs.Environment.{PyType, PyTuple, PyList, PyDict, PySet, PyFrozenSet, PyByteArray, PyMemoryView, Value, Plain, Own, Foreign, Act, Make, Reply, Raises, Answers, World}
+use Rattle.pickle_loader.specs.Unpickler.{Step, Ran, Stopped, Raised, item, append, answered, has_memory}
 use Rattle.pickle_loader.specs.Told.{told_of, making, acts_told}
-use Rattle.pickle_loader.specs.Values.{Origin, AsLiteral, AsMade, AsAnswer, AsView, origin, IsRead, IsFrom, Knows}
+use Rattle.pickle_loader.specs.Values.{Origin, AsLiteral, AsMade, AsAnswer, AsView, origin, IsViewOf, IsFrom, Knows}
 use Rattle.pickle_loader.specs.Laws.{IsResult}
 use Rattle.pickle_loader.proofs.Images.{image, told-append}
 
 -- ---- which values stand for objects
 
+-- a literal, or a container that is no list, dictionary, set or tuple
+abbrev pub IsPlain : Value → Type 0
+IsPlain v = ((k : Kind) × (v ≡ Plain k)) ⊎ ((n : ℕ) × (v ≡ Own PyFrozenSet n))
+
+-- what can only be read already: bytes, a view, or a value whose memory says so
+abbrev pub IsRead : World → Value → Type 0
+IsRead w v = ((bytes : List ℕ) × (v ≡ Plain (kind.Bytes bytes))) ⊎ (((n : ℕ) × (v ≡ Own PyMemoryView n)) ⊎ ((t : PyType) × (n : ℕ) × (v ≡ Foreign t n) × (has_memory t ≡ true) × (w.readonly (Foreign t n) ≡ true)))
+
 abbrev pub StandsAs : World → Class → Value → Type 0
-StandsAs w class.Plain v = (n : ℕ) × (n ≡ n)
+StandsAs w class.Plain v = IsPlain v
 StandsAs w class.Opaque v = (t : PyType) × (n : ℕ) × (v ≡ Foreign t n)
-StandsAs w class.Text v = (n : ℕ) × (n ≡ n)
+StandsAs w class.Text v = (k : Kind) × (v ≡ Plain k)
 StandsAs w class.Tuple v = (n : ℕ) × (v ≡ Own PyTuple n)
 StandsAs w class.List v = (n : ℕ) × (v ≡ Own PyList n)
 StandsAs w class.Dict v = (n : ℕ) × (v ≡ Own PyDict n)
 StandsAs w class.Set v = (n : ℕ) × (v ≡ Own PySet n)
 StandsAs w class.ReadOnly v = IsRead w v
 StandsAs w class.ByteArray v = (n : ℕ) × (v ≡ Own PyByteArray n)
+
+-- a view can only be read
+pub view_reads : (w : World) (seen v : Value) → IsViewOf w seen v → IsRead w v
+view_reads w seen v (inl own) = inr (inl own)
+view_reads w seen v (inr (t, n, is, of, memory, only)) = inr (inr (t, n, is, memory, only))
 
 -- an origin says the class
 pub stands_as : (w : World) (acts : List Act) (k : Kind) (vs : List Value) (v : Value) → IsFrom w acts k v (origin k vs) → StandsAs w (class_of k) v
@@ -56,9 +69,14 @@ stands_as w acts kind.Obj vs v (t, n, p, is, at) = (t, n, is)
 stands_as w acts (kind.PersistentLine line) vs v (t, n, p, is, at) = (t, n, is)
 stands_as w acts kind.Persistent vs v (t, n, p, is, at) = (t, n, is)
 stands_as w acts (kind.Buffer m) vs v (t, n, p, is, at) = (t, n, is)
-stands_as w acts kind.ReadOnly vs v from = from
+stands_as w acts kind.ReadOnly vs v from = view_reads w (item 0 vs) v from
+stands_as w acts kind.FrozenSet vs v (n, is, at) = inr (n, is)
+stands_as w acts (kind.Text bytes) vs v from = (kind.Text bytes, from)
+stands_as w acts (kind.TextLine bytes) vs v from = (kind.TextLine bytes, from)
+stands_as w acts (kind.LegacyString bytes) vs v from = (kind.LegacyString bytes, from)
+stands_as w acts (kind.LegacyLine bytes) vs v from = (kind.LegacyLine bytes, from)
 stands_as w acts (kind.Bytes bytes) vs v from = inl (bytes, from)
-stands_as w acts _ vs v from = (0, refl)
+stands_as w acts k vs v from = inl (k, from)
 
 -- an act stays where it is
 get_more : (acts more : List Act) (n : ℕ) (a : Act) → slice_get acts n ≡ Some a → slice_get (acts ++ more) n ≡ Some a
@@ -68,7 +86,7 @@ from_more : (w : World) (acts more : List Act) (k : Kind) (v : Value) (from : Or
 from_more w acts more k v AsLiteral is = is
 from_more w acts more k v (AsMade t items) (n, is, at) = (n, is, get_more acts more n (Make t items) at)
 from_more w acts more k v (AsAnswer act) (t, n, proto, is, at) = (t, n, proto, is, get_more acts more n (act proto) at)
-from_more w acts more k v AsView is = is
+from_more w acts more k v (AsView seen) is = is
 
 pub knows_more : (w : World) (V : ℕ → Value) (acts more : List Act) (heap : List Object) → Knows w V acts heap → Knows w V (acts ++ more) heap
 knows_more w V acts more heap knows id o e = from_more w acts more o.kind (V id) (origin o.kind (map V o.parts)) (knows id o e)
@@ -84,7 +102,7 @@ top_value vs = item (length vs - 1) vs
 abbrev pub Good : (ℕ → Value) → World → List Object → List Act → State → List Act → ℕ → Step → Type 0
 Good V w heap acts t new proto (Ran q) =
     (length heap < length t.heap → V (length heap) ≡ top_value q.stack) → (q ≡ image V t proto q.acts) × Knows w V q.acts t.heap × (told_of q.acts ≡ told_of acts ++ new)
-Good V w heap acts t new proto (Stopped v q) = (told_of q.acts ≡ told_of acts ++ new) × Knows w V q.acts t.heap × (t.stopped ≡ t.many) × (proto ≡ 0) × (0 < length t.results) × IsResult V t v
+Good V w heap acts t new proto (Stopped v q) = (told_of q.acts ≡ told_of acts ++ new) × Knows w V q.acts t.heap × (t.stopped ≡ t.many) × (proto ≡ 0) × (0 < length t.results) × IsResult V t v × (q ≡ image V t q.proto q.acts)
 Good V w heap acts t new proto (Raised done) = (rest : List Act) × (told_of done ++ rest ≡ told_of acts ++ new)
 
 -- ---- an object is made

@@ -1,5 +1,5 @@
 -- The unpickler follows what is put into a view.
-use Rattle.std.proofs.Common.{◌≡◌, ℕ, ◌-◌, ◌<◌, Bool, true, false, cond, List, [], ◌∷◌, ◌++◌, length, map, Option, Some, None, refl, sym, ap, subst, ◌∙◌, inl, inr, arith}
+use Rattle.std.proofs.Common.{◌≡◌, ℕ, ◌-◌, ◌<◌, Bool, true, false, cond, List, [], ◌∷◌, ◌++◌, length, map, Option, Some, None, refl, sym, ap, subst, ◌∙◌, inl, inr, arith, take_all}
 use Rattle.std.proofs.lemmas.Bool.{ltb-true, le-leb}
 use Rattle.std.proofs.lemmas.List.{append-nil, length-map, length-drop, length-take-le}
 use Rattle.std.specs.Prelude.{◌%◌, ◌/◌, ◌==◌, ◌&&◌, ◌||◌, not, nat_lt, take, slice_get, if◌then◌else◌}
@@ -21,13 +21,13 @@ use Rattle.pickle_machine.specs.Move.{deep, under, without, cut, last_of}
 use Rattle.pickle_machine.specs.Loader.{views, view_at, opaque_at, parts_in, is_odd, fills as puts, fill_when, fill_of, ends_odd}
 use Rattle.pickle_show.specs.declared.event.Event.TheVariants as event
 use Rattle.pickle_loader.specs.Environment.{Reply, Raises, Answers, PyMemoryView, Value, Own, Foreign, Act, Fill}
-use Rattle.pickle_loader.specs.Unpickler.{Unpickler, Step, Ran, Raised, answered, pop, on_top, pop_mark, fill, fills, fill_pairs, then_raises}
+use Rattle.pickle_loader.specs.Unpickler.{Unpickler, Step, Ran, Raised, item, answered, pop, on_top, pop_mark, fill, fills, fill_pairs, then_raises}
 use Rattle.pickle_loader.specs.Dispatch.{dispatch, load_op}
-use Rattle.pickle_loader.specs.Told.{told_of, acts_told, taken}
-use Rattle.pickle_loader.specs.Values.{origin, IsRead, IsFrom, Knows}
+use Rattle.pickle_loader.specs.Told.{told_of, acts_told, taken, objects_in}
+use Rattle.pickle_loader.specs.Values.{origin, IsFrom, Knows}
 use Rattle.pickle_loader.specs.Beyond.{dropped, FillsAreFollowed}
 use Rattle.pickle_loader.proofs.Images.{image, pop_image, on_top_image, mark_image}
-use Rattle.pickle_loader.proofs.Pushes.{Good, knows_more, told_one}
+use Rattle.pickle_loader.proofs.Pushes.{IsRead, view_reads, Good, knows_more, told_one}
 use Rattle.pickle_loader.proofs.Methods.{Here, unpickler, raised_good}
 use Rattle.pickle_loader.proofs.Fills.{Splits, taken_is, split_without, split_cut, deep_without}
 use Rattle.pickle_loader.proofs.Beyond.{same_image, follows_by}
@@ -52,7 +52,7 @@ view_in heap (Some o) e = (o, refl, view_kind heap o.kind o.parts e)
 view_read : (h : Here) (id : ℕ) → view_at h.s.heap id ≡ true → IsRead h.w (h.V id)
 view_read h id e =
     let v = view_in h.s.heap (slice_get h.s.heap id) e in
-    subst (λ (k : Kind). IsFrom h.w h.acts k (h.V id) (origin k (map h.V v.0.parts))) v.2 (h.knows id v.0 v.1)
+    view_reads h.w (item 0 (map h.V v.0.parts)) (h.V id) (subst (λ (k : Kind). IsFrom h.w h.acts k (h.V id) (origin k (map h.V v.0.parts))) v.2 (h.knows id v.0 v.1))
 
 -- ---- what is put in
 
@@ -76,25 +76,40 @@ unfolding Puts
 put_good h t f v vs same (inl (bytes, is)) =
     subst (λ (x : Value). Puts h t f x vs (fill h.w f x vs (image h.V t h.proto h.acts))) (sym is) (raised_good h.V h.w h.s.heap h.acts t _ h.proto h.acts refl)
 put_good h t f v vs same (inr (inl (n, is))) = subst (λ (x : Value). Puts h t f x vs (fill h.w f x vs (image h.V t h.proto h.acts))) (sym is) (own_raises h t f n vs)
-put_good h t f v vs same (inr (inr (p, n, is, only))) =
+put_good h t f v vs same (inr (inr (p, n, is, memory, only))) =
     subst (λ (x : Value). Puts h t f x vs (fill h.w f x vs (image h.V t h.proto h.acts))) (sym is) (told_good h (h.w.reply h.acts (Fill f (Foreign p n) vs)) t (Fill f (Foreign p n) vs) same refl)
 
 puts_good : (h : Here) (t : State) (f : Filling) (v : Value) (items : List ℕ) → 0 < length items → t.heap ≡ h.s.heap → IsRead h.w v → Puts h t f v (map h.V items) (fills h.w f v (map h.V items) (image h.V t h.proto h.acts))
 puts_good h t f v [] some same read = absurd (omega (arith, some))
 puts_good h t f v (x ∷ items) some same read = put_good h t f v (map h.V (x ∷ items)) same read
 
+-- what is not odd goes in whole
+pub whole_in : (f : Filling) (n : ℕ) → is_odd f n ≡ false → objects_in f (parts_in f n) ≡ n
+whole_in filling.Append n e = refl
+whole_in filling.Add n e = refl
+whole_in filling.Build n e = refl
+whole_in filling.SetItem n e = omega (arith, even_half n (no_odd_half (n % 2 == 0) e))
+  where
+    no_odd_half : (b : Bool) → not b ≡ false → b ≡ true
+    no_odd_half true e = refl
+    no_odd_half false e = absurd cc
+
+    even_half : (n : ℕ) → (n % 2 == 0) ≡ true → n % 2 ≡ 0
+    even_half n e = grind arith
+
 -- the acts of the event
-event_acts : (h : Here) (t : State) (f : Filling) (n id : ℕ) (items : List ℕ) → Splits h.s t items → nat_lt 0 n ≡ true → acts_told h.V h.proto h.s t (Some (event.Filled f n id)) ≡ Fill f (h.V id) (map h.V items) ∷ []
-event_acts h t f n id items split some =
-    ap (λ (b : Bool). if b then Fill f (h.V id) (map h.V (taken h.s t)) ∷ [] else []) some
-    ∙ ap (λ (l : List ℕ). Fill f (h.V id) (map h.V l) ∷ []) (taken_is h.s t items split)
+event_acts : (h : Here) (t : State) (f : Filling) (n id : ℕ) (items : List ℕ) → Splits h.s t items → nat_lt 0 n ≡ true → objects_in f n ≡ length items → acts_told h.V h.proto h.s t (Some (event.Filled f n id)) ≡ Fill f (h.V id) (map h.V items) ∷ []
+event_acts h t f n id items split some whole =
+    ap (λ (b : Bool). if b then Fill f (h.V id) (map h.V (take (objects_in f n) (taken h.s t))) ∷ [] else []) some
+    ∙ ap (λ (l : List ℕ). Fill f (h.V id) (map h.V (take (objects_in f n) l)) ∷ []) (taken_is h.s t items split)
+    ∙ ap (λ (l : List ℕ). Fill f (h.V id) (map h.V l) ∷ []) (take_all (objects_in f n) items (omega (arith, whole)))
 
 -- ---- rows
 
 Fills : Here → State → Goes → Step → Type 0
 Fills h t g x = Good h.V h.w h.s.heap h.acts t (acts_told h.V h.proto h.s t (Some (event.Filled g.filling g.count g.target))) h.proto x
 
-some_of : (b : Bool) (x : Option Goes) (y : Goes) → cond b x None ≡ Some y → (b ≡ true) × (x ≡ Some y)
+pub some_of : (b : Bool) (x : Option Goes) (y : Goes) → cond b x None ≡ Some y → (b ≡ true) × (x ≡ Some y)
 some_of true x y e = (refl, e)
 some_of false x y e = absurd cc
 
@@ -116,7 +131,7 @@ change_fills h f g even values e =
     let good = puts_good h t f (h.V (deep 0 t.top)) items (omega (arith, count, values)) refl read in
     let acts : Fill f (h.V (deep 0 t.top)) (map h.V items) ∷ [] ≡ acts_told h.V h.proto h.s t (Some (event.Filled g.filling g.count g.target)) =
     ap (λ (i : ℕ). Fill f (h.V i) (map h.V items) ∷ []) at
-    ∙ sym (event_acts h t f (parts_in f n) id items (split_without n h.s) facts.0)
+    ∙ sym (event_acts h t f (parts_in f n) id items (split_without n h.s) facts.0 (whole_in f n even ∙ sym count))
     ∙ ap (λ (x : Goes). acts_told h.V h.proto h.s t (Some (event.Filled x.filling x.count x.target))) facts.2 in
     subst (λ (l : List Act). Good h.V h.w h.s.heap h.acts t l h.proto (pop n (unpickler h) (λ vs q. on_top q (λ target. fills h.w f target vs q)))) acts
     (subst (λ (x : Step). Good h.V h.w h.s.heap h.acts t (Fill f (h.V (deep 0 t.top)) (map h.V items) ∷ []) h.proto x) (sym (pop_image h.V h.s h.proto h.acts n (λ vs q. on_top q (λ target. fills h.w f target vs q)) (le-leb n (length h.s.top) (omega (arith, below)))))
@@ -144,7 +159,7 @@ cut_fills h f g go some right e odd =
     let facts = fill_facts (puts f) (nat_lt 0 (parts_in f n)) (view_at h.s.heap id) (is_odd f n && opaque_at h.s.heap id) (record { filling = f; count = parts_in f n; target = id }) g here.1 (ap (λ (b : Bool). b && opaque_at h.s.heap id) even) in
     let good = puts_good h t f (h.V id) h.s.top (some facts.0) refl (view_read h id facts.1) in
     let acts : Fill f (h.V id) (map h.V h.s.top) ∷ [] ≡ acts_told h.V h.proto h.s t (Some (event.Filled g.filling g.count g.target)) =
-    sym (event_acts h t f (parts_in f n) id h.s.top (split_cut h.s there.0) facts.0)
+    sym (event_acts h t f (parts_in f n) id h.s.top (split_cut h.s there.0) facts.0 (whole_in f n even))
     ∙ ap (λ (x : Goes). acts_told h.V h.proto h.s t (Some (event.Filled x.filling x.count x.target))) facts.2 in
     let Result : Step → Type 0 = λ (x : Step). Good h.V h.w h.s.heap h.acts t (Fill f (h.V id) (map h.V h.s.top) ∷ []) h.proto x in
     subst (λ (l : List Act). Good h.V h.w h.s.heap h.acts t l h.proto (pop_mark (unpickler h) (λ items q. on_top q (λ target. go items target q)))) acts

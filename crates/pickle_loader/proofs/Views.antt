@@ -1,6 +1,6 @@
 -- What READONLY_BUFFER comes to.
 use Rattle.std.proofs.Common.{◌≡◌, ℕ, zero, suc, ◌-◌, ◌<◌, Bool, true, false, cond, List, [], ◌∷◌, ◌++◌, length, map, take, get_or, None, refl, sym, ap, subst, ◌∙◌, inl, inr, arith, length-append}
-use Rattle.std.specs.Prelude.{nat_le, ◌||◌}
+use Rattle.std.specs.Prelude.{nat_le, ◌||◌, if◌then◌else◌}
 use Rattle.std.proofs.lemmas.Bool.{leb-true}
 use Rattle.std.proofs.lemmas.List.{length-map, map-append, append-nil, take-map}
 use Rattle.pickle_ops.specs.declared.kind.Kind.{Kind}
@@ -18,11 +18,11 @@ use Rattle.pickle_machine.specs.Move.{deep, last_of, without, push, object_meets
 use Rattle.pickle_show.specs.Event.{made_event}
 use Rattle.pickle_show.proofs.Steps.{is_there}
 use Rattle.pickle_loader.specs.Environment.{PyType, PyMemoryView, Value, Own, Foreign, Act, Make, View, Reply, Raises, Answers, World}
-use Rattle.pickle_loader.specs.Unpickler.{Step, Ran, answered, replaced, viewed, load_readonly_buffer}
+use Rattle.pickle_loader.specs.Unpickler.{Step, Ran, Raised, item, answered, replaced, has_memory, viewed, load_readonly_buffer}
 use Rattle.pickle_loader.specs.Told.{told_of, acts_told}
-use Rattle.pickle_loader.proofs.Images.{image, on_top_image}
-use Rattle.pickle_loader.specs.Values.{IsRead}
-use Rattle.pickle_loader.proofs.Pushes.{StandsAs, stands_as, knows_more, Good, top_value, knows_pushed, top_appended, told_pushed}
+use Rattle.pickle_loader.proofs.Images.{image, on_top_image, last_image}
+use Rattle.pickle_loader.specs.Values.{IsViewOf}
+use Rattle.pickle_loader.proofs.Pushes.{IsRead, StandsAs, stands_as, knows_more, Good, top_value, knows_pushed, top_appended, told_pushed}
 use Rattle.pickle_loader.proofs.Methods.{Here, unpickler, RowGood, passes, quiet, raised_good, stays_good, nothing_new}
 
 -- the state after it, where the top can only be read already, and where not
@@ -42,23 +42,26 @@ unfolding ViewGood viewed_state
 kept_by h t n Raises = raised_good h.V h.w h.s.heap h.acts h.s _ h.proto (h.acts ++ View (Foreign t n) ∷ []) (quiet h.acts (View (Foreign t n)) refl)
 kept_by h t n (Answers x) = stays_as h (h.acts ++ View (Foreign t n) ∷ []) (View (Foreign t n) ∷ []) refl (quiet h.acts (View (Foreign t n)) refl)
 
-kept_foreign : (h : Here) (t : PyType) (n : ℕ) (b : Bool) → b ≡ true → ViewGood h true (answered (h.w.reply h.acts (View (Foreign t n))) (View (Foreign t n)) (unpickler h) (λ v q. replaced b (length h.acts) q))
-kept_foreign h t n true e = kept_by h t n (h.w.reply h.acts (View (Foreign t n)))
-kept_foreign h t n false e = absurd cc
+kept_foreign : (h : Here) (t : PyType) (n : ℕ) (m b : Bool) → b ≡ true
+    → ViewGood h true (if m then answered (h.w.reply h.acts (View (Foreign t n))) (View (Foreign t n)) (unpickler h) (λ v q. replaced b (length h.acts) q) else Raised h.acts)
+unfolding ViewGood viewed_state
+kept_foreign h t n false b e = raised_good h.V h.w h.s.heap h.acts h.s _ h.proto h.acts refl
+kept_foreign h t n true true e = kept_by h t n (h.w.reply h.acts (View (Foreign t n)))
+kept_foreign h t n true false e = absurd cc
 
 kept : (h : Here) (v : Value) → IsRead h.w v → ViewGood h true (viewed h.w v (unpickler h))
 kept h v read = elim read [
   | inl (bytes, is) ↦ subst (λ (y : Value). ViewGood h true (viewed h.w y (unpickler h))) (sym is) (stays_as h h.acts [] (sym (append-nil h.acts)) refl)
   | inr other ↦ (elim other [
     | inl (n, is) ↦ subst (λ (y : Value). ViewGood h true (viewed h.w y (unpickler h))) (sym is) (stays_as h h.acts [] (sym (append-nil h.acts)) refl)
-    | inr (t, n, is, only) ↦ subst (λ (y : Value). ViewGood h true (viewed h.w y (unpickler h))) (sym is) (kept_foreign h t n (h.w.readonly (Foreign t n)) only)
+    | inr (t, n, is, memory, only) ↦ subst (λ (y : Value). ViewGood h true (viewed h.w y (unpickler h))) (sym is) (kept_foreign h t n (has_memory t) (h.w.readonly (Foreign t n)) only)
   ])
 ]
 
 -- ---- a view is made
 
 -- the top is exchanged
-exchanged : (h : Here) (v : Value) (more : List Act) → told_of (h.acts ++ more) ≡ told_of h.acts → IsRead h.w v → 0 < length h.s.top → (vs : List Value) → vs ≡ map h.V (take (length h.s.top - 1) h.s.top) ++ v ∷ []
+exchanged : (h : Here) (v : Value) (more : List Act) → told_of (h.acts ++ more) ≡ told_of h.acts → IsViewOf h.w (h.V (deep 0 h.s.top)) v → 0 < length h.s.top → (vs : List Value) → vs ≡ map h.V (take (length h.s.top - 1) h.s.top) ++ v ∷ []
     → ViewGood h false (Ran (record (image h.V h.s h.proto (h.acts ++ more)) { stack = vs }))
 unfolding ViewGood viewed_state
 exchanged h v more same read top vs e foretold =
@@ -68,7 +71,7 @@ exchanged h v more same read top vs e foretold =
     let is : h.V (length h.s.heap) ≡ v = foretold (omega (arith, length-append h.s.heap (x ∷ []))) ∙ ap top_value e ∙ top_appended (map h.V u.top) v in
     let stack : vs ≡ map h.V (u.top ++ length h.s.heap ∷ []) = e ∙ ap (λ (y : Value). map h.V u.top ++ y ∷ []) (sym is) ∙ sym (map-append h.V u.top (length h.s.heap ∷ [])) in (
       ap (λ (l : List Value). record (image h.V h.s h.proto acts) { stack = l }) stack,
-      knows_pushed h.w h.V acts h.s.heap x (knows_more h.w h.V h.acts more h.s.heap h.knows) (subst (λ (y : Value). IsRead h.w y) (sym is) read),
+      knows_pushed h.w h.V acts h.s.heap x (knows_more h.w h.V h.acts more h.s.heap h.knows) (subst (λ (y : Value). IsViewOf h.w (item 0 (map h.V (last_of 1 h.s))) y) (sym is) (subst (λ (y : Value). IsViewOf h.w y v) (sym (last_image h.V h.s top)) read)),
       same ∙ nothing_new _ _ (told_pushed h.V h.proto h.s (push kind.ReadOnly (last_of 1 h.s) u) h.s.heap x refl),
     )
 
@@ -78,7 +81,7 @@ others h = ap (λ (m : ℕ). take (m - 1) (map h.V h.s.top)) (length-map h.s.top
 
 new_view : (h : Here) (more : List Act) (n : ℕ) → told_of (h.acts ++ more) ≡ told_of h.acts → 0 < length h.s.top → ViewGood h false (replaced false n (image h.V h.s h.proto (h.acts ++ more)))
 new_view h more n same top =
-    exchanged h (Own PyMemoryView n) more same (inr (inl (n, refl))) top _ (ap (λ (l : List Value). l ++ Own PyMemoryView n ∷ []) (others h))
+    exchanged h (Own PyMemoryView n) more same (inl (n, refl)) top _ (ap (λ (l : List Value). l ++ Own PyMemoryView n ∷ []) (others h))
 
 split_top : (V : ℕ → Value) (xs : List ℕ) → 0 < length xs → map V xs ≡ map V (take (length xs - 1) xs) ++ V (deep 0 xs) ∷ []
 split_top V xs h = go (length xs - 1) xs (omega (arith, h)) ∙ ap (λ (m : ℕ). map V (take (length xs - 1) xs) ++ V (get_or xs m 0) ∷ []) (omega (arith, h))
@@ -92,18 +95,24 @@ split_top V xs h = go (length xs - 1) xs (omega (arith, h)) ∙ ap (λ (m : ℕ)
     go zero (x ∷ y ∷ xs) e = absurd (omega (arith, e))
     go (suc m) (x ∷ xs) e = step V x _ _ (go m xs (omega (arith, e)))
 
-by_reading : (h : Here) (t : PyType) (n : ℕ) (b : Bool) → h.w.readonly (Foreign t n) ≡ b → h.V (deep 0 h.s.top) ≡ Foreign t n → 0 < length h.s.top → (r : Reply)
+by_reading : (h : Here) (t : PyType) (n : ℕ) (b : Bool) → h.w.readonly (Foreign t n) ≡ b → has_memory t ≡ true → h.V (deep 0 h.s.top) ≡ Foreign t n → 0 < length h.s.top → (r : Reply)
     → ViewGood h false (answered r (View (Foreign t n)) (unpickler h) (λ v q. replaced b (length h.acts) q))
 unfolding ViewGood
-by_reading h t n b only is top Raises = raised_good h.V h.w h.s.heap h.acts (viewed_state h false) _ h.proto (h.acts ++ View (Foreign t n) ∷ []) (quiet h.acts (View (Foreign t n)) refl)
-by_reading h t n true only is top (Answers x) =
-    exchanged h (Foreign t n) (View (Foreign t n) ∷ []) (quiet h.acts (View (Foreign t n)) refl) (inr (inr (t, n, refl, only))) top (map h.V h.s.top)
+by_reading h t n b only memory is top Raises = raised_good h.V h.w h.s.heap h.acts (viewed_state h false) _ h.proto (h.acts ++ View (Foreign t n) ∷ []) (quiet h.acts (View (Foreign t n)) refl)
+by_reading h t n true only memory is top (Answers x) =
+    exchanged h (Foreign t n) (View (Foreign t n) ∷ []) (quiet h.acts (View (Foreign t n)) refl) (inr (t, n, refl, is, memory, only)) top (map h.V h.s.top)
     (split_top h.V h.s.top top ∙ ap (λ (v : Value). map h.V (take (length h.s.top - 1) h.s.top) ++ v ∷ []) is)
-by_reading h t n false only is top (Answers x) = new_view h (View (Foreign t n) ∷ []) (length h.acts) (quiet h.acts (View (Foreign t n)) refl) top
+by_reading h t n false only memory is top (Answers x) = new_view h (View (Foreign t n) ∷ []) (length h.acts) (quiet h.acts (View (Foreign t n)) refl) top
+
+by_memory : (h : Here) (t : PyType) (n : ℕ) (m : Bool) → has_memory t ≡ m → h.V (deep 0 h.s.top) ≡ Foreign t n → 0 < length h.s.top
+    → ViewGood h false (if m then answered (h.w.reply h.acts (View (Foreign t n))) (View (Foreign t n)) (unpickler h) (λ v q. replaced (h.w.readonly (Foreign t n)) (length h.acts) q) else Raised h.acts)
+unfolding ViewGood
+by_memory h t n true memory is top = by_reading h t n (h.w.readonly (Foreign t n)) refl memory is top (h.w.reply h.acts (View (Foreign t n)))
+by_memory h t n false memory is top = raised_good h.V h.w h.s.heap h.acts (viewed_state h false) _ h.proto h.acts refl
 
 seen : (h : Here) (c : Class) → 0 < length h.s.top → class_meets demand.Writable c ≡ true → StandsAs h.w c (h.V (deep 0 h.s.top)) → ViewGood h false (viewed h.w (h.V (deep 0 h.s.top)) (unpickler h))
 seen h class.Opaque top m (t, n, is) =
-    subst (λ (y : Value). ViewGood h false (viewed h.w y (unpickler h))) (sym is) (by_reading h t n (h.w.readonly (Foreign t n)) refl is top (h.w.reply h.acts (View (Foreign t n))))
+    subst (λ (y : Value). ViewGood h false (viewed h.w y (unpickler h))) (sym is) (by_memory h t n (has_memory t) refl is top)
 seen h class.ByteArray top m (n, is) =
     subst (λ (y : Value). ViewGood h false (viewed h.w y (unpickler h))) (sym is) (new_view h (Make PyMemoryView [] ∷ []) (length h.acts) (quiet h.acts (Make PyMemoryView []) refl) top)
 seen h _ top m stands = absurd cc

@@ -1,5 +1,5 @@
 -- One step of CPython's unpickler beside a machine that moves by rows that ask for less.
-use Rattle.std.specs.Prelude.{◌≡◌, ℕ, ◌-◌, ◌<◌, Bool, true, false, List, ◌++◌, length, None, Some, Ok, ⊤}
+use Rattle.std.specs.Prelude.{◌≡◌, ℕ, ℤ, pos, int_lt, ◌-◌, ◌<◌, Bool, true, false, List, ◌++◌, length, Option, None, Some, Result, Ok, Err, ⊤}
 use Rattle.pickle_ops.specs.Spelling.{Operation}
 use Rattle.pickle_ops.specs.declared.row.Row.{Row}
 use Rattle.pickle_ops.specs.declared.row.Row.TheVariants as row
@@ -9,26 +9,28 @@ use Rattle.pickle_machine.specs.declared.refusal.Refusal.TheVariants as refusal
 use Rattle.pickle_machine.specs.declared.loader.Fill.{Fill}
 use Rattle.pickle_machine.specs.State.{State}
 use Rattle.pickle_machine.specs.Move.{refusal_of, without, cut}
-use Rattle.pickle_machine.specs.Loader.{asks_less, fill_of, ends_odd, is_inst, move_as}
+use Rattle.pickle_machine.specs.Loader.{asks_less, fill_of, ends_odd, is_inst, loader_move, move_as}
+use Rattle.pickle_machine.specs.declared.loader.LoaderMove.{LoaderMove}
 use Rattle.pickle_show.specs.declared.event.Event.TheVariants as event
 use Rattle.pickle_show.specs.Event.{before_of, event_of}
-use Rattle.pickle_loader.specs.Environment.{Value, Act, World}
+use Rattle.pickle_further.specs.Going.{used_op, moved_so, event_by}
+use Rattle.pickle_loader.specs.Environment.{PyType, Value, Foreign, Act, World}
 use Rattle.pickle_loader.specs.Unpickler.{Unpickler, Step, Ran, Stopped, Raised, item}
 use Rattle.pickle_loader.specs.Dispatch.{load_op}
-use Rattle.pickle_loader.specs.Told.{told_of, acts_told}
-use Rattle.pickle_loader.specs.Values.{Knows}
+use Rattle.pickle_loader.specs.Told.{told_of, acts_told, protocol_after}
 use Rattle.pickle_loader.specs.Laws.{IsSame, IsResult}
+use Rattle.pickle_loader.specs.Whole.{IsWhole}
 
 -- the row as which a loader moves
 abbrev pub less_of : Operation → State → Row
 less_of o s = asks_less (row_of o) s
 
--- what a step comes to: it holds what the state holds and told these acts; it ended with the state's result and told them; or it raised,
--- and told a beginning of them
-abbrev pub StepFollows : World → (ℕ → Value) → List Act → State → Step → Type 0
-StepFollows w V acts t (Ran q) = IsSame w V t q × (told_of q.acts ≡ acts)
-StepFollows w V acts t (Stopped v q) = Knows w V q.acts t.heap × (told_of q.acts ≡ acts) × IsResult V t v
-StepFollows w V acts t (Raised done) = (rest : List Act) × (told_of done ++ rest ≡ acts)
+-- what a step comes to: it holds what the state holds, by this protocol, and told these acts; it ended with the state's result, as STOP
+-- does, and told them; or it raised, and told a beginning of them
+abbrev pub StepFollows : World → (ℕ → Value) → List Act → ℕ → State → Step → Type 0
+StepFollows w V acts proto t (Ran q) = IsSame w V t q × (told_of q.acts ≡ acts) × (q.proto ≡ proto)
+StepFollows w V acts proto t (Stopped v q) = IsSame w V t q × (told_of q.acts ≡ acts) × IsResult V t v × (t.stopped ≡ t.many)
+StepFollows w V acts proto t (Raised done) = (rest : List Act) × (told_of done ++ rest ≡ acts)
 
 -- for an object that is made the map has the value on top
 abbrev pub MapsNew : (ℕ → Value) → State → State → Step → Type 0
@@ -36,13 +38,23 @@ MapsNew V s t (Ran q) = length s.heap < length t.heap → V (length s.heap) ≡ 
 MapsNew V s t (Stopped v q) = ⊤
 MapsNew V s t (Raised done) = ⊤
 
+-- ---- environments
+
+-- as CPython's are, but for what is left out by name: strings of Python 2 are texts (not so with encoding="bytes"); what has a buffer has
+-- no keys (not so for classes with both, from Python 3.12); and nobody registered an extension of a code up to 0 (copyreg registers
+-- none, and the unpickler in C takes none)
+pub record IsUsual (w : World) : Type 0 where
+  pub texts : w.strings_are_bytes ≡ false
+  pub keys : (t : PyType) (n : ℕ) → w.readonly (Foreign t n) ≡ true → w.mapping (Foreign t n) ≡ false
+  pub extensions : (acts : List Act) (o : Operation) (n : ℤ) → row_of o ≡ row.Extension n → int_lt (pos 0) n ≡ false → w.fails acts o ≡ true
+
 -- ---- the law
 
 -- in every environment, for each opcode: where a loader moves as the row that asks for less, the unpickler that holds what the state holds
 -- does exactly what the event of that move tells, or raises and did a beginning of it
 abbrev pub WideMovesAreFollowed : Type 0
 WideMovesAreFollowed = (w : World) (V : ℕ → Value) (s t : State) (u : Unpickler) (o : Operation) (place : ℕ) → s.stopped ≡ false → IsSame w V s u → move_as (less_of o s) o place s ≡ Ok t
-    → MapsNew V s t (load_op w o u) → StepFollows w V (told_of u.acts ++ acts_told V u.proto s t (event_of (less_of o s) (before_of s) t)) t (load_op w o u)
+    → MapsNew V s t (load_op w o u) → StepFollows w V (told_of u.acts ++ acts_told V u.proto s t (event_of (less_of o s) (before_of s) t)) (protocol_after o.opcode o.arg u.proto) t (load_op w o u)
 
 -- ---- what is missing
 
@@ -72,4 +84,34 @@ dropped _ s = s
 abbrev pub FillsAreFollowed : Type 0
 FillsAreFollowed = (w : World) (V : ℕ → Value) (s : State) (u : Unpickler) (o : Operation) (f : Fill) → IsSame w V s u → fill_of (row_of o) s ≡ Some f → ends_odd (row_of o) s ≡ None
     → MapsNew V s (dropped (row_of o) s) (load_op w o u)
-    → StepFollows w V (told_of u.acts ++ acts_told V u.proto s (dropped (row_of o) s) (Some (event.Filled f.filling f.count f.target))) (dropped (row_of o) s) (load_op w o u)
+    → StepFollows w V (told_of u.acts ++ acts_told V u.proto s (dropped (row_of o) s) (Some (event.Filled f.filling f.count f.target))) u.proto (dropped (row_of o) s) (load_op w o u)
+
+-- ---- a step beyond
+
+-- it raises, and told no more than these acts; or no more than a beginning of them
+abbrev pub RaisesAt : List Act → Step → Type 0
+RaisesAt acts (Ran q) = ⊥
+RaisesAt acts (Stopped v q) = ⊥
+RaisesAt acts (Raised done) = told_of done ≡ acts
+
+abbrev pub RaisesIn : List Act → Step → Type 0
+RaisesIn acts (Ran q) = ⊥
+RaisesIn acts (Stopped v q) = ⊥
+RaisesIn acts (Raised done) = (rest : List Act) × (told_of done ++ rest ≡ acts)
+
+-- by whether the loader ends after this move
+abbrev pub Moves : World → (ℕ → Value) → List Act → ℕ → State → State → Step → Option Refusal → Type 0
+Moves w V acts proto s t x None = MapsNew V s t x → StepFollows w V acts proto t x
+Moves w V acts proto s t x (Some r) = RaisesIn acts x
+
+-- by what the move comes to: it is refused, or leads to a state, where the event tells its acts
+abbrev pub Comes : World → (ℕ → Value) → State → Unpickler → LoaderMove → ℕ → Step → Result State Refusal → Type 0
+Comes w V s u m proto x (Err r) = RaisesAt (told_of u.acts) x
+Comes w V s u m proto x (Ok t) = IsWhole t × Moves w V (told_of u.acts ++ acts_told V u.proto s t (event_by m s t m.fill)) proto s t x m.last
+
+-- in every environment that is as CPython's are, for each opcode and each state in which all is there: where a loader does not move, the
+-- unpickler that holds what the state holds raises at this opcode and told nothing; where it moves, the unpickler does exactly what the
+-- event of that move tells, or raises and did a beginning of it; and where the loader ends after the move it raises
+abbrev pub AStepBeyond : Type 0
+AStepBeyond = (w : World) (V : ℕ → Value) (s : State) (u : Unpickler) (o : Operation) (place : ℕ) → IsUsual w → IsWhole s → s.stopped ≡ false → IsSame w V s u
+    → Comes w V s u (loader_move o.opcode (row_of o) s) (protocol_after o.opcode o.arg u.proto) (load_op w o u) (moved_so (loader_move o.opcode (row_of o) s) (used_op (loader_move o.opcode (row_of o) s) o) place s)

@@ -8,4 +8,6 @@ pub mod Reader
 pub mod Laws
 pub mod Bytes
 pub mod FlatStack
+pub mod Whole
 pub mod Beyond
+pub mod Onward

@@ -1,12 +1,14 @@
 -- The acts that the lines of `calls` tell: those of an item's event, with the operands under a map from numbers of objects to values.
 -- Source: own.
-use Rattle.std.specs.Prelude.{ℕ, zero, suc, Bool, true, false, List, [], ◌∷◌, ◌++◌, map, drop, nat_lt, slice_get, if◌then◌else◌, Option, Some, None}
+use Rattle.std.specs.Prelude.{ℕ, zero, suc, ◌+◌, Bool, true, false, List, [], ◌∷◌, ◌++◌, map, take, drop, nat_lt, slice_get, if◌then◌else◌, Option, Some, None}
 use Rattle.std.specs.Option.{option_map_or}
 use Rattle.pickle_ops.specs.declared.opcode.Opcode.{Opcode}
 use Rattle.pickle_ops.specs.declared.opcode.Opcode.TheVariants as op
 use Rattle.pickle_ops.specs.declared.form.Form.TheVariants as form
 use Rattle.pickle_ops.specs.declared.kind.Kind.{Kind}
 use Rattle.pickle_ops.specs.declared.kind.Kind.TheVariants as kind
+use Rattle.pickle_ops.specs.declared.row.Filling.{Filling}
+use Rattle.pickle_ops.specs.declared.row.Filling.TheVariants as filling
 use Rattle.pickle_ops.specs.Argument.{number_of}
 use Rattle.pickle_ops.specs.Spelling.{Operation}
 use Rattle.pickle_ops.specs.Object.{Object}
@@ -17,16 +19,10 @@ use Rattle.pickle_machine.specs.Run.{run}
 use Rattle.pickle_show.specs.declared.event.Event.{Event}
 use Rattle.pickle_show.specs.declared.event.Event.TheVariants as event
 use Rattle.pickle_show.specs.Event.{before_of, event_of}
-use Rattle.pickle_loader.specs.Environment.{Value, Plain, Own, Foreign, Line, Given, Act, Make, Find, Extension, Call, New, NewEx, Instance, SetState, Fill, Persist, NextBuffer, View, Method}
+use Rattle.pickle_loader.specs.Environment.{Value, Plain, Own, Foreign, is_elsewhere, Line, Given, Act, Make, Find, Extension, Call, New, NewEx, Instance, SetState, Fill, Persist, NextBuffer, View, Method}
 use Rattle.pickle_loader.specs.Unpickler.{item}
 
 -- ---- which acts are told
-
--- what is put into a container of the unpickler's own stays among plain values
-abbrev pub is_elsewhere : Value → Bool
-is_elsewhere (Plain k) = false
-is_elsewhere (Own t n) = false
-is_elsewhere (Foreign t n) = true
 
 -- all but what the unpickler makes and fills itself, methods that run unseen, and views
 abbrev pub is_told : Act → Bool
@@ -75,13 +71,18 @@ making proto _ vs = []
 abbrev pub taken : State → State → List ℕ
 taken s t = drop (stack_size t) (stack_of s)
 
+-- how many objects n items, pairs or members are
+abbrev pub objects_in : Filling → ℕ → ℕ
+objects_in filling.SetItem n = n + n
+objects_in _ n = n
+
 -- from the state before the step, as its move is taken on it, to the one after it; where nothing is put in there is a line, and methods
--- run unseen
+-- run unseen. A key without a value is not put in
 abbrev pub acts_told : (ℕ → Value) → ℕ → State → State → Option Event → List Act
 acts_told V proto s t None = []
 acts_told V proto s t (Some (event.Made id)) = option_map_or (λ (o : Object). making proto o.kind (map V o.parts)) (slice_get t.heap id) []
 acts_told V proto s t (Some (event.State value target)) = SetState (V target) (V value) ∷ []
-acts_told V proto s t (Some (event.Filled how n target)) = if nat_lt 0 n then Fill how (V target) (map V (taken s t)) ∷ [] else []
+acts_told V proto s t (Some (event.Filled how n target)) = if nat_lt 0 n then Fill how (V target) (map V (take (objects_in how n) (taken s t))) ∷ [] else []
 
 -- ---- the acts of items
 

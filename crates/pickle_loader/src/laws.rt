@@ -3,7 +3,8 @@
 ghost use Rattle.pickle_loader.specs.Laws.{LoadsAreListed, ToldHasLine, AllTold, NoLineNoAct};
 ghost use Rattle.pickle_loader.specs.Reader.{OpsAreFetched};
 ghost use Rattle.pickle_loader.specs.FlatStack.{OneStack};
-ghost use Rattle.pickle_loader.specs.Beyond.{WideMovesAreFollowed, WhatIsMissingRaises, FillsAreFollowed};
+ghost use Rattle.pickle_loader.specs.Beyond.{WideMovesAreFollowed, WhatIsMissingRaises, FillsAreFollowed, AStepBeyond};
+ghost use Rattle.pickle_loader.specs.Onward.{NothingBeyond};
 ghost use Rattle.pickle_loader.specs.Bytes.{BytesAreListed, NothingElse};
 
 /// What the unpickler does in any environment is what the lines tell, as far as it does not raise.
@@ -59,4 +60,15 @@ pub fn what_is_missing_raises()
 /// Where objects go into a view, the unpickler does what the event of that tells, as far as it does not raise.
 pub fn fills_are_followed()
     ensures { FillsAreFollowed }
+{}
+
+/// Where a loader does not move as a row that asks for less, the unpickler raises and did nothing that is told; where it moves, the
+/// unpickler does what the event of that move tells, or raises and did a beginning of it.
+pub fn a_step_beyond()
+    ensures { AStepBeyond }
+{}
+
+/// Behind an end too, whatever an unpickler does that reads as loaders read is a beginning of what the lines of that reading tell.
+pub fn nothing_beyond()
+    ensures { NothingBeyond }
 {}

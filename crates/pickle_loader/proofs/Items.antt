@@ -1,0 +1,269 @@
+-- An item that loaders take, and a step of it.
+use Rattle.std.proofs.Common.{◌≡◌, ◌⊎◌, ℕ, zero, suc, ◌+◌, ◌-◌, Bool, true, false, List, [], ◌∷◌, ◌++◌, length, take, drop, Option, Some, None, Ok, Err, refl, sym, ap, subst, ◌∙◌, inl, inr, arith}
+use Rattle.std.specs.Prelude.{◌&&◌, ◌==◌, ◌||◌, nat_le, nat_lt, position, is_some, if◌then◌else◌, Result}
+use Rattle.std.specs.Option.{option_map}
+use Rattle.std.specs.Ordering.{nat_cmp}
+use Rattle.std.specs.BTreeMap.{insert_entry}
+use Rattle.pickle_ops.specs.declared.fault.FrontFault.{FrontFault}
+use Rattle.pickle_ops.specs.declared.fault.FrontFault.TheVariants as fault
+use Rattle.pickle_ops.specs.declared.opcode.Opcode.{Opcode}
+use Rattle.pickle_ops.specs.declared.opcode.Opcode.TheVariants as op
+use Rattle.pickle_ops.specs.declared.kind.Kind.TheVariants as kind
+use Rattle.pickle_ops.specs.declared.row.Row.{Row}
+use Rattle.pickle_ops.specs.declared.row.Row.TheVariants as row
+use Rattle.pickle_ops.specs.Shape.{is_newline}
+use Rattle.pickle_ops.specs.Spelling.{Operation, Front, Ended, Unknown, Cut, Whole, front_fault}
+use Rattle.pickle_ops.specs.Front.{front_of}
+use Rattle.pickle_ops.specs.Row.{row_of, kind_of}
+use Rattle.pickle_doc.specs.DocUnit.{frame_op, is_stop, is_frame, frame_number}
+use Rattle.pickle_machine.specs.declared.refusal.Refusal.{Refusal}
+use Rattle.pickle_machine.specs.declared.refusal.Refusal.TheVariants as refusal
+use Rattle.pickle_machine.specs.State.{State}
+use Rattle.pickle_machine.specs.Move.{unless, if_deep, memo_at, refusal_of, next_of, fresh, outcome}
+use Rattle.pickle_machine.specs.Loader.{fill_move, loader_move}
+use Rattle.pickle_machine.specs.declared.loader.LoaderMove.{LoaderMove}
+use Rattle.pickle_machine.specs.LoaderLaws.{one_move}
+use Rattle.pickle_lenient.specs.declared.taken.Frames.{Frames}
+use Rattle.pickle_lenient.specs.declared.taken.Frames.TheVariants as frames
+use Rattle.pickle_lenient.specs.declared.taken.Taken.{Taken}
+use Rattle.pickle_lenient.specs.Key.{key_of}
+use Rattle.pickle_lenient.specs.Lenient.{Lenient, mended, tells_line, keyed_row, sized, keyed_by, odd_to, odd_line, odd_so, odd, taken_so, mended_so, cut_line, cut, faulty, front_size, lenient_at, lenient}
+use Rattle.pickle_lenient.specs.Stream.{first_read, joined, ends_in, refilled, framed, settled, taken_as, plain, within, across, buffered, taken}
+use Rattle.pickle_further.specs.Going.{used_op, then_as, moved_so}
+use Rattle.pickle_loader.specs.Environment.{Value, Act, Method, World}
+use Rattle.pickle_loader.specs.Unpickler.{Unpickler, Step, Raised, load_get, load_put, tell}
+use Rattle.pickle_loader.specs.Dispatch.{dispatch}
+use Rattle.pickle_loader.specs.Told.{told_of, acts_told, protocol_after}
+use Rattle.pickle_loader.specs.Laws.{entries, IsSame}
+use Rattle.pickle_loader.specs.Whole.{IsWhole}
+use Rattle.pickle_loader.specs.Beyond.{is_missing, IsUsual, RaisesAt, Comes}
+use Rattle.pickle_loader.specs.Onward.{load_keyed, dispatch_as, load_taken}
+use Rattle.pickle_loader.proofs.Images.{image}
+use Rattle.pickle_loader.proofs.Pushes.{Good}
+use Rattle.pickle_loader.proofs.Methods.{Here, unpickler, fresh_acts, RowGood, raised_good, memo_get_good, put_good}
+use Rattle.pickle_loader.proofs.Still.{fresh_same}
+use Rattle.pickle_loader.proofs.Beyond.{same_image, follows_by}
+use Rattle.pickle_loader.proofs.Missing.{Misses, get_misses, top_misses, never_none}
+use Rattle.pickle_loader.proofs.Wholes.{whole_next, no_view_kind}
+use Rattle.pickle_loader.proofs.Steps.{a_step_beyond}
+
+-- ---- what is taken
+
+-- the row is that of the operation; or the operation is a FRAME, and the row that of a key
+pub data IsItem (o : Operation) (r : Row) : Type 0 where
+  Itself : r ≡ row_of o → IsItem o r
+  Gets : (key : ℕ) → o ≡ frame_op 0 → r ≡ row.Get key → IsItem o r
+  Puts : (key : ℕ) → o ≡ frame_op 0 → r ≡ row.Put key → IsItem o r
+
+-- of what a reading answers
+abbrev AreLenient : Result Lenient FrontFault → Type 0
+AreLenient x = (l : Lenient) → x ≡ Ok l → IsItem l.op l.row
+
+abbrev pub AreItems : Result Taken FrontFault → Type 0
+AreItems x = (t : Taken) → x ≡ Ok t → IsItem t.op t.row
+
+ok_same : {A : Type 0} (a b : A) (x : Result A FrontFault) → x ≡ Ok a → x ≡ Ok b → a ≡ b
+ok_same a b (Ok x) e f = let one : x ≡ a = cc in let two : x ≡ b = cc in sym one ∙ two
+ok_same a b (Err g) e f = absurd cc
+
+ok_lenient : (l : Lenient) → IsItem l.op l.row → AreLenient (Ok l)
+ok_lenient l is k e = subst (λ (x : Lenient). IsItem x.op x.row) (ok_same l k (Ok l) refl e) is
+
+err_lenient : (f : FrontFault) → AreLenient (Err f)
+err_lenient f l e = absurd cc
+
+taken_lenient : (size : ℕ) (f : Front) → AreLenient (taken_so size f)
+taken_lenient size (Whole o arg rest) = ok_lenient _ (Itself refl)
+taken_lenient size _ = err_lenient fault.Truncated
+
+keyed_lenient : (code key size : ℕ) (a b : Bool) → (code == 103) ≡ a → (code == 112) ≡ b → AreLenient (odd_so (option_map (sized size) (if a then Some (row.Get key) else (if b then Some (row.Put key) else None))))
+keyed_lenient code key size true b e f = ok_lenient _ (Gets key refl refl)
+keyed_lenient code key size false true e f = ok_lenient _ (Puts key refl refl)
+keyed_lenient code key size false false e f = err_lenient fault.BadArgument
+
+by_lenient : (code size : ℕ) (x : Option ℕ) → AreLenient (odd_so (keyed_by code size x))
+by_lenient code size None = err_lenient fault.BadArgument
+by_lenient code size (Some key) = keyed_lenient code key size (code == 103) (code == 112) refl refl
+
+to_lenient : (code : ℕ) (rest : List ℕ) (x : Option ℕ) → AreLenient (odd_so (odd_to code rest x))
+to_lenient code rest None = err_lenient fault.BadArgument
+to_lenient code rest (Some end) = by_lenient code (end + 2) (key_of (take end rest))
+
+odd_lenient : (bytes : List ℕ) → AreLenient (odd bytes)
+odd_lenient [] = err_lenient fault.BadArgument
+odd_lenient (code ∷ rest) = to_lenient code rest (position is_newline rest)
+
+mended_lenient : (size : ℕ) (f : Front) (x : Option FrontFault) → AreLenient (mended_so size f x)
+mended_lenient size f None = taken_lenient size f
+mended_lenient size f (Some g) = err_lenient fault.Truncated
+
+line_lenient : (b : Bool) (bytes : List ℕ) → AreLenient (if b then cut_line bytes else Err fault.Truncated)
+line_lenient true bytes = mended_lenient (length bytes) (front_of (mended bytes)) (front_fault (front_of (mended bytes)))
+line_lenient false bytes = err_lenient fault.Truncated
+
+cut_lenient : (bytes : List ℕ) → AreLenient (cut bytes)
+cut_lenient [] = err_lenient fault.Truncated
+cut_lenient (code ∷ rest) = line_lenient (tells_line code) (code ∷ rest)
+
+faulty_lenient : (bytes : List ℕ) (f : FrontFault) → AreLenient (faulty bytes f)
+faulty_lenient bytes fault.BadArgument = odd_lenient bytes
+faulty_lenient bytes fault.Truncated = cut_lenient bytes
+faulty_lenient bytes f = err_lenient f
+
+at_lenient : (bytes : List ℕ) (f : Front) (x : Option FrontFault) → AreLenient (lenient_at bytes f x)
+at_lenient bytes f None = taken_lenient (front_size f) f
+at_lenient bytes f (Some g) = faulty_lenient bytes g
+
+all_lenient : (bytes : List ℕ) → AreLenient (lenient bytes)
+unfolding lenient
+all_lenient bytes = at_lenient bytes (front_of bytes) (front_fault (front_of bytes))
+
+ok_item : (t : Taken) → IsItem t.op t.row → AreItems (Ok t)
+ok_item t is k e = subst (λ (x : Taken). IsItem x.op x.row) (ok_same t k (Ok t) refl e) is
+
+framed_items : (b c : Bool) (bytes : List ℕ) (t : Taken) (n m : ℕ) → IsItem t.op t.row → AreItems (if b then Ok t else (if c then Ok (refilled n t) else Ok (refilled m t)))
+framed_items true c bytes t n m is = ok_item t is
+framed_items false true bytes t n m is = ok_item (refilled n t) is
+framed_items false false bytes t n m is = ok_item (refilled m t) is
+
+settled_items : (b c : Bool) (bytes : List ℕ) (t : Taken) → IsItem t.op t.row → AreItems (if b then Ok (refilled 0 t) else (if c then framed bytes t (frame_number t.op) else Ok t))
+settled_items true c bytes t is = ok_item (refilled 0 t) is
+settled_items false true bytes t is =
+    framed_items (nat_le (frame_number t.op) t.left) (nat_le (frame_number t.op) (length bytes - (t.size + t.left))) bytes t (frame_number t.op) (length bytes - (t.size + t.left)) is
+settled_items false false bytes t is = ok_item t is
+
+plain_items : (x : Result Lenient FrontFault) → AreLenient x → AreItems (plain x)
+plain_items (Ok l) all = ok_item (taken_as 0 0 l) (all l refl)
+plain_items (Err f) all = λ t e. absurd cc
+
+within_items : (bytes : List ℕ) (size : ℕ) (x : Result Lenient FrontFault) → AreLenient x → AreItems (within bytes size x)
+within_items bytes size (Ok l) all = let t : Taken = taken_as 0 (size - l.size) l in settled_items (is_stop t.op.opcode) (is_frame t.op.opcode) bytes t (all l refl)
+within_items bytes size (Err f) all = λ t e. absurd cc
+
+across_items : (bytes : List ℕ) (gap : ℕ) (x : Result Lenient FrontFault) → AreLenient x → AreItems (across bytes gap x)
+across_items bytes gap (Ok l) all = let t : Taken = taken_as gap 0 l in settled_items (is_stop t.op.opcode) (is_frame t.op.opcode) bytes t (all l refl)
+across_items bytes gap (Err f) all = λ t e. absurd cc
+
+buffered_items : (b : Bool) (left : ℕ) (bytes : List ℕ)
+    → AreItems (if b then within bytes (length (take left bytes)) (lenient (take left bytes)) else across bytes (length (take left bytes) - first_read (take left bytes)) (lenient (joined left bytes)))
+buffered_items true left bytes = within_items bytes (length (take left bytes)) (lenient (take left bytes)) (all_lenient (take left bytes))
+buffered_items false left bytes = across_items bytes (length (take left bytes) - first_read (take left bytes)) (lenient (joined left bytes)) (all_lenient (joined left bytes))
+
+pub are_items : (f : Frames) (left : ℕ) (bytes : List ℕ) → AreItems (taken f left bytes)
+unfolding taken
+are_items frames.Ignored left bytes = plain_items (lenient bytes) (all_lenient bytes)
+are_items frames.Buffered left bytes = buffered_items (ends_in (front_of (take left bytes))) left bytes
+
+-- ---- of no bytes nothing is
+
+take_none : (n : ℕ) → take {A = ℕ} n [] ≡ []
+take_none zero = refl
+take_none (suc n) = refl
+
+drop_none : (n : ℕ) → drop {A = ℕ} n [] ≡ []
+drop_none zero = refl
+drop_none (suc n) = refl
+
+no_lenient : lenient [] ≡ Err fault.Ended
+unfolding lenient
+no_lenient = refl
+
+pub none_taken : (f : Frames) (left : ℕ) → taken f left [] ≡ Err fault.Ended
+unfolding taken
+none_taken frames.Ignored left = ap plain no_lenient
+none_taken frames.Buffered left =
+    ap (λ (l : List ℕ). if ends_in (front_of l) then within [] (length l) (lenient l) else across [] (length l - first_read l) (lenient (take (first_read l) l ++ drop left []))) (take_none left)
+    ∙ ap (λ (l : List ℕ). across [] 0 (lenient l)) (drop_none left)
+    ∙ ap (across [] 0) no_lenient
+
+-- ---- a key that only int() reads
+
+then_one : (r : Row) (o : Operation) (place : ℕ) (x : Result State Refusal) → then_as (one_move r) o place x ≡ x
+then_one r o place (Ok t) = refl
+then_one r o place (Err e) = refl
+
+-- a method that is right for a row, and raises where that is refused
+pub record IsRight (h : Here) (r : Row) (o : Operation) (step : Step) : Type 0 where
+  pub good : RowGood h r (kind_of o) h.proto step
+  pub raises : (e : Refusal) → refusal_of r h.s ≡ Some e → step ≡ Raised h.acts
+
+row_comes : (h : Here) (r : Row) (o : Operation) (step : Step) (x : Option Refusal) → refusal_of r h.s ≡ x → IsWhole h.s → IsRight h r o step
+    → Comes h.w h.V h.s (unpickler h) (one_move r) h.proto step (outcome x (next_of r (kind_of o) h.place h.s))
+row_comes h r o step None is whole right =
+    let t : State = next_of r (kind_of o) h.place h.s in
+    (whole_next r (kind_of o) h.place h.s whole (no_view_kind o.opcode o.arg) is, λ maps. follows_by h.w h.V h.s t h.acts (fresh_acts h r t) h.proto step maps (right.good is))
+row_comes h r o step (Some e) is whole right = subst (λ (y : Step). RaisesAt (told_of h.acts) y) (sym (right.raises e is)) refl
+
+one_comes : (h : Here) (r : Row) (o : Operation) (step : Step) → h.s.stopped ≡ false → IsWhole h.s → IsRight h r o step → Comes h.w h.V h.s (unpickler h) (one_move r) h.proto step (moved_so (one_move r) o h.place h.s)
+one_comes h r o step running whole right =
+    let same : moved_so (one_move r) o h.place h.s ≡ outcome (refusal_of r h.s) (next_of r (kind_of o) h.place h.s) =
+    then_one r o h.place (outcome (refusal_of r (fresh h.s)) (next_of r (kind_of o) h.place (fresh h.s)))
+    ∙ ap (λ (f : State). outcome (refusal_of r f) (next_of r (kind_of o) h.place f)) (fresh_same h.s running) in
+    subst (λ (x : Result State Refusal). Comes h.w h.V h.s (unpickler h) (one_move r) h.proto step x) (sym same) (row_comes h r o step (refusal_of r h.s) refl whole right)
+
+-- it may raise before it does anything
+right_or : (h : Here) (r : Row) (o : Operation) (b : Bool) (step : Step) → IsRight h r o step → IsRight h r o (if b then Raised h.acts else step)
+right_or h r o true step right = record {
+  good = λ e. raised_good h.V h.w h.s.heap h.acts (next_of r (kind_of o) h.place h.s) (fresh_acts h r (next_of r (kind_of o) h.place h.s)) h.proto h.acts refl;
+  raises = λ e f. refl;
+}
+right_or h r o false step right = right
+
+-- all that can be refused is missing
+lacks : (b : Bool) (x e : Refusal) → unless b x None ≡ Some e → is_missing x ≡ true → is_missing e ≡ true
+lacks true x e f m = absurd cc
+lacks false x e f m = let same : x ≡ e = cc in ap is_missing (sym same) ∙ m
+
+get_right : (h : Here) (key : ℕ) → IsRight h (row.Get key) (frame_op 0) (load_get key (unpickler h))
+get_right h key = record {
+  good = memo_get_good h kind.None key;
+  raises = λ e f. get_misses h key e f (lacks (is_some (memo_at key h.s)) (refusal.NoMemoEntry key) e f refl);
+}
+
+put_right : (h : Here) (key : ℕ) → IsRight h (row.Put key) (frame_op 0) (load_put h.w key (unpickler h))
+put_right h key = record {
+  good = put_good h kind.None key;
+  raises = λ e f. top_misses h (λ v. tell h.w Method (record (unpickler h) { memo = insert_entry nat_cmp (entries h.V h.s.memo) key v })) None never_none e f (lacks (nat_le 1 (length h.s.top)) refusal.Underflow e f refl);
+}
+
+-- ---- a step of an item
+
+ItemComes : World → (ℕ → Value) → State → Unpickler → ℕ → Operation → Row → Type 0
+ItemComes w V s u place o r =
+    Comes w V s u (loader_move o.opcode r s) (protocol_after o.opcode o.arg u.proto) (if w.fails u.acts o then Raised u.acts else dispatch_as w r o.opcode o.arg u)
+    (moved_so (loader_move o.opcode r s) (used_op (loader_move o.opcode r s) o) place s)
+
+frame_comes : (w : World) (V : ℕ → Value) (s : State) (u : Unpickler) (place : ℕ) (r : Row) → s.stopped ≡ false → IsWhole s → IsSame w V s u
+    → ((h : Here) → IsRight h r (frame_op 0) (load_keyed h.w r (unpickler h))) → loader_move op.Frame r s ≡ one_move r → ItemComes w V s u place (frame_op 0) r
+unfolding ItemComes
+frame_comes w V s u place r running whole same right one =
+    let h : Here = record { V = V; w = w; s = s; proto = u.proto; acts = u.acts; place = place; knows = same.objects } in
+    subst (λ (m : LoaderMove). Comes w V s u m u.proto (if w.fails u.acts (frame_op 0) then Raised u.acts else load_keyed w r u) (moved_so m (used_op m (frame_op 0)) place s)) (sym one)
+    (subst (λ (x : Unpickler). Comes w V s x (one_move r) x.proto (if w.fails x.acts (frame_op 0) then Raised x.acts else load_keyed w r x) (moved_so (one_move r) (frame_op 0) place s)) (sym (same_image w V s u same))
+    (one_comes h r (frame_op 0) (if w.fails h.acts (frame_op 0) then Raised h.acts else load_keyed w r (unpickler h)) running whole (right_or h r (frame_op 0) (w.fails h.acts (frame_op 0)) (load_keyed w r (unpickler h)) (right h))))
+
+-- an operation whose row is its own
+own_dispatch : (w : World) (o : Opcode) (arg : List ℕ) (r : Row) (u : Unpickler) → r ≡ row_of (record { opcode = o; arg = arg }) → dispatch_as w r o arg u ≡ dispatch w o arg u
+own_dispatch w op.Frame arg r u e = ap (λ (x : Row). load_keyed w x u) e
+own_dispatch w _ arg r u e = refl
+
+item_comes : (w : World) (V : ℕ → Value) (s : State) (u : Unpickler) (place : ℕ) (o : Operation) (r : Row) → IsUsual w → IsWhole s → s.stopped ≡ false → IsSame w V s u → IsItem o r → ItemComes w V s u place o r
+unfolding ItemComes
+item_comes w V s u place o r usual whole running same (Itself is) =
+    subst (λ (x : Step). Comes w V s u (loader_move o.opcode r s) (protocol_after o.opcode o.arg u.proto) (if w.fails u.acts o then Raised u.acts else x) (moved_so (loader_move o.opcode r s) (used_op (loader_move o.opcode r s) o) place s))
+    (sym (own_dispatch w o.opcode o.arg r u is))
+    (subst (λ (x : Row). Comes w V s u (loader_move o.opcode x s) (protocol_after o.opcode o.arg u.proto) (if w.fails u.acts o then Raised u.acts else dispatch w o.opcode o.arg u) (moved_so (loader_move o.opcode x s) (used_op (loader_move o.opcode x s) o) place s))
+    (sym is) (a_step_beyond w V s u o place usual whole running same))
+item_comes w V s u place o r usual whole running same (Gets key a b) =
+    subst (λ (x : Operation). ItemComes w V s u place x r) (sym a)
+    (subst (λ (x : Row). ItemComes w V s u place (frame_op 0) x) (sym b) (frame_comes w V s u place (row.Get key) running whole same (λ h. get_right h key) refl))
+item_comes w V s u place o r usual whole running same (Puts key a b) =
+    subst (λ (x : Operation). ItemComes w V s u place x r) (sym a)
+    (subst (λ (x : Row). ItemComes w V s u place (frame_op 0) x) (sym b) (frame_comes w V s u place (row.Put key) running whole same (λ h. put_right h key) refl))
+
+-- where a loader moves in another way, or is refused, so does the unpickler
+pub an_item_beyond : (w : World) (V : ℕ → Value) (s : State) (u : Unpickler) (place : ℕ) (item : Taken) → IsUsual w → IsWhole s → s.stopped ≡ false → IsSame w V s u → IsItem item.op item.row
+    → Comes w V s u (loader_move item.op.opcode item.row s) (protocol_after item.op.opcode item.op.arg u.proto) (load_taken w item u)
+    (moved_so (loader_move item.op.opcode item.row s) (used_op (loader_move item.op.opcode item.row s) item.op) place s)
+unfolding ItemComes
+an_item_beyond w V s u place item usual whole running same is = item_comes w V s u place item.op item.row usual whole running same is

@@ -1,0 +1,126 @@
+-- What an unpickler does with the bytes of a file that it reads as loaders do, behind an end of the lines too; and which acts the lines tell.
+-- Source: Lib/pickle.py, `load`, `load_get`, `load_put` (CPython 3.11). What loaders read at the front of bytes, frames ignored or kept in a
+-- buffer, `taken` says, with its sources.
+use Rattle.std.specs.Prelude.{◌≡◌, ℕ, zero, suc, ◌≤◌, Bool, true, false, List, [], ◌++◌, drop, if◌then◌else◌, Option, Some, None, is_some, Result, Ok, Err}
+use Rattle.pickle_ops.specs.declared.opcode.Opcode.{Opcode}
+use Rattle.pickle_ops.specs.declared.opcode.Opcode.TheVariants as op
+use Rattle.pickle_ops.specs.declared.row.Row.{Row}
+use Rattle.pickle_ops.specs.declared.row.Row.TheVariants as row
+use Rattle.pickle_ops.specs.declared.fault.FrontFault.{FrontFault}
+use Rattle.pickle_machine.specs.Move.{fresh}
+use Rattle.pickle_lenient.specs.declared.taken.Taken.{Taken}
+use Rattle.pickle_lenient.specs.Stream.{taken}
+use Rattle.pickle_further.specs.declared.way.Pickles.{Pickles}
+use Rattle.pickle_further.specs.declared.way.Pickles.TheVariants as pickles
+use Rattle.pickle_further.specs.declared.way.Way.{Way}
+use Rattle.pickle_further.specs.Going.{Standing, Going as Gone, going, stands_after}
+use Rattle.pickle_further.specs.Parts.{standing_first}
+use Rattle.pickle_loader.specs.Environment.{Value, Act, World}
+use Rattle.pickle_loader.specs.Unpickler.{Unpickler, Step, Raised, load_frame, load_get, load_put}
+use Rattle.pickle_loader.specs.Dispatch.{dispatch, Loaded, Going, Ended, Failed, loaded, acts_of, new_unpickler}
+use Rattle.pickle_loader.specs.Told.{told_of, acts_told, protocol_after}
+use Rattle.pickle_loader.specs.Beyond.{IsUsual}
+
+-- ---- an item
+
+-- GET and PUT whose key only int() reads come as a FRAME with the row of that key
+abbrev pub load_keyed : World → Row → Unpickler → Step
+load_keyed w (row.Get key) u = load_get key u
+load_keyed w (row.Put key) u = load_put w key u
+load_keyed w _ u = load_frame u
+
+abbrev pub dispatch_as : World → Row → Opcode → List ℕ → Unpickler → Step
+dispatch_as w r op.Frame arg u = load_keyed w r u
+dispatch_as w r o arg u = dispatch w o arg u
+
+-- it may raise before it does anything
+abbrev pub load_taken : World → Taken → Unpickler → Step
+load_taken w item u = if w.fails u.acts item.op then Raised u.acts else dispatch_as w item.row item.op.opcode item.op.arg u
+
+-- ---- a file
+
+-- what is loaded, the bytes that are not read yet, and how many of them are in a buffer
+pub record Onward : Type 0 where
+  pub now : Loaded
+  pub rest : List ℕ
+  pub left : ℕ
+
+-- the unpickler that reads on after STOP: a new one; or the same, whose stack and protocol begin anew
+abbrev pub again : Pickles → Unpickler → Unpickler
+again pickles.OneMemo u = record u { stack = []; metastack = []; proto = 0 }
+again pickles.First u = new_unpickler u.acts
+again pickles.All u = new_unpickler u.acts
+
+-- whether more is read
+abbrev pub reads_on : Pickles → Loaded → Bool
+reads_on p (Going u) = true
+reads_on pickles.First (Ended v u) = false
+reads_on pickles.All (Ended v u) = true
+reads_on pickles.OneMemo (Ended v u) = true
+reads_on p (Failed acts) = false
+
+abbrev pub load_more : World → Pickles → Taken → Loaded → Loaded
+load_more w p item (Going u) = loaded (load_taken w item u)
+load_more w p item (Ended v u) = loaded (load_taken w item (again p u))
+load_more w p item (Failed acts) = Failed acts
+
+abbrev pub load_read : World → Pickles → Onward → Result Taken FrontFault → Onward
+load_read w p x (Ok item) = record { now = load_more w p item x.now; rest = drop item.size x.rest; left = item.left }
+load_read w p x (Err f) = record x { now = Failed (acts_of x.now) }
+
+abbrev pub load_on : World → Way → Onward → Onward
+load_on w way x = if reads_on way.pickles x.now then load_read w way.pickles x (taken way.frames x.left x.rest) else x
+
+-- after n opcodes, at most
+unfoldable pub load_way : World → Way → List ℕ → ℕ → Onward
+load_way w way bytes zero = record { now = Going (new_unpickler []); rest = bytes; left = 0 }
+load_way w way bytes (suc n) = load_on w way (load_way w way bytes n)
+
+-- ---- the lines
+
+-- where they stand before item n, if they did not end before it
+abbrev pub stands_behind : Standing → Gone → Option Standing
+stands_behind p g = if is_some g.gone.closing then None else Some (stands_after p g)
+
+abbrev pub stands_on : Way → Option Standing → Option Standing
+stands_on way None = None
+stands_on way (Some p) = stands_behind p (going way p)
+
+unfoldable pub stands : Way → Standing → ℕ → Option Standing
+stands way p zero = Some p
+stands way p (suc n) = stands_on way (stands way p n)
+
+-- the protocol there: that of the last PROTO of the same pickle
+abbrev pub protocol_read : Result Taken FrontFault → ℕ → ℕ
+protocol_read (Ok item) before = protocol_after item.op.opcode item.op.arg before
+protocol_read (Err f) before = before
+
+abbrev pub protocol_on : Way → Option Standing → ℕ → ℕ
+protocol_on way None before = before
+protocol_on way (Some p) before = protocol_read (taken way.frames p.at.left p.rest) before
+
+unfoldable pub protocol : Way → Standing → ℕ → ℕ
+protocol way p zero = 0
+protocol way p (suc n) = protocol_on way (stands way p n) (protocol way p n)
+
+-- the acts of the event whose line item n has
+abbrev pub acts_gone : (ℕ → Value) → ℕ → Standing → Gone → List Act
+acts_gone V proto p g = acts_told V proto (fresh p.state) g.state g.gone.event
+
+abbrev pub acts_on : (ℕ → Value) → Way → ℕ → Option Standing → List Act
+acts_on V way proto None = []
+acts_on V way proto (Some p) = acts_gone V proto p (going way p)
+
+-- those of the first n items
+unfoldable pub acts_before : (ℕ → Value) → Way → Standing → ℕ → List Act
+acts_before V way p zero = []
+acts_before V way p (suc n) = acts_before V way p n ++ acts_on V way (protocol way p n) (stands way p n)
+
+-- ---- the law
+
+-- in every environment that is as CPython's are, for any bytes, read as one pickle, as several, or by one Unpickler that loads again, with
+-- frames ignored or buffered: after any number of opcodes there is a map from the numbers of objects to values under which all that is told
+-- of the unpickler, up to then and at each opcode before, is a beginning of what the lines of that reading tell
+abbrev pub NothingBeyond : Type 0
+NothingBeyond = (w : World) → IsUsual w → (way : Way) (bytes : List ℕ) (n : ℕ)
+    → (V : ℕ → Value) × ((m : ℕ) → m ≤ n → (rest : List Act) × (told_of (acts_of (load_way w way bytes m).now) ++ rest ≡ acts_before V way (standing_first way.pickles bytes) m))
