@@ -6,7 +6,7 @@
  * each later one fail, as a broken disk does. SHRINK=FILE with SHRINK_AT=N empties that file before the Nth read.
  * FAIL=fsync, rename, fchmod or fchown lets each call of this name fail. READ_SIGNAL=N and WRITE_SIGNAL=N let the Nth call do nothing, as
  * where a signal interrupts it.
- * CALLS=FILE gets a line for each fchmod, fchown, fsync and rename and for each write to a regular file, in their order: the name, and but
+ * ORDER=FILE gets a line for each fchmod, fchown, fsync and rename and for each write to a regular file, in their order: the name, and but
  * for rename the kind and the mode of what it is made of.
  * At the end DEVICES=FILE has a line: how many reads and writes there were, and how many of them were made of a device that had
  * failed before.
@@ -54,10 +54,10 @@ __attribute__((destructor)) static void end(void)
         abort();
 }
 
-/* Adds a line to the file that CALLS names. */
+/* Adds a line to the file that ORDER names. */
 static void note(const char *line)
 {
-    const char *name = getenv("CALLS");
+    const char *name = getenv("ORDER");
     int file = name ? open(name, O_WRONLY | O_CREAT | O_APPEND, 0600) : -1;
 
     if (file >= 0 && (syscall(SYS_write, file, line, strlen(line)) < 0 || close(file) != 0))
@@ -70,7 +70,7 @@ static void note_file(const char *call, int file)
     struct stat about;
     char line[60];
 
-    if (!getenv("CALLS") || fstat(file, &about) != 0)
+    if (!getenv("ORDER") || fstat(file, &about) != 0)
         return;
     snprintf(line, sizeof line, "%s %s %o\n", call, S_ISDIR(about.st_mode) ? "folder" : "file", about.st_mode & 07777);
     if (S_ISREG(about.st_mode) || S_ISDIR(about.st_mode))

@@ -353,12 +353,12 @@ def fails_without_owner(saves: Saves) -> str:
 # --- In which order it is done ---
 
 
-def calls_of(saves: Saves, out: str) -> tuple[Run, list[str]]:
-    """A save, and the calls that change files in their order, where several writes in a row are one."""
-    calls = saves.room / "calls"
-    run = saves.save(out, LD_PRELOAD=str(saves.library()), CALLS=str(calls), WRITE_MOST="1")
-    lines = calls.read_text().splitlines()
-    calls.unlink()
+def order_of(saves: Saves, out: str) -> tuple[Run, list[str]]:
+    """A save, and what it asks of the system in its order, where several writes in a row are one."""
+    noted = saves.room / "order"
+    run = saves.save(out, LD_PRELOAD=str(saves.library()), ORDER=str(noted), WRITE_MOST="1")
+    lines = noted.read_text().splitlines()
+    noted.unlink()
     return run, [line for number, line in enumerate(lines) if number == 0 or lines[number - 1] != line]
 
 
@@ -370,9 +370,9 @@ def stores_before_it_renames(saves: Saves) -> str:
         saves.room.chmod(0o755)
         (saves.room / "out").write_bytes(OLD)
         (saves.room / "out").chmod(mode)
-        run, calls = calls_of(saves, "out")
+        run, order = order_of(saves, "out")
         wanted = ["fchown file 600", "fchmod file 600", f"write file {mode:o}", f"fsync file {mode:o}", "rename", "fsync folder 755"]
-        why = saves.stored(run, "out") or ("" if calls == wanted else f"the calls are {calls}")
+        why = saves.stored(run, "out") or ("" if order == wanted else f"the order is {order}")
         if why:
             return f"mode {mode:o}: {why}"
     return ""
@@ -381,10 +381,10 @@ def stores_before_it_renames(saves: Saves) -> str:
 def stores_a_new_file(saves: Saves) -> str:
     saves.begin()
     saves.room.chmod(0o755)
-    run, calls = calls_of(saves, "out")
+    run, order = order_of(saves, "out")
     mode = saves.mode_of("out")
     wanted = [f"write file {mode:o}", f"fsync file {mode:o}", "rename", "fsync folder 755"]
-    return saves.stored(run, "out") or ("" if calls == wanted else f"the calls are {calls}")
+    return saves.stored(run, "out") or ("" if order == wanted else f"the order is {order}")
 
 
 # --- Runs that are killed, and runs side by side ---

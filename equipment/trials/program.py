@@ -201,6 +201,53 @@ WORDS = (
     fails("a word that is not text after others", "cannot read", "debug", "pair.pickle", "--save", b"a\xff"),
 )
 
+FILE_HELP = "Arguments:\n  <FILE>  the pickle\n"
+MANY_HELP = "read FILE as pickles that follow one another: go on after each STOP"
+WHAT_EACH_DOES = (
+    ("list", "Lists the opcodes of FILE with their offsets and arguments"),
+    ("objects", "Tells the objects that the opcodes of FILE make, and which of them is the result"),
+    ("calls", "Tells what the pickles of FILE would import and call, a line for each opcode that does so"),
+    ("debug", "Obeys the lines of standard input on FILE: steps forwards and back, shows, edits"),
+)
+OPTIONS = {
+    "list": (("    --many", MANY_HELP),),
+    "objects": (("    --many", MANY_HELP),),
+    "calls": (
+        ("    --many", MANY_HELP),
+        ("    --first", "tell of the first pickle alone, up to its STOP"),
+        ("    --memo <kept>", "read FILE as one unpickler does that loads again and again and keeps its memo"),
+    ),
+    "debug": (
+        ("    --many", MANY_HELP),
+        ("    --window <N>", "keep the records of the latest N steps, and build the machine anew to go back further"),
+        ("    --save <OUT>", "write the pickle to OUT after the last line"),
+    ),
+}
+NO_MORE_HELP = ("-h, --help", "Print help")
+
+
+def columns(heading: str, rows: Sequence[tuple[str, str]]) -> str:
+    width = max(len(name) for name, _ in rows)
+    return heading + "".join(f"  {name:<{width}}  {words}\n" for name, words in rows)
+
+
+def help_of(name: str, about: str) -> Row:
+    """The help of a subcommand of the program itself; the entrance has its own."""
+    usage = f"{about}\n\nUsage: picklestep {name} [OPTIONS] <FILE>\n\n"
+    errors = f"{usage}{FILE_HELP}\n" + columns("Options:\n", (*OPTIONS[name], NO_MORE_HELP))
+    return Row(f"the help of {name}", (name, "--help"), status=2, errors=errors, is_bare=True)
+
+
+PROGRAM_HELP = (
+    "Shows what a Python pickle would import, call and build, and runs nothing of it\n\nUsage: picklestep <COMMAND>\n\n"
+    + columns("Commands:\n", (*WHAT_EACH_DOES, ("help", "Print this message or the help of the given subcommand(s)")))
+    + columns("\nOptions:\n", (NO_MORE_HELP,))
+)
+HELPS = (
+    Row("the help of the program", ("--help",), status=2, errors=PROGRAM_HELP, is_bare=True),
+    *(help_of(name, about) for name, about in WHAT_EACH_DOES),
+)
+
 
 def leaves_early(room: Room) -> str:
     """A reader that leaves after three lines: the signal of the closed pipe ends the program, or it says so."""
@@ -292,5 +339,5 @@ def trials(room: Room) -> list[Trial]:
         Trial("a conversation at a terminal", lambda: talks_at_a_terminal(room)),
         *trials_of(FAULTS, room),
         Trial("a reader that leaves early", lambda: leaves_early(room)),
-        *trials_of(WORDS, room),
+        *trials_of((*WORDS, *HELPS), room),
     ]
