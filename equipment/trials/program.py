@@ -205,21 +205,22 @@ FILE_HELP = "Arguments:\n  <FILE>  the pickle\n"
 MANY_HELP = "read FILE as pickles that follow one another: go on after each STOP"
 WHAT_EACH_DOES = (
     ("list", "Lists the opcodes of FILE with their offsets and arguments"),
-    ("objects", "Tells the objects that the opcodes of FILE make, and which of them is the result"),
-    ("calls", "Tells what the pickles of FILE would import and call, a line for each opcode that does so"),
-    ("debug", "Obeys the lines of standard input on FILE: steps forwards and back, shows, edits"),
+    ("objects", "Prints the objects that the opcodes of FILE make, and which of them is the result"),
+    ("calls", "Prints what the pickles of FILE would import and call, a line for each opcode that does so"),
+    ("debug", "Runs the commands of standard input on FILE: steps forwards and back, shows, edits"),
 )
 OPTIONS = {
     "list": (("    --many", MANY_HELP),),
     "objects": (("    --many", MANY_HELP),),
     "calls": (
-        ("    --many", MANY_HELP),
-        ("    --first", "tell of the first pickle alone, up to its STOP"),
+        ("    --many", "changes nothing: all pickles of FILE are read without it too"),
+        ("    --first", "read the first pickle alone, up to its STOP"),
         ("    --memo <kept>", "read FILE as one unpickler does that loads again and again and keeps its memo"),
+        ("    --full", "print arguments in full: whole texts, and all parts of a tuple"),
     ),
     "debug": (
         ("    --many", MANY_HELP),
-        ("    --window <N>", "keep the records of the latest N steps, and build the machine anew to go back further"),
+        ("    --window <N>", "keep the records of the latest N steps; to go back further, run from the start again"),
         ("    --save <OUT>", "write the pickle to OUT after the last line"),
     ),
 }
