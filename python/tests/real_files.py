@@ -133,7 +133,7 @@ def torch(folder: Path) -> None:
                               'tensors.pt': [torch.ones(2, dtype=kind) for kind in (torch.float16, torch.bfloat16, torch.int8, torch.bool)],
                               'sparse.pt': torch.eye(3).to_sparse(), 'sizes.pt': [torch.Size([1, 2]), torch.device('cpu'), torch.float32],
                               'buffers.pt': {'step': 3, 'ema': {name: value.clone() for name, value in model.state_dict().items()}},
-                              'generator.pt': torch.get_rng_state(), 'storage.pt': torch.FloatStorage(3)}
+                              'generator.pt': torch.get_rng_state(), 'storage.pt': torch.FloatStorage([1, 2, 3])}
     for kind in (torch.optim.SGD, torch.optim.Adam, torch.optim.AdamW):
         optimizer = kind(model.parameters(), lr=0.1)
         optimizer.step()
