@@ -1,0 +1,85 @@
+//! The library for other languages: what the program prints of an input, in memory of the caller. A caller gives bytes and memory for the
+//! text; nothing else is read or written. `picklestep.h` says the same to a reader of C.
+//!
+//! Each function answers 0 where the whole text is at the start of `out`, 1 where memory ran out, 2 where the input has more than
+//! 1,073,741,824 bytes, and 3 where the text has no room in `out`: `written` has its size then.
+#![tactic(auto)]
+
+mod fill;
+mod texts;
+
+ghost use Rattle.pickle_further.specs.declared.way.Pickles.TheVariants as pickles;
+ghost use Rattle.pickle_script.specs.declared.texts.Text.TheVariants as asked;
+ghost use Rattle.std.specs.Prelude.{false};
+ghost use Rattle.picklestep_library.specs.Answer.{IsTextOf, Fills};
+
+pub use fill::Written;
+use pickle_script::{Pickles, Text};
+use std::alloc::Global;
+
+/// The listing of a pickle, or where `many` holds of several that follow one another.
+#[unsafe(no_mangle)]
+pub extern "C" fn picklestep_list(
+    alloc: Global,
+    many: bool,
+    bytes: &[u8],
+    out: &mut [u8],
+    written: &mut Written,
+) -> u8
+    ensures { Fills (IsTextOf asked.Listing many bytes.now) bytes.now out.old out.new written.new result }
+{
+    texts::fill(alloc, Text::Listing, many, bytes, out, written)
+}
+
+/// The report of the objects that a pickle makes, or where `many` holds several that follow one another.
+#[unsafe(no_mangle)]
+pub extern "C" fn picklestep_objects(
+    alloc: Global,
+    many: bool,
+    bytes: &[u8],
+    out: &mut [u8],
+    written: &mut Written,
+) -> u8
+    ensures { Fills (IsTextOf asked.Objects many bytes.now) bytes.now out.old out.new written.new result }
+{
+    texts::fill(alloc, Text::Objects, many, bytes, out, written)
+}
+
+/// What pickles that follow one another would import and call.
+#[unsafe(no_mangle)]
+pub extern "C" fn picklestep_calls(
+    alloc: Global,
+    bytes: &[u8],
+    out: &mut [u8],
+    written: &mut Written,
+) -> u8
+    ensures { Fills (IsTextOf (asked.Calls pickles.All) false bytes.now) bytes.now out.old out.new written.new result }
+{
+    texts::fill(alloc, Text::Calls(Pickles::All), false, bytes, out, written)
+}
+
+/// What the first pickle alone would import and call.
+#[unsafe(no_mangle)]
+pub extern "C" fn picklestep_calls_first(
+    alloc: Global,
+    bytes: &[u8],
+    out: &mut [u8],
+    written: &mut Written,
+) -> u8
+    ensures { Fills (IsTextOf (asked.Calls pickles.First) false bytes.now) bytes.now out.old out.new written.new result }
+{
+    texts::fill(alloc, Text::Calls(Pickles::First), false, bytes, out, written)
+}
+
+/// What pickles that follow one another would import and call, read by one unpickler that keeps its memo.
+#[unsafe(no_mangle)]
+pub extern "C" fn picklestep_calls_one_memo(
+    alloc: Global,
+    bytes: &[u8],
+    out: &mut [u8],
+    written: &mut Written,
+) -> u8
+    ensures { Fills (IsTextOf (asked.Calls pickles.OneMemo) false bytes.now) bytes.now out.old out.new written.new result }
+{
+    texts::fill(alloc, Text::Calls(Pickles::OneMemo), false, bytes, out, written)
+}
