@@ -5,9 +5,9 @@ from __future__ import annotations
 import os
 import stat
 import tempfile
-from typing import Any, List, Protocol, Union
+from typing import Any, List, Optional, Protocol, Union
 
-__all__ = ['LIMIT', 'Input', 'Source', 'is_word', 'nameless_file']
+__all__ = ['LIMIT', 'Input', 'Source', 'is_word', 'nameless_file', 'small_content']
 
 class Readable(Protocol):
     """A binary file object, as far as it is needed."""
@@ -78,6 +78,23 @@ class Input:
 
     def __exit__(self, *error: object) -> None:
         self.close()
+
+
+def small_content(source: Source, most: int) -> Optional[bytes]:
+    """The bytes of a source that has at most so many of them, where that is known before it is read. Raises what `open` raises."""
+    if isinstance(source, bytes):
+        return source if len(source) <= most else None
+    if isinstance(source, (str, os.PathLike)):
+        status = os.stat(source)
+        if not stat.S_ISREG(status.st_mode) or status.st_size > most:
+            return None
+        with open(source, 'rb', buffering=0) as file:
+            content = file.read(most + 1)
+        return content if len(content) <= most else None
+    if hasattr(source, 'read'):
+        return None
+    view = memoryview(source)
+    return view.tobytes() if view.nbytes <= most else None
 
 
 def _try(path: 'Union[str, os.PathLike[str]]') -> None:

@@ -15,8 +15,8 @@ from typing import Iterator, List, Sequence
 from ...errors import PicklestepError
 from ...program import Process
 from ...texts import HEADING, OFFSET, QUOTED_OR_NUMBER
-from ..blobs import Budget, Limits, spooled
-from ..reading import WAITING, Enough, Summary, asks_program, offset_of_item
+from ..blobs import Budget, BytesBlob, Limits, spooled
+from ..reading import WAITING, Asked, Enough, Summary
 
 __all__ = ['MOST_BYTES', 'MOST_PICKLES', 'answers']
 
@@ -49,11 +49,10 @@ def answers(contents: Sequence[bytes], budget: Budget, keep_lines: bool = False)
 
 
 def _alone(content: bytes, budget: Budget, keep_lines: bool) -> Summary:
-    copy = spooled([content])
-    with copy.file:
-        answer = asks_program(copy.path(), copy.size, budget, keep_lines)
+    with Asked(BytesBlob(content)) as asked:
+        answer = asked.summary(budget, keep_lines)
         if answer.end.item is not None:
-            answer.end = replace(answer.end, offset=offset_of_item(copy.path(), answer.end.item, budget))
+            answer.end = replace(answer.end, offset=asked.offset_of_item(answer.end.item, budget))
         return answer
 
 
