@@ -1,6 +1,7 @@
 // Asks the library. Each line of standard input has a task (list, list --many, objects, objects --many, calls, calls --first,
-// calls --memo kept), a limit of memory in bytes (0: none), the file that is asked about and the file that the text is put in, with tabs
-// between them. For each, a line of standard output has the answer and the status. Status 1 where a file cannot be read or written.
+// calls --memo kept, debug, debug --many), a limit of memory in bytes (0: none), the file that is asked about and the file that the text is put in, with tabs
+// between them. For each, a line of standard output has the answer and the status. Status 1 where a file cannot be read or written. The word
+// of the command line is the file of the script of conversations.
 #include <picklestep.h>
 #include <stdio.h>
 #include <stdlib.h>
@@ -35,6 +36,9 @@ static memory content_of(const char *path) {
     return m;
 }
 
+// What is asked in each conversation.
+static memory script;
+
 static uint8_t ask(const char *task, memory given, memory out, picklestep_written *written) {
     if (!strcmp(task, "list"))
         return picklestep_list(false, given.bytes, given.size, out.bytes, out.size, written);
@@ -50,6 +54,10 @@ static uint8_t ask(const char *task, memory given, memory out, picklestep_writte
         return picklestep_calls_first(given.bytes, given.size, out.bytes, out.size, written);
     if (!strcmp(task, "calls --memo kept"))
         return picklestep_calls_one_memo(given.bytes, given.size, out.bytes, out.size, written);
+    if (!strcmp(task, "debug"))
+        return picklestep_debug(false, given.bytes, given.size, script.bytes, script.size, out.bytes, out.size, written);
+    if (!strcmp(task, "debug --many"))
+        return picklestep_debug(true, given.bytes, given.size, script.bytes, script.size, out.bytes, out.size, written);
     fputs("there is no such task\n", stderr);
     exit(1);
 }
@@ -80,7 +88,9 @@ static void answer(const char *task, size_t most, const char *from, const char *
     free(out.bytes);
 }
 
-int main(void) {
+int main(int count, char **words) {
+    if (count > 1)
+        script = content_of(words[1]);
     char line[3 * 4096];
     while (fgets(line, sizeof line, stdin)) {
         const char *task = strtok(line, "\t"), *most = strtok(NULL, "\t"), *from = strtok(NULL, "\t"), *to = strtok(NULL, "\n");

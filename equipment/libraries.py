@@ -10,11 +10,21 @@ from dataclasses import dataclass
 from pathlib import Path
 from typing import Callable
 
-from machines import Answer, Asked, Machines, large
+from machines import SCRIPT, Answer, Asked, Machines, large
 from trials.room import beginning
 from trials.trial import Noted, Skip, Trial
 
-TASKS = (("list",), ("list", "--many"), ("objects",), ("objects", "--many"), ("calls",), ("calls", "--first"), ("calls", "--memo", "kept"))
+TASKS = (
+    ("list",),
+    ("list", "--many"),
+    ("objects",),
+    ("objects", "--many"),
+    ("calls",),
+    ("calls", "--first"),
+    ("calls", "--memo", "kept"),
+    ("debug",),
+    ("debug", "--many"),
+)
 X86, ARM, MODULE = "linux-x86_64-library", "linux-aarch64-library", "libpicklestep.wasm"
 MUSL, MUSL_HEADERS = Path("/usr/lib/x86_64-linux-musl"), Path("/usr/include/x86_64-linux-musl")
 WARNINGS = ("-Wall", "-Wextra", "-Werror")
@@ -52,7 +62,9 @@ class Libraries(Machines):
         folder = self.folder / "answers"
         folder.mkdir(parents=True, exist_ok=True)
         lines = [f"{' '.join(run.words)}\t{most}\t{run.file}\t{folder / str(number)}\n" for number, run in enumerate(runs)]
-        said = self.call(*command, given="".join(lines).encode()).decode().splitlines()
+        script = self.folder / "script"
+        script.write_bytes(SCRIPT)
+        said = self.call(*command, script, given="".join(lines).encode()).decode().splitlines()
         for number, line in enumerate(said):
             answer, status = map(int, line.split())
             yield Answer(2, b"", OF_STOPS[answer]) if answer else Answer(status, (folder / str(number)).read_bytes(), b"")
@@ -133,7 +145,7 @@ def compared(libraries: Libraries, way: str, kind: str) -> Noted:
 
 def limits(libraries: Libraries) -> str:
     """Out of memory is an answer, and the next call is as any other."""
-    runs = [Asked(words, large(libraries).file) for words in TASKS]
+    runs = [Asked(words, large(libraries).file) for words in TASKS if words[0] != "debug"]
     for limit in LIMITS:
         for run, found in zip(runs, libraries.asked(libraries.static(), runs, limit)):
             if found != Answer(2, b"", OF_STOPS[1]):

@@ -20,6 +20,7 @@ import pages
 import releases
 import saves
 import several
+import wheels
 
 from . import examples, large, listings, memory, options, program
 from .room import Room, Word
@@ -103,6 +104,7 @@ def of_surroundings(room: Room) -> list[AnyGroup]:
         Group("release", functools.partial(releases.trials, released), released.closing),
         Group("machines", functools.partial(machines.trials, others), others.closing, aside=lambda: None),
         Group("library", functools.partial(libraries.trials, linked), linked.closing, aside=lambda: None),
+        Group("wheels", functools.partial(wheels.trials, wheels.Wheels(room.root, room.folder / "wheels")), aside=lambda: None),
         Group("random", functools.partial(random_trials, room), aside=lambda: None),
     ]
 

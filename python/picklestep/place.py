@@ -2,7 +2,7 @@
 
 import os
 
-__all__ = ['find_library', 'find_program', 'program_words', 'toolchain_of']
+__all__ = ['find_library', 'find_program', 'is_module', 'program_words', 'toolchain_of']
 
 _HERE = os.path.dirname(os.path.realpath(__file__))
 # The released programs, by the system and the machine that each is for, in the order in which they are tried.
@@ -44,7 +44,12 @@ def find_program() -> str:
 
 def program_words(program: str) -> 'list[str]':
     """The words that start a program: Node comes first where it is the module."""
-    return [_node() or 'node', program] if program.endswith('.mjs') else [program]
+    return [_node() or 'node', program] if is_module(program) else [program]
+
+
+def is_module(program: str) -> bool:
+    """Whether a program is the module, which Node starts."""
+    return program.endswith('.mjs')
 
 
 def find_library(program: str) -> 'str | None':

@@ -4,8 +4,8 @@
  * what the program prints for the same task; the proofs of the program hold for it, up to the bytes in `out`. A text is ASCII, and no NUL
  * byte ends it. Nothing else is read or written, nothing is kept between calls, and threads may call at once.
  *
- * No pointer may be NULL, also where a length is 0, and `bytes`, `out` and `written` may not overlap. Nobody may change the input during a
- * call. The proofs take these for granted.
+ * No pointer may be NULL, also where a length is 0, and `out` and `written` may not overlap each other or what is read. Nobody may change what
+ * is read during a call. The proofs take these for granted.
  */
 #ifndef PICKLESTEP_H
 #define PICKLESTEP_H
@@ -46,6 +46,11 @@ uint8_t picklestep_calls_first(const uint8_t *bytes, size_t length, uint8_t *out
 
 /* The same of pickles that one unpickler reads, which keeps its memo (`picklestep calls FILE --memo kept`). */
 uint8_t picklestep_calls_one_memo(const uint8_t *bytes, size_t length, uint8_t *out, size_t room, picklestep_written *written);
+
+/* The answers of a conversation: those to all lines of a script, of `script_length` bytes, in a session of a pickle, or with `many` of several
+ * (`picklestep debug FILE [--many]`, with the script as its standard input). A conversation that goes on is asked with all lines so far. */
+uint8_t picklestep_debug(bool many, const uint8_t *bytes, size_t length, const uint8_t *script, size_t script_length, uint8_t *out, size_t room,
+                         picklestep_written *written);
 
 /* How many bytes of memory each call on this thread may hold at most from now on, besides `bytes` and `out`; SIZE_MAX, as at first, is no
  * limit. (The module for WebAssembly has no such function: there the limit is that of its memory.) */

@@ -1,6 +1,6 @@
 -- What a function of the library leaves in its caller's memory.
 -- Source: own.
-use Rattle.std.specs.Prelude.{◌≡◌, ◌≢◌, ◌≤◌, ◌<◌, ◌↔◌, ℕ, Bool, List, [], length, take, drop, Some}
+use Rattle.std.specs.Prelude.{◌≡◌, ◌≢◌, ◌≤◌, ◌<◌, ◌↔◌, ◌⊎◌, ℕ, Bool, List, [], length, take, drop, Some}
 use Rattle.pickle_io.specs.Device.{Told}
 use Rattle.pickle_doc.specs.Document.{size_limit}
 use Rattle.pickle_session.specs.Opening.{IsOpened}
@@ -36,7 +36,7 @@ pub record Puts (text : List ℕ) (status : ℕ) (old new : List ℕ) (written :
   pub status_is : written.status ≡ status
   pub whole : answer ≡ 0 → (take (length text) new ≡ text) × (drop (length text) new ≡ drop (length text) old)
   pub short : answer ≡ 3 → (length old < length text) × (new ≡ old)
-  pub others : (answer ≢ 1) × (answer ≢ 2)
+  pub either : (answer ≡ 0) ⊎ (answer ≡ 3)
 
 -- the text that is wanted, of these bytes, was put there (0), or it has no room and its size is told (3); else memory ran out (1) or
 -- there are too many bytes (2)

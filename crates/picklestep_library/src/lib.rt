@@ -6,12 +6,13 @@
 #![tactic(auto)]
 
 mod fill;
+mod talk;
 mod texts;
 
 ghost use Rattle.pickle_further.specs.declared.way.Pickles.TheVariants as pickles;
 ghost use Rattle.pickle_script.specs.declared.texts.Text.TheVariants as asked;
 ghost use Rattle.std.specs.Prelude.{false};
-ghost use Rattle.picklestep_library.specs.Answer.{IsTextOf, Fills};
+ghost use Rattle.picklestep_library.specs.Answer.{IsTextOf, IsTalkOf, Fills};
 
 pub use fill::Written;
 use pickle_script::{Pickles, Text};
@@ -82,4 +83,20 @@ pub extern "C" fn picklestep_calls_one_memo(
     ensures { Fills (IsTextOf (asked.Calls pickles.OneMemo) false bytes.now) bytes.now out.old out.new written.new result }
 {
     texts::fill(alloc, Text::Calls(Pickles::OneMemo), false, bytes, out, written)
+}
+
+/// The answers of a conversation: those to all lines of a script, in a session of a pickle, or where `many` holds of several. `written` has
+/// status 1 where a line was refused.
+#[unsafe(no_mangle)]
+pub extern "C" fn picklestep_debug(
+    alloc: Global,
+    many: bool,
+    bytes: &[u8],
+    script: &[u8],
+    out: &mut [u8],
+    written: &mut Written,
+) -> u8
+    ensures { Fills (IsTalkOf many bytes.now script.now) bytes.now out.old out.new written.new result }
+{
+    talk::fill_talk(alloc, many, bytes, script, out, written)
 }
