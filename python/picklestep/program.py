@@ -24,7 +24,7 @@ from .place import find_program, program_words
 
 __all__ = ['Process', 'find_program', 'run_program']
 
-_BLOCK = 1 << 18
+_BLOCK = 1 << 20  # (also of a pipe where the system lets it be so large: fewer turns between the program and its reader)
 _HAS_MASKS = hasattr(signal, 'pthread_sigmask')  # (Windows has none)
 _LIMITED = ['/bin/sh', '-c', 'ulimit -v "$1" && shift && exec "$@"', 'sh']
 
@@ -55,6 +55,7 @@ class Process:
             self._popen = subprocess.Popen(command, stdin=subprocess.PIPE if stdin else subprocess.DEVNULL, stdout=subprocess.PIPE,
                                            stderr=subprocess.PIPE, bufsize=0, pass_fds=(*files, near))
             _end_with(near, self._popen.pid)
+            _widen(self.stdout)
             self._is_open = True
         except BaseException as error:
             os.close(self._lifeline)
@@ -165,6 +166,13 @@ def _end_with(lifeline: int, process: int) -> None:
         fcntl.fcntl(lifeline, fcntl.F_SETSIG, signal.SIGKILL)
         fcntl.fcntl(lifeline, fcntl.F_SETOWN, process)
         fcntl.fcntl(lifeline, fcntl.F_SETFL, fcntl.fcntl(lifeline, fcntl.F_GETFL) | os.O_ASYNC)
+
+
+def _widen(pipe: int) -> None:
+    """Lets a pipe hold a block. Only Linux can do that."""
+    with contextlib.suppress(OSError, ImportError, AttributeError):
+        import fcntl
+        fcntl.fcntl(pipe, fcntl.F_SETPIPE_SZ, _BLOCK)
 
 
 def _raise_failure(status: int, errors: bytes) -> NoReturn:

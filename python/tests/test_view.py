@@ -181,6 +181,15 @@ class Documents(unittest.TestCase):
             self.assertEqual(document.about(3)['held'], [0])
 
 
+class Opening(unittest.TestCase):
+    def test_how_far_it_is(self) -> None:
+        told: List[str] = []
+        document = Document(b'(' + b'K\x01' * 300_000 + b'l.', 'a pickle', told=told.append)
+        document.close()
+        self.assertIn('list: 300,004 lines', told)
+        self.assertEqual([word for word in ('list', 'objects') if any(text.startswith(f'{word}: ') for text in told)], ['list', 'objects'])
+
+
 class Cutting(unittest.TestCase):
     """Lines that come in blocks of any size."""
 
