@@ -133,7 +133,7 @@ class Documents(unittest.TestCase):
 
     def test_what_is_imported_and_called(self) -> None:
         with opened(pickle.dumps([len, len], 4) + b'(.') as document, opened(SYSTEM) as other:
-            place = next(place for place in range(len(document.lines)) if document.lines.at(place).name == 'STACK_GLOBAL')
+            place = next(place for place in range(len(document.lines)) if document.lines.at(place).code == '\\x93')
             imported = "import 'builtins' 'len' as #3"
             self.assertEqual(document.reached(0, 9), [[place, document.lines.offset(place), 'import', imported]])
             self.assertEqual(document.slice(place, 1)[0][8], imported)
