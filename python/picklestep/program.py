@@ -33,7 +33,7 @@ except ImportError:  # (Windows has none)
 
 __all__ = ['Process', 'find_program', 'run_program']
 
-_BLOCK = 1 << 18
+_BLOCK = 1 << 20  # (also of a pipe where the system lets it be so large: fewer turns between the program and its reader)
 _HAS_MASKS = hasattr(signal, 'pthread_sigmask')  # (Windows has none)
 _HAS_POLL = hasattr(select, 'poll')  # (nor this)
 _HAS_LIFELINES = hasattr(fcntl, 'F_SETSIG')
@@ -72,6 +72,7 @@ class Process:
                                            env=environment)
             if _HAS_LIFELINES:
                 _end_with(near, self._popen.pid)
+            _widen(self.stdout)
             self._is_open = True
         except BaseException as error:
             _close(self._lifeline)
@@ -214,6 +215,13 @@ def _end_with(lifeline: int, process: int) -> None:
         fcntl.fcntl(lifeline, fcntl.F_SETSIG, signal.SIGKILL)
         fcntl.fcntl(lifeline, fcntl.F_SETOWN, process)
         fcntl.fcntl(lifeline, fcntl.F_SETFL, fcntl.fcntl(lifeline, fcntl.F_GETFL) | os.O_ASYNC)
+
+
+def _widen(pipe: int) -> None:
+    """Lets a pipe hold a block. Only Linux can do that."""
+    with contextlib.suppress(OSError, ImportError, AttributeError):
+        import fcntl
+        fcntl.fcntl(pipe, fcntl.F_SETPIPE_SZ, _BLOCK)
 
 
 def _raise_failure(status: int, errors: bytes) -> NoReturn:
