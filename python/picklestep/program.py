@@ -219,8 +219,7 @@ def _end_with(lifeline: int, process: int) -> None:
 
 def _widen(pipe: int) -> None:
     """Lets a pipe hold a block. Only Linux can do that."""
-    with contextlib.suppress(OSError, ImportError, AttributeError):
-        import fcntl
+    with contextlib.suppress(OSError, AttributeError):
         fcntl.fcntl(pipe, fcntl.F_SETPIPE_SZ, _BLOCK)
 
 
