@@ -9,7 +9,7 @@ import random
 import shutil
 import subprocess
 import sys
-from collections.abc import Iterator
+from collections.abc import Iterable, Iterator
 from dataclasses import dataclass, field
 from pathlib import Path
 from typing import Callable, NamedTuple
@@ -62,6 +62,7 @@ class Machines:
     program: Path
     folder: Path
     pickles: Path
+    tasks: tuple[tuple[str, ...], ...] = TASKS
     runs: int = 0
     answers: dict[Asked, Answer] = field(default_factory=dict)
 
@@ -76,7 +77,7 @@ class Machines:
     def real(self) -> list[Asked]:
         """Each task over each real pickle."""
         files = sorted(self.pickles.glob("*.pickle"))
-        return [Asked(words, file) for file in files for words in TASKS]
+        return [Asked(words, file) for file in files for words in self.tasks]
 
     @functools.cached_property
     def random(self) -> list[Asked]:
@@ -92,7 +93,7 @@ class Machines:
                 case[chance.randrange(len(case))] = chance.randrange(256)
             file = folder / f"{number}.pickle"
             file.write_bytes(case)
-            made.append(Asked(chance.choice(TASKS), file))
+            made.append(Asked(chance.choice(self.tasks), file))
         return made
 
     def wanted(self, asked: Asked) -> Answer:
@@ -116,13 +117,17 @@ class Machines:
                 return Noted(why, "")
         return Noted("", f": {len(runs)} runs")
 
-    def compare_module(self, runs: list[Asked]) -> Noted:
-        """The same in Node: one process has an instance of the module for each run."""
-        for asked, found in zip(runs, self.in_node(runs)):
+    def compare_answers(self, runs: list[Asked], answers: Iterable[Answer]) -> Noted:
+        """The same of answers that come from one process."""
+        for asked, found in zip(runs, answers, strict=True):
             why = self.compare(asked, found)
             if why:
                 return Noted(why, "")
         return Noted("", f": {len(runs)} runs")
+
+    def compare_module(self, runs: list[Asked]) -> Noted:
+        """The same in Node: one process has an instance of the module for each run."""
+        return self.compare_answers(runs, self.in_node(runs))
 
     def in_node(self, runs: list[Asked], pages: int = 0) -> Iterator[Answer]:
         """What the module answers, with at most so many pages of memory."""
@@ -168,7 +173,8 @@ def made_again(machines: Machines) -> str:
         fault = make(machines, to)
     if fault:
         return beginning(fault)
-    for file in (STATIC, ARM, MODULE, "picklestep.mjs", "picklestep.html", "SHA256SUMS", "TOOLS"):
+    files = [line.split()[1] for line in (machines.dist / "SHA256SUMS").read_text().splitlines()]
+    for file in (*files, "SHA256SUMS", "TOOLS"):
         if not filecmp.cmp(to / file, machines.dist / file, shallow=False):
             return f"{file} differs from that in dist"
     return ""

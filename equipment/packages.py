@@ -1,11 +1,11 @@
 """Tries the Python package: builds its wheel, installs it into a fresh environment without a network, and runs its tests there.
 
-The wheel carries dist/linux-x86_64/picklestep, or the program that is tried where nothing was released. Where setuptools and wheel are not
+The wheel carries the released program for any Linux and the library, or the program that is tried where nothing was released. Where setuptools and wheel are not
 there, the tests run from the source tree. They run in another interpreter, which starts this file:
 
     packages.py --names             writes the names of the tests
-    packages.py --run LINES NAME..  runs these tests, or all where none is named; LINES gets for each its name, a tab, a note, a tab, and
-                                    what is wrong or nothing
+    packages.py --run LINES NAME..  runs these tests (a name may be that of a class), or all where none is named; LINES gets for each its
+                                    name, a tab, a note, a tab, and what is wrong or nothing
 """
 
 from __future__ import annotations
@@ -25,7 +25,7 @@ from trials.trial import Verdict
 
 ROOT = Path(__file__).resolve().parent.parent
 SOURCES = ROOT / 'python'
-RELEASED = ROOT / 'dist' / 'linux-x86_64' / 'picklestep'
+RELEASED = ROOT / 'dist' / 'linux-x86_64-static' / 'picklestep'
 MOST_SECONDS = 600
 # All tests of the package together, on a machine that has much else to do.
 MOST_SECONDS_OF_TESTS = 3600
@@ -86,7 +86,8 @@ def run_tests(lines: str, names: List[str]) -> None:
     """Runs tests of the package in this interpreter: all of them where none is named."""
     suite = unittest.defaultTestLoader.discover(str(SOURCES / 'tests'))
     if names:
-        suite = unittest.TestSuite(test for test in tests_in(suite) if f'python {test.id()}' in names)
+        wanted = tuple(f'{name}.' for name in names)
+        suite = unittest.TestSuite(test for test in tests_in(suite) if f'python {test.id()}.'.startswith(wanted))
     with open(lines, 'w', encoding='utf-8', errors='backslashreplace') as out, contextlib.redirect_stdout(sys.stderr):
         suite.run(Lines(out))
 
@@ -131,8 +132,8 @@ def install(python: str, program: str, folder: Path) -> Tuple[str, str]:
     shutil.copytree(SOURCES, folder / 'sources', ignore=shutil.ignore_patterns('__pycache__', 'tests', 'build', '*.egg-info'))
     environment = {} if RELEASED.is_file() else {'PICKLESTEP_PROGRAM': program}
     if not environment:
-        # The wheel looks for the released program next to its sources.
-        shutil.copytree(RELEASED.parent, folder / 'dist' / 'linux-x86_64')
+        # The wheel looks for the released files next to its sources.
+        shutil.copytree(ROOT / 'dist', folder / 'dist')
     installed = str(folder / 'environment' / 'bin' / 'python')
     wheels = folder / 'wheels'
     pip = [python, '-m', 'pip', '--disable-pip-version-check', '-q']

@@ -74,11 +74,14 @@ release_fault() {
     fi
 }
 
-# The SHA-256 over what the programs for further machines are made from: the program's sources, and the folder `targets`.
+# The SHA-256 over what the programs for further machines and the library are made from: the program's sources, the library's crate with
+# its line of crates.txt, and the folder `targets`.
 sum_of_further() {
     {
         sum_of_sources
-        (cd -- "$root" && find targets -type f -not -name '*.pyc' -print0 | LC_ALL=C sort -z | xargs -0 -r sha256sum --)
+        grep '^picklestep_library ' -- "$root/crates.txt"
+        (cd -- "$root" && find targets crates/picklestep_library/{src,specs,proofs} -type f -not -name '*.pyc' -print0 | LC_ALL=C sort -z |
+            xargs -0 -r sha256sum --)
     } | sha256sum | cut -d ' ' -f 1
 }
 

@@ -283,7 +283,8 @@ def release_again(releases: Releases) -> str:
 def further_changed(releases: Releases) -> str:
     """A further program, or what makes it, that was changed: the check says it, and such a machine does not start it."""
     at = releases.copy("further")
-    for file, says in (("dist/picklestep.wasm", "dist/SHA256SUMS"), ("targets/c/heap.c", "dist/SOURCES")):
+    changed = (("dist/picklestep.wasm", "dist/SHA256SUMS"), ("targets/c/heap.c", "dist/SOURCES"), ("crates/picklestep_library/src/lib.rt", "dist/SOURCES"))
+    for file, says in changed:
         was = (at / file).read_bytes()
         change_byte(at / file)
         check = releases.run("./release", "--check", at=at)

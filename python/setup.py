@@ -1,35 +1,83 @@
-"""Builds the wheel: the package with the released program in it, for the platform that the program runs on.
+"""Builds the wheels: the package with the released program and the library in it, for one kind of machine.
 
-The program is dist/linux-x86_64/picklestep, or what PICKLESTEP_PROGRAM names.
+PICKLESTEP_MACHINE names the kind: linux-x86_64, linux-aarch64, or any, which carries the module for Node. Without it, it is that of the
+machine that builds. PICKLESTEP_PROGRAM names another program to carry, which was built here. The source distribution carries all of them.
 """
 
 import os
+import platform
 import shutil
 import sys
+from dataclasses import dataclass
 from pathlib import Path
-from typing import Tuple
+from typing import Dict, List, Optional, Tuple
 
 from setuptools import Distribution, setup
 from setuptools.command.build_py import build_py
+from setuptools.command.sdist import sdist
 from wheel.bdist_wheel import bdist_wheel
 
-RELEASED = Path(__file__).resolve().parent.parent / 'dist' / 'linux-x86_64'
+HERE = Path(__file__).resolve().parent
+# In a source distribution they are beside this file, in the repository a folder above.
+RELEASED = next((folder for folder in (HERE / 'dist', HERE.parent / 'dist') if folder.is_dir()), HERE / 'dist')
+TOOLCHAIN = 'linux-x86_64/TOOLCHAIN'
 
 
-def program() -> Path:
-    """The program that the wheel carries."""
-    path = Path(os.environ.get('PICKLESTEP_PROGRAM') or RELEASED / 'picklestep')
-    if not path.is_file():
-        sys.exit(f'the wheel carries the released program, and {path} is not there')
-    return path
+@dataclass(frozen=True)
+class Machine:
+    """A kind of machine: its tag, and the released files that a wheel for it carries, by their names there."""
+
+    tag: str
+    files: Dict[str, str]
+
+
+def linux(machine: str, program: str) -> Machine:
+    """The program is static and the library names no C library, so both C libraries of Linux will do, whatever their version."""
+    return Machine(f'manylinux_2_17_{machine}.musllinux_1_1_{machine}',
+                   {'picklestep': program, 'libpicklestep.so': f'linux-{machine}-library/lib/libpicklestep.so', 'TOOLCHAIN': TOOLCHAIN})
+
+
+MACHINES = {
+    'linux-x86_64': linux('x86_64', 'linux-x86_64-static/picklestep'),
+    'linux-aarch64': linux('aarch64', 'linux-aarch64/picklestep'),
+    'any': Machine('any', {'picklestep.mjs': 'picklestep.mjs', 'picklestep.wasm': 'picklestep.wasm', 'TOOLCHAIN': TOOLCHAIN}),
+}
+
+
+def machine_name() -> str:
+    """The kind of machine that the wheel is for."""
+    own = f'{platform.system().lower()}-{platform.machine()}'
+    name = os.environ.get('PICKLESTEP_MACHINE') or (own if own in MACHINES else 'any')
+    if name not in MACHINES:
+        sys.exit(f'PICKLESTEP_MACHINE is one of {", ".join(MACHINES)}')
+    return name
+
+
+def own_program() -> Optional[Path]:
+    """The program that is carried in place of a released one."""
+    path = os.environ.get('PICKLESTEP_PROGRAM')
+    return Path(path) if path else None
+
+
+def carried() -> Dict[str, Path]:
+    """The files that the wheel carries, by their names there."""
+    program = own_program()
+    if program is not None:
+        files = {'picklestep': program}
+        beside = program.with_name('TOOLCHAIN')
+        if beside.is_file():
+            files['TOOLCHAIN'] = beside
+    else:
+        files = {name: RELEASED / file for name, file in MACHINES[machine_name()].files.items()}
+    for path in files.values():
+        if not path.is_file():
+            sys.exit(f'the wheel carries a released file, and {path} is not there')
+    return files
 
 
 def platform_tag() -> str:
-    """The platform of the released program, by the least version of glibc that it needs. Any other program was built here."""
-    glibc = RELEASED / 'GLIBC'
-    if program().parent.resolve() != RELEASED or not glibc.is_file():
-        return 'linux_x86_64'
-    return f'manylinux_{glibc.read_text().strip().replace(".", "_")}_x86_64'
+    """The platform of the wheel. (A program that was built here is for machines like this one.)"""
+    return 'linux_x86_64' if own_program() is not None else MACHINES[machine_name()].tag
 
 
 class BuildWithProgram(build_py):
@@ -38,19 +86,18 @@ class BuildWithProgram(build_py):
     def run(self) -> None:
         super().run()
         folder = Path(self.build_lib) / 'picklestep' / 'bin'
-        folder.mkdir(parents=True, exist_ok=True)
-        shutil.copy(program(), folder / 'picklestep')
-        (folder / 'picklestep').chmod(0o755)
-        toolchain = program().with_name('TOOLCHAIN')
-        if toolchain.is_file():
-            shutil.copy(toolchain, folder)
+        shutil.rmtree(folder, ignore_errors=True)
+        folder.mkdir(parents=True)
+        for name, path in carried().items():
+            shutil.copyfile(path, folder / name)
+            (folder / name).chmod(0o755 if name.startswith('picklestep') and not name.endswith('.wasm') else 0o644)
 
 
 class DistributionWithProgram(Distribution):
-    """A distribution that belongs to a platform."""
+    """A distribution that belongs to a platform, if its program does."""
 
     def has_ext_modules(self) -> bool:
-        return True
+        return platform_tag() != 'any'
 
 
 class WheelForPlatform(bdist_wheel):
@@ -60,4 +107,16 @@ class WheelForPlatform(bdist_wheel):
         return 'py3', 'none', platform_tag()
 
 
-setup(distclass=DistributionWithProgram, cmdclass={'build_py': BuildWithProgram, 'bdist_wheel': WheelForPlatform})
+class SourcesWithPrograms(sdist):
+    """The source distribution, from which each wheel can be built."""
+
+    def make_release_tree(self, base_dir: str, files: List[str]) -> None:
+        super().make_release_tree(base_dir, files)
+        for file in sorted({file for machine in MACHINES.values() for file in machine.files.values()}):
+            to = Path(base_dir, 'dist', file)
+            to.parent.mkdir(parents=True, exist_ok=True)
+            shutil.copyfile(RELEASED / file, to)
+
+
+setup(distclass=DistributionWithProgram,
+      cmdclass={'build_py': BuildWithProgram, 'bdist_wheel': WheelForPlatform, 'sdist': SourcesWithPrograms})

@@ -3,15 +3,17 @@
     python3 targets/make.py FOLDER
 
 FOLDER gets linux-x86_64-static/picklestep (musl, static), linux-aarch64/picklestep (glibc, static), picklestep.wasm, picklestep.mjs and
-picklestep.html (page.py), SHA256SUMS over them, and TOOLS, the versions of what made them. Status 2 and a sentence where a tool is missing or has another
-version than the one that the released sums were made with: equipment/install_targets installs them.
+picklestep.html (page.py); the library for both (linux-MACHINE-library) and as a module without imports (libpicklestep.wasm); SHA256SUMS over them, and TOOLS, the
+versions of what made them. Status 2 and a sentence where a tool is missing or has another version than the one that the released sums
+were made with: equipment/install_targets installs them.
 
-Rattle hands clang one LLVM module. It is kept here, and compiled for each machine: it names no machine, has 64-bit pointers and lays all
-out by offsets of bytes.
+Rattle hands clang one LLVM module for the program and one for the library. They are kept here, and compiled for each machine: a module
+names no machine, has 64-bit pointers and lays all out by offsets of bytes.
 """
 
 from __future__ import annotations
 
+import functools
 import hashlib
 import os
 import re
@@ -30,6 +32,7 @@ ROOT = HERE.parent
 KIT = Path('/opt/rattle')
 CLANG = KIT / 'toolchain/bin/clang'
 LINKER = KIT / 'toolchain/bin/ld.lld'
+ARCHIVER = KIT / 'toolchain/bin/llvm-ar'
 MUSL = Path('/usr/lib/x86_64-linux-musl')
 MUSL_HEADERS = Path('/usr/include/x86_64-linux-musl')
 ARM_HEADERS = Path('/usr/aarch64-linux-gnu/include')
@@ -48,7 +51,16 @@ COMPILE = ['-O3', '-ffunction-sections', '-fdata-sections', '-mllvm', '-trap-unr
 FEATURES = ['-mcpu=mvp', '-mbulk-memory', '-mbulk-memory-opt', '-msign-ext', '-mnontrapping-fptoint', '-mmutable-globals']
 LOWERING = ['--enable-memory64', '--enable-bulk-memory', '--enable-sign-ext', '--enable-nontrapping-float-to-int', '--enable-mutable-globals',
             '--memory64-lowering']
-MADE = ('linux-x86_64-static/picklestep', 'linux-aarch64/picklestep', 'picklestep.wasm', 'picklestep.mjs', page.NAME)
+X86, ARM, WASM = 'x86_64-unknown-linux-gnu', 'aarch64-unknown-linux-gnu', 'wasm64-unknown-unknown'
+# What clang cannot do by itself for a 64-bit module.
+EXPANDED = ['-mllvm', '-expand-div-rem-bits=64', '-mllvm', '-expand-fp-convert-bits=64']
+PROGRAMS = ('linux-x86_64-static/picklestep', 'linux-aarch64/picklestep', 'picklestep.wasm', 'libpicklestep.wasm', 'picklestep.mjs', page.NAME)
+LIBRARIES = {X86: 'linux-x86_64-library', ARM: 'linux-aarch64-library'}
+PARTS = ('include/picklestep.h', 'lib/libpicklestep.a', 'lib/libpicklestep.so', 'lib/pkgconfig/picklestep.pc')
+MADE = (*PROGRAMS, *(f'{folder}/{part}' for folder in LIBRARIES.values() for part in PARTS))
+# What a crate is to rattle: its row of crates.txt, its root file, and words.
+CRATES = {'picklestep': ('picklestep:', 'src/main.rt', []),
+          'picklestep_library': ('picklestep_library staticlib:', 'src/lib.rt', ['--crate-type', 'staticlib'])}
 # The keeper stands in for clang while rattle builds.
 KEEPER = """#!/bin/bash
 [ ! -f module.bc ] || cp -- module.bc '{kept}'
@@ -81,11 +93,11 @@ def check_tools() -> str:
     return ''.join(f'{name} {version}\n' for name, version in PACKAGES.items())
 
 
-def libraries() -> list[str]:
-    """What rattle is told of the crates that the program uses, as rt tells it."""
-    row = next(line for line in (ROOT / 'crates.txt').read_text().splitlines() if line.startswith('picklestep:'))
+def libraries(row: str) -> list[str]:
+    """What rattle is told of the crates that a crate uses, as rt tells it."""
+    line = next(line for line in (ROOT / 'crates.txt').read_text().splitlines() if line.startswith(row))
     words: list[str] = []
-    for name in ['std', *row.partition(':')[2].split()]:
+    for name in ['std', *line[len(row):].split()]:
         own = ROOT / 'crates' / name / 'out/rlib'
         if (ROOT / 'crates' / name).is_dir():
             words += ['--extern', f'{name}={own}/{name}.rlib', '-L', f'dependency={own}']
@@ -97,20 +109,23 @@ def libraries() -> list[str]:
     return words
 
 
-def keep_module(folder: Path) -> Path:
-    """The LLVM module of the program, for a plain x86-64 processor: for a newer one it would ask the processor at its start."""
-    tools = folder / 'tools'
+def keep_module(crate: str, folder: Path) -> Path:
+    """The LLVM module of a crate, which is proved here where it is not yet. It is for a plain x86-64 processor: for a newer one a program
+    would ask the processor at its start."""
+    row, root, words = CRATES[crate]
+    tools = folder / crate / 'tools'
     (tools / 'bin').mkdir(parents=True)
     (tools / 'lib').symlink_to(KIT / 'toolchain/lib')
     for name in ('ld.lld', 'llvm-ar', 'rattle-x64'):
         (tools / 'bin' / name).symlink_to(KIT / 'toolchain/bin' / name)
-    module = folder / 'module.bc'
+    module = folder / crate / 'module.bc'
     clang = tools / 'bin/clang'
     clang.write_text(KEEPER.format(kept=module, clang=CLANG))
     clang.chmod(0o755)
-    run(KIT / 'bin/rattle', 'build', '--crate-name', 'picklestep', 'src/main.rt', *libraries(), '-L', f'dependency={KIT}/rlibs',
+    (ROOT / 'crates' / crate / 'out').mkdir(exist_ok=True)
+    run(KIT / 'bin/rattle', 'build', '--crate-name', crate, root, *words, *libraries(row), '-L', f'dependency={KIT}/rlibs',
         '--antt-project', KIT / 'rattle/logic/antt-project.json', '--logic-built', KIT / 'logic_built', '--incremental', 'out/incremental',
-        '--links', 'picklestep=', '--toolchain', tools, '--cpu', 'x86-64', '-o', folder / 'module.o', at=ROOT / 'crates/picklestep')
+        '--links', f'{crate}=', '--toolchain', tools, '--cpu', 'x86-64', '-o', folder / crate / 'made', at=ROOT / 'crates' / crate)
     if not module.exists():
         raise Fault('rattle handed clang no module')
     return module
@@ -119,49 +134,71 @@ def keep_module(folder: Path) -> Path:
 @dataclass
 class Maker:
     folder: Path
-    text: Path  # the module, without the names of a processor
+    program: Path  # the modules as text, without the names of a processor
+    library: Path
 
-    def compile(self, target: str, *flags: str) -> Path:
-        """The object file of the program for a target."""
-        made = self.folder / f'{target}.o'
-        run(CLANG, '--no-default-config', f'--target={target}', '-Wno-override-module', *COMPILE, *flags, '-c', '-x', 'ir', self.text, '-o', made)
+    def compile(self, module: Path, target: str, *flags: str) -> Path:
+        """The object file of a module for a target."""
+        made = self.folder / f'{target}-{module.stem}.o'
+        run(CLANG, '--no-default-config', f'--target={target}', '-Wno-override-module', *COMPILE, *flags, '-c', '-x', 'ir', module, '-o', made)
         return made
 
-    def compile_c(self, target: str, name: str, *flags: 'str | Path') -> Path:
-        """The object file of a file of ours."""
-        made = self.folder / f'{target}-{name}.o'
+    def compile_c(self, target: str, name: str, *flags: 'str | Path', use: str = 'c') -> Path:
+        """The object file of a file of ours. (Two uses of a file are compiled side by side.)"""
+        made = self.folder / f'{target}-{use}-{name}.o'
         run(CLANG, '--no-default-config', f'--target={target}', '-O3', '-fno-stack-protector', '-fno-builtin', '-ffile-prefix-map=/=', *flags,
             '-c', HERE / 'c' / f'{name}.c', '-o', made)
         return made
 
+    def headers(self, target: str) -> 'list[str | Path]':
+        """Where the headers of the C library are, and stddef.h and the like, which are the compiler's."""
+        own = run('gcc', '-print-file-name=include').strip()
+        return ['-nostdinc', '-isystem', MUSL_HEADERS if target == X86 else ARM_HEADERS, '-isystem', own]
+
     def make_static(self, to: Path) -> None:
-        target = 'x86_64-unknown-linux-gnu'
-        program = self.compile(target, '-mcmodel=small')
-        headers = ['-nostdinc', '-isystem', str(MUSL_HEADERS), '-isystem', str(self.own_headers())]
-        others = [self.compile_c(target, name, *headers, '-ffunction-sections') for name in ('start', 'musl', 'heap', 'blocks')]
+        program = self.compile(self.program, X86, '-mcmodel=small')
+        others = [self.compile_c(X86, name, *self.headers(X86), '-ffunction-sections') for name in ('start', 'musl', 'heap', 'blocks')]
         run(LINKER, '-flavor', 'gnu', '-static', '-z', 'noexecstack', '--gc-sections', '--strip-all', '--wrap=main', '-o', to, MUSL / 'crt1.o',
             MUSL / 'crti.o', program, *others, MUSL / 'libc.a', MUSL / 'crtn.o')
 
     def make_arm(self, to: Path) -> None:
-        target = 'aarch64-unknown-linux-gnu'
-        program = self.compile(target)
-        headers = ['-nostdinc', '-isystem', str(ARM_HEADERS), '-isystem', str(self.own_headers())]
-        others = [self.compile_c(target, name, *headers) for name in ('start', 'heap')]
+        program = self.compile(self.program, ARM)
+        others = [self.compile_c(ARM, name, *self.headers(ARM)) for name in ('start', 'heap')]
         run('aarch64-linux-gnu-gcc-12', '-static', '-Wl,--gc-sections,--strip-all,--build-id=none', '-o', to, program, *others)
 
     def make_wasm(self, to: Path) -> None:
-        target = 'wasm64-unknown-unknown'
-        program = self.compile(target, *FEATURES, '-mllvm', '-expand-div-rem-bits=64', '-mllvm', '-expand-fp-convert-bits=64')
-        others = [self.compile_c(target, name, *FEATURES, '-ffreestanding') for name in ('wasi', 'heap', 'products')]
-        linked, bare = self.folder / 'linked.wasm', self.folder / 'bare.wasm'
+        self.link_wasm(self.program, ('wasi', 'heap', 'products'), to)
+
+    def make_library_wasm(self, to: Path) -> None:
+        self.link_wasm(self.library, ('exports', 'heap', 'products'), to, *(f'--export={name}' for name in functions()))
+
+    def link_wasm(self, module: Path, names: tuple[str, ...], to: Path, *exports: str) -> None:
+        objects = [self.compile(module, WASM, *FEATURES, *EXPANDED)]
+        objects += [self.compile_c(WASM, name, *FEATURES, '-ffreestanding', use=module.stem) for name in names]
+        linked, bare = (self.folder / f'{module.stem}-{word}.wasm' for word in ('linked', 'bare'))
         run(LINKER, '-flavor', 'wasm', '-m', 'wasm64', '--no-entry', '--gc-sections', '--strip-all', '--stack-first', '-z', 'stack-size=1048576',
-            program, *others, '-o', linked)
+            *exports, *objects, '-o', linked)
         bare.write_bytes(without_table(linked.read_bytes()))
         run('wasm-opt', *LOWERING, bare, '-o', to)
 
-    def own_headers(self) -> Path:
-        """stddef.h and the like, which are the compiler's."""
-        return Path(run('gcc', '-print-file-name=include').strip())
+    def make_library(self, target: str, to: Path) -> None:
+        """The library with what a C compiler needs of it. It names no C library: what it calls of one, the process has."""
+        for part in PARTS:
+            (to / part).parent.mkdir(parents=True, exist_ok=True)
+        objects = [self.compile(self.library, target, '-fPIC'),
+                   self.compile_c(target, 'limited', *self.headers(target), '-fPIC', '-ffunction-sections')]
+        script = self.folder / f'{target}.exports'
+        script.write_text(f'{{ global: {" ".join(f"{name};" for name in (*functions(), "picklestep_limit_memory"))} local: *; }};\n')
+        run(ARCHIVER, 'rcsD', to / PARTS[1], *objects)
+        run(LINKER, '-flavor', 'gnu', '-shared', '-soname', 'libpicklestep.so', '-z', 'noexecstack', '-z', 'relro', '-z', 'now', '--gc-sections',
+            '--strip-all', '--version-script', script, '-o', to / PARTS[2], *objects)
+        shutil.copy(HERE / 'library/picklestep.h', to / PARTS[0])
+        shutil.copy(HERE / 'library/picklestep.pc', to / PARTS[3])
+
+
+def functions() -> list[str]:
+    """The functions of the library, as the header has them."""
+    return re.findall(r'^uint8_t (picklestep_\w+)\(', (HERE / 'library/picklestep.h').read_text(), re.M)
 
 
 def without_table(module: bytes) -> bytes:
@@ -190,10 +227,10 @@ def number_at(data: bytes, at: int) -> tuple[int, int]:
             return value, at
 
 
-def plain_text(module: Path, folder: Path) -> Path:
+def plain_text(module: Path, folder: Path, name: str) -> Path:
     """The module as text. It names no machine, but its functions name the processor that they are for."""
-    whole, plain = folder / 'whole.ll', folder / 'plain.ll'
-    run(CLANG, '--no-default-config', '--target=x86_64-unknown-linux-gnu', '-Wno-override-module', '-S', '-emit-llvm', '-Xclang',
+    whole, plain = folder / f'{name}-whole.ll', folder / f'{name}.ll'
+    run(CLANG, '--no-default-config', f'--target={X86}', '-Wno-override-module', '-S', '-emit-llvm', '-Xclang',
         '-disable-llvm-passes', '-x', 'ir', module, '-o', whole)
     text = whole.read_text()
     text = re.sub(r' "(probe-stack|stack-probe-size|target-cpu|target-features|frame-pointer)"="[^"]*"', '', text)
@@ -206,20 +243,23 @@ def make_all(to: Path) -> None:
     tools = check_tools()
     with tempfile.TemporaryDirectory() as name:
         folder = Path(name)
-        kept = os.environ.get('PICKLESTEP_MODULE')  # (while one works on this file)
-        maker = Maker(folder, plain_text(Path(kept) if kept else keep_module(folder), folder))
         made = folder / 'made'
         for file in MADE:
             (made / file).parent.mkdir(parents=True, exist_ok=True)
+        kept = os.environ.get('PICKLESTEP_MODULES')  # (a folder of them, while one works on this file)
+        modules = {crate: Path(kept, f'{crate}.bc') if kept else keep_module(crate, folder) for crate in CRATES}
+        maker = Maker(folder, *(plain_text(module, folder, crate) for crate, module in modules.items()))
+        makes = [(maker.make_static, PROGRAMS[0]), (maker.make_arm, PROGRAMS[1]), (maker.make_wasm, PROGRAMS[2]), (maker.make_library_wasm, PROGRAMS[3]),
+                 *((functools.partial(maker.make_library, target), file) for target, file in LIBRARIES.items())]
         with ThreadPoolExecutor() as pool:
-            for done in [pool.submit(make, made / file) for make, file in zip((maker.make_static, maker.make_arm, maker.make_wasm), MADE)]:
+            for done in [pool.submit(make, made / file) for make, file in makes]:
                 done.result()
-        shutil.copy(HERE / 'picklestep.mjs', made / MADE[3])
-        (made / page.NAME).write_bytes(page.make((made / MADE[2]).read_bytes()))
+        shutil.copy(HERE / 'picklestep.mjs', made / PROGRAMS[4])
+        (made / page.NAME).write_bytes(page.make((made / PROGRAMS[2]).read_bytes()))
         (made / 'SHA256SUMS').write_text(''.join(f'{hashlib.sha256((made / file).read_bytes()).hexdigest()}  {file}\n' for file in MADE))
         (made / 'TOOLS').write_text(tools)
         for file in (*MADE, 'SHA256SUMS', 'TOOLS'):
-            put(made / file, to / file, 0o755 if file.endswith(('/picklestep', '.mjs')) else 0o644)
+            put(made / file, to / file, 0o755 if file.endswith(('/picklestep', '.mjs', '.so')) else 0o644)
 
 
 def put(file: Path, to: Path, mode: int) -> None:

@@ -11,6 +11,7 @@ from typing import Optional, Protocol
 import count_calls
 import devices
 import hostile
+import libraries
 import loads
 import machines
 import opcodes
@@ -19,6 +20,7 @@ import pages
 import releases
 import saves
 import several
+import wheels
 
 from . import examples, large, listings, memory, options, program
 from .room import Room, Word
@@ -91,6 +93,7 @@ def of_surroundings(room: Room) -> list[AnyGroup]:
     saved = saves.Saves(str(room.program), library, room.folder / "saves")
     released = releases.Releases(room.root, room.folder / "releases")
     others = machines.Machines(room.root, room.program, room.folder / "machines", room.pickles)
+    linked = libraries.Libraries(room.root, room.program, room.folder / "libraries", room.pickles)
     loaded = loads.Loads(str(room.program), room.folder / "loads")
     return [
         Group("loaders", functools.partial(loads.trials, loaded, room.pickles), loaded.closing, aside=lambda: None),
@@ -100,6 +103,8 @@ def of_surroundings(room: Room) -> list[AnyGroup]:
         Group("saves", functools.partial(saves.trials, saved), saved.closing),
         Group("release", functools.partial(releases.trials, released), released.closing),
         Group("machines", functools.partial(machines.trials, others), others.closing, aside=lambda: None),
+        Group("library", functools.partial(libraries.trials, linked), linked.closing, aside=lambda: None),
+        Group("wheels", functools.partial(wheels.trials, wheels.Wheels(room.root, room.folder / "wheels")), aside=lambda: None),
         Group("random", functools.partial(random_trials, room), aside=lambda: None),
     ]
 

@@ -2,13 +2,14 @@
 
 import os
 
-__all__ = ['find_program', 'program_words', 'toolchain_of']
+__all__ = ['find_library', 'find_program', 'is_module', 'program_words', 'toolchain_of']
 
 _HERE = os.path.dirname(os.path.realpath(__file__))
 # The released programs, by the system and the machine that each is for, in the order in which they are tried.
 _FOLDERS = {('Linux', 'x86_64'): ('linux-x86_64', 'linux-x86_64-static'), ('Linux', 'aarch64'): ('linux-aarch64',)}
 # What runs on any machine where there is Node: it starts the module beside it.
 _MODULE = 'picklestep.mjs'
+_LIBRARY = 'libpicklestep.so'
 
 
 def find_program() -> str:
@@ -43,7 +44,22 @@ def find_program() -> str:
 
 def program_words(program: str) -> 'list[str]':
     """The words that start a program: Node comes first where it is the module."""
-    return [_node() or 'node', program] if program.endswith('.mjs') else [program]
+    return [_node() or 'node', program] if is_module(program) else [program]
+
+
+def is_module(program: str) -> bool:
+    """Whether a program is the module, which Node starts."""
+    return program.endswith('.mjs')
+
+
+def find_library(program: str) -> 'str | None':
+    """The path of the library that was made with a program: beside it in the package, in a folder of its own among the released ones."""
+    folder = os.path.dirname(os.path.realpath(program))
+    machine = os.path.basename(folder).replace('-static', '')
+    for path in (os.path.join(folder, _LIBRARY), os.path.join(os.path.dirname(folder), f'{machine}-library', 'lib', _LIBRARY)):
+        if os.path.isfile(path):
+            return path
+    return None
 
 
 def _machine() -> 'tuple[str, str]':

@@ -5,7 +5,10 @@ set on the running program would come late, and code that runs between fork and 
 
 A run does not outlive the interpreter, whatever ends it. The program inherits one end of a pipe, the lifeline, and nobody writes into it.
 When the interpreter is gone, its end is closed, and the system then sends the program the signal that was asked for. This needs no
-thread, and unlike PR_SET_PDEATHSIG it does not end a session when the thread that opened it is done.
+thread, and unlike PR_SET_PDEATHSIG it does not end a session when the thread that opened it is done. (Only Linux does that. Elsewhere a
+program ends when its input or its output is closed.)
+
+The module is limited by what starts it (`picklestep.mjs`), to which the limit is given by the environment.
 """
 
 from __future__ import annotations
@@ -16,25 +19,36 @@ import os
 import select
 import signal
 import subprocess
+import threading
 import time
-from typing import IO, Generator, Iterable, List, NoReturn, Optional, Sequence
+from typing import IO, Dict, Generator, Iterable, Iterator, List, NoReturn, Optional, Sequence, Tuple
 
 from .errors import OutOfMemory, ProgramError, TimedOut, TooLarge
-from .place import find_program, program_words
+from .place import find_program, is_module, program_words
+
+try:
+    import fcntl
+except ImportError:  # (Windows has none)
+    fcntl = None  # type: ignore[assignment]
 
 __all__ = ['Process', 'find_program', 'run_program']
 
-_BLOCK = 1 << 18
+_BLOCK = 1 << 20  # (also of a pipe where the system lets it be so large: fewer turns between the program and its reader)
 _HAS_MASKS = hasattr(signal, 'pthread_sigmask')  # (Windows has none)
+_HAS_POLL = hasattr(select, 'poll')  # (nor this)
+_HAS_LIFELINES = hasattr(fcntl, 'F_SETSIG')
 _LIMITED = ['/bin/sh', '-c', 'ulimit -v "$1" && shift && exec "$@"', 'sh']
 
 
-def _command(words: Sequence[str], memory: Optional[int]) -> List[str]:
-    """The command that runs the program on these words, with at most this many bytes of memory."""
-    command = [*program_words(find_program()), *words]
+def _command(words: Sequence[str], memory: Optional[int]) -> Tuple[List[str], Optional[Dict[str, str]]]:
+    """The command that runs the program on these words, with at most this many bytes of memory, and its environment if that is another."""
+    program = find_program()
+    command = [*program_words(program), *words]
     if memory is None:
-        return command
-    return [*_LIMITED, str(max(1, memory // 1024)), *command]
+        return command, None
+    if is_module(program):
+        return command, {**os.environ, 'PICKLESTEP_MEMORY': str(memory)}
+    return [*_LIMITED, str(max(1, memory // 1024)), *command], None
 
 
 # What the loader of programs says where the memory limit is too small for the program itself.
@@ -45,24 +59,28 @@ class Process:
     """A running program, whose standard streams are pipes. It ends when the interpreter does."""
 
     def __init__(self, words: Sequence[str], files: Sequence[int] = (), memory: Optional[int] = None, stdin: bool = False) -> None:
-        command = _command(words, memory)
+        command, environment = _command(words, memory)
         self._is_open = False
-        near, self._lifeline = os.pipe()
+        self._timed_out = False
+        near, self._lifeline = os.pipe() if _HAS_LIFELINES else (-1, -1)
         # (An interrupt that came while the program starts would leave it without anybody who ends it. The program keeps the mask: a Ctrl-C
         # of the terminal interrupts the interpreter alone, and that ends the program.)
         masked = signal.pthread_sigmask(signal.SIG_BLOCK, {signal.SIGINT}) if _HAS_MASKS else ()
         try:
             self._popen = subprocess.Popen(command, stdin=subprocess.PIPE if stdin else subprocess.DEVNULL, stdout=subprocess.PIPE,
-                                           stderr=subprocess.PIPE, bufsize=0, pass_fds=(*files, near))
-            _end_with(near, self._popen.pid)
+                                           stderr=subprocess.PIPE, bufsize=0, pass_fds=(*files, near) if _HAS_LIFELINES else tuple(files),
+                                           env=environment)
+            if _HAS_LIFELINES:
+                _end_with(near, self._popen.pid)
+            _widen(self.stdout)
             self._is_open = True
         except BaseException as error:
-            os.close(self._lifeline)
+            _close(self._lifeline)
             if isinstance(error, OSError):
                 raise ProgramError(f'cannot start the program: {error}') from error
             raise
         finally:
-            os.close(near)
+            _close(near)
             self._unmask(masked)
 
     def _unmask(self, masked: Iterable[int]) -> None:
@@ -110,24 +128,51 @@ class Process:
         Raises TimedOut after `timeout` seconds, and ProgramError where the program failed, after what it wrote.
         """
         deadline = None if timeout is None else time.monotonic() + timeout
-        ready = select.poll()
-        ready.register(self.stdout, select.POLLIN)
         try:
             while True:
-                left = None if deadline is None else max(0, deadline - time.monotonic())
-                if left == 0 or not ready.poll(None if left is None else left * 1000):
-                    raise TimedOut(f'no answer within {timeout} seconds')
-                block = os.read(self.stdout, _BLOCK)
+                with self.waiting(self.stdout, deadline):
+                    block = os.read(self.stdout, _BLOCK)
                 if not block:
                     break
                 yield block
             assert self._popen.stderr is not None
             errors = self._popen.stderr.read()
             self._popen.wait()
+        except TimedOut:
+            raise TimedOut(f'no answer within {timeout} seconds') from None
         finally:
             self.close()
         if self._popen.returncode not in (0, 1):
             _raise_failure(self._popen.returncode, errors)
+
+    @contextlib.contextmanager
+    def waiting(self, file: int, deadline: Optional[float], writes: bool = False) -> Iterator[None]:
+        """Within it a pipe of the program is read or written. TimedOut where it is not ready by then.
+
+        Where the system cannot wait for pipes the program is ended at that time, which ends the read or write too.
+        """
+        left = None if deadline is None else max(0.0, deadline - time.monotonic())
+        if _HAS_POLL:
+            ready = select.poll()
+            ready.register(file, select.POLLOUT if writes else select.POLLIN)
+            if left == 0 or not ready.poll(None if left is None else left * 1000):
+                raise TimedOut('no answer')
+            yield
+            return
+        timer = None if left is None else threading.Timer(left, self._end_late)
+        try:
+            if timer is not None:
+                timer.start()
+            yield
+        finally:
+            if timer is not None:
+                timer.cancel()
+            if self._timed_out:
+                raise TimedOut('no answer')
+
+    def _end_late(self) -> None:
+        self._timed_out = True
+        self._popen.kill()
 
     def fail(self) -> NoReturn:
         """Raises why the program gave no answer, which ends it where it runs."""
@@ -150,7 +195,13 @@ class Process:
             for stream in (self._popen.stdin, self._popen.stdout, self._popen.stderr):
                 if stream is not None:
                     stream.close()
-            os.close(self._lifeline)
+            _close(self._lifeline)
+
+
+def _close(file: int) -> None:
+    """Closes an open file, if there is one."""
+    if file >= 0:
+        os.close(file)
 
 
 def _pipe(stream: Optional[IO[bytes]]) -> int:
@@ -159,12 +210,17 @@ def _pipe(stream: Optional[IO[bytes]]) -> int:
 
 
 def _end_with(lifeline: int, process: int) -> None:
-    """Asks the system to end a process when the lifeline's other end is closed. Only Linux does that."""
-    with contextlib.suppress(OSError, ImportError, AttributeError):  # (it has ended already)
-        import fcntl
+    """Asks the system to end a process when the lifeline's other end is closed."""
+    with contextlib.suppress(OSError):  # (it has ended already)
         fcntl.fcntl(lifeline, fcntl.F_SETSIG, signal.SIGKILL)
         fcntl.fcntl(lifeline, fcntl.F_SETOWN, process)
         fcntl.fcntl(lifeline, fcntl.F_SETFL, fcntl.fcntl(lifeline, fcntl.F_GETFL) | os.O_ASYNC)
+
+
+def _widen(pipe: int) -> None:
+    """Lets a pipe hold a block. Only Linux can do that."""
+    with contextlib.suppress(OSError, AttributeError):
+        fcntl.fcntl(pipe, fcntl.F_SETPIPE_SZ, _BLOCK)
 
 
 def _raise_failure(status: int, errors: bytes) -> NoReturn:

@@ -5,12 +5,11 @@ from __future__ import annotations
 import contextlib
 import html
 import os
-import select
 import threading
 import time
 import weakref
 from operator import index
-from typing import Dict, List, Optional, Sequence, Tuple, Union, overload
+from typing import Dict, Iterator, List, Optional, Sequence, Tuple, Union, overload
 
 from . import texts
 from .answers import Heap, Items, ShownObjects
@@ -18,7 +17,7 @@ from .arguments import ArgumentValue, encoded
 from .errors import ProgramError, Refused, TimedOut
 from .program import Process, run_program
 from .records import Mark, Ran, Ref, Where
-from .sources import Input, Source, is_word, nameless_file
+from .sources import Input, OwnFile, Source, is_word
 
 __all__ = ['Session']
 
@@ -41,7 +40,8 @@ class _Talk:
         self._is_open = True
         self._edits: List[bytes] = []
         self._undone: List[bytes] = []
-        os.set_blocking(self._stdin, False)
+        with contextlib.suppress(OSError, AttributeError):  # (older versions on Windows have no such pipes)
+            os.set_blocking(self._stdin, False)
 
     def line(self, line: bytes) -> str:
         """The answer of one line to a line."""
@@ -104,27 +104,31 @@ class _Talk:
                 pass
             if not data:
                 return
-            self._wait(self._stdin, select.POLLOUT, deadline)
+            with self._in_time(self._stdin, deadline, writes=True):
+                pass
 
     def _receive(self, last: bytes, deadline: Optional[float]) -> bytes:
         answer = bytearray()
         while True:
-            if deadline is not None:
-                self._wait(self._stdout, select.POLLIN, deadline)
-            block = os.read(self._stdout, 1 << 16)
+            with self._in_time(self._stdout, deadline):
+                block = os.read(self._stdout, 1 << 16)
             if not block:
                 raise EOFError
             answer += block
             if block.endswith(b'\n') and answer.startswith(last, answer.rfind(b'\n', 0, -1) + 1):
                 return bytes(answer)
 
-    def _wait(self, file: int, event: int, deadline: Optional[float]) -> None:
-        """Waits until the file can be read or written."""
-        poll = select.poll()
-        poll.register(file, event)
-        left = None if deadline is None else max(0.0, deadline - time.monotonic()) * 1000
-        if not poll.poll(left):
-            raise TimedOut(f'no answer within {self._timeout} seconds')
+    @contextlib.contextmanager
+    def _in_time(self, file: int, deadline: Optional[float], writes: bool = False) -> Iterator[None]:
+        """Within it the file is read or written, which has to be possible in time."""
+        if deadline is None and not writes:
+            yield
+            return
+        try:
+            with self._process.waiting(file, deadline, writes):
+                yield
+        except TimedOut:
+            raise TimedOut(f'no answer within {self._timeout} seconds') from None
 
     def close(self) -> None:
         """Ends the program."""
@@ -415,10 +419,9 @@ class Session(contextlib.AbstractContextManager['Session']):
         ...     session.replace(0, 'BININT1', 5), session.bytes()
         (0, b'K\\x05.')
         """
-        file = nameless_file()
-        with os.fdopen(file, 'rb') as saved:
-            self._save(f'/dev/fd/{file}', [file])
-            return saved.read()
+        with OwnFile() as file:
+            self._save(file.path, file.files)
+            return file.content()
 
     def save(self, path: Union[str, 'os.PathLike[str]']) -> None:
         """Writes the pickle with the edits that are not undone into a file, which may be the one that was opened.

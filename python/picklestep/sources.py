@@ -5,9 +5,12 @@ from __future__ import annotations
 import os
 import stat
 import tempfile
-from typing import Any, List, Protocol, Union
+from typing import Any, Optional, Protocol, Sequence, Union
 
-__all__ = ['LIMIT', 'Input', 'Source', 'is_word', 'nameless_file']
+from .errors import ProgramError
+from .place import find_program, is_module
+
+__all__ = ['LIMIT', 'Input', 'OwnFile', 'Source', 'is_word', 'small_content']
 
 class Readable(Protocol):
     """A binary file object, as far as it is needed."""
@@ -29,14 +32,14 @@ _BLOCK = 1 << 20
 class Input:
     """An input of the program, which stays open until it is closed.
 
-    Bytes and what a file object gives lie in memory (`memfd_create`), or where the system has no such files in a temporary file
-    without a name; the program opens them as /dev/fd/N. Neither can be left behind. With `own`, a file is copied so too: then nobody
-    else can change it. Raises what `open` raises where a path cannot be opened.
+    Bytes and what a file object gives lie in a file of our own. With `own`, a file is copied so too: then nobody else can change it.
+    Raises what `open` raises where a path cannot be opened.
     """
 
     def __init__(self, source: Source, own: bool = False) -> None:
-        self.files: List[int] = []
+        self.files: Sequence[int] = ()
         self.path = ''
+        self._own: Optional[OwnFile] = None
         try:
             self._open(source, own)
         except BaseException:
@@ -63,21 +66,38 @@ class Input:
             _copy(file, self._make())
 
     def _make(self) -> int:
-        file = nameless_file()
-        self.files.append(file)
-        self.path = f'/dev/fd/{file}'
-        return file
+        self._own = OwnFile()
+        self.files, self.path = self._own.files, self._own.path
+        return self._own.descriptor
 
     def close(self) -> None:
         """Lets the input go."""
-        while self.files:
-            os.close(self.files.pop())
+        if self._own is not None:
+            self._own.close()
+            self._own = None
 
     def __enter__(self) -> Input:
         return self
 
     def __exit__(self, *error: object) -> None:
         self.close()
+
+
+def small_content(source: Source, most: int) -> Optional[bytes]:
+    """The bytes of a source that has at most so many of them, where that is known before it is read. Raises what `open` raises."""
+    if isinstance(source, bytes):
+        return source if len(source) <= most else None
+    if isinstance(source, (str, os.PathLike)):
+        status = os.stat(source)
+        if not stat.S_ISREG(status.st_mode) or status.st_size > most:
+            return None
+        with open(source, 'rb', buffering=0) as file:
+            content = file.read(most + 1)
+        return content if len(content) <= most else None
+    if hasattr(source, 'read'):
+        return None
+    view = memoryview(source)
+    return view.tobytes() if view.nbytes <= most else None
 
 
 def _try(path: 'Union[str, os.PathLike[str]]') -> None:
@@ -97,7 +117,49 @@ def is_word(path: str) -> bool:
     return True
 
 
-def nameless_file() -> int:
+class OwnFile:
+    """A file of our own that the program can open by `path`, given the descriptors `files`.
+
+    It lies in memory (`memfd_create`), or where the system has no such files in a temporary file without a name; the program opens it as
+    /dev/fd/N. Neither can be left behind. The module opens only what has a name: there it is a temporary file, which goes when it is closed.
+    """
+
+    def __init__(self) -> None:
+        self._name = ''
+        if _opens_descriptors():
+            self.descriptor = _nameless_file()
+            self.path, self.files = f'/dev/fd/{self.descriptor}', [self.descriptor]
+        else:
+            self.descriptor, self._name = tempfile.mkstemp(prefix='picklestep-')
+            self.path, self.files = self._name, []
+
+    def content(self) -> bytes:
+        """What the program has put there. (With a name it may be another file by now.)"""
+        with open(self._name or os.dup(self.descriptor), 'rb') as file:
+            return file.read()
+
+    def close(self) -> None:
+        """Lets the file go."""
+        os.close(self.descriptor)
+        if self._name:
+            os.unlink(self._name)
+
+    def __enter__(self) -> OwnFile:
+        return self
+
+    def __exit__(self, *error: object) -> None:
+        self.close()
+
+
+def _opens_descriptors() -> bool:
+    """Whether the program can be given an open file."""
+    try:
+        return os.path.isdir('/dev/fd') and not is_module(find_program())
+    except ProgramError:
+        return True  # (there is no program, which its start will say)
+
+
+def _nameless_file() -> int:
     """An open file without a name, which is gone when it is closed."""
     if hasattr(os, 'memfd_create'):
         return os.memfd_create('picklestep', os.MFD_CLOEXEC)

@@ -5,12 +5,13 @@ from __future__ import annotations
 import re
 import time
 from collections import deque
-from typing import List, Optional, Type, TypeVar
+from typing import Iterable, Iterator, List, Optional, Type, TypeVar
 
+from . import library
 from .answers import Calls, Listing, Objects
 from .errors import ProgramError
 from .program import Process, run_program
-from .sources import Input, Source
+from .sources import Input, Source, small_content
 
 __all__ = ['calls', 'listing', 'objects']
 
@@ -29,8 +30,8 @@ def listing(source: Source, *, many: bool = False, timeout: Optional[float] = No
     4 TUPLE2 None
     5 STOP None
     """
-    with Input(source) as given:
-        return Listing(_answer('list', given, _many(many), timeout, memory))
+    with _Asked(source, timeout, memory) as asked:
+        return Listing(asked.answer(['list', *_many(many)]))
 
 
 def objects(source: Source, *, many: bool = False, timeout: Optional[float] = None, memory: Optional[int] = None) -> Objects:
@@ -40,7 +41,7 @@ def objects(source: Source, *, many: bool = False, timeout: Optional[float] = No
     >>> answer[2].kind, answer[2].parts, answer.results
     ('tuple', (0, 1), (2,))
     """
-    return _report(Objects, 'objects', source, _many(many), _many(many), timeout, memory)
+    return _report(Objects, ['objects', *_many(many)], source, ['list', *_many(many)], timeout, memory)
 
 
 def calls(source: Source, *, first: bool = False, memo_kept: bool = False, full: bool = False, many: bool = True,
@@ -60,37 +61,74 @@ def calls(source: Source, *, first: bool = False, memo_kept: bool = False, full:
     options = ['--first'] if first else ['--memo', 'kept'] if memo_kept else []
     options += ['--full'] if full else []
     # (A listing does not read on as one unpickler does, so where that was refused only the place is known.)
-    return _report(Calls, 'calls', source, options, None if memo_kept else _many(not first), timeout, memory)
+    return _report(Calls, ['calls', *options], source, None if memo_kept else ['list', *_many(not first)], timeout, memory)
 
 
-def _report(kind: Type[_Report], word: str, source: Source, options: List[str], listed: Optional[List[str]], timeout: Optional[float],
+def _report(kind: Type[_Report], words: List[str], source: Source, listing_words: Optional[List[str]], timeout: Optional[float],
             memory: Optional[int]) -> _Report:
-    """An answer that counts opcodes and not bytes. Where one was refused, a listing with the options `listed` shows its offset."""
-    with Input(source) as given:
-        begun = time.monotonic()
-        answer = kind(_answer(word, given, options, timeout, memory))
-        if answer.end.how != 'refused' or listed is None:
+    """An answer that counts opcodes and not bytes. Where one was refused, a listing by these words shows its offset."""
+    with _Asked(source, timeout, memory) as asked:
+        answer = kind(asked.answer(words))
+        if answer.end.how != 'refused' or listing_words is None:
             return answer
-        left = None if timeout is None else max(0.0, timeout - (time.monotonic() - begun))
-        return kind(answer.text, _last_offset(given, listed, left, memory))
+        return kind(answer.text, _last_offset(asked.blocks(listing_words)))
 
 
 def _many(many: bool) -> List[str]:
     return ['--many'] if many else []
 
 
-def _answer(word: str, given: Input, options: List[str], timeout: Optional[float], memory: Optional[int]) -> str:
-    """What the program writes about an input."""
-    answer = run_program([word, given.path, *options], given.files, timeout=timeout, memory=memory)
-    if not answer.endswith(b'\n'):
-        raise ProgramError('the program gave no whole answer')
-    return answer.decode('ascii')
+class _Asked:
+    """A source that is asked about: a small one in this process, another as an input of the program, from when that is needed."""
+
+    def __init__(self, source: Source, timeout: Optional[float], memory: Optional[int]) -> None:
+        self._memory = memory
+        self._timeout = timeout
+        self._begun = 0.0
+        self._content = small_content(source, library.MOST_BYTES) if timeout is None else None
+        self._source = source if self._content is None else self._content
+        self._input: Optional[Input] = None
+
+    def answer(self, words: List[str]) -> str:
+        """What the program writes about it with these words."""
+        answer = self._in_process(words)
+        if answer is None:
+            given = self._given()
+            self._begun = time.monotonic()
+            answer = run_program([words[0], given.path, *words[1:]], given.files, timeout=self._timeout, memory=self._memory)
+        if not answer.endswith(b'\n'):
+            raise ProgramError('the program gave no whole answer')
+        return answer.decode('ascii')
+
+    def blocks(self, words: List[str]) -> Iterator[bytes]:
+        """The same in pieces, within the time that is left."""
+        answer = self._in_process(words)
+        if answer is not None:
+            return iter([answer])
+        given = self._given()
+        left = None if self._timeout is None else max(0.0, self._timeout - (time.monotonic() - self._begun))
+        return Process([words[0], given.path, *words[1:]], given.files, self._memory).blocks(left)
+
+    def _in_process(self, words: List[str]) -> Optional[bytes]:
+        return None if self._content is None else library.answer(words, self._content, self._memory)
+
+    def _given(self) -> Input:
+        if self._input is None:
+            self._input = Input(self._source)
+        return self._input
+
+    def __enter__(self) -> _Asked:
+        return self
+
+    def __exit__(self, *error: object) -> None:
+        if self._input is not None:
+            self._input.close()
 
 
-def _last_offset(given: Input, options: List[str], timeout: Optional[float], memory: Optional[int]) -> Optional[int]:
+def _last_offset(blocks: Iterable[bytes]) -> Optional[int]:
     """The offset of the last opcode that is listed. Of the listing only the beginning of its last line is kept."""
     offset, line = None, b''
-    for block in Process(['list', given.path, *options], given.files, memory).blocks(timeout):
+    for block in blocks:
         block = line + block
         for match in deque(_OFFSET.finditer(block), 1):
             offset = int(match[1])

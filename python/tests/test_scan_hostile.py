@@ -209,7 +209,7 @@ class HostileZip(ScanCase):
             data = bytearray(whole)
             for _ in range(chance.randrange(1, 6)):
                 data[chance.randrange(len(data))] = chance.choice((0, 1, 8, 80, 255, chance.randrange(256)))
-            with mock.patch('picklestep.scan.looking.asks_program', return_value=NOTHING):
+            with mock.patch('picklestep.scan.reading.Asked.summary', return_value=NOTHING):
                 self.assertIsNone(self.look('a.zip', bytes(data)).error)
 
 

@@ -133,7 +133,7 @@ class Documents(unittest.TestCase):
 
     def test_what_is_imported_and_called(self) -> None:
         with opened(pickle.dumps([len, len], 4) + b'(.') as document, opened(SYSTEM) as other:
-            place = next(place for place in range(len(document.lines)) if document.lines.at(place).name == 'STACK_GLOBAL')
+            place = next(place for place in range(len(document.lines)) if document.lines.at(place).code == '\\x93')
             imported = "import 'builtins' 'len' as #3"
             self.assertEqual(document.reached(0, 9), [[place, document.lines.offset(place), 'import', imported]])
             self.assertEqual(document.slice(place, 1)[0][8], imported)
@@ -179,6 +179,15 @@ class Documents(unittest.TestCase):
             document.move('run', 0)
             document.state()
             self.assertEqual(document.about(3)['held'], [0])
+
+
+class Opening(unittest.TestCase):
+    def test_how_far_it_is(self) -> None:
+        told: List[str] = []
+        document = Document(b'(' + b'K\x01' * 300_000 + b'l.', 'a pickle', told=told.append)
+        document.close()
+        self.assertIn('list: 300,004 lines', told)
+        self.assertEqual([word for word in ('list', 'objects') if any(text.startswith(f'{word}: ') for text in told)], ['list', 'objects'])
 
 
 class Cutting(unittest.TestCase):

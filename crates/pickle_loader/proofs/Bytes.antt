@@ -1,5 +1,5 @@
 -- What the unpickler does with bytes is what it does with the items of their document.
-use Rattle.std.proofs.Common.{◌≡◌, ℕ, zero, suc, ◌+◌, ◌-◌, ◌^◌, ◌<◌, ◌≤◌, Bool, true, false, List, [], ◌∷◌, ◌++◌, length, drop, Option, Some, None, refl, sym, ap, subst, ◌∙◌, inl, inr, arith}
+use Rattle.std.proofs.Common.{◌≡◌, ◌⊎◌, ℕ, zero, suc, ◌+◌, ◌-◌, ◌^◌, ◌<◌, ◌≤◌, Bool, true, false, List, [], ◌∷◌, ◌++◌, length, drop, Option, Some, None, refl, sym, ap, subst, ◌∙◌, inl, inr, arith}
 use Rattle.std.specs.Prelude.{slice_get, ◌==◌, ◌||◌, ◌&&◌, not, if◌then◌else◌, IsSome}
 use Rattle.std.proofs.lemmas.Bool.{cases_lt}
 use Rattle.std.proofs.lemmas.Option.{slice_get_within}
@@ -21,19 +21,20 @@ use Rattle.pickle_machine.specs.State.{State, start}
 use Rattle.pickle_machine.specs.Run.{run}
 use Rattle.pickle_show.specs.Listing.{reached}
 use Rattle.pickle_show.specs.Report.{refused_on, closing_status}
-use Rattle.pickle_show.specs.Calls.{first_inside, closing_of, closing_to}
+use Rattle.pickle_show.specs.Calls.{first_inside, closing_of, closing_to, end_to, end_from, calls_end}
 use Rattle.pickle_show.proofs.Places.{is_reached}
 use Rattle.pickle_loader.specs.Environment.{Value, Act, World}
 use Rattle.pickle_loader.specs.Unpickler.{Unpickler, Step, Ran, Stopped, Raised}
 use Rattle.pickle_loader.specs.Dispatch.{Loaded, Going, Ended, Failed, loaded, acts_of, load_op, dispatch, load_item, load}
-use Rattle.pickle_loader.specs.Reader.{Fetched, NoFetch, fetch, frame_left, Fetches, opened}
+use Rattle.pickle_loader.specs.Reader.{Fetched, NoFetch, fetch, frame_left, Fetches, opened, StopsEndFrames}
 use Rattle.pickle_loader.specs.Told.{told_of, told_at, told}
 use Rattle.pickle_loader.specs.Laws.{Follows}
-use Rattle.pickle_loader.specs.Bytes.{Loading, goes_on, load_fetched, load_next, load_bytes, IsRead, BytesAreListed, NothingElse}
+use Rattle.pickle_loader.specs.Bytes.{Loading, goes_on, load_fetched, load_next, load_bytes, BytesAreListed, NothingElse}
 use Rattle.pickle_loader.proofs.Still.{move_to}
 use Rattle.pickle_loader.proofs.Listing.{loads_are_listed, next_load, never_stop, ran_by}
 use Rattle.pickle_loader.proofs.Lines.{zero_end, not_refused, all_reached}
 use Rattle.pickle_loader.proofs.Stops.{stops_end_frames}
+use Rattle.pickle_loader.proofs.Prefixes.{FetchesFor, fetched_for, none_earlier, none_listed}
 use Rattle.pickle_loader.proofs.Fetching.{ops_are_fetched}
 
 -- ---- along the bytes
@@ -50,7 +51,7 @@ still_by w true o (Ended v u) e = absurd cc
 still_by w false o (Ended v u) e = refl
 still_by w many o (Failed acts) e = refl
 
-drop_next : (ops : List Operation) (n : ℕ) (o : Operation) → slice_get ops n ≡ Some o → drop n ops ≡ o ∷ drop (suc n) ops
+pub drop_next : (ops : List Operation) (n : ℕ) (o : Operation) → slice_get ops n ≡ Some o → drop n ops ≡ o ∷ drop (suc n) ops
 drop_next [] n o e = absurd cc
 drop_next (p ∷ ops) zero o e = let same : p ≡ o = cc in ap (λ (x : Operation). x ∷ ops) same
 drop_next (p ∷ ops) (suc n) o e = drop_next ops n o e
@@ -78,7 +79,43 @@ along w many most bytes ops f (suc n) h =
     let x : Loading = load_bytes w many bytes n in
     along_next w many most ops n o.0 x (goes_on many x.now) refl o.1 (along w many most bytes ops f n (omega (arith, h)))
 
+-- the same of the first opcodes alone: k more of them are read
+record AlongFor (w : World) (many : Bool) (ops : List Operation) (n k : ℕ) (x : Loading) : Type 0 where
+  same : x.now ≡ load w many ops n
+  ahead : goes_on many x.now ≡ true → FetchesFor k x.reader (drop n ops)
+
+along_for_next : (w : World) (many : Bool) (ops : List Operation) (n k : ℕ) (o : Operation) (x : Loading) (b : Bool) → goes_on many x.now ≡ b → slice_get ops n ≡ Some o → AlongFor w many ops n (suc k) x
+    → AlongFor w many ops (suc n) k (if b then load_fetched w many x (fetch x.reader) else x)
+along_for_next w many ops n k o x true is there a =
+    let more : FetchesFor (suc k) x.reader (o ∷ drop (suc n) ops) = subst (λ (l : List Operation). FetchesFor (suc k) x.reader l) (drop_next ops n o there) (a.ahead is) in
+    subst (λ (f : Fetched). AlongFor w many ops (suc n) k (load_fetched w many x f)) (sym more.1)
+    (record { same = ap (load_item w many (Some o)) a.same ∙ sym (next_load w many ops n o there); ahead = λ _. more.2 })
+along_for_next w many ops n k o x false is there a =
+    let stays : load_item w many (Some o) x.now ≡ x.now = still_by w many o x.now is in
+    record { same = sym stays ∙ ap (load_item w many (Some o)) a.same ∙ sym (next_load w many ops n o there); ahead = λ e. absurd cc }
+
+drop_first : (ops : List Operation) → ops ≡ drop 0 ops
+drop_first [] = refl
+drop_first (o ∷ ops) = refl
+
+along_for : (w : World) (many : Bool) (bytes : List ℕ) (ops : List Operation) (n k : ℕ) → FetchesFor (n + k) (opened bytes) ops → n ≤ length ops → AlongFor w many ops n k (load_bytes w many bytes n)
+unfolding load_bytes load
+along_for w many bytes ops zero k f h =
+    let none : 0 + k ≡ k = omega arith in
+    record { same = refl; ahead = λ _. subst (λ (l : List Operation). FetchesFor k (opened bytes) l) (drop_first ops) (subst (λ (m : ℕ). FetchesFor m (opened bytes) ops) none f) }
+along_for w many bytes ops (suc n) k f h =
+    let o = get_at ops n (omega (arith, h)) in
+    let x : Loading = load_bytes w many bytes n in
+    let sum : suc n + k ≡ n + suc k = omega arith in
+    along_for_next w many ops n k o.0 x (goes_on many x.now) refl o.1 (along_for w many bytes ops n (suc k) (subst (λ (m : ℕ). FetchesFor m (opened bytes) ops) sum f) (omega (arith, h)))
+
 -- ---- bytes
+
+-- bytes that read as a document, of which no STOP is inside an unfinished frame
+record IsRead (many : Bool) (bytes : List ℕ) (d : Contents) : Type 0 where
+  reads : ReadsAs many bytes d
+  small : length bytes < 2 ^ 64
+  stops : (many ≡ false) ⊎ StopsEndFrames d.units
 
 run_within : (from : State) (ops : List Operation) (n : ℕ) (s : State) → run from ops n ≡ Some s → n ≤ length ops
 run_within from ops zero s e = omega arith
@@ -94,14 +131,25 @@ fetches_all many bytes d r =
       | inr ends ↦ inr ends
     ]))
 
+same_load : (w : World) (many : Bool) (bytes : List ℕ) (d : Contents) (n : ℕ) → ReadsAs many bytes d → length bytes < 2 ^ 64 → n ≤ length (ops_of d) → n ≤ (calls_end d).place → (load_bytes w many bytes n).now ≡ load w many (ops_of d) n
+unfolding load_bytes load
+same_load w many bytes d zero reads small within listed = refl
+same_load w many bytes d (suc m) reads small within listed =
+    let less : length (document_bytes d) < 2 ^ 64 = subst (λ (l : List ℕ). length l < 2 ^ 64) (sym reads.whole) small in
+    let all : suc m + 0 ≡ suc m = omega arith in
+    let first : FetchesFor (suc m + 0) (opened bytes) (ops_of d) =
+    subst (λ (k : ℕ). FetchesFor k (opened bytes) (ops_of d)) (sym all)
+    (subst (λ (l : List ℕ). FetchesFor (suc m) (opened l) (ops_of d)) reads.whole (fetched_for d m reads.document.formed less (none_listed d m listed))) in
+    (along_for w many bytes (ops_of d) (suc m) 0 first within).same
+
 pub bytes_are_listed : BytesAreListed
-bytes_are_listed w many bytes d r =
-    let law = loads_are_listed w d r.reads.document.formed in
+bytes_are_listed w many bytes d reads small =
+    let law = loads_are_listed w d reads.document.formed in
     let listed : (n : ℕ) (s : State) → run (start many) (ops_of d) n ≡ Some s → Follows w law.0 (told law.0 many (ops_of d) n) s (load w many (ops_of d) n) =
-    subst (λ (b : Bool). (n : ℕ) (s : State) → run (start b) (ops_of d) n ≡ Some s → Follows w law.0 (told law.0 b (ops_of d) n) s (load w b (ops_of d) n)) r.reads.mode law.1 in (
+    subst (λ (b : Bool). (n : ℕ) (s : State) → run (start b) (ops_of d) n ≡ Some s → Follows w law.0 (told law.0 b (ops_of d) n) s (load w b (ops_of d) n)) reads.mode law.1 in (
       law.0,
-      λ n s e. subst (λ (l : Loaded). Follows w law.0 (told law.0 many (ops_of d) n) s l)
-          (sym (along w many (length d.tail) bytes (ops_of d) (fetches_all many bytes d r) n (run_within (start many) (ops_of d) n s e)).same) (listed n s e),
+      λ n s e h. subst (λ (l : Loaded). Follows w law.0 (told law.0 many (ops_of d) n) s l)
+          (sym (same_load w many bytes d n reads small (run_within (start many) (ops_of d) n s e) h)) (listed n s e),
     )
 
 -- ---- nothing else
@@ -254,6 +302,18 @@ read_through many bytes d reads small true e whole =
     let less : length (document_bytes d) < 2 ^ 64 = subst (λ (l : List ℕ). length l < 2 ^ 64) (sym reads.whole) small in
     record { reads = reads; small = small; stops = inr (stops_end_frames d reads.document.formed less (reads.mode ∙ e) whole) }
 
+reached_within : (d : Contents) → reached (start d.many) (ops_of d) (length (ops_of d)) ≤ length (ops_of d)
+reached_within d = let far = is_reached (start d.many) (ops_of d) (length (ops_of d)) in far.within
+
+-- where no STOP leaves a frame unfinished the lines end where the items do
+none_inside : (d : Contents) (k : ℕ) (s : State) → reached (start d.many) (ops_of d) (length (ops_of d)) ≡ k → run (start d.many) (ops_of d) k ≡ Some s → first_inside d (length (ops_of d)) ≡ None → (calls_end d).place ≡ k
+unfolding calls_end
+none_inside d k s e here none =
+    let first : first_inside d k ≡ None = none_earlier d (length (ops_of d)) k none (subst (λ (n : ℕ). n ≤ length (ops_of d)) e (reached_within d)) in
+    ap (λ (n : ℕ). (end_from d n (first_inside d n)).place) e
+    ∙ ap (λ (x : Option ℕ). (end_from d k x).place) first
+    ∙ ap (λ (x : Option State). (end_to d k x).place) here
+
 pub nothing_else : NothingElse
 unfolding Acts
 nothing_else how w many bytes d reads small status =
@@ -266,19 +326,20 @@ nothing_else how w many bytes d reads small status =
     let all : k ≡ length (ops_of d) = all_reached d k far.state (item_at d k) refl far.is none far.most far.within in
     let whole : first_inside d (length (ops_of d)) ≡ None = ap (first_inside d) (sym all) ∙ ended.0 in
     let r : IsRead many bytes d = read_through many bytes d reads small many refl whole in
-    let law = bytes_are_listed w many bytes d r in
+    let law = bytes_are_listed w many bytes d reads small in
+    let place : (calls_end d).place ≡ length (ops_of d) = none_inside d k far.state refl far.is whole ∙ all in
     let stopped : finish_of d ≡ finish.Stopped = status_finish d (finish_of d) (closing_none d k (refused_on (item_at d k) far.state) none zero_status) in
     let last : run (start many) (ops_of d) (length (ops_of d)) ≡ Some far.state = subst (λ (b : Bool). run (start b) (ops_of d) (length (ops_of d)) ≡ Some far.state) r.reads.mode (ap (run (start d.many) (ops_of d)) (sym all) ∙ far.is) in (
       law.0,
       λ n. elim (cases_lt n (length (ops_of d))) [
         | inl less ↦
             let before = run_before (start many) (ops_of d) (length (ops_of d)) n far.state last (omega (arith, less)) in
-            let front = front_of w law.0 _ before.0 (load_bytes w many bytes n).now (law.1 n before.0 before.1) in
+            let front = front_of w law.0 _ before.0 (load_bytes w many bytes n).now (law.1 n before.0 before.1 (omega (arith, less, place))) in
             let more = told_more law.0 many (ops_of d) (length (ops_of d)) n (omega (arith, less)) in
             let done : List Act = told_of (acts_of (load_bytes w many bytes n).now) in
             (front.0 ++ more.0, joined done front.0 more.0 (told law.0 many (ops_of d) n) (told law.0 many (ops_of d) (length (ops_of d))) front.1 more.1)
         | inr far_off ↦
-            let front = front_of w law.0 _ far.state (load_bytes w many bytes (length (ops_of d))).now (law.1 (length (ops_of d)) far.state last) in
+            let front = front_of w law.0 _ far.state (load_bytes w many bytes (length (ops_of d))).now (law.1 (length (ops_of d)) far.state last (omega (arith, place))) in
             let place : n ≡ length (ops_of d) + (n - length (ops_of d)) = omega (arith, far_off) in
             let same : acts_of (load_bytes w many bytes n).now ≡ acts_of (load_bytes w many bytes (length (ops_of d))).now =
             ap (λ (m : ℕ). acts_of (load_bytes w many bytes m).now) place ∙ all_over w many bytes d (n - length (ops_of d)) r stopped in

@@ -173,25 +173,25 @@ reads_arg s form.Bs4 arg rest (h, e) v = reads_signed s arg rest h e (fault_none
 
 -- ---- opcodes
 
-fetches_op : (s : Side) (o : Operation) (rest : List ℕ) → IsSpelled o → fetch (at_side s (spelling o ++ rest)) ≡ fetched o (behind o.opcode o.arg (at_side s rest))
+pub fetches_op : (s : Side) (o : Operation) (rest : List ℕ) → IsSpelled o → fetch (at_side s (spelling o ++ rest)) ≡ fetched o (behind o.opcode o.arg (at_side s rest))
 fetches_op s o rest spelled =
     ap with_key (reads s 1 (code_of o.opcode ∷ []) (o.arg ++ rest) refl)
     ∙ ap (λ (x : Option Opcode). with_code x (at_side s (o.arg ++ rest))) (opcode_of-code o.opcode)
     ∙ ap (with_arg o.opcode) (reads_arg s (form_of o.opcode) o.arg rest spelled.arg spelled.value)
 
 -- in the file no opcode but FRAME does anything
-stays_in_file : (o : Opcode) (arg rest : List ℕ) → is_frame o ≡ false → behind o arg (at_side InFile rest) ≡ Some (at_side InFile rest)
+pub stays_in_file : (o : Opcode) (arg rest : List ℕ) → is_frame o ≡ false → behind o arg (at_side InFile rest) ≡ Some (at_side InFile rest)
 stays_in_file op.Frame arg rest e = absurd cc
 stays_in_file op.Stop arg rest e = refl
 stays_in_file _ arg rest e = refl
 
 -- in a frame STOP leaves it besides
-stays_in_frame : (o : Opcode) (arg rest file : List ℕ) → is_frame o ≡ false → is_stop o ≡ false → behind o arg (at_side (InFrame file) rest) ≡ Some (at_side (InFrame file) rest)
+pub stays_in_frame : (o : Opcode) (arg rest file : List ℕ) → is_frame o ≡ false → is_stop o ≡ false → behind o arg (at_side (InFrame file) rest) ≡ Some (at_side (InFrame file) rest)
 stays_in_frame op.Frame arg rest file e f = absurd cc
 stays_in_frame op.Stop arg rest file e f = absurd cc
 stays_in_frame _ arg rest file e f = refl
 
-leaves_frame : (o : Opcode) (arg rest file : List ℕ) → is_stop o ≡ true → behind o arg (at_side (InFrame file) rest) ≡ Some (at_side InFile file)
+pub leaves_frame : (o : Opcode) (arg rest file : List ℕ) → is_stop o ≡ true → behind o arg (at_side (InFrame file) rest) ≡ Some (at_side InFile file)
 leaves_frame op.Stop arg rest file e = refl
 leaves_frame _ arg rest file e = absurd cc
 

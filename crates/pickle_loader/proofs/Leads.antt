@@ -168,9 +168,9 @@ then_led m o place true s a t running e f = elim (as_still m.row o place s a run
       elim (as_still m.row o place a t still_running f) [
         | inl stop ↦ inl stop
         | inr two ↦ inr (
-              record { many = two.many ∙ one.many; stopped = two.stopped ∙ one.stopped; results = two.results ∙ one.results },
-              record { grown = omega (arith, as_grows m.row o place s a running e, as_grows m.row o place a t still_running f); many = two.many ∙ one.many },
-            )
+          record { many = two.many ∙ one.many; stopped = two.stopped ∙ one.stopped; results = two.results ∙ one.results },
+          record { grown = omega (arith, as_grows m.row o place s a running e, as_grows m.row o place a t still_running f); many = two.many ∙ one.many },
+        )
       ]
 ]
 then_led m o place false s a t running e f =

@@ -10,6 +10,7 @@ pub mod Listing
 pub mod Lines
 pub mod Fetching
 pub mod Stops
+pub mod Prefixes
 pub mod Bytes
 pub mod FlatStacks
 pub mod Beyond
@@ -23,3 +24,4 @@ pub mod Items
 pub mod Leads
 pub mod Onwards
 pub mod Ways
+pub mod Readings

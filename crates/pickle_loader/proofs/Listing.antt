@@ -127,11 +127,11 @@ pub next_load : (w : World) (many : Bool) (ops : List Operation) (n : ℕ) (o : 
 unfolding load
 next_load w many ops n o e = ap (λ (x : Option Operation). load_item w many x (load w many ops n)) e
 
-next_protocol : (ops : List Operation) (n : ℕ) (o : Operation) → slice_get ops n ≡ Some o → protocol_at ops (suc n) ≡ protocol_after o.opcode o.arg (protocol_at ops n)
+pub next_protocol : (ops : List Operation) (n : ℕ) (o : Operation) → slice_get ops n ≡ Some o → protocol_at ops (suc n) ≡ protocol_after o.opcode o.arg (protocol_at ops n)
 unfolding protocol_at
 next_protocol ops n o e = ap (λ (x : Option Operation). protocol_next x (protocol_at ops n)) e
 
-next_told : (V : ℕ → Value) (many : Bool) (ops : List Operation) (n : ℕ) (o : Operation) (s t : State) → slice_get ops n ≡ Some o → run (start many) ops n ≡ Some s → run (start many) ops (suc n) ≡ Some t
+pub next_told : (V : ℕ → Value) (many : Bool) (ops : List Operation) (n : ℕ) (o : Operation) (s t : State) → slice_get ops n ≡ Some o → run (start many) ops n ≡ Some s → run (start many) ops (suc n) ≡ Some t
     → told V many ops (suc n) ≡ told V many ops n ++ acts_told V (protocol_at ops n) (fresh s) t (event_of (row_of o) (before_of (fresh s)) t)
 unfolding told told_at
 next_told V many ops n o s t e f g =

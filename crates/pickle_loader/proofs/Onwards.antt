@@ -162,8 +162,7 @@ ran_turn p t item a u acts is loads moved e whole follows =
     let stays : state_after p item.op.opcode a ≡ a = keeps_not p item.op.opcode a running in
     let on : fresh a ≡ a = fresh_same a (both.0.stopped ∙ fresh_running t.q.state) in
     let many : a.many ≡ are_many p = both.0.many ∙ fresh_many t.q.state ∙ t.many in
-    subst (λ (c : Option Closing). After p t item (Ran u) (gone_with p t item a c)) (sym (not_stopped p item.op.opcode (length (drop item.size t.q.rest)) running))
-    (
+    subst (λ (c : Option Closing). After p t item (Ran u) (gone_with p t item a c)) (sym (not_stopped p item.op.opcode (length (drop item.size t.q.rest)) running)) (
       (
         subst (λ (f : State). IsSame t.w t.V f u) (sym (ap fresh stays ∙ on)) follows.0,
         follows.2 ∙ ap (protocol_after item.op.opcode item.op.arg) t.at,

@@ -29,7 +29,7 @@ or_none None true k e = absurd cc
 or_none None false k e = (refl, refl)
 
 -- none of the first n items
-none_before : (d : Contents) (n j : ℕ) → first_inside d n ≡ None → j < n → is_inside d.many (item_at d j) (left_at d j) ≡ false
+pub none_before : (d : Contents) (n j : ℕ) → first_inside d n ≡ None → j < n → is_inside d.many (item_at d j) (left_at d j) ≡ false
 unfolding first_inside
 none_before d zero j e less = absurd (omega (arith, less))
 none_before d (suc n) j e less =

@@ -1,15 +1,15 @@
 -- What CPython's unpickler does with the bytes of a file, by one `pickle.load` or by a loop of them, and that the lines tell it.
 -- Source: Lib/pickle.py, `load` (CPython 3.11).
-use Rattle.std.specs.Prelude.{◌≡◌, ◌⊎◌, ℕ, zero, suc, ◌^◌, ◌<◌, Bool, true, false, List, [], ◌++◌, length, if◌then◌else◌, Some}
+use Rattle.std.specs.Prelude.{◌≡◌, ℕ, zero, suc, ◌^◌, ◌<◌, ◌≤◌, Bool, true, false, List, [], ◌++◌, length, if◌then◌else◌, Some}
 use Rattle.pickle_doc.specs.Document.{Contents, ReadsAs}
 use Rattle.pickle_doc.specs.Place.{ops_of}
 use Rattle.pickle_machine.specs.State.{State, start}
 use Rattle.pickle_machine.specs.Run.{run}
 use Rattle.pickle_show.specs.declared.naming.Detail.{Detail}
-use Rattle.pickle_show.specs.Calls.{calls}
+use Rattle.pickle_show.specs.Calls.{calls_end, calls}
 use Rattle.pickle_loader.specs.Environment.{Value, Act, World}
 use Rattle.pickle_loader.specs.Dispatch.{Loaded, Going, Ended, Failed, acts_of, new_unpickler, load_item}
-use Rattle.pickle_loader.specs.Reader.{Reader, Fetched, Fetch, NoFetch, fetch, opened, StopsEndFrames}
+use Rattle.pickle_loader.specs.Reader.{Reader, Fetched, Fetch, NoFetch, fetch, opened}
 use Rattle.pickle_loader.specs.Told.{told_of, told}
 use Rattle.pickle_loader.specs.Laws.{Follows}
 
@@ -38,19 +38,14 @@ load_bytes w many bytes (suc n) = load_next w many (load_bytes w many bytes n)
 
 -- ---- the laws
 
--- bytes that read as a document, of one pickle or of several; of several no STOP is inside an unfinished frame
-pub record IsRead (many : Bool) (bytes : List ℕ) (d : Contents) : Type 0 where
-  pub reads : ReadsAs many bytes d
-  pub small : length bytes < 2 ^ 64
-  pub stops : (many ≡ false) ⊎ StopsEndFrames d.units
-
--- as far as items are accepted, what the unpickler does with the bytes is what the lines tell
+-- as far as the lines go, what the unpickler does with the bytes is what they tell: of several pickles they end at a STOP that leaves a
+-- frame unfinished, behind which this unpickler reads on behind the frame
 abbrev pub BytesAreListed : Type 0
-BytesAreListed = (w : World) (many : Bool) (bytes : List ℕ) (d : Contents) → IsRead many bytes d
-    → (V : ℕ → Value) × ((n : ℕ) (s : State) → run (start many) (ops_of d) n ≡ Some s → Follows w V (told V many (ops_of d) n) s (load_bytes w many bytes n).now)
+BytesAreListed = (w : World) (many : Bool) (bytes : List ℕ) (d : Contents) → ReadsAs many bytes d → length bytes < 2 ^ 64
+    → (V : ℕ → Value) × ((n : ℕ) (s : State) → run (start many) (ops_of d) n ≡ Some s → n ≤ (calls_end d).place → Follows w V (told V many (ops_of d) n) s (load_bytes w many bytes n).now)
 
--- where the reading ends with status 0, for which no STOP may leave a frame unfinished, however long the unpickler runs, all that is told of what it does is a beginning of what the
--- lines tell
+-- where the reading ends with status 0, for which no STOP may leave a frame unfinished, however long the unpickler runs, all that is told
+-- of what it does is a beginning of what the lines tell
 abbrev pub NothingElse : Type 0
 NothingElse = (how : Detail) (w : World) (many : Bool) (bytes : List ℕ) (d : Contents) → ReadsAs many bytes d → length bytes < 2 ^ 64 → (calls how d).status ≡ 0
     → (V : ℕ → Value) × ((n : ℕ) → (rest : List Act) × (told_of (acts_of (load_bytes w many bytes n).now) ++ rest ≡ told V many (ops_of d) (length (ops_of d))))

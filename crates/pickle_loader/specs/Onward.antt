@@ -1,24 +1,28 @@
 -- What an unpickler does with the bytes of a file that it reads as loaders do, behind an end of the lines too; and which acts the lines tell.
 -- Source: Lib/pickle.py, `load`, `load_get`, `load_put` (CPython 3.11). What loaders read at the front of bytes, frames ignored or kept in a
 -- buffer, `taken` says, with its sources.
-use Rattle.std.specs.Prelude.{◌≡◌, ℕ, zero, suc, ◌≤◌, Bool, true, false, List, [], ◌++◌, drop, if◌then◌else◌, Option, Some, None, is_some, Result, Ok, Err}
+use Rattle.std.specs.Prelude.{◌≡◌, ℕ, zero, suc, ◌^◌, ◌<◌, ◌≤◌, Bool, true, false, List, [], ◌++◌, length, drop, if◌then◌else◌, Option, Some, None, is_some, Result, Ok, Err}
 use Rattle.pickle_ops.specs.declared.opcode.Opcode.{Opcode}
 use Rattle.pickle_ops.specs.declared.opcode.Opcode.TheVariants as op
 use Rattle.pickle_ops.specs.declared.row.Row.{Row}
 use Rattle.pickle_ops.specs.declared.row.Row.TheVariants as row
 use Rattle.pickle_ops.specs.declared.fault.FrontFault.{FrontFault}
+use Rattle.pickle_doc.specs.Document.{Contents, IsFormed, document_bytes}
+use Rattle.pickle_doc.specs.Place.{ops_of}
+use Rattle.pickle_machine.specs.State.{State, start}
 use Rattle.pickle_machine.specs.Move.{fresh}
+use Rattle.pickle_machine.specs.Run.{run}
 use Rattle.pickle_lenient.specs.declared.taken.Taken.{Taken}
 use Rattle.pickle_lenient.specs.Stream.{taken}
 use Rattle.pickle_further.specs.declared.way.Pickles.{Pickles}
 use Rattle.pickle_further.specs.declared.way.Pickles.TheVariants as pickles
 use Rattle.pickle_further.specs.declared.way.Way.{Way}
 use Rattle.pickle_further.specs.Going.{Standing, Going as Gone, going, stands_after}
-use Rattle.pickle_further.specs.Parts.{standing_first}
+use Rattle.pickle_further.specs.Parts.{ignoring, are_many, standing_at, standing_first}
 use Rattle.pickle_loader.specs.Environment.{Value, Act, World}
 use Rattle.pickle_loader.specs.Unpickler.{Unpickler, Step, Raised, load_frame, load_get, load_put}
 use Rattle.pickle_loader.specs.Dispatch.{dispatch, Loaded, Going, Ended, Failed, loaded, acts_of, new_unpickler}
-use Rattle.pickle_loader.specs.Told.{told_of, acts_told, protocol_after}
+use Rattle.pickle_loader.specs.Told.{told_of, acts_told, told, protocol_after}
 use Rattle.pickle_loader.specs.Beyond.{IsUsual}
 
 -- ---- an item
@@ -124,3 +128,19 @@ acts_before V way p (suc n) = acts_before V way p n ++ acts_on V way (protocol w
 abbrev pub NothingBeyond : Type 0
 NothingBeyond = (w : World) → IsUsual w → (way : Way) (bytes : List ℕ) (n : ℕ)
     → (V : ℕ → Value) × ((m : ℕ) → m ≤ n → (rest : List Act) × (told_of (acts_of (load_way w way bytes m).now) ++ rest ≡ acts_before V way (standing_first way.pickles bytes) m))
+
+-- ---- the lines of a document
+
+-- whether each pickle is read by an unpickler that begins anew
+abbrev pub begins_anew : Pickles → Bool
+begins_anew pickles.First = true
+begins_anew pickles.All = true
+begins_anew pickles.OneMemo = false
+
+-- the reading of a document's bytes with frames ignored, where it did not end before, stands at each place that the machine reaches where
+-- the part behind an end at that place begins, and told up to there what the lines tell: the lines and the part behind their end are those
+-- of one reading
+abbrev pub LinesAreRead : Type 0
+LinesAreRead = (V : ℕ → Value) (p : Pickles) (d : Contents) → IsFormed d → length (document_bytes d) < 2 ^ 64 → begins_anew p ≡ true → d.many ≡ are_many p
+    → (k : ℕ) (s : State) (q : Standing) → run (start d.many) (ops_of d) k ≡ Some s → stands (ignoring p) (standing_first p (document_bytes d)) k ≡ Some q
+    → (q ≡ standing_at d k s) × (acts_before V (ignoring p) (standing_first p (document_bytes d)) k ≡ told V d.many (ops_of d) k)

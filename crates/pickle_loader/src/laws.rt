@@ -4,7 +4,7 @@ ghost use Rattle.pickle_loader.specs.Laws.{LoadsAreListed, ToldHasLine, AllTold,
 ghost use Rattle.pickle_loader.specs.Reader.{OpsAreFetched};
 ghost use Rattle.pickle_loader.specs.FlatStack.{OneStack};
 ghost use Rattle.pickle_loader.specs.Beyond.{WideMovesAreFollowed, WhatIsMissingRaises, FillsAreFollowed, AStepBeyond};
-ghost use Rattle.pickle_loader.specs.Onward.{NothingBeyond};
+ghost use Rattle.pickle_loader.specs.Onward.{NothingBeyond, LinesAreRead};
 ghost use Rattle.pickle_loader.specs.Bytes.{BytesAreListed, NothingElse};
 
 /// What the unpickler does in any environment is what the lines tell, as far as it does not raise.
@@ -71,4 +71,9 @@ pub fn a_step_beyond()
 /// Behind an end too, whatever an unpickler does that reads as loaders read is a beginning of what the lines of that reading tell.
 pub fn nothing_beyond()
     ensures { NothingBeyond }
+{}
+
+/// The lines of a document and those of the part behind their end are lines of one reading, from the first byte on.
+pub fn lines_are_read()
+    ensures { LinesAreRead }
 {}

@@ -9,7 +9,6 @@ use Rattle.pickle_names.specs.declared.coding.Piece.{Piece}
 use Rattle.pickle_names.specs.declared.coding.Piece.TheVariants as piece
 use Rattle.pickle_names.specs.Coding.{is_plain, utf8_front, front_of}
 use Rattle.pickle_names.specs.Value.{Decoded, after, after_front, front_size, decode, if_short, short_value}
-use Rattle.pickle_names.specs.declared.value.Reading.{Reading}
 use Rattle.pickle_names.specs.Reading.{Says, IsReading}
 
 plain_by : (c : Coding) (b : ℕ) (rest : List ℕ) (low escapes : Bool) → nat_lt b 128 ≡ low → (b == 92) ≡ escapes → (low && not escapes) ≡ true

@@ -31,7 +31,7 @@ from .canonical.pickles import read_pickle
 from .canonical.wide import may_lead_on, reach_of
 from .other_forms import ending, forms_of
 from .packed import METHODS, Unpacking
-from .reading import asks_program, held, offset_of_item, why_unread
+from .reading import Asked, why_unread
 from .results import Note, Pickle, Place, Result
 
 __all__ = ['Options', 'look', 'look_at_bytes']
@@ -210,8 +210,8 @@ class Looker:
             self.note(where, f'its opcodes have more than {most:,} bytes, which is too large: the first {first:,} are looked at', missed=True)
             opcodes = opcodes.part(0, first)
         self.budget.look(max(0, opcodes.size - _GLANCE))
-        with held(opcodes) as path:
-            answer = asks_program(path, opcodes.size, self.budget, self.options.lines, offset_of, self.options.full)
+        with Asked(opcodes) as asked:
+            answer = asked.summary(self.budget, self.options.lines, offset_of, self.options.full)
             is_pickle = is_pickle or answer.is_sure or answer.end.is_stopped or answer.end.code in _FRAME_FAULTS
             if answer.trouble is not None:
                 self.note(where, answer.trouble, missed=True)
@@ -219,7 +219,7 @@ class Looker:
             if not is_pickle and reach_of(blob, self.budget)[0] is None:
                 return None
             if answer.end.item is not None:
-                offset = offset_of_item(path, answer.end.item, self.budget)
+                offset = asked.offset_of_item(answer.end.item, self.budget)
                 answer.end = replace(answer.end, offset=offset if offset is None or offset_of is None else offset_of(offset))
         return answer.pickle(where, opcodes.size)
 

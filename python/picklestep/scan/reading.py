@@ -4,10 +4,12 @@ from __future__ import annotations
 
 import re
 import signal
-from contextlib import closing, contextmanager
+from contextlib import closing
 from dataclasses import dataclass, replace
-from typing import Callable, Dict, Iterator, List, Optional, Tuple
+from itertools import islice
+from typing import Callable, Dict, Iterable, List, Optional, Tuple
 
+from .. import library
 from ..answers import Calls
 from ..errors import OutOfMemory, PicklestepError, ProgramError, TimedOut
 from ..program import Process
@@ -15,10 +17,10 @@ from ..records import End, Extension, Global, Name, Ref
 from ..session import Session
 from ..texts import HEADING, REACHED, reach_of
 from .begins import is_dotted
-from .blobs import Blob, Budget, FileBlob, spooled
+from .blobs import CHUNK, Blob, Budget, FileBlob, spooled
 from .results import Call, Import, Pickle, Place
 
-__all__ = ['Enough', 'Summary', 'WAITING', 'asks_program', 'full_option', 'held', 'offset_of_item', 'shown_name', 'why_unread']
+__all__ = ['Asked', 'Enough', 'Summary', 'WAITING', 'calls_words', 'shown_name', 'why_unread']
 
 # These lines are about an import.
 _IMPORTS = ('import', 'inst')
@@ -45,6 +47,12 @@ _MEMORY_OF_A_BYTE = 4096
 
 # The clock may run so many times as long as the processor, where other processes have it.
 WAITING = 5
+
+# With less processor time left, in seconds, nothing is asked in this process, which cannot be stopped.
+_LITTLE_TIME = 1
+
+# The beginning of an opcode's line in a listing.
+_OPCODE = re.compile(rb'^ *([0-9]+): ', re.MULTILINE)
 
 _LEGACY_TORCH = b'\x80\x02\x8a\x0al\xfc\x9cF\xf9 j\xa8P\x19.'
 
@@ -83,7 +91,7 @@ class Summary:
         """Whether there was no line."""
         return not self._count
 
-    def take(self, pieces: Iterator[bytes]) -> None:
+    def take(self, pieces: Iterable[bytes]) -> None:
         """Reads the program's answer to its end."""
         rest: List[bytes] = []
         tail = ''
@@ -228,57 +236,91 @@ def _can_be_there(name: Optional[Name]) -> bool:
     return isinstance(name, Global) and (not isinstance(name.module, bytes) or is_dotted(name.module))
 
 
-@contextmanager
-def held(blob: Blob) -> Iterator[str]:
-    """The path under which the program can open these bytes: an open file, not a name."""
-    if isinstance(blob, FileBlob):
-        yield blob.path()
-        return
-    copy = spooled(blob.chunks())
-    with copy.file:
-        yield copy.path()
+def calls_words(full: bool) -> List[str]:
+    """The words by which the program is asked, with arguments in full or cut."""
+    return ['calls', '--full'] if full else ['calls']
 
 
-def asks_program(path: str, size: int, budget: Budget, keep_lines: bool = False, offset_of: Optional[Callable[[int], int]] = None,
-                 full: bool = False) -> Summary:
-    """What the bytes import and call, as one pickle or several in a row. What was found before a limit or a failure is kept.
+class Asked:
+    """Bytes that are asked about: a few of them in this process, others as a file that the program opens, from when that is needed.
 
-    With `full` arguments are whole.
+    In this process there is no limit of time, and a small one of memory. What is not answered there within that, or where little time is
+    left, the program is asked, under the limits of the budget.
     """
-    summary = Summary(budget, keep_lines, offset_of)
-    budget.spend()
-    may_take, seconds = budget.memory(), budget.limits.seconds
-    try:
-        process = Process(['calls', path, *full_option(full)], memory=may_take if size * _MEMORY_OF_A_BYTE > may_take else None)
-        process.limit_seconds(budget.seconds)
-        with closing(process.blocks(max(0.5, budget.seconds) * WAITING)) as pieces:
-            summary.take(pieces)
-    except Enough as limit:
-        summary.trouble = f'{limit}: the rest of it is not looked at'
-    except OutOfMemory:
-        summary.trouble = f'the program had no more memory (it may take {may_take:,} bytes): the rest of it is not looked at'
-    except TimedOut:
-        summary.trouble = f'the program took more than {seconds:g} seconds: the rest of it is not looked at'
-    except ProgramError as error:
-        summary.trouble = f'the program did not read all of it: {error.words}'
-        if error.signal in (signal.SIGXCPU, signal.SIGKILL) and budget.seconds <= 1:
+
+    def __init__(self, blob: Blob) -> None:
+        self._blob = blob
+        self._content = blob.read(0, blob.size) if blob.size <= library.MOST_BYTES else None
+        self._copy: Optional[FileBlob] = None
+
+    def __enter__(self) -> Asked:
+        return self
+
+    def __exit__(self, *error: object) -> None:
+        if self._copy is not None:
+            self._copy.file.close()
+
+    def summary(self, budget: Budget, keep_lines: bool = False, offset_of: Optional[Callable[[int], int]] = None, full: bool = False) -> Summary:
+        """What they import and call, as one pickle or several in a row. What was found before a limit or a failure is kept.
+
+        With `full` arguments are whole.
+        """
+        summary = Summary(budget, keep_lines, offset_of)
+        budget.spend()
+        words = calls_words(full)
+        text = self._in_process(words, budget)
+        if text is None:
+            self._ask_program(words, summary, budget)
+            return summary
+        try:
+            summary.take(text[at:at + CHUNK] for at in range(0, len(text), CHUNK))
+        except Enough as limit:
+            summary.trouble = f'{limit}: the rest of it is not looked at'
+        return summary
+
+    def offset_of_item(self, item: int, budget: Budget) -> Optional[int]:
+        """Where an opcode begins. `item` counts the opcodes before it. None where a limit is met first."""
+        text = self._in_process(['list', '--many'], budget)
+        if text is not None:
+            found = next(islice(_OPCODE.finditer(text), item, None), None)
+            return None if found is None else int(found[1])
+        try:
+            with Session(self._path(), window=1, many=True, timeout=max(1, budget.seconds), memory=budget.memory()) as session:
+                session.goto(item)
+                return session.where().offset
+        except PicklestepError:
+            return None
+
+    def _in_process(self, words: List[str], budget: Budget) -> Optional[bytes]:
+        if self._content is None or budget.seconds < _LITTLE_TIME:
+            return None
+        return library.answer(words, self._content, budget.memory())
+
+    def _path(self) -> str:
+        """The path under which the program can open these bytes: an open file, not a name."""
+        if isinstance(self._blob, FileBlob):
+            return self._blob.path()
+        if self._copy is None:
+            self._copy = spooled(self._blob.chunks())
+        return self._copy.path()
+
+    def _ask_program(self, words: List[str], summary: Summary, budget: Budget) -> None:
+        may_take, seconds = budget.memory(), budget.limits.seconds
+        try:
+            process = Process([*words, self._path()], memory=may_take if self._blob.size * _MEMORY_OF_A_BYTE > may_take else None)
+            process.limit_seconds(budget.seconds)
+            with closing(process.blocks(max(0.5, budget.seconds) * WAITING)) as pieces:
+                summary.take(pieces)
+        except Enough as limit:
+            summary.trouble = f'{limit}: the rest of it is not looked at'
+        except OutOfMemory:
+            summary.trouble = f'the program had no more memory (it may take {may_take:,} bytes): the rest of it is not looked at'
+        except TimedOut:
             summary.trouble = f'the program took more than {seconds:g} seconds: the rest of it is not looked at'
-    return summary
-
-
-def full_option(full: bool) -> List[str]:
-    """The option of the program by which arguments are whole."""
-    return ['--full'] if full else []
-
-
-def offset_of_item(path: str, item: int, budget: Budget) -> Optional[int]:
-    """Where an opcode begins. `item` counts the opcodes before it. None where a limit is met first."""
-    try:
-        with Session(path, window=1, many=True, timeout=max(1, budget.seconds), memory=budget.memory()) as session:
-            session.goto(item)
-            return session.where().offset
-    except PicklestepError:
-        return None
+        except ProgramError as error:
+            summary.trouble = f'the program did not read all of it: {error.words}'
+            if error.signal in (signal.SIGXCPU, signal.SIGKILL) and budget.seconds <= 1:
+                summary.trouble = f'the program took more than {seconds:g} seconds: the rest of it is not looked at'
 
 
 def _part(part: object) -> str:

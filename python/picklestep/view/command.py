@@ -87,8 +87,9 @@ def _leading_to(address: str) -> Iterator[Path]:
 
 @contextlib.contextmanager
 def _signals_interrupt() -> Iterator[None]:
-    """SIGTERM and SIGHUP do what Ctrl-C does, so that nothing is left behind."""
-    before = {number: signal.signal(number, signal.default_int_handler) for number in (signal.SIGTERM, signal.SIGHUP)}
+    """SIGTERM and SIGHUP (which Windows has not) do what Ctrl-C does, so that nothing is left behind."""
+    numbers = (signal.SIGTERM, *([signal.SIGHUP] if hasattr(signal, 'SIGHUP') else []))
+    before = {number: signal.signal(number, signal.default_int_handler) for number in numbers}
     try:
         yield
     finally:
@@ -96,10 +97,20 @@ def _signals_interrupt() -> Iterator[None]:
             signal.signal(number, handler)
 
 
+def _opened(options: argparse.Namespace) -> Document:
+    """The document. A terminal gets a line that says how far it is, which is wiped out at the end."""
+    if not sys.stderr.isatty():
+        return Document(options.file, Path(options.file).name, options.many)
+    try:
+        return Document(options.file, Path(options.file).name, options.many, lambda text: print(f'\r\x1b[K{text}', end='', file=sys.stderr, flush=True))
+    finally:
+        print('\r\x1b[K', end='', file=sys.stderr, flush=True)
+
+
 def _do(options: argparse.Namespace) -> int:
     if options.export is not None and options.export.is_file() and not options.force:
         raise FileExistsError(f'{options.export} is there; with --force it is written over')
-    with contextlib.closing(Document(options.file, Path(options.file).name, options.many)) as document:
+    with contextlib.closing(_opened(options)) as document:
         if options.export is not None:
             return _export(document, options.export)
         return _serve(document, not options.no_browser, options.idle)

@@ -8,14 +8,14 @@ from array import array
 from bisect import bisect_left, bisect_right
 from itertools import islice
 from pathlib import Path
-from typing import Any, Dict, List, NamedTuple, Optional, Set, Tuple
+from typing import Any, Callable, Dict, List, NamedTuple, Optional, Set, Tuple
 
 from ..answers import Calls
 from ..errors import Refused
 from ..program import run_program
 from ..session import Session
 from ..sources import Input, Source
-from .lines import Lines, add_items, lines_of, makers_of, read_listing, read_objects
+from .lines import Lines, add_items, lines_of, makers_of, read_listing, read_objects, silent
 
 __all__ = ['Document', 'Done', 'Fields']
 
@@ -121,8 +121,10 @@ class Done(NamedTuple):
 class Document:
     """A pickle that is looked at and edited; with `many`, several that follow one another."""
 
-    def __init__(self, source: Source, name: str, many: bool = False) -> None:
+    def __init__(self, source: Source, name: str, many: bool = False, told: Callable[[str], None] = silent) -> None:
+        """Reads a pickle. While that goes on, `told` is given how far it is."""
         self.name = name
+        self._told = told
         self.session = Session(source, many=many)
         self._options = ['--many'] if many else []
         self.breaks: Set[int] = set()
@@ -137,6 +139,7 @@ class Document:
         except BaseException:
             self.session.close()
             raise
+        self._told = silent
 
     def close(self) -> None:
         """Ends the session."""
@@ -158,10 +161,10 @@ class Document:
             self.breaks = {int(match[1]) for match in _BROKEN.finditer(self.session.items().text)}
 
     def _read_from(self, given: Input) -> None:
-        self.lines = read_listing(given, self._options)
+        self.lines = read_listing(given, self._options, self._told)
         if len(self.lines) < self.session.where().places:
             add_items(self.lines, given, self._options)
-        self._final = read_objects(given, self._options)
+        self._final = read_objects(given, self._options, self._told)
         first = [] if self._options else ['--first']
         self.reaches = Reaches(Calls(run_program(['calls', given.path, *first], given.files).decode('ascii')))
         self.lines.closing += self.reaches.behind

@@ -8,14 +8,14 @@ import re
 from array import array
 from bisect import bisect_right
 from dataclasses import dataclass
-from itertools import accumulate
+from itertools import accumulate, compress
 from typing import Callable, Dict, List, Optional, Sequence
 
 from ..errors import ProgramError
 from ..program import Process
 from ..sources import Input
 
-__all__ = ['CUT', 'Line', 'Lines', 'OpcodeLines', 'add_items', 'makers_of', 'read_listing', 'shown_code', 'read_objects']
+__all__ = ['CUT', 'Line', 'Lines', 'OpcodeLines', 'add_items', 'makers_of', 'read_listing', 'read_objects', 'shown_code', 'silent']
 
 # The most bytes that are kept of a text.
 CUT = 500
@@ -158,8 +158,12 @@ def _cut(line: bytes, dropped: int = 0) -> bytes:
     return b"%s .. %d bytes more%s" % (line[:CUT], dropped + last - CUT, line[last:])
 
 
-def _read(into: Lines, words: Sequence[str], given: Input, script: bytes = b'') -> None:
-    """Reads all that the program answers about an input."""
+def silent(text: str) -> None:
+    """Says nothing of how far it is."""
+
+
+def _read(into: Lines, words: Sequence[str], given: Input, script: bytes = b'', told: Callable[[str], None] = silent) -> None:
+    """Reads all that the program answers about an input, and says to `told` how far it is."""
     process = Process([*words, given.path], given.files, stdin=bool(script))
     cutter = _Cutter(into)
     try:
@@ -167,14 +171,15 @@ def _read(into: Lines, words: Sequence[str], given: Input, script: bytes = b'') 
             os.write(process.stdin, script)
         for block in process.blocks():
             cutter.feed(block)
+            told(f'{words[0]}: {len(into):,} lines')
     finally:
         process.close()
 
 
-def read_listing(given: Input, options: Sequence[str] = ()) -> OpcodeLines:
+def read_listing(given: Input, options: Sequence[str] = (), told: Callable[[str], None] = silent) -> OpcodeLines:
     """The lines of `list`."""
     listing = OpcodeLines()
-    _read(listing, ['list', *options], given)
+    _read(listing, ['list', *options], given, told=told)
     while len(listing) and not _LISTED_BEGIN.match(listing.text, listing.starts[-2]):
         listing.closing.insert(0, listing.drop_last())
     if not listing.closing:
@@ -200,10 +205,10 @@ def add_items(listing: OpcodeLines, given: Input, options: Sequence[str] = ()) -
         listing.add(added)
 
 
-def read_objects(given: Input, options: Sequence[str] = ()) -> Lines:
+def read_objects(given: Input, options: Sequence[str] = (), told: Callable[[str], None] = silent) -> Lines:
     """The lines of `objects`, without its closing lines."""
     objects = Lines()
-    _read(objects, ['objects', *options], given)
+    _read(objects, ['objects', *options], given, told=told)
     while len(objects) and objects.text[objects.starts[-2]] != ord('#'):
         objects.drop_last()
     return objects
@@ -230,6 +235,7 @@ MAKE_NONE = frozenset(
     b'ADDITEMS BUILD'.split())
 
 
+_MAKES: Dict[bytes, bool] = {name: name not in MAKE_NONE for name in _CODES}
 _VIEW = b'READONLY_BUFFER'
 _VIEW_MADE = re.compile(rb'^#[0-9]+ readonly ', re.MULTILINE)
 
@@ -241,9 +247,10 @@ def makers_of(listing: OpcodeLines, objects: Lines, makes_view: Callable[[int, i
     number that an object would have there, and answers whether it makes one.
     """
     names: List[bytes] = _NAME.findall(listing.text)
-    each_makes = names.count(_VIEW) == len(_VIEW_MADE.findall(objects.text))
+    if names.count(_VIEW) == len(_VIEW_MADE.findall(objects.text)):
+        return array('Q', compress(range(len(names)), map(_MAKES.__getitem__, names)))
     makers = array('Q')
     for place, name in enumerate(names):
-        if name not in MAKE_NONE and (name != _VIEW or each_makes or makes_view(place, len(makers))):
+        if _MAKES[name] and (name != _VIEW or makes_view(place, len(makers))):
             makers.append(place)
     return makers

@@ -199,7 +199,7 @@ function pressed(event) {
   act();
 }
 
-const step = (what) => move(what);
+const step = (what) => (isSlow() ? slowStep(what) : move(what));
 
 // --- Beginning ---
 

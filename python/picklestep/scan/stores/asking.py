@@ -15,8 +15,8 @@ from typing import Iterator, List, Optional, Sequence
 from ...errors import PicklestepError
 from ...program import Process
 from ...texts import HEADING, OFFSET, QUOTED_OR_NUMBER
-from ..blobs import Budget, Limits, spooled
-from ..reading import WAITING, Enough, Summary, asks_program, offset_of_item
+from ..blobs import Budget, BytesBlob, Limits, spooled
+from ..reading import WAITING, Asked, Enough, Summary, calls_words
 from .walk import stops_at_end
 
 __all__ = ['MOST_BYTES', 'MOST_PICKLES', 'NOTHING', 'answers']
@@ -55,11 +55,10 @@ def answers(contents: Sequence[bytes], is_whole: Sequence[bool], budget: Budget,
 
 
 def _alone(content: bytes, budget: Budget, keep_lines: bool, full: bool) -> Summary:
-    copy = spooled([content])
-    with copy.file:
-        answer = asks_program(copy.path(), copy.size, budget, keep_lines, full=full)
+    with Asked(BytesBlob(content)) as asked:
+        answer = asked.summary(budget, keep_lines, full=full)
         if answer.end.item is not None:
-            answer.end = replace(answer.end, offset=offset_of_item(copy.path(), answer.end.item, budget))
+            answer.end = replace(answer.end, offset=asked.offset_of_item(answer.end.item, budget))
         return answer
 
 
@@ -73,7 +72,7 @@ def _together(contents: Sequence[bytes], budget: Budget, keep_lines: bool, full:
     text = bytearray()
     with copy.file:
         try:
-            process = Process(['calls', copy.path(), *full_option(full)], memory=may_take if copy.size * _MEMORY_OF_A_BYTE > may_take else None)
+            process = Process([*calls_words(full), copy.path()], memory=may_take if copy.size * _MEMORY_OF_A_BYTE > may_take else None)
             process.limit_seconds(budget.seconds)
             with closing(process.blocks(max(0.5, budget.seconds) * WAITING)) as pieces:
                 for piece in pieces:

@@ -27,7 +27,11 @@ const host = {
     return {};
   },
 
-  shown: () => showStory(),
+  shown() {
+    by('welcome').hidden = true;
+    if (!view.story) by('example').value = '';
+    showStory();
+  },
 
   async begin() {
     wireOpening();
@@ -118,9 +122,9 @@ async function sendPaste(event) {
 
 // --- Worked examples ---
 
-function openExample() {
-  const example = EXAMPLES[Number(by('example').value)];
-  if (by('example').value === '' || !example) return;
+function openExample(number) {
+  const example = EXAMPLES[number];
+  by('example').value = number;
   openBytes(bytesOfHex(example.hex), example.name, true, example);
 }
 
@@ -141,7 +145,13 @@ function wireOpening() {
   by('paste-form').addEventListener('submit', sendPaste);
   by('as-pickle').addEventListener('click', () => { by('members-dialog').close(); openBytes(worker.file.bytes, worker.file.name, true); });
   by('example').append(...EXAMPLES.map((example, at) => { const made = element('option', '', example.name); made.value = at; return made; }));
-  by('example').addEventListener('change', openExample);
+  by('example').addEventListener('change', () => { if (by('example').value !== '') openExample(Number(by('example').value)); });
+  by('example-buttons').append(...EXAMPLES.map((example, at) => {
+    const made = element('button', '', example.name);
+    made.type = 'button';
+    made.addEventListener('click', () => openExample(at));
+    return made;
+  }));
   document.addEventListener('dragover', (event) => { event.preventDefault(); document.body.classList.add('dropping'); });
   document.addEventListener('dragleave', (event) => { if (!event.relatedTarget) document.body.classList.remove('dropping'); });
   document.addEventListener('drop', (event) => {

@@ -1,0 +1,53 @@
+//! A text in memory of the caller.
+
+ghost use Rattle.std.specs.Prelude.{◌≡◌, ◌≢◌, ◌≤◌, ◌↔◌};
+ghost use Rattle.pickle_script.specs.declared.stop.Stop.TheVariants as stops;
+ghost use Rattle.picklestep_library.specs.Answer.{Puts};
+
+use pickle_script::Stop;
+
+/// The text is where the caller wants it.
+const DONE: u8 = 0;
+/// Memory ran out.
+const OUT_OF_MEMORY: u8 = 1;
+/// The input has too many bytes.
+const TOO_LARGE: u8 = 2;
+/// The text has no room in what was offered for it.
+const NO_ROOM: u8 = 3;
+
+/// How long a text is, and its status: 1 where an opcode or a line is refused or the bytes have a fault, else 0.
+#[repr(C)]
+#[derive(Clone, Copy)]
+pub struct Written {
+    /// In bytes.
+    pub size: usize,
+    /// 0 or 1.
+    pub status: u8,
+}
+
+/// The number that a caller gets for a stop. (A sink in memory fails only where memory runs out, and nothing is read.)
+pub fn number_of(stop: Stop) -> u8
+    ensures bounded { result ≤ 2 }
+    ensures some { result ≢ 0 }
+    ensures large { (result ≡ 2) ↔ (stop ≡ stops.TooLarge) }
+{
+    match stop {
+        Stop::TooLarge => TOO_LARGE,
+        Stop::Memory => OUT_OF_MEMORY,
+        Stop::Write => OUT_OF_MEMORY,
+        Stop::Read => OUT_OF_MEMORY,
+    }
+}
+
+/// Puts a text at the start of `out`, if it has room there.
+pub fn put(text: &[u8], status: u8, out: &mut [u8], written: &mut Written) -> u8
+    ensures { Puts text.now status out.old out.new written.new result }
+{
+    let size = text.len();
+    *written = Written { size, status };
+    if size > out.len() {
+        return NO_ROOM;
+    }
+    out[..size].copy_from_slice(text);
+    DONE
+}

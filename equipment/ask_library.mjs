@@ -1,0 +1,49 @@
+// node ask_library.mjs MODULE SCRIPT: as ask_library.c, with the module; an instance for each line. It has no limit of memory of its own.
+import { readFileSync, writeFileSync } from 'node:fs';
+
+const TASKS = {
+    'list': ['picklestep_list', 0],
+    'list --many': ['picklestep_list', 1],
+    'objects': ['picklestep_objects', 0],
+    'objects --many': ['picklestep_objects', 1],
+    'calls': ['picklestep_calls'],
+    'calls --first': ['picklestep_calls_first'],
+    'calls --memo kept': ['picklestep_calls_one_memo'],
+    'debug': ['picklestep_debug', 0],
+    'debug --many': ['picklestep_debug', 1],
+};
+const script = readFileSync(process.argv[3]);
+const module = new WebAssembly.Module(readFileSync(process.argv[2]));
+if (WebAssembly.Module.imports(module).length) throw new Error('it has imports');
+
+function ask(task, content) {
+    const [name, ...first] = TASKS[task];
+    const library = new WebAssembly.Instance(module, {}).exports;
+    const given = library.take(BigInt(content.length + 1)), written = library.take(16n), lines = library.take(BigInt(script.length + 1));
+    if (!given || !written || !lines) return { answer: 1, status: 0, text: new Uint8Array() };
+    new Uint8Array(library.memory.buffer).set(content, Number(given));
+    new Uint8Array(library.memory.buffer).set(script, Number(lines));
+    const second = task.startsWith('debug') ? [lines, BigInt(script.length)] : [];
+    for (let room = 200; ; ) {
+        const out = library.take(BigInt(room));
+        if (!out) return { answer: 1, status: 0, text: new Uint8Array() };
+        const answer = library[name](...first, given, BigInt(content.length), ...second, out, BigInt(room), written);
+        const told = new DataView(library.memory.buffer, Number(written));
+        const size = Number(told.getBigUint64(0, true));
+        if (answer === 3) {
+            library.give(out);
+            room = size;
+            continue;
+        }
+        const text = answer ? new Uint8Array() : new Uint8Array(library.memory.buffer).slice(Number(out), Number(out) + size);
+        return { answer, status: told.getUint8(8), text };
+    }
+}
+
+const said = readFileSync(0, 'utf8').split('\n').slice(0, -1).map((line) => {
+    const [task, , from, to] = line.split('\t');
+    const { answer, status, text } = ask(task, readFileSync(from));
+    writeFileSync(to, text);
+    return `${answer} ${status}\n`;
+});
+process.stdout.write(said.join(''));

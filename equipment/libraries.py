@@ -1,0 +1,221 @@
+"""Tries the library in each of its forms: each answer is, byte for byte, what the program prints. The examples of docs/LIBRARY.md run."""
+
+from __future__ import annotations
+
+import functools
+import re
+import subprocess
+from collections.abc import Iterator
+from dataclasses import dataclass
+from pathlib import Path
+from typing import Callable
+
+from machines import SCRIPT, Answer, Asked, Machines, large
+from trials.room import beginning
+from trials.trial import Noted, Skip, Trial
+
+TASKS = (
+    ("list",),
+    ("list", "--many"),
+    ("objects",),
+    ("objects", "--many"),
+    ("calls",),
+    ("calls", "--first"),
+    ("calls", "--memo", "kept"),
+    ("debug",),
+    ("debug", "--many"),
+)
+X86, ARM, MODULE = "linux-x86_64-library", "linux-aarch64-library", "libpicklestep.wasm"
+MUSL, MUSL_HEADERS = Path("/usr/lib/x86_64-linux-musl"), Path("/usr/include/x86_64-linux-musl")
+WARNINGS = ("-Wall", "-Wextra", "-Werror")
+OF_STOPS = {1: b"picklestep: out of memory\n", 2: b"picklestep: too large\n"}
+LIMITS = (1, 1 << 16, 1 << 20, 8 << 20, 32 << 20)
+EXAMPLE = b"    0: import 'posix' 'system' as #0\n   23: call 'posix' 'system' ('id') as #3\n1 imports, 1 calls\n"
+
+
+@dataclass
+class Libraries(Machines):
+    """The forms of the library. `asker` is made once for each way to link it."""
+
+    tasks: tuple[tuple[str, ...], ...] = TASKS
+
+    def closing(self) -> str:
+        return f"{self.runs} answers of the library were compared, by libraries.py"
+
+    def call(self, *words: "str | Path", given: bytes = b"", **environment: str) -> bytes:
+        """What a command prints. One that fails is a fault of the trial."""
+        self.folder.mkdir(parents=True, exist_ok=True)
+        done = subprocess.run([str(word) for word in words], cwd=self.folder, input=given, capture_output=True, timeout=900, env=environment or None)
+        if done.returncode != 0:
+            raise OSError(f"{Path(str(words[0])).name}: status {done.returncode}, {beginning(done.stderr)}")
+        return done.stdout
+
+    def compiled(self, name: str, compiler: str, *words: "str | Path") -> Path:
+        """ask_library.c, compiled and linked by these words."""
+        made = self.folder / name
+        if not made.exists():
+            self.call(self.tool(compiler, "a compiler"), "-O1", *WARNINGS, "-o", made, self.root / "equipment/ask_library.c", *words)
+        return made
+
+    def asked(self, command: list["str | Path"], runs: list[Asked], most: int = 0) -> Iterator[Answer]:
+        """What the library answers, in one process that holds at most so many bytes for each of them."""
+        folder = self.folder / "answers"
+        folder.mkdir(parents=True, exist_ok=True)
+        lines = [f"{' '.join(run.words)}\t{most}\t{run.file}\t{folder / str(number)}\n" for number, run in enumerate(runs)]
+        script = self.folder / "script"
+        script.write_bytes(SCRIPT)
+        said = self.call(*command, script, given="".join(lines).encode()).decode().splitlines()
+        for number, line in enumerate(said):
+            answer, status = map(int, line.split())
+            yield Answer(2, b"", OF_STOPS[answer]) if answer else Answer(status, (folder / str(number)).read_bytes(), b"")
+
+    # --- The ways to link it ---
+
+    def static(self) -> list["str | Path"]:
+        at = self.dist / X86
+        return [self.compiled("static", "cc", f"-I{at / 'include'}", at / "lib/libpicklestep.a")]
+
+    def shared(self) -> list["str | Path"]:
+        """By pkg-config, from where it stands."""
+        at = self.dist / X86 / "lib"
+        flags = self.call(self.tool("pkg-config", "Debian's pkg-config"), "--cflags", "--libs", "picklestep", PKG_CONFIG_PATH=str(at / "pkgconfig"))
+        return [self.compiled("shared", "cc", *flags.decode().split(), f"-Wl,-rpath,{at}")]
+
+    def musl(self) -> list["str | Path"]:
+        if not MUSL.is_dir():
+            raise Skip("there is no musl (equipment/install_targets)")
+        at = self.dist / X86
+        own = self.call("cc", "-print-file-name=include").decode().strip()
+        words = ("-nostdinc", "-isystem", MUSL_HEADERS, "-isystem", own, "-fno-stack-protector", "-nostdlib", "-static", "-no-pie", "-fno-pie")
+        files = (MUSL / "crt1.o", MUSL / "crti.o", at / "lib/libpicklestep.a", MUSL / "libc.a", MUSL / "crtn.o")
+        return [self.compiled("musl", "cc", *words, f"-I{at / 'include'}", *files)]
+
+    def arm(self) -> list["str | Path"]:
+        at = self.dist / ARM
+        emulator = self.tool("qemu-aarch64", "Debian's qemu-user")
+        words = ("-static", f"-I{at / 'include'}", at / "lib/libpicklestep.a")
+        return [emulator, self.compiled("arm", "aarch64-linux-gnu-gcc-12", *words)]
+
+    def module(self) -> list["str | Path"]:
+        return [self.tool("node", "Node 20 or later"), self.root / "equipment/ask_library.mjs", self.dist / MODULE]
+
+    # --- The page ---
+
+    def example(self, language: str) -> str:
+        """The code of a section of docs/LIBRARY.md."""
+        page = (self.root / "docs/LIBRARY.md").read_text(encoding="utf-8")
+        section = page.partition(f"\n## {language}\n")[2].partition("\n## ")[0]
+        code = max(re.findall(r"(?:^(?:    .*)?\n)+", section, re.M), key=len)
+        return re.sub("^    ", "", code, flags=re.M)
+
+
+def functions_of(libraries: Libraries) -> str:
+    """It names no other library, and has the functions of the header."""
+    header = (libraries.dist / X86 / "include/picklestep.h").read_text()
+    wanted = sorted(re.findall(r"^(?:uint8_t|void) (picklestep_\w+)\(", header, re.M))
+    for folder in (X86, ARM):
+        shared = libraries.dist / folder / "lib/libpicklestep.so"
+        if b"NEEDED" in libraries.call("readelf", "--dynamic", "--wide", shared):
+            return f"{folder}: it names another library"
+        lines = libraries.call("readelf", "--dyn-syms", "--wide", shared).decode().splitlines()
+        found = sorted(line.split()[7] for line in lines if " GLOBAL " in line and " UND " not in line)
+        if found != wanted:
+            return f"{folder}: it has {found}"
+        if (libraries.dist / folder / "include/picklestep.h").read_text() != header:
+            return f"{folder}: it has another header"
+    return ""
+
+
+def in_cxx(libraries: Libraries) -> str:
+    """The header is one of C++ too."""
+    libraries.folder.mkdir(parents=True, exist_ok=True)
+    file = libraries.folder / "header.cc"
+    file.write_text("#include <picklestep.h>\nint main() { picklestep_limit_memory(1); return PICKLESTEP_DONE; }\n")
+    at = libraries.dist / X86
+    words = (*WARNINGS, f"-I{at / 'include'}", "-o", libraries.folder / "header", file, at / "lib/libpicklestep.a")
+    libraries.call(libraries.tool("c++", "a compiler of C++"), *words)
+    return ""
+
+
+def compared(libraries: Libraries, way: str, kind: str) -> Noted:
+    """All answers of one way to link it."""
+    runs: list[Asked] = getattr(libraries, kind)
+    return libraries.compare_answers(runs, libraries.asked(getattr(libraries, way)(), runs))
+
+
+def limits(libraries: Libraries) -> str:
+    """Out of memory is an answer, and the next call is as any other."""
+    runs = [Asked(words, large(libraries).file) for words in TASKS if words[0] != "debug"]
+    for limit in LIMITS:
+        for run, found in zip(runs, libraries.asked(libraries.static(), runs, limit)):
+            if found != Answer(2, b"", OF_STOPS[1]):
+                return f"{limit} bytes, {' '.join(run.words)}: status {found.status}"
+    return libraries.compare_answers(runs, libraries.asked(libraries.static(), runs)).why
+
+
+def too_large(libraries: Libraries) -> str:
+    libraries.folder.mkdir(parents=True, exist_ok=True)
+    file = libraries.folder / "too_large.pickle"
+    with file.open("wb") as opened:
+        opened.truncate((1 << 30) + 1)
+    found = list(libraries.asked(libraries.static(), [Asked(("calls",), file)]))
+    file.unlink()
+    return "" if found == [Answer(2, b"", OF_STOPS[2])] else str(found)
+
+
+def example(libraries: Libraries, language: str, name: str, build: Callable[[Libraries, Path, Path], None]) -> str:
+    """An example is compiled, and prints what the page says."""
+    folder = libraries.folder / f"example-{name}"
+    folder.mkdir(parents=True, exist_ok=True)
+    source, made = folder / name, folder / "made"
+    source.write_text(libraries.example(language))
+    build(libraries, source, made)
+    command = [libraries.tool("node", "Node 20 or later"), source, libraries.dist / MODULE] if name.endswith(".mjs") else [made]
+    found = libraries.call(*command)
+    return "" if found == EXAMPLE else f"it prints {beginning(found)}"
+
+
+def build_c(libraries: Libraries, source: Path, made: Path) -> None:
+    at = libraries.dist / X86
+    libraries.call(libraries.tool("cc", "a compiler of C"), *WARNINGS, f"-I{at / 'include'}", "-o", made, source, at / "lib/libpicklestep.a")
+
+
+def build_rust(libraries: Libraries, source: Path, made: Path) -> None:
+    libraries.call(libraries.tool("rustc", "a compiler of Rust"), "-D", "warnings", "-L", f"native={libraries.dist / X86 / 'lib'}", "-o", made, source)
+
+
+def build_go(libraries: Libraries, source: Path, made: Path) -> None:
+    """(Its cache of what it built is in the folder of the trial.)"""
+    go = libraries.tool("go", "a compiler of Go")
+    at = libraries.dist / X86 / "lib"
+    environment = {"PKG_CONFIG_PATH": str(at / "pkgconfig"), "CGO_LDFLAGS": f"-Wl,-rpath,{at}", "HOME": str(libraries.folder), "PATH": "/usr/bin:/bin",
+                   "GOPROXY": "off", "GOFLAGS": "-mod=mod", "GO111MODULE": "off"}
+    libraries.call(go, "build", "-o", made, source, **environment)
+
+
+def build_nothing(libraries: Libraries, source: Path, made: Path) -> None:
+    """A script is not compiled."""
+
+
+WAYS = {"static": "x86-64, static", "shared": "x86-64, shared", "musl": "x86-64, static, with musl", "arm": "ARM, under an emulator", "module": "the module in Node"}
+ROWS: list[tuple[str, Callable[[Libraries], "str | Noted"]]] = [
+    ("the library: its functions", functions_of),
+    ("the library: the header in C++", in_cxx),
+    *((f"the library, {name}: all real pickles", functools.partial(compared, way=way, kind="real")) for way, name in WAYS.items()),
+    *((f"the library, {name}: random cases", functools.partial(compared, way=way, kind="random")) for way, name in WAYS.items()),
+    ("the library: out of memory is an answer", limits),
+    ("the library: too large is an answer", too_large),
+    *(
+        (f"the library: the example in {language}", functools.partial(example, language=language, name=name, build=build))
+        for language, name, build in (
+            ("C", "example.c", build_c),
+            ("Rust", "example.rs", build_rust),
+            ("Go", "example.go", build_go),
+            ("JavaScript", "example.mjs", build_nothing),
+        )
+    ),
+]
+
+
+def trials(libraries: Libraries) -> list[Trial]:
+    return [Trial(name, functools.partial(row, libraries)) for name, row in ROWS]

@@ -1,0 +1,189 @@
+"""Tries the wheels of each machine and the source distribution: each is built, installed into a fresh environment without a network, and
+asked. The tests of the package run over the module in Node, with all hidden that other systems have not."""
+
+from __future__ import annotations
+
+import functools
+import os
+import shutil
+import subprocess
+import zipfile
+from dataclasses import dataclass
+from pathlib import Path
+from typing import Callable
+
+from packages import NO_BUILDER, builder, own_environment
+from trials.room import beginning
+from trials.trial import Noted, Skip, Trial
+
+MACHINES = ("linux-x86_64", "linux-aarch64", "any")
+ASK = """\
+import sys, picklestep
+from picklestep import library, place
+hostile = b'cposix\\nsystem\\n(X\\x02\\0\\0\\0idtR.'
+print([reach.text for reach in picklestep.calls(hostile)], picklestep.listing(hostile)[0].name, picklestep.objects(b'0.').end.offset)
+with picklestep.Session(hostile) as session:
+    session.insert(0, 'NONE')
+    print(session.bytes() == b'N' + hostile, picklestep.calls(hostile, timeout=60).calls, picklestep.calls(hostile, memory=64 << 20).imports)
+print(library.answer(['calls'], hostile) is not None, place.find_program().rpartition('/')[2])
+"""
+SAID = "[\"import 'posix' 'system' as #0\", \"call 'posix' 'system' ('id') as #3\"] GLOBAL 0\nTrue 1 1\n"
+# The tests that are of the package and not of Linux, and that end in minutes though each start of Node takes a third of a second.
+OVER_NODE = (
+    "test_answers.Arguments",
+    "test_runs.Sources",
+)
+SECONDS = 900
+
+
+@dataclass
+class Wheels:
+    root: Path
+    folder: Path
+
+    @functools.cached_property
+    def python(self) -> str:
+        """An interpreter that can build a wheel."""
+        found = builder()
+        if found is None:
+            raise Skip(NO_BUILDER)
+        return found
+
+    def call(self, *words: "str | Path", at: Path | None = None, **environment: str) -> str:
+        """What a command prints. One that fails is a fault of the trial."""
+        done = subprocess.run(
+            [str(word) for word in words],
+            cwd=at or self.folder,
+            env={**own_environment(), "PYTHONDONTWRITEBYTECODE": "1", **environment},
+            stdin=subprocess.DEVNULL,
+            capture_output=True,
+            text=True,
+            timeout=SECONDS,
+            check=False,
+        )
+        if done.returncode != 0:
+            raise OSError(f"{Path(str(words[0])).name}: status {done.returncode}: {' | '.join(done.stderr.splitlines()[-4:])}")
+        return done.stdout
+
+    @functools.cached_property
+    def sources(self) -> Path:
+        """A copy of the package's sources and of what is released."""
+        copy = self.folder / "repository"
+        ignored = shutil.ignore_patterns("__pycache__", "tests", "build", "*.egg-info", "bin")
+        shutil.copytree(self.root / "python", copy / "python", ignore=ignored)
+        shutil.copytree(self.root / "dist", copy / "dist")
+        return copy / "python"
+
+    @functools.cached_property
+    def source_distribution(self) -> Path:
+        self.call(self.python, "setup.py", "-q", "sdist", "-d", self.folder, at=self.sources)
+        (found,) = self.folder.glob("picklestep-*.tar.gz")
+        return found
+
+    @functools.cache
+    def wheel(self, machine: str, source: Path) -> Path:
+        """The wheel for a kind of machine, built from these sources."""
+        to = self.folder / f"wheel-{machine}-{source.name}"
+        words = ("-m", "pip", "--disable-pip-version-check", "-q", "wheel", "--no-index", "--no-deps", "--no-build-isolation", "-w", to)
+        self.call(self.python, *words, source, PICKLESTEP_MACHINE=machine)
+        (found,) = to.glob("*.whl")
+        return found
+
+    def environment(self, name: str, *flags: str) -> str:
+        """The interpreter of a fresh environment."""
+        self.call(self.python, "-m", "venv", "--without-pip", *flags, self.folder / name)
+        return str(self.folder / name / "bin/python")
+
+    def install(self, interpreter: str, *words: "str | Path", **environment: str) -> None:
+        pip = ("-m", "pip", "--disable-pip-version-check", "-q", "--python", interpreter, "install", "--no-index", "--no-deps")
+        self.call(self.python, *pip, *words, **environment)
+
+    __hash__ = object.__hash__
+
+
+def same_wheels(wheels: Wheels) -> str:
+    """The wheels of the repository and those of the source distribution have the same files."""
+    for machine in MACHINES:
+        ours, others = (contents(wheels.wheel(machine, source)) for source in (wheels.sources, wheels.source_distribution))
+        if ours != others:
+            return f"{machine}: {sorted(ours.items() ^ others.items())[0][0]} differs"
+    return ""
+
+
+def contents(wheel: Path) -> dict[str, bytes]:
+    with zipfile.ZipFile(wheel) as opened:
+        return {info.filename: opened.read(info) for info in opened.infolist() if not info.filename.endswith("/RECORD")}
+
+
+def installed(wheels: Wheels, machine: str, in_process: bool, program: str) -> str:
+    """The wheel is installed and asked, by the package and by its command."""
+    interpreter = wheels.environment(f"env-{machine}")
+    wheels.install(interpreter, wheels.wheel(machine, wheels.sources))
+    found = wheels.call(interpreter, "-c", ASK)
+    if found != f"{SAID}{in_process} {program}\n":
+        return f"it says {found!r}"
+    file = wheels.folder / "none.pickle"
+    file.write_bytes(b"N.")
+    said = wheels.call(Path(interpreter).with_name("picklestep"), "objects", file)
+    return "" if said == "#0 none\nresult #0\n" else f"the command says {said!r}"
+
+
+def on_arm(wheels: Wheels) -> str:
+    """Its program runs under an emulator; its tags are those of both C libraries."""
+    emulator = shutil.which("qemu-aarch64")
+    if emulator is None:
+        raise Skip("there is no qemu-aarch64 (Debian's qemu-user)")
+    wheel = wheels.wheel("linux-aarch64", wheels.sources)
+    for platform in ("manylinux_2_17_aarch64", "musllinux_1_1_aarch64"):
+        to = wheels.folder / platform
+        words = ("--target", to, "--platform", platform, "--only-binary=:all:", "--python-version", "3.9")
+        wheels.call(wheels.python, "-m", "pip", "--disable-pip-version-check", "-q", "install", "--no-index", "--no-deps", *words, wheel)
+        file = wheels.folder / "none.pickle"
+        file.write_bytes(b"N.")
+        if wheels.call(emulator, to / "picklestep/bin/picklestep", "objects", file) != "#0 none\nresult #0\n":
+            return "its program says something else"
+        if not (to / "picklestep/bin/libpicklestep.so").is_file():
+            return "it has no library"
+    return ""
+
+
+def from_sources(wheels: Wheels) -> str:
+    """pip installs the source distribution, and builds what is for this machine."""
+    interpreter = wheels.environment("env-sources", "--system-site-packages")
+    wheels.install(interpreter, "--no-build-isolation", wheels.source_distribution)
+    found = wheels.call(interpreter, "-c", ASK)
+    return "" if found.startswith(SAID) else f"it says {found!r}"
+
+
+def over_node(wheels: Wheels) -> Noted:
+    """The tests of the package, with the wheel for any machine, and without what other systems have not."""
+    if shutil.which("node") is None:
+        raise Skip("there is no Node")
+    interpreter = wheels.environment("env-node")
+    wheels.install(interpreter, wheels.wheel("any", wheels.sources))
+    tests = wheels.root / "python/tests"
+    lines = wheels.folder / "lines"
+    names = [f"python {name}" for name in OVER_NODE]
+    wheels.call(interpreter, wheels.root / "equipment/packages.py", "--run", lines, *names, PYTHONPATH=f"{tests / 'lesser'}{os.pathsep}{tests}")
+    told = [line.split("\t", 2) for line in lines.read_text(encoding="utf-8").splitlines()]
+    faults = [f"{name}: {fault}" for name, _, fault in told if fault]
+    return Noted(beginning("; ".join(faults).encode()) if told else "nothing was tried", f": {len(told)} tests")
+
+
+ROWS: list[tuple[str, Callable[[Wheels], "str | Noted"]]] = [
+    ("wheels: from the repository and from the source distribution", same_wheels),
+    ("wheels: for x86-64, installed", functools.partial(installed, machine="linux-x86_64", in_process=True, program="picklestep")),
+    ("wheels: for ARM, under an emulator", on_arm),
+    ("wheels: for any machine, installed", functools.partial(installed, machine="any", in_process=False, program="picklestep.mjs")),
+    ("wheels: the source distribution, installed", from_sources),
+    ("wheels: the tests of the package over the module in Node", over_node),
+]
+
+
+def made(wheels: Wheels, row: Callable[[Wheels], "str | Noted"]) -> "str | Noted":
+    wheels.folder.mkdir(parents=True, exist_ok=True)
+    return row(wheels)
+
+
+def trials(wheels: Wheels) -> list[Trial]:
+    return [Trial(name, functools.partial(made, wheels, row)) for name, row in ROWS]

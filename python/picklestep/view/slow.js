@@ -1,0 +1,46 @@
+'use strict';
+// Slow steps: what an opcode takes moves from where it stood on the stack to what is made of it.
+
+const FLIGHT = 900; // milliseconds
+
+const isSlow = () => by('slow').checked;
+
+// The rows of the stack with what they show, the top first.
+function stackRows() {
+  const words = view.state.stack.words.slice().reverse();
+  return words.map((word, at) => ({ word, shown: by('stack').children[at], box: by('stack').children[at].getBoundingClientRect() }));
+}
+
+// Steps, and shows which rows of the stack came and went. The next key waits until that is seen.
+async function slowStep(what) {
+  if (view.pending) return;
+  const before = stackRows();
+  await move(what);
+  const after = stackRows();
+  let kept = 0; // (how many rows from the bottom are the same)
+  while (kept < Math.min(before.length, after.length) && before.at(-1 - kept).word === after.at(-1 - kept).word) kept += 1;
+  const gone = before.slice(0, before.length - kept), come = after.slice(0, after.length - kept);
+  view.pending += 1;
+  await Promise.all([...gone.map((row) => leave(row, after[0])), ...come.map(arrive)]);
+  view.pending -= 1;
+}
+
+const movesLittle = () => matchMedia('(prefers-reduced-motion: reduce)').matches;
+
+// A row that was taken: it moves to the row that is on top now, or goes where none is.
+async function leave({ shown, box }, to) {
+  const copy = shown.cloneNode(true);
+  copy.className = 'flying';
+  copy.setAttribute('aria-hidden', 'true');
+  Object.assign(copy.style, { left: `${box.left}px`, top: `${box.top}px`, width: `${box.width}px` });
+  document.body.append(copy);
+  const end = to ? to.box : { left: box.left + 40, top: box.top };
+  const moved = movesLittle() ? 'none' : `translate(${end.left - box.left}px, ${end.top - box.top}px)`;
+  await copy.animate([{ transform: 'none', opacity: 1 }, { transform: moved, opacity: 0.3 }], { duration: FLIGHT, easing: 'ease-in-out' }).finished;
+  copy.remove();
+}
+
+// A row that was put on the stack.
+function arrive({ shown }) {
+  return shown.animate([{ opacity: 0 }, { opacity: 0.2, offset: 0.6 }, { opacity: 1 }], { duration: FLIGHT }).finished;
+}
