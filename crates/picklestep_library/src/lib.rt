@@ -69,7 +69,14 @@ pub extern "C" fn picklestep_calls_first(
 ) -> u8
     ensures { Fills (IsTextOf (asked.Calls pickles.First) false bytes.now) bytes.now out.old out.new written.new result }
 {
-    texts::fill(alloc, Text::Calls(Pickles::First), false, bytes, out, written)
+    texts::fill(
+        alloc,
+        Text::Calls(Pickles::First),
+        false,
+        bytes,
+        out,
+        written,
+    )
 }
 
 /// What pickles that follow one another would import and call, read by one unpickler that keeps its memo.
@@ -82,7 +89,14 @@ pub extern "C" fn picklestep_calls_one_memo(
 ) -> u8
     ensures { Fills (IsTextOf (asked.Calls pickles.OneMemo) false bytes.now) bytes.now out.old out.new written.new result }
 {
-    texts::fill(alloc, Text::Calls(Pickles::OneMemo), false, bytes, out, written)
+    texts::fill(
+        alloc,
+        Text::Calls(Pickles::OneMemo),
+        false,
+        bytes,
+        out,
+        written,
+    )
 }
 
 /// The answers of a conversation: those to all lines of a script, in a session of a pickle, or where `many` holds of several. `written` has
