@@ -396,7 +396,7 @@ def runs_bare(releases: Releases) -> str:
 PAGES = ("share/man/man1/picklestep.1", "share/man/man1/picklestep-scan.1", "share/man/man1/picklestep-view.1")
 BASH = "share/bash-completion/completions/picklestep"
 ZSH = "share/zsh/site-functions/_picklestep"
-PROGRAM = ("picklestep", "TOOLCHAIN")
+PROGRAM = ("picklestep", "TOOLCHAIN", "libpicklestep.so")
 
 
 def installed_files(releases: Releases) -> list[str]:

@@ -16,7 +16,7 @@ from . import place
 from .errors import ProgramError
 from .place import find_library, find_program
 
-__all__ = ['MOST_BYTES', 'answer']
+__all__ = ['MOST_BYTES', 'WORDS', 'answer']
 
 # Inputs up to this size are asked about here. For a larger one the start of the program is a small part of its time.
 MOST_BYTES = 1 << 16
@@ -30,7 +30,7 @@ _ROOM = 1 << 16
 _DONE, _NO_ROOM = 0, 3
 
 # The functions for the words of the program, and what comes before their other arguments.
-_FUNCTIONS: Dict[Tuple[str, ...], Tuple[str, Tuple[bool, ...]]] = {
+WORDS: Dict[Tuple[str, ...], Tuple[str, Tuple[bool, ...]]] = {
     ('list',): ('picklestep_list', (False,)),
     ('list', '--many'): ('picklestep_list', (True,)),
     ('objects',): ('picklestep_objects', (False,)),
@@ -66,7 +66,7 @@ class _Library:
         self._limit: Callable[[int], None] = library.picklestep_limit_memory
         library.picklestep_limit_memory.argtypes = [ctypes.c_size_t]
         library.picklestep_limit_memory.restype = None
-        self._functions = {words: (getattr(library, name), first) for words, (name, first) in _FUNCTIONS.items()}
+        self._functions = {words: (getattr(library, name), first) for words, (name, first) in WORDS.items()}
         for function, first in self._functions.values():
             function.argtypes = [*[ctypes.c_bool for _ in first], ctypes.c_char_p, ctypes.c_size_t, ctypes.c_void_p, ctypes.c_size_t,
                                  ctypes.POINTER(_Written)]

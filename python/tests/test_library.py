@@ -1,0 +1,162 @@
+"""The library in this process: its answers are those of the program, and it keeps to its limits."""
+
+import os
+import random
+import sys
+import tempfile
+import threading
+import time
+import unittest
+from pathlib import Path
+from typing import List
+from unittest import mock
+
+import picklestep
+from picklestep import library, place
+from picklestep.program import run_program
+from picklestep.scan.blobs import Budget, BytesBlob, Limits
+from picklestep.scan.looking import Options, look_at_bytes
+from picklestep.scan.reading import Asked
+
+DATA = Path(__file__).resolve().parent.parent.parent / 'crates' / 'real_pickles' / 'data'
+PICKLES = sorted(path for path in DATA.glob('*.pickle') if path.stat().st_size <= library.MOST_BYTES)
+HOSTILE = b'cposix\nsystem\n(X\x02\0\0\0idtR.'
+# A name of many bytes that is imported again and again: its answer grows as the square of its size.
+SQUARE = b'\x80\x04\x8c\x01m\x94X' + (30_000).to_bytes(4, 'little') + b'n' * 30_000 + b'\x940' + b'h\0h\x01\x930' * 5_000 + b'N.'
+MB = 1 << 20
+
+
+def has_library() -> bool:
+    return library.answer(['list'], b'N.') is not None
+
+
+@unittest.skipUnless(has_library(), 'there is no library beside the program')
+class Answers(unittest.TestCase):
+    def wanted(self, words: List[str], content: bytes) -> bytes:
+        with tempfile.NamedTemporaryFile() as file:
+            file.write(content)
+            file.flush()
+            return run_program([words[0], file.name, *words[1:]])
+
+    def test_real_pickles(self) -> None:
+        self.assertGreater(len(PICKLES), 150)
+        for path in PICKLES:
+            for words in library.WORDS:
+                with self.subTest(path.name, words=words):
+                    wanted = run_program([words[0], str(path), *words[1:]])
+                    self.assertEqual(library.answer(words, path.read_bytes()), wanted)
+
+    def test_random_changes(self) -> None:
+        chance = random.Random(7)
+        for _ in range(1000):
+            content = bytearray(chance.choice(PICKLES).read_bytes()[:chance.randrange(2, 400)])
+            for _ in range(chance.randrange(4)):
+                content[chance.randrange(len(content))] = chance.randrange(256)
+            words = chance.choice(list(library.WORDS))
+            self.assertEqual(library.answer(words, bytes(content)), self.wanted(list(words), bytes(content)))
+
+    def test_an_answer_with_more_room(self) -> None:
+        content = b'\x8c\xfa' + b'n' * 250 + b'0'
+        content = content * (library.MOST_BYTES // len(content))
+        answer = library.answer(['objects'], content)
+        assert answer is not None
+        self.assertGreater(len(answer), library.MOST_BYTES)
+        self.assertEqual(answer, self.wanted(['objects'], content))
+
+    def test_empty(self) -> None:
+        self.assertEqual(library.answer(['list'], b''), self.wanted(['list'], b''))
+
+    def test_threads(self) -> None:
+        wanted = {path: library.answer(['calls'], path.read_bytes()) for path in PICKLES}
+        faults: List[str] = []
+
+        def ask(seed: int) -> None:
+            chance = random.Random(seed)
+            for _ in range(300):
+                path = chance.choice(PICKLES)
+                memory = chance.choice((None, 9 * MB, 64 * MB))
+                if library.answer(['calls'], path.read_bytes(), memory) not in (wanted[path], None):
+                    faults.append(path.name)
+
+        threads = [threading.Thread(target=ask, args=(seed,)) for seed in range(8)]
+        for thread in threads:
+            thread.start()
+        for thread in threads:
+            thread.join()
+        self.assertEqual(faults, [])
+
+
+@unittest.skipUnless(has_library(), 'there is no library beside the program')
+class InProcess(unittest.TestCase):
+    """What is asked here and what of the program. Where it starts none, the program's name may be that of no file."""
+
+    def setUp(self) -> None:
+        self.found = place.find_program()
+
+    def started(self) -> 'mock._patch[mock.MagicMock]':
+        return mock.patch('picklestep.program.subprocess.Popen', side_effect=AssertionError('a process was started'))
+
+    def test_small_inputs_start_nothing(self) -> None:
+        with tempfile.NamedTemporaryFile() as file, self.started():
+            file.write(HOSTILE)
+            file.flush()
+            for source in (HOSTILE, bytearray(HOSTILE), memoryview(HOSTILE), file.name, Path(file.name)):
+                self.assertEqual([reach.what for reach in picklestep.calls(source)], ['import', 'call'])
+            self.assertEqual(picklestep.calls(b'NN00N0.').end.offset, 5)
+            self.assertEqual(picklestep.objects(b'N0.').end.offset, 2)
+            self.assertEqual(len(picklestep.listing(HOSTILE, memory=64 * MB)), 6)
+
+    def test_a_limit_of_time_and_a_large_input_start_the_program(self) -> None:
+        for ask in (lambda: picklestep.calls(HOSTILE, timeout=60), lambda: picklestep.calls(b'N' * library.MOST_BYTES + b'.')):
+            with self.started(), self.assertRaises(AssertionError):
+                ask()
+
+    def test_a_limit_of_memory_stays_an_answer(self) -> None:
+        self.assertIsNone(library.answer(['calls'], SQUARE))
+        with self.assertRaises(picklestep.OutOfMemory):
+            picklestep.objects(b'N' * 65_000 + b'.', memory=6 * MB)
+        self.assertEqual(picklestep.calls(HOSTILE).calls, 1)
+
+    def test_a_program_that_is_named(self) -> None:
+        with mock.patch.dict(os.environ, PICKLESTEP_PROGRAM='/not/there'), self.assertRaises(picklestep.ProgramError):
+            picklestep.calls(HOSTILE)
+
+    def test_a_small_pickle_takes_microseconds(self) -> None:
+        picklestep.calls(HOSTILE)
+        times = []
+        for _ in range(300):
+            begun = time.perf_counter()
+            picklestep.calls(HOSTILE)
+            times.append(time.perf_counter() - begun)
+        self.assertLess(min(times), 100e-6)
+
+
+@unittest.skipUnless(has_library(), 'there is no library beside the program')
+class Scan(unittest.TestCase):
+    """`scan` asks the library within its limits."""
+
+    def test_small_pickles_start_nothing(self) -> None:
+        with mock.patch('picklestep.scan.reading.Process', side_effect=AssertionError('a process was started')):
+            for content in (HOSTILE, b'N0.' + HOSTILE, HOSTILE[:-1]):
+                found = look_at_bytes('a.pkl', content).pickles[0]
+                self.assertEqual([one.name for one in found.imports], ['posix.system'])
+        self.assertEqual(look_at_bytes('a.pkl', b'N0.' + HOSTILE).pickles[0].end.offset, 2)
+
+    def test_what_takes_more_memory_is_asked_of_the_program(self) -> None:
+        wanted = Budget(Limits())
+        with Asked(BytesBlob(SQUARE)) as asked, mock.patch.object(library, 'answer', wraps=library.answer) as inner:
+            self.assertIsNotNone(asked.summary(wanted).trouble)
+            self.assertEqual(inner.call_count, 1)
+
+    def test_little_time(self) -> None:
+        with mock.patch('picklestep.scan.reading.library.answer', side_effect=AssertionError('it was asked here')):
+            self.assertEqual(len(look_at_bytes('a.pkl', HOSTILE, Options(Limits(seconds=0.9))).pickles), 1)
+
+    def test_lines_are_counted(self) -> None:
+        content = b'cos\ngetcwd\nq\x000' + b'h\x00)R0' * 2000 + b'N.'
+        result = look_at_bytes('a.pkl', content, Options(Limits(lines=1000)))
+        self.assertIn('more than 1,000 lines', ' '.join(note.text for note in result.notes))
+
+
+if __name__ == '__main__':
+    sys.exit(unittest.main())
