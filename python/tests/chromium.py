@@ -28,6 +28,20 @@ for end, wanted in zip(ends, (3, 4)):
 os.execv(sys.argv[3], sys.argv[3:])'''
 KEYS = {'ArrowRight': 39, 'ArrowLeft': 37, 'ArrowDown': 40, 'ArrowUp': 38, 'Home': 36, 'End': 35, 'Enter': 13, ' ': 32, 'Tab': 9, 'Escape': 27}
 
+# How much each text that is seen stands out from what is behind it, by the formula of the Web Content Accessibility Guidelines.
+CONTRASTS = '''(() => {
+    const parts = (colour) => colour.match(/[0-9.]+/g).map(Number);
+    const light = (colour) => parts(colour).slice(0, 3).map((part) => part / 255)
+        .map((part) => part <= 0.04045 ? part / 12.92 : ((part + 0.055) / 1.055) ** 2.4)
+        .reduce((sum, part, at) => sum + part * [0.2126, 0.7152, 0.0722][at], 0);
+    const behind = (each) => { const colour = getComputedStyle(each).backgroundColor;
+        return (parts(colour)[3] ?? 1) === 1 ? colour : behind(each.parentElement); };
+    return [...document.querySelectorAll('body *')].filter((each) => each.checkVisibility() && !each.disabled && !each.closest('.hidden, dialog') &&
+        [...each.childNodes].some((child) => child.nodeType === Node.TEXT_NODE && child.textContent.trim())).map((each) => {
+            const [low, high] = [light(getComputedStyle(each).color), light(behind(each))].sort((left, right) => left - right);
+            return [each.className + ' ' + each.textContent.slice(0, 40), (high + 0.05) / (low + 0.05)]; });
+})()'''
+
 
 class BrowserError(Exception):
     """What the browser could not do."""

@@ -2,6 +2,7 @@
 
 from __future__ import annotations
 
+import ast
 import base64
 import gzip
 import hashlib
@@ -19,8 +20,8 @@ import zipfile
 from pathlib import Path
 from typing import Any, Dict, List
 
-from chromium import PROGRAM, Browser
-from pickles import REAL, ROOT
+from chromium import CONTRASTS, PROGRAM, Browser
+from pickles import REAL, ROOT, known_opcodes, real_pickles
 from picklestep.view.document import Document
 from picklestep.view.server import Viewer
 
@@ -46,7 +47,8 @@ SEEN = '''(() => {
             .map((selector) => [selector, texts(selector)])), titles: ['undo', 'redo'].map((id) => document.getElementById(id).title),
         readOn: document.querySelector('#read-on').hidden }; })()'''
 # The same keys for both pages. What begins with a sharp is clicked.
-KEYS = ['n', 'ArrowRight', 'p', 'ArrowDown', 'b', ' ', 'End', '#objects .thing', '#result .thing', 'Home', 'Delete', 'u', 'r', '#read-on:not([hidden])']
+KEYS = ['n', 'ArrowRight', 'p', 'ArrowDown', 'b', ' ', 'End', '#objects .thing', '#result .thing', 'Home', 'Delete', 'u', 'r',
+        '#read-on:not([hidden])']
 
 
 @unittest.skipIf(PROGRAM is None, 'there is no chromium')
@@ -73,11 +75,15 @@ class Alone(unittest.TestCase):
         self.browser.go(PAGE.as_uri())
         self.browser.wait(READY)
 
-    def give(self, path: Path) -> None:
+    def choose(self, path: Path) -> None:
         """Chooses a file, as the button does."""
         field = self.browser.call('Runtime.evaluate', expression="document.querySelector('#file')")['result']['objectId']
-        self.browser.js('void (view.state = null)')
         self.browser.call('DOM.setFileInputFiles', files=[str(path)], objectId=field)
+
+    def give(self, path: Path) -> None:
+        """Chooses a file, and waits until it is shown."""
+        self.browser.js('void (view.state = null)')
+        self.choose(path)
         self.browser.wait('view.state !== null')
         self.browser.js(SETTLED)
 
@@ -178,9 +184,9 @@ class Alone(unittest.TestCase):
 
     def test_pasting(self) -> None:
         self.load()
-        hexadecimal = SYSTEM.hex()
-        for text in (hexadecimal, hexadecimal.upper(), ' '.join(f'0x{byte:02x},' for byte in SYSTEM), ''.join(f'\\x{byte:02x}' for byte in SYSTEM),
-                     base64.b64encode(SYSTEM).decode('ascii'), base64.urlsafe_b64encode(SYSTEM + b'\xff\xfe').decode('ascii')):
+        texts = [SYSTEM.hex(), SYSTEM.hex().upper(), ' '.join(f'0x{byte:02x},' for byte in SYSTEM), ''.join(f'\\x{byte:02x}' for byte in SYSTEM),
+                 base64.b64encode(SYSTEM).decode('ascii'), base64.urlsafe_b64encode(SYSTEM + b'\xff\xfe').decode('ascii')]
+        for text in texts:
             self.pasted(text, 6)
             self.assertEqual(self.texts('.row .reach')[:5], ['→ posix.system', '', '', '', "→ posix.system('id')"])
         self.paste('no pickle!')
@@ -199,8 +205,7 @@ class Alone(unittest.TestCase):
     def members(self, path: Path) -> List[str]:
         """Chooses an archive, and answers what its members are."""
         self.load()
-        field = self.browser.call('Runtime.evaluate', expression="document.querySelector('#file')")['result']['objectId']
-        self.browser.call('DOM.setFileInputFiles', files=[str(path)], objectId=field)
+        self.choose(path)
         self.browser.wait("document.querySelector('#members-dialog').open")
         return self.texts('#members .thing')
 
@@ -216,7 +221,8 @@ class Alone(unittest.TestCase):
         shown = self.members(path)
         self.assertEqual(shown, ['model/data.pkl  25 bytes ', 'a \\u202e name  225 bytes ', 'bz  25 bytes packed by method 12: not read here',
                                  f'inner.gz  {len(gzip.compress(SYSTEM))} bytes '])
-        self.assertEqual(self.browser.js("[...document.querySelectorAll('#members .thing')].map((each) => each.disabled)"), [False, False, True, False])
+        disabled = "[...document.querySelectorAll('#members .thing')].map((each) => each.disabled)"
+        self.assertEqual(self.browser.js(disabled), [False, False, True, False])
         for number, name in ((0, 'model/data.pkl'), (1, 'a \\u202e name'), (3, 'inner')):
             if number:
                 self.members(path)
@@ -236,8 +242,7 @@ class Alone(unittest.TestCase):
     def test_what_cannot_be_opened_is_said(self) -> None:
         self.load()
         for data, said in ((gzip.compress(SYSTEM)[:-12], 'not done: the packed bytes cannot be unpacked to their end'),):
-            field = self.browser.call('Runtime.evaluate', expression="document.querySelector('#file')")['result']['objectId']
-            self.browser.call('DOM.setFileInputFiles', files=[str(self.file('cut.gz', data))], objectId=field)
+            self.choose(self.file('cut.gz', data))
             self.said(said)
         self.give(self.file('empty.pickle', b''))
         self.assertIn('F1 ended at 0', self.texts('#where')[0])
@@ -249,7 +254,7 @@ class Alone(unittest.TestCase):
         self.give(self.file('a.pickle', SYSTEM))
         self.browser.js('select(2)')
         self.browser.key('e')
-        self.browser.wait("document.querySelector('#edit-form').getAttribute('aria-busy') === 'false' && document.querySelector('#edit-argument').value")
+        self.browser.wait("document.querySelector('#edit-form').getAttribute('aria-busy') === 'false'")
         self.assertEqual(self.browser.js("document.querySelector('#edit-argument').value"), "'id'")
         self.browser.js("document.querySelector('#edit-argument').select()")
         self.browser.type("'caf\\xe9'")
@@ -279,7 +284,8 @@ class Alone(unittest.TestCase):
             places = len(list(pickletools.genops(data)))
             told = dict(example['text'])
             self.assertLessEqual(max(told), places)
-            self.browser.js(f"void (view.state = null, document.querySelector('#example').value = {at}, document.querySelector('#example').dispatchEvent(new Event('change')))")
+            self.browser.js(f"{{ view.state = null; const list = document.querySelector('#example'); list.value = {at};"
+                            "list.dispatchEvent(new Event('change')); }")
             self.browser.wait(f"document.querySelector('#where').textContent.startsWith('at 0 of {places},')")
             self.browser.js("document.querySelector('#listing').focus()")
             for place in range(places):
@@ -289,11 +295,82 @@ class Alone(unittest.TestCase):
             self.browser.wait(f"document.querySelector('#where').textContent.startsWith('at {places} of ')")
         self.assertEqual(self.browser.errors(), [])
 
+    # --- Values ---
+
+    def test_values_are_those_of_python(self) -> None:
+        """What is typed for an argument is read by Python as the value that `pickletools` reads of the bytes, and gives the same bytes."""
+        self.load()
+        floats = [0.0, -0.0, 0.1, 1e16, 1e15, 123456789012345680.0, 1e22, 1e-4, 1e-5, 5e-324, 1.7976931348623157e308, float('inf'), 2 / 3]
+        self.assertEqual(self.browser.js(f'{json.dumps(floats[:-2])}.map(pythonFloat)'), [repr(value) for value in floats[:-2]])
+        forms = {opcode.name: opcode.arg.name for opcode in pickletools.opcodes if opcode.arg is not None}
+        known = {(forms[each.name], each.raw, repr(each.value)) for data in real_pickles().values() for each in known_opcodes(data)
+                 if each.name in forms and len(each.raw) < 2000}
+        asked = sorted(known)
+        typed = self.browser.js(f'{json.dumps([(form, raw.hex()) for form, raw, _ in asked])}.map(([form, raw]) => typedOf(form, raw))')
+        lines = ('stringnl', 'stringnl_noescape', 'string1', 'string4', 'unicodestringnl', 'stringnl_noescape_pair', 'decimalnl_short')
+        read = 0
+        for (form, raw, value), text in zip(asked, typed):
+            if text is not None and form not in lines and text not in ('inf', '-inf', 'nan'):
+                wanted = repr(bytes(ast.literal_eval(value[10:-1]))) if form == 'bytearray8' else value
+                self.assertEqual(repr(ast.literal_eval(text)), wanted, (form, raw))
+                read += 1
+        self.assertGreater(read, 500)
+        self.assertGreater(sum(text is not None for text in typed), 0.98 * len(typed))
+
+    def test_what_is_no_value_is_said(self) -> None:
+        self.load()
+        for form, text, said in (('uint1', '256', 'a whole number from 0 to 255 is wanted'), ('unicodestring1', 'abc', 'this is no value as Python'),
+                                 ('stringnl_noescape_pair', "'os'", "two texts are wanted: 'module', 'name'"),
+                                 ('bytes1', "b'" + 256 * 'a' + "'", 'at most 255 bytes'),
+                                 ('stringnl_noescape', r"'a\nb'", 'a line cannot hold a newline'),
+                                 ('float8', "'a'", 'a number is wanted'), ('unicodestring4', r"'\x1'", 'an escape in it is not whole')):
+            answer = self.browser.js(f'(() => {{ try {{ return argumentOf({json.dumps(form)}, {json.dumps(text)}, false); }}'
+                                     'catch (error) { return error.message; } })()')
+            self.assertTrue(answer.startswith(said), (form, text, answer))
+
+    # --- For everybody ---
+
+    def test_contrast_names_and_width(self) -> None:
+        self.addCleanup(self.browser.scheme, 'light')
+        self.load()
+        for opened in (False, True):
+            if opened:
+                self.give(MODELS / 'sklearn_tree.pkl')
+                self.browser.key('n')
+                self.browser.js(SETTLED)
+            for scheme in ('light', 'dark'):
+                self.browser.scheme(scheme)
+                for pane in ('objects', 'reached', 'result'):
+                    self.browser.js(f"showPane('{pane}')")
+                    self.assertEqual([each for each in self.browser.js(CONTRASTS) if each[1] < 4.5], [])
+            unnamed = self.browser.js('''[...document.querySelectorAll('button, input, select, textarea')].filter((each) =>
+                !each.textContent.trim() && !each.labels?.length && !each.ariaLabel).map((each) => each.id)''')
+            self.assertEqual(unnamed, [])
+            for width in (1200, 600, 320):
+                self.browser.size(width, 800)
+                self.assertLessEqual(self.browser.js('document.documentElement.scrollWidth'), width)
+            self.browser.size(1200, 800)
+
+    def test_slow_steps(self) -> None:
+        self.load()
+        self.pasted(SYSTEM.hex(), 6)
+        self.browser.js("document.querySelector('#listing').focus()")
+        for key in ('ArrowRight', 'ArrowRight', 'ArrowRight', 'ArrowRight', 'w'):
+            self.browser.key(key)
+            self.browser.js(SETTLED)
+        self.browser.key('ArrowRight')
+        self.browser.wait("document.querySelectorAll('.flying').length === 2")
+        self.assertEqual(self.texts('.flying .number'), ['#2', '#0'])
+        self.browser.key('ArrowRight')  # (while it is shown, no other step is made)
+        self.browser.wait("document.querySelectorAll('.flying').length === 0")
+        self.assertEqual(self.texts('#where')[0][:9], 'at 5 of 6')
+
     # --- What is hostile stays text ---
 
     def test_hostile_texts_stay_text(self) -> None:
         self.load()
-        hostile = ['</script><img src=x onerror="document.title=1">', '<b>bold</b>', '\u202eevil', '\u05d0\u05d1', '\x1b[31m\r\n', '\u200b\ufeff\u2028', '\0']
+        hostile = ['</script><img src=x onerror="document.title=1">', '<b>bold</b>', '\u202eevil',
+                   '\u05d0\u05d1', '\x1b[31m\r\n', '\u200b\ufeff\u2028', '\0']
         shown = [repr(text) if text != '\u05d0\u05d1' else r"'\u05d0\u05d1'" for text in hostile]
         names = b''.join(b'c%s\n%s\n0' % (text.encode('utf-8').replace(b'\n', b' '), b'<i>x</i>') for text in hostile)
         self.give(self.file('<img src=x>.pickle', b'\x80\x04' + names + pickle.dumps(hostile, 4)[2:]))
@@ -306,7 +383,8 @@ class Alone(unittest.TestCase):
         for text in shown:
             self.assertTrue(any(each.endswith(f'text {text}') for each in objects), text)
         self.browser.click('#tab-reached')
-        everything = self.browser.js('document.body.innerText + document.title + [...document.querySelectorAll("[title], [aria-label]")].map((each) => each.title + each.ariaLabel)')
+        everything = self.browser.js('document.body.innerText + document.title + '
+                                     '[...document.querySelectorAll("[title], [aria-label]")].map((each) => each.title + each.ariaLabel)')
         self.assertNotRegex(everything, '[\u0590-\u08ff\u200b-\u200f\u202a-\u202e\u2028\u2066-\u2069\ufeff\x1b\0]')
         self.assertEqual(self.browser.js("document.querySelectorAll('img, b, i').length"), 0)
         self.assertEqual(self.texts('#name'), ['<img src=x>.pickle'])
@@ -314,8 +392,11 @@ class Alone(unittest.TestCase):
 
     def test_the_policy_lets_nothing_out(self) -> None:
         self.load()
-        for attempt in ("fetch('http://127.0.0.1:9/')", "new Promise((done, fail) => { const image = new Image(); image.onload = done; image.onerror = () => fail(new Error('refused')); image.src = 'http://127.0.0.1:9/x.png'; })",
-                        "new Promise((done, fail) => { const made = document.createElement('script'); made.textContent = 'window.ran = 1'; document.body.append(made); fail(new Error(String(window.ran))); })"):
+        image = """new Promise((done, fail) => { const image = new Image(); image.onload = done; image.onerror = () => fail(new Error('no'));
+            image.src = 'http://127.0.0.1:9/x.png'; })"""
+        script = """new Promise((done, fail) => { const made = document.createElement('script'); made.textContent = 'window.ran = 1';
+            document.body.append(made); fail(new Error(String(window.ran))); })"""
+        for attempt in ("fetch('http://127.0.0.1:9/')", image, script):
             self.assertRegex(str(self.browser.js(f'({attempt}).then(() => "done", (error) => "refused: " + error.message)')), '^refused: ')
         self.assertEqual(self.browser.js('window.ran'), None)
 
@@ -323,9 +404,9 @@ class Alone(unittest.TestCase):
         """A list of 5 MB is there within seconds, and the page answers meanwhile."""
         self.load()
         path = self.file('large.pickle', b'\x80\x04](' + b'K\x01' * 2_500_000 + b'e.')
-        field = self.browser.call('Runtime.evaluate', expression="document.querySelector('#file')")['result']['objectId']
-        self.browser.js('void (window.said = [], new MutationObserver(() => window.said.push(document.querySelector("#said").textContent)).observe(document.querySelector("#said"), { childList: true }))')
-        self.browser.call('DOM.setFileInputFiles', files=[str(path)], objectId=field)
+        self.browser.js("""{ window.said = []; const said = document.querySelector('#said');
+            new MutationObserver(() => window.said.push(said.textContent)).observe(said, { childList: true }); }""")
+        self.choose(path)
         self.browser.wait("document.querySelector('#where').textContent.startsWith('at 0 of 2500005,')")
         self.assertTrue(any(text.startswith('list: ') for text in self.browser.js('window.said')))
         self.browser.js("document.querySelector('#listing').focus()")

@@ -17,7 +17,7 @@ from pathlib import Path
 from typing import Any, List
 
 import picklestep
-from chromium import PROGRAM, Browser
+from chromium import CONTRASTS, PROGRAM, Browser
 from picklestep import Ref, Session
 from picklestep.view import main
 from picklestep.view.command import _leading_to
@@ -30,19 +30,6 @@ HOSTILE_NAME = '</script><img src=x onerror="document.title=1">'
 HOSTILE = b'c' + HOSTILE_NAME.encode('ascii') + b'\n<b>&amp;\n\x8c\x1c<img src=x onerror=alert(1)>\x85R.'
 READY = "document.querySelector('#where')?.textContent.startsWith('at ')"
 FILLED = "document.querySelector('#edit-form').getAttribute('aria-busy') === 'false'"
-# How much each text that is seen stands out from what is behind it, by the formula of the Web Content Accessibility Guidelines.
-CONTRASTS = '''(() => {
-    const parts = (colour) => colour.match(/[0-9.]+/g).map(Number);
-    const light = (colour) => parts(colour).slice(0, 3).map((part) => part / 255)
-        .map((part) => part <= 0.04045 ? part / 12.92 : ((part + 0.055) / 1.055) ** 2.4)
-        .reduce((sum, part, at) => sum + part * [0.2126, 0.7152, 0.0722][at], 0);
-    const behind = (each) => { const colour = getComputedStyle(each).backgroundColor;
-        return (parts(colour)[3] ?? 1) === 1 ? colour : behind(each.parentElement); };
-    return [...document.querySelectorAll('body *')].filter((each) => each.checkVisibility() && !each.disabled && !each.closest('.hidden, dialog') &&
-        [...each.childNodes].some((child) => child.nodeType === Node.TEXT_NODE && child.textContent.trim())).map((each) => {
-            const [low, high] = [light(getComputedStyle(each).color), light(behind(each))].sort((left, right) => left - right);
-            return [each.className + ' ' + each.textContent.slice(0, 40), (high + 0.05) / (low + 0.05)]; });
-})()'''
 
 
 @unittest.skipIf(PROGRAM is None, 'there is no chromium')

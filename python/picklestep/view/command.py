@@ -97,14 +97,18 @@ def _signals_interrupt() -> Iterator[None]:
             signal.signal(number, handler)
 
 
+def _count(text: str) -> None:
+    print(f'\r\x1b[K{text}', end='', file=sys.stderr, flush=True)
+
+
 def _opened(options: argparse.Namespace) -> Document:
     """The document. A terminal gets a line that says how far it is, which is wiped out at the end."""
     if not sys.stderr.isatty():
         return Document(options.file, Path(options.file).name, options.many)
     try:
-        return Document(options.file, Path(options.file).name, options.many, lambda text: print(f'\r\x1b[K{text}', end='', file=sys.stderr, flush=True))
+        return Document(options.file, Path(options.file).name, options.many, _count)
     finally:
-        print('\r\x1b[K', end='', file=sys.stderr, flush=True)
+        _count('')
 
 
 def _do(options: argparse.Namespace) -> int:

@@ -4,7 +4,10 @@
 const SLOW = 300; // milliseconds, after which the page says that it waits
 
 const by = (id) => document.getElementById(id);
-const view = { state: null, top: 0, selected: 0, chunks: new Map(), waiting: new Set(), objects: 0, reaches: 0, asks: 0, pending: 0, busy: Promise.resolve(), rows: [], opcodes: {} };
+const view = {
+  state: null, opcodes: {}, rows: [], top: 0, selected: 0, chunks: new Map(), waiting: new Set(), objects: 0, reaches: 0,
+  asks: 0, pending: 0, busy: Promise.resolve(), // questions and commands that are not answered
+};
 
 const formOf = (name) => (view.opcodes[name] ? view.opcodes[name].form : '');
 

@@ -147,7 +147,7 @@ function explain() {
   const first = element('p');
   first.append(element('span', 'word', line[2]), document.createTextNode(` ${says}`));
   const effect = element('p', 'effect');
-  effect.append(element('span', 'key', 'stack: '), document.createTextNode(takes || 'nothing'), element('span', 'key', ' → '), document.createTextNode(leaves || 'nothing'));
+  effect.append(element('span', 'key', 'stack: '), takes || 'nothing', element('span', 'key', ' → '), leaves || 'nothing');
   by('opcode').replaceChildren(first, effect, ...(line[8] ? [element('p', 'reach', '→ ' + reachOfRow(line[8]))] : []));
 }
 

@@ -85,9 +85,17 @@ function leastBytes(value) {
   return bytesOfWhole(value, width);
 }
 
+// A text in UTF-8. Halves of pairs that stand alone have three bytes, as Python's pickler writes them.
+function utf8Bytes(text) {
+  return joined(text.split(/([\ud800-\udfff])/u).map((part, at) => {
+    const code = part.charCodeAt(0);
+    return at % 2 ? Uint8Array.of(0xe0 | code >> 12, 0x80 | code >> 6 & 63, 0x80 | code & 63) : new TextEncoder().encode(part);
+  }));
+}
+
 function bytesOf(value) {
   if (value instanceof Uint8Array) return value;
-  if (typeof value === 'string') return new TextEncoder().encode(value);
+  if (typeof value === 'string') return utf8Bytes(value);
   throw new ValueError("a text or bytes are wanted, in quotes: 'text', b'bytes'");
 }
 
@@ -167,7 +175,8 @@ const READERS = {
     const middle = bytes.indexOf(10);
     return `${asText(bytes.subarray(0, middle))}, ${asText(bytes.subarray(middle + 1, -1))}`;
   },
-  unicodestringnl: (bytes) => pythonText(lineText(bytes).replace(/\\u([0-9a-f]{4})|\\U([0-9a-f]{8})/g, (_, four, eight) => String.fromCodePoint(parseInt(four || eight, 16)))),
+  unicodestringnl: (bytes) => pythonText(lineText(bytes).replace(/\\u([0-9a-f]{4})|\\U([0-9a-f]{8})/g,
+    (_, four, eight) => String.fromCodePoint(parseInt(four || eight, 16)))),
   string1: (bytes) => asText(bytes.subarray(1)), string4: (bytes) => asText(bytes.subarray(4)), bytes1: (bytes) => pythonBytes(bytes.subarray(1)),
   bytes4: (bytes) => pythonBytes(bytes.subarray(4)), bytes8: (bytes) => pythonBytes(bytes.subarray(8)), bytearray8: (bytes) => pythonBytes(bytes.subarray(8)),
   unicodestring1: (bytes) => asText(bytes.subarray(1)), unicodestring4: (bytes) => asText(bytes.subarray(4)), unicodestring8: (bytes) => asText(bytes.subarray(8)),

@@ -60,10 +60,26 @@ function unquoted(quotedText) {
   return Uint8Array.from(inner, (sign) => sign.charCodeAt(0));
 }
 
-// The text of bytes in UTF-8, or null.
+const strict = new TextDecoder('utf-8', { fatal: true, ignoreBOM: true });
+const HALF = /(\xed[\xa0-\xbf][\x80-\xbf])/;
+const MOST_HALVED = 10000; // bytes
+
+// The text of bytes in UTF-8, or null. Halves of pairs may stand alone, as Python's unpickler lets them.
 function utf8(bytes) {
   try {
-    return new TextDecoder('utf-8', { fatal: true, ignoreBOM: true }).decode(bytes);
+    return strict.decode(bytes);
+  } catch (error) {
+    return bytes.length < MOST_HALVED ? withHalves(bytes) : null;
+  }
+}
+
+function withHalves(bytes) {
+  try {
+    return String.fromCharCode(...bytes).split(HALF).map((part, at) => {
+      const [, second, third] = part;
+      if (at % 2) return String.fromCharCode(0xd000 | (second.charCodeAt(0) & 63) << 6 | third.charCodeAt(0) & 63);
+      return strict.decode(Uint8Array.from(part, (sign) => sign.charCodeAt(0)));
+    }).join('');
   } catch (error) {
     return null;
   }
@@ -90,7 +106,8 @@ function pythonOfCut(beginning, kind) {
 }
 
 const QUOTED = "'[^'\\\\]*(?:\\\\.[^'\\\\]*)*'";
-const ATOMS = new RegExp(`(?:(raw|bytes|bytearray|string|text|int|float) )?(?:(raw) )?(${QUOTED})|(?:(?:int|float) )?(le:[0-9a-f]*|f8:[0-9a-f]{16})|\\b(none|true|false)\\b|\\bint (-?[0-9]+)`, 'g');
+const BYTES = 'le:[0-9a-f]*|f8:[0-9a-f]{16}';
+const ATOMS = new RegExp(`(?:(raw|bytes|bytearray|string|text) )?(?:(raw) )?(${QUOTED})|(?:(?:int|float) )?(${BYTES})|\\b(none|true|false)\\b|\\bint (-?[0-9]+)`, 'g');
 const CONSTANTS = { none: 'None', true: 'True', false: 'False' };
 
 function pythonNumber(text) {
@@ -112,8 +129,11 @@ function pythonValues(line) {
 function shownArgument(argument, form) {
   if (!argument) return '';
   const kind = form.startsWith('bytes') || form === 'bytearray8' ? 'bytes' : 'text';
-  return argument.replace(new RegExp(`(${QUOTED})|(le:[0-9a-f]*|f8:[0-9a-f]{16})`, 'g'),
-    (all, quotedText, number) => (number === undefined ? (form === 'stringnl' ? plain(quotedText.slice(1, -1).replace(/\\(['\\])/g, '$1')) : pythonOfQuoted(quotedText, kind)) : pythonNumber(number)));
+  return argument.replace(new RegExp(`(${QUOTED})|(${BYTES})`, 'g'), (all, quotedText, number) => {
+    if (number !== undefined) return pythonNumber(number);
+    // (a line of STRING is shown as it stands, with its own quotes)
+    return form === 'stringnl' ? plain(quotedText.slice(1, -1).replace(/\\(['\\])/g, '$1')) : pythonOfQuoted(quotedText, kind);
+  });
 }
 
 // --- What an opcode imports or calls ---
@@ -121,12 +141,14 @@ function shownArgument(argument, form) {
 const NAME = `(?:raw )?${QUOTED}`;
 const REACH = new RegExp(`^(import|call|new|inst) (?:(${NAME}) (${NAME})|ext ([0-9]+)|(#[0-9]+))(?: (.*?))??(?: for (${NAME}) (${NAME}))?(?: as #[0-9]+)?$`);
 
+const DOTTED = /^[\p{L}\p{Nl}_][\p{L}\p{Nl}\p{M}\p{Nd}\p{Pc}]*(\.[\p{L}\p{Nl}_][\p{L}\p{Nl}\p{M}\p{Nd}\p{Pc}]*)*$/u;
+
 // A name of a module, or in it. What is no name is shown with quotes.
 function shownName(quotedText) {
   const isRaw = quotedText.startsWith('raw ');
   const bytes = unquoted(isRaw ? quotedText.slice(4) : quotedText), text = isRaw ? null : utf8(bytes);
   if (text === null) return pythonBytes(bytes);
-  return /^[\p{L}\p{Nl}_][\p{L}\p{Nl}\p{M}\p{Nd}\p{Pc}]*(\.[\p{L}\p{Nl}_][\p{L}\p{Nl}\p{M}\p{Nd}\p{Pc}]*)*$/u.test(text) && !HIDDEN.test(text) ? text : pythonText(text);
+  return DOTTED.test(text) && !HIDDEN.test(text) ? text : pythonText(text);
 }
 
 // What is given to a call, with imported names and values as Python writes them.

@@ -29,6 +29,7 @@ const host = {
 
   shown() {
     by('welcome').hidden = true;
+    by('opening-note').hidden = true;
     if (!view.story) by('example').value = '';
     showStory();
   },
