@@ -13,7 +13,7 @@ from typing import TYPE_CHECKING, Any, Callable, Generator, Iterator, List, Opti
 from ..results import Result
 from .address import Address
 from .redis_server import RedisServer
-from .server import NoServer, Server, Wanted, looked, server_of
+from .server import NoServer, Server, Wanted, ask_again, looked, server_of
 from .values import Values, key_name
 
 if TYPE_CHECKING:
@@ -70,6 +70,7 @@ def follow(address: Address, options: 'Options', wanted: Wanted) -> Generator[Re
             news = news or _news(server, address, wanted)
             look = next(news)
             pause = 0.0
+            ask_again(address)
             yield from _looked(address, options, look, seen)
         except NoServer as error:
             if not pause:
