@@ -131,6 +131,13 @@ def hdf5(path: str) -> None:
         rows = file.create_dataset('rows', (20,), dtype=h5py.vlen_dtype(numpy.dtype('u1')))
         rows[7] = numpy.frombuffer(evil, 'u1')
         file['texts'] = numpy.array([b'harmless', base64.b64encode(evil)])
+        # (as PyTables writes tables: a row has fields, some of them arrays or with fields of their own)
+        kind = numpy.dtype([('number', 'i4'), ('state', f'V{len(evil)}'), ('more', [('cells', 'u1', (len(evil),)), ('flag', 'u1')])])
+        table = numpy.zeros(10, kind)
+        table['state'][4] = numpy.void(evil)
+        table['more']['cells'][7] = numpy.frombuffer(evil, 'u1')
+        file['table'] = table
+        file['table'].attrs['row'] = table[4]
 
 
 def sqlite_rows(path: str, count: str) -> None:
@@ -166,14 +173,38 @@ def redis_server(port: str, password: str, count: str) -> None:
     client.setrange('large', (512 << 20) - 1, b'x')
 
 
+def redis_values(url: str) -> None:
+    """A thousand harmless values, one that is hostile, one that is large, and a list."""
+    import redis
+    client = redis.Redis.from_url(url)
+    client.mset({f'key {number:03}': harmless(number) for number in range(1_000)})
+    client.set('evil', pickle.dumps(Hostile()))
+    client.set('large', bytes(9 << 20))
+    client.rpush('values', *map(harmless, range(100)))
+
+
+def redis_jobs(url: str) -> None:
+    """Jobs of RQ."""
+    import redis
+    import rq
+    client = redis.Redis.from_url(url)
+    rq.Queue('work', connection=client).enqueue_call('module.function', args=(1,), job_id='harmless')
+    rq.Queue('work', connection=client).enqueue_call('module.function', args=(Hostile(),), job_id='evil')
+
+
+def memcached_values(url: str) -> None:
+    """A thousand harmless values, and one that is hostile."""
+    from urllib.parse import urlsplit
+    from pymemcache.client.base import Client
+    client = Client((urlsplit(url).hostname, urlsplit(url).port))
+    client.set_many({f'key{number}': harmless(number) for number in range(1_000)})
+    client.set('evil', pickle.dumps(Hostile()))
+
+
 def redis_queues(port: str, password: str) -> None:
     """Jobs of RQ and Celery."""
     import celery
-    import redis
-    import rq
-    client = redis.Redis(port=int(port), password=password)
-    rq.Queue('work', connection=client).enqueue_call('module.function', args=(1,), job_id='harmless')
-    rq.Queue('work', connection=client).enqueue_call('module.function', args=(Hostile(),), job_id='evil')
+    redis_jobs(f'redis://:{password}@127.0.0.1:{port}/0')
     app = celery.Celery(broker=f'redis://:{password}@127.0.0.1:{port}/0')
     app.conf.update(task_serializer='pickle', accept_content=['pickle'])
     app.send_task('module.task', args=(1,))
@@ -209,6 +240,15 @@ def postgresql_server(url: str, count: str) -> None:
     with psycopg2.connect(url) as connection:
         sql(connection.cursor(), lambda cursor, words, rows: psycopg2.extras.execute_values(cursor, f'{words} %s', rows, page_size=1000), count,
             'bytea')
+    connection.close()
+
+
+def postgresql_large(url: str) -> None:
+    """A table with a hostile value alone."""
+    import psycopg2
+    with psycopg2.connect(url) as connection:
+        connection.cursor().execute('CREATE TABLE large (name VARCHAR(20) PRIMARY KEY, content bytea)')
+        connection.cursor().execute('INSERT INTO large VALUES (%s, %s)', ('evil', pickle.dumps(Hostile())))
     connection.close()
 
 

@@ -121,24 +121,40 @@ class StoreCase(ScanCase):
                 self.assertLess(time.monotonic(), end, (self.folder / 'server.log').read_text(errors='replace')[-1000:])
                 time.sleep(0.05)
 
-    def redis(self) -> int:
+    def certify(self) -> Path:
+        """The certificate of an authority, which nobody knows. Beside it is that of a server `localhost` with its key."""
+        def openssl(*words: str) -> None:
+            subprocess.run([program('openssl'), *words], cwd=self.home, check=True, capture_output=True)
+        new = ['-newkey', 'ec', '-pkeyopt', 'ec_paramgen_curve:prime256v1', '-nodes']
+        (self.home / 'names').write_text('subjectAltName=DNS:localhost\n')
+        openssl('req', '-x509', *new, '-days', '2', '-subj', '/CN=an authority', '-keyout', 'ca.key', '-out', 'ca.pem')
+        openssl('req', *new, '-subj', '/CN=localhost', '-keyout', 'server.key', '-out', 'server.csr')
+        openssl('x509', '-req', '-in', 'server.csr', '-CA', 'ca.pem', '-CAkey', 'ca.key', '-CAcreateserial', '-days', '2', '-extfile', 'names',
+                '-out', 'server.pem')
+        for name in ('server.key', 'server.pem'):
+            (self.home / name).chmod(0o600)
+            if not os.getuid():
+                shutil.chown(self.home / name, self.home.owner(), self.home.group())
+        return Path(shutil.copy(self.home / 'ca.pem', self.folder))
+
+    def redis(self, port: int = 0, *words: str) -> int:
         """The port of a Redis server, whose password is SECRET."""
-        port = free_port()
-        self.start([program('redis-server'), '--port', str(port), '--bind', '127.0.0.1', '--dir', str(self.home), '--save', '',
-                    '--requirepass', SECRET])
+        port = port or free_port()
+        self.server = self.start([program('redis-server'), '--port', str(port), '--bind', '127.0.0.1', '--dir', str(self.home), '--save', '',
+                                  '--requirepass', SECRET, *words])
         self.wait_for_port(port)
         return port
 
-    def memcached(self) -> int:
-        """The port of a memcached server."""
+    def memcached(self, *words: str) -> int:
+        """The port of a memcached server. With words for TLS it has another for that."""
         port = free_port()
-        words = [program('memcached'), '-p', str(port), '-l', '127.0.0.1', '-U', '0', '-m', '400', '-I', '8m']
-        self.start([*words, *([] if os.getuid() else ['-u', 'nobody'])])
+        first = [program('memcached'), '-l', f'{"notls:" if words else ""}127.0.0.1:{port}', '-U', '0', '-m', '400', '-I', '8m']
+        self.server = self.start([*first, *words, *([] if os.getuid() else ['-u', 'root' if words else 'nobody'])])
         self.wait_for_port(port)
         return port
 
-    def postgresql(self) -> int:
-        """The port of a PostgreSQL server with a user `tester`, whose password is SECRET."""
+    def postgresql(self, tls: bool = False) -> int:
+        """The port of a PostgreSQL server with a user `tester`, whose password is SECRET. With `tls` it wants that, and has a certificate."""
         port, user = free_port(), self.user_for('postgres')
         given = self.home / 'given'
         given.write_text(SECRET)
@@ -146,17 +162,27 @@ class StoreCase(ScanCase):
         more: Dict[str, Any] = {'user': user, 'group': pwd.getpwnam(user).pw_gid} if user is not None else {}
         subprocess.run([program('initdb'), '-D', str(self.home / 'data'), '-U', 'tester', '--auth=scram-sha-256', f'--pwfile={given}', '--no-sync'],
                        cwd=self.home, check=True, capture_output=True, **more)
-        self.start([program('postgres'), '-D', str(self.home / 'data'), '-p', str(port), '-h', '127.0.0.1', '-k', str(self.home), '-F'], user)
+        words: List[str] = []
+        if tls:
+            self.certify()
+            (self.home / 'data' / 'pg_hba.conf').write_text('hostssl all all 127.0.0.1/32 scram-sha-256\n')
+            words = ['-c', 'ssl=on', '-c', f'ssl_cert_file={self.home}/server.pem', '-c', f'ssl_key_file={self.home}/server.key']
+        self.server = self.start([program('postgres'), '-D', str(self.home / 'data'), '-p', str(port), '-h', '127.0.0.1', '-k', str(self.home),
+                                  '-F', *words], user)
         self.wait_for_port(port)
         return port
 
-    def mysql(self) -> int:
+    def mysql(self, tls: bool = False) -> int:
         """The port of a MariaDB server, whose root comes by the socket `s` without a password."""
         port, user = free_port(), self.user_for('mysql')
         more: Dict[str, Any] = {'user': user, 'group': pwd.getpwnam(user).pw_gid} if user is not None else {}
         subprocess.run([program('mariadb-install-db'), '--no-defaults', f'--datadir={self.home}/data', '--auth-root-authentication-method=normal',
                         '--skip-test-db'], cwd=self.home, check=True, capture_output=True, **more)
-        self.start([program('mariadbd'), '--no-defaults', f'--datadir={self.home}/data', f'--port={port}', '--bind-address=127.0.0.1',
-                    f'--socket={self.home}/s', '--max-allowed-packet=64M'], user)
+        words: List[str] = []
+        if tls:
+            self.certify()
+            words = [f'--ssl-cert={self.home}/server.pem', f'--ssl-key={self.home}/server.key', '--require-secure-transport=ON']
+        self.server = self.start([program('mariadbd'), '--no-defaults', f'--datadir={self.home}/data', f'--port={port}',
+                                  '--bind-address=127.0.0.1', f'--socket={self.home}/s', '--max-allowed-packet=64M', *words], user)
         self.wait_for_port(port)
         return port

@@ -71,7 +71,8 @@ class Libraries(StoreCase):
     def test_hdf5(self) -> None:
         python = python_with('h5py')
         self.fill(python, 'hdf5', str(self.folder / 'a.h5'))
-        self.assertEqual(places(self.told('a.h5', python=python)), ['/bytes', '/group @evil', '/opaque', '/rows > [7]',
+        self.assertEqual(places(self.told('a.h5', python=python)), ['/bytes', '/group @evil', '/opaque', '/rows > [7]', '/table > [4].state',
+                                                                    '/table > [7].more.cells', '/table @row > state',
                                                                     '/texts > [1] > (base64 at 0)'])
         code = "import sys; sys.modules['h5py'] = None; from picklestep.scan import look; print(look('a.h5').notes)"
         run = subprocess.run([python, '-c', code], cwd=self.folder, env=environment(), capture_output=True, text=True, timeout=300)

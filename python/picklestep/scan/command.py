@@ -29,7 +29,7 @@ from .results import Result, from_json
 from .sarif import Sarif
 from .stores.address import Address, is_server
 from .stores.follow import follow
-from .stores.server import NoServer, Task, Wanted, server_of, tasks
+from .stores.server import NoServer, Task, Wanted, tasks, total_of
 
 __all__ = ['main']
 
@@ -201,14 +201,6 @@ def _write(path: str, text: str) -> None:
         file.write(text)
 
 
-def _keys_of(server: Address, wanted: Wanted) -> int:
-    """How many keys a server has, as far as it says so."""
-    try:
-        return server_of(server).total(wanted)
-    except NoServer:
-        return 0
-
-
 def _followed_by(results: Generator[Result, None, None], others: List[Result]) -> Generator[Result, None, None]:
     """Results, and then those that were added to a list meanwhile."""
     with closing(results):
@@ -252,7 +244,7 @@ def _scan(words: argparse.Namespace) -> int:
         failed: List[Result] = []
         keys = chain.from_iterable(tasks(server, wanted, failed.append) for server in servers)
         results = _followed_by(_results(words, chain(paths, keys)), failed)
-        with closing(with_progress(results, len(paths) + sum(_keys_of(server, wanted) for server in servers))) as shown, closing(results):
+        with closing(with_progress(results, len(paths) + sum(total_of(server, wanted) for server in servers))) as shown, closing(results):
             for result in shown:
                 output.add(result)
     except KeyboardInterrupt:

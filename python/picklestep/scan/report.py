@@ -4,7 +4,7 @@ from __future__ import annotations
 
 import json
 from collections import Counter
-from typing import Dict, Iterator, List, TextIO
+from typing import Dict, Iterator, List, TextIO, Tuple
 
 from .looks import Judge, Look, call_text, end_text, import_text
 from .other_forms import told_forms
@@ -28,8 +28,9 @@ class Report:
         self.imports: Counter[str] = Counter()
         self.pickles_with: Counter[str] = Counter()
         self.first_with: Dict[str, str] = {}
-        # The servers, and whether there was a pickle in one.
+        # The servers, and whether there was a pickle in one; and their errors. (That of one that is gone comes with each task.)
         self.servers: Dict[str, bool] = {}
+        self.errors: Counter[Tuple[str, str]] = Counter()
 
     # --- Results ---
 
@@ -67,6 +68,10 @@ class Report:
         counts['pickles'] += len(result.pickles) + result.plain
         counts['files with pickles'] += bool(result.pickles or result.plain) and not result.keys
         rules = Counter(look.rule for look in looks)
+        if result.keys and result.error is not None:
+            self.errors[result.path, result.error] += 1
+        if self._is_told(result):
+            del rules['cannot-be-read']
         counts['not-looked-at'] += rules.pop('not-looked-at', 0) > 0
         counts.update(rules)
         self.asks = self.asks or bool(looks)
@@ -77,6 +82,10 @@ class Report:
                 self.pickles_with[found.name] += 1
                 # The first by name: files come in any order.
                 self.first_with[found.name] = min(place, self.first_with.get(found.name, place))
+
+    def _is_told(self, result: Result) -> bool:
+        """Whether a server has an error that one of its earlier results had."""
+        return result.error is not None and self.errors[result.path, result.error] > 1
 
     def _object(self, result: Result, looks: List[Look]) -> Dict[str, object]:
         """The object of a line of JSON. With a list of allowed names each import says whether it is allowed."""
@@ -91,14 +100,15 @@ class Report:
 
     def _brief_lines(self, result: Result, looks: List[Look]) -> Iterator[str]:
         for look in looks:
-            yield from (f'! {place_of(result.path, look.where)}: {line}' for line in look.lines)
+            if look.rule != 'cannot-be-read' or not self._is_told(result):
+                yield from (f'! {place_of(result.path, look.where)}: {line}' for line in look.lines)
 
     def _lines(self, result: Result) -> Iterator[str]:
         """A line for each thing that was found; `!` is before those that ask for a closer look."""
         path = place_of(result.path, ())
         if result.left is not None:
             yield f'  {path}: skipped: {result.left}'
-        if result.error is not None:
+        if result.error is not None and not self._is_told(result):
             yield f'! {path}: cannot be read: {shown(result.error)}'
         for pickle in result.pickles:
             yield from self._pickle_lines(result, pickle)

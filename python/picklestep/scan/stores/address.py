@@ -13,8 +13,13 @@ __all__ = ['Address', 'SCHEMES', 'is_server']
 SCHEMES = ('redis', 'rediss', 'memcached', 'memcacheds', 'postgresql', 'postgres', 'mysql', 'mariadb')
 _URL = re.compile(rf'({"|".join(SCHEMES)})://', re.IGNORECASE)
 
-# What a URL asks for besides the server.
+# What a URL asks for besides the server, and how it is asked.
 _OWN = ('table', 'column', 'stream')
+_SETTINGS = ('timeout',)
+
+# Where client libraries find passwords besides the URL. (A short word is not taken out of texts.)
+_VARIABLES = ('REDISCLI_AUTH', 'PGPASSWORD', 'MYSQL_PWD')
+_SHORT = 4
 
 
 def is_server(word: str) -> bool:
@@ -58,15 +63,35 @@ class Address:
     def plain(self) -> str:
         """The URL for a client library: without what this package alone understands."""
         split = self.split
-        return split._replace(query=urlencode([pair for pair in parse_qsl(split.query) if pair[0] not in _OWN])).geturl()
+        return split._replace(query=urlencode([pair for pair in parse_qsl(split.query) if pair[0] not in _OWN + _SETTINGS])).geturl()
 
     @property
     def password(self) -> str:
         """The password of the URL, or nothing."""
         return unquote(self.split.password or '')
 
+    def seconds(self, usual: float) -> float:
+        """How long an answer may take: what `?timeout=` says, or as usual. Raises ValueError where it says no such number.
+
+        >>> Address('redis://host?timeout=5').seconds(60), Address('redis://host').seconds(60)
+        (5.0, 60)
+        """
+        given = dict(parse_qsl(self.split.query)).get('timeout')
+        if given is None:
+            return usual
+        seconds = float(given)
+        if not 0 < seconds < 1e6:
+            raise ValueError(f'{given!r} is no number of seconds')
+        return seconds
+
     def cleaned(self, text: str) -> str:
-        """A text of a library without the password, should it be in it."""
-        for secret in {self.password, self.split.password or ''} - {''}:
+        """A text of a library without the passwords, should they be in it.
+
+        >>> Address('redis://:a%20word@host').cleaned('no access with a word')
+        'no access with ***'
+        """
+        given = [value for name, value in parse_qsl(self.split.query) if 'password' in name.lower()]
+        held = [word for word in map(os.environ.get, _VARIABLES) if word is not None and len(word) >= _SHORT]
+        for secret in {self.password, self.split.password or '', *given, *held} - {''}:
             text = text.replace(secret, '***')
         return ' '.join(text.split())

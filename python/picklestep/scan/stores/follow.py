@@ -8,12 +8,13 @@ from __future__ import annotations
 import time
 from collections import OrderedDict
 from fnmatch import fnmatchcase
+from itertools import count
 from typing import TYPE_CHECKING, Any, Callable, Generator, Iterator, List, Optional, Tuple
 
 from ..results import Result
 from .address import Address
 from .redis_server import RedisServer
-from .server import NoServer, Server, Wanted, looked, server_of
+from .server import NoServer, Server, Wanted, ask_again, looked, server_of
 from .values import Values, key_name
 
 if TYPE_CHECKING:
@@ -24,8 +25,9 @@ __all__ = ['follow']
 # Events after which a key has nothing new.
 _TAKING = frozenset('del unlink expire expired evicted persist lpop rpop lrem ltrim srem spop zrem zremrangebyscore zremrangebyrank '
                     'zremrangebylex zpopmin zpopmax hdel xtrim xdel rename_from move_from'.split())
-# Of a list or a stream so many of the newest elements are looked at.
+# Of a list or a stream so many of the newest elements are looked at, and as many before them where one of these is new.
 _NEWEST = 64
+_MOST_PAGES = 1_000
 _TOGETHER = 250
 _MOST_SEEN = 100_000
 _LONGEST_PAUSE = 30.0
@@ -70,6 +72,7 @@ def follow(address: Address, options: 'Options', wanted: Wanted) -> Generator[Re
             news = news or _news(server, address, wanted)
             look = next(news)
             pause = 0.0
+            ask_again(address)
             yield from _looked(address, options, look, seen)
         except NoServer as error:
             if not pause:
@@ -165,12 +168,48 @@ def _look_at(event: str, key: bytes) -> Look:
     where = (key_name(key),)
 
     def look(server: RedisServer, values: Values) -> None:
-        if event in ('lpush', 'rpush', 'linsert', 'lset'):
-            for value in {*server.client.lrange(key, 0, _NEWEST - 1), *server.client.lrange(key, -_NEWEST, -1)}:
-                values.add(value, where)
+        if event in ('lpush', 'rpush'):
+            _look_at_newest(values, where, _from_end(server.client, key, event == 'lpush'), lambda page: _add_all(values, where, page))
         elif event == 'xadd':
-            server.look_at_entries(values, where, server.client.execute_command('XREVRANGE', key, '+', '-', 'COUNT', _NEWEST))
+            _look_at_newest(values, where, _entries(server.client, key), lambda page: server.look_at_entries(values, where, page))
         else:
             server.look(values, (key,))
 
     return look
+
+
+def _add_all(values: Values, where: Tuple[str, ...], page: List[bytes]) -> None:
+    for value in page:
+        values.add(value, where)
+
+
+def _look_at_newest(values: Values, where: Tuple[str, ...], pages: Iterator[List[Any]], add: Callable[[List[Any]], None]) -> None:
+    """Looks at the newest values, so many at once, until all of a page were there before."""
+    for number, page in enumerate(pages):
+        if number == _MOST_PAGES:
+            values.looker.note(where, f'more than {_MOST_PAGES * _NEWEST:,} values are new: the others are not looked at', missed=True)
+            return
+        before = values.count
+        add(page)
+        if values.count == before:
+            return
+
+
+def _from_end(client: Any, key: bytes, is_left: bool) -> Iterator[List[bytes]]:
+    """The values of a list from one end on, in pages."""
+    for at in count(0, _NEWEST):
+        found: List[bytes] = client.lrange(key, at, at + _NEWEST - 1) if is_left else client.lrange(key, -at - _NEWEST, -at - 1)
+        yield found
+        if len(found) < _NEWEST:
+            return
+
+
+def _entries(client: Any, key: bytes) -> Iterator[List[Any]]:
+    """The entries of a stream from its end on, in pages."""
+    last = b'+'
+    while True:
+        found: List[Any] = client.execute_command('XREVRANGE', key, last, '-', 'COUNT', _NEWEST)
+        yield found
+        if len(found) < _NEWEST:
+            return
+        last = b'(' + found[-1][0]

@@ -27,8 +27,9 @@ _BEFORE = (0, 512, 1024, 2048, 4096, 8192)
 # What the library raises where a file is damaged, or asks for too much.
 _TROUBLE = (OSError, RuntimeError, KeyError, ValueError, TypeError, MemoryError)
 
-# Items of a dataset that are read at once.
+# Items of a dataset that are read at once, and bytes where each has many.
 _ITEMS = 4_096
+_MOST_BYTES = 8 << 20
 
 
 def is_hdf5(head: bytes) -> bool:
@@ -147,12 +148,16 @@ def _objects(h5py: Any, file: Any, values: Values, where: Place) -> Iterator[Tup
 def _look_at_object(h5py: Any, values: Values, item: Any, where: Place, depth: int) -> None:
     for key in item.attrs:
         place = where[:-1] + (f'{where[-1]} @{key}',)
-        for number, content in enumerate(_contents(h5py, item.attrs.get_id(key).dtype, item.attrs[key])):
-            values.add(content, place if not number else place + (f'[{number}]',), depth + 1)
+        kind, value = item.attrs.get_id(key).dtype, item.attrs[key]
+        for name, inner, part in _fields(kind, value):
+            for number, content in enumerate(_contents(h5py, inner, part)):
+                values.add(content, place + ((name,) if name else ()) + ((f'[{number}]',) if number else ()), depth + 1)
     if not isinstance(item, h5py.Dataset) or not _has_bytes(h5py, item.dtype):
         return
     if item.is_virtual or item.external:
         values.looker.note(where, 'its data are in other files, which are not opened', missed=True)
+    elif item.dtype.names is not None:
+        _look_at_compound(h5py, values, item, where, depth)
     elif item.dtype.kind in 'ui':
         values.add_blob(_Bytes(item), where, depth + 1)
     elif not item.shape:
@@ -164,8 +169,37 @@ def _look_at_object(h5py: Any, values: Values, item: Any, where: Place, depth: i
                 values.add(content, where + (f'[{number}]',), depth + 1)
 
 
+def _look_at_compound(h5py: Any, values: Values, item: Any, where: Place, depth: int) -> None:
+    """Looks at the fields of bytes of items that have several fields."""
+    step = max(1, min(_ITEMS, _MOST_BYTES // item.dtype.itemsize))
+    for start in range(0, item.shape[0] if item.shape else 1, step):
+        rows = item[start:start + step] if item.shape else item[()]
+        for name, kind, part in _fields(item.dtype, rows):
+            if not _has_bytes(h5py, kind):
+                continue
+            for number, content in enumerate(_cells(h5py, kind, part) if item.shape else _contents(h5py, kind, part), start):
+                values.add(content, where + (f'[{number}].{name}',), depth + 1)
+
+
+def _fields(kind: Any, value: Any, name: str = '') -> Iterator[Tuple[str, Any, Any]]:
+    """The fields of a type with several, and those of its fields: name, type and value. What has none is one without a name."""
+    if kind.names is None:
+        yield name, kind, value
+        return
+    for each in kind.names:
+        yield from _fields(kind[each].base, value[each], f'{name}.{each}' if name else each)
+
+
+def _cells(h5py: Any, kind: Any, column: Any) -> Iterator[bytes]:
+    """What each row has in one field: all of it where that is an array."""
+    for cell in column:
+        yield b''.join(_contents(h5py, kind, cell))
+
+
 def _has_bytes(h5py: Any, kind: Any) -> bool:
-    """Whether items of this type are bytes, text, or opaque, and not a truth value."""
+    """Whether items of this type are bytes, text, or opaque, or have such a field, and are no truth values."""
+    if kind.names is not None:
+        return any(_has_bytes(h5py, kind[each].base) for each in kind.names)
     if h5py.check_enum_dtype(kind) is not None:
         return False
     inner = h5py.check_vlen_dtype(kind)

@@ -11,7 +11,7 @@ from typing import Any, Iterator, List, Optional, Tuple
 from urllib.parse import unquote_to_bytes
 
 from .address import Address
-from .server import NoServer, Server, Wanted, library
+from .server import IsSilent, NoServer, Server, Wanted, library
 from .values import Values, key_name
 
 __all__ = ['SERVER', 'MemcachedServer']
@@ -41,7 +41,9 @@ class MemcachedServer(Server):
         self.place = (address.split.hostname or '127.0.0.1', address.split.port or _PORT)
         self.tls: Optional[ssl.SSLContext] = ssl.create_default_context() if address.split.scheme.lower() == 'memcacheds' else None
         self.library = library('pymemcache.client.base')
-        self.client: Any = self.library.Client(self.place, connect_timeout=_CONNECT_SECONDS, timeout=_ANSWER_SECONDS, tls_context=self.tls)
+        self.seconds = address.seconds(_ANSWER_SECONDS)
+        self.client: Any = self.library.Client(self.place, connect_timeout=min(self.seconds, _CONNECT_SECONDS), timeout=self.seconds,
+                                               tls_context=self.tls)
 
     @contextmanager
     def _named(self) -> Iterator[None]:
@@ -51,7 +53,7 @@ class MemcachedServer(Server):
             yield
         except (errors.MemcacheError, OSError) as error:
             self.client.close()
-            raise NoServer(f'{type(error).__name__}: {error}') from None
+            raise (IsSilent if isinstance(error, socket.timeout) else NoServer)(f'{type(error).__name__}: {error}') from None
 
     def total(self, wanted: Wanted) -> int:
         with self._named():
@@ -85,9 +87,8 @@ class MemcachedServer(Server):
     def _dump(self) -> Iterator[bytes]:
         """The lines that the crawler writes. It serves one client at a time."""
         for _ in range(_BUSY_TRIES):
-            with closing(socket.create_connection(self.place, _CONNECT_SECONDS)) as plain:
-                link = plain if self.tls is None else self.tls.wrap_socket(plain, server_hostname=self.place[0])
-                link.settimeout(_ANSWER_SECONDS)
+            with closing(self._link()) as link:
+                link.settimeout(self.seconds)
                 link.sendall(b'lru_crawler metadump all\r\n')
                 with link.makefile('rb') as lines:
                     first = lines.readline(_MOST_OF_LINE)
@@ -96,6 +97,10 @@ class MemcachedServer(Server):
                         return
             time.sleep(0.5)
         raise NoServer('its crawler is busy with somebody else')
+
+    def _link(self) -> socket.socket:
+        plain = socket.create_connection(self.place, min(self.seconds, _CONNECT_SECONDS))
+        return plain if self.tls is None else self.tls.wrap_socket(plain, server_hostname=self.place[0])
 
     def look(self, values: Values, keys: Tuple[Any, ...]) -> int:
         asked = [key for key in keys if len(key) <= _MOST_OF_KEY and not _NOT_ASKED.search(key)]

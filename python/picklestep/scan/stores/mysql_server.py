@@ -8,7 +8,7 @@ from typing import Any, Dict, List, Tuple, Type
 from urllib.parse import parse_qsl, unquote
 
 from .server import library
-from .sql import ANSWER_SECONDS, CONNECT_SECONDS, FIRST, Column, Rows, SqlServer, Table
+from .sql import CONNECT_SECONDS, FIRST, Column, Rows, SqlServer, Table
 
 __all__ = ['SERVER', 'MysqlServer']
 
@@ -36,7 +36,7 @@ class MysqlServer(SqlServer):
         connection = self.library.connect(
             host=split.hostname or '127.0.0.1', port=split.port or 3306, user=unquote(split.username or '') or None,
             password=self.address.password or os.environ.get('MYSQL_PWD', ''), database=split.path.strip('/') or None, use_unicode=False,
-            charset='utf8mb4', connect_timeout=CONNECT_SECONDS, read_timeout=ANSWER_SECONDS, **words)
+            charset='utf8mb4', connect_timeout=min(self.seconds, CONNECT_SECONDS), read_timeout=self.seconds, **words)
         with connection.cursor() as cursor:
             cursor.execute('SET SESSION TRANSACTION READ ONLY')
         return connection

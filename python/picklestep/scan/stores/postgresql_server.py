@@ -2,12 +2,19 @@
 
 from __future__ import annotations
 
+import os
+import socket
+import threading
+from contextlib import contextmanager, suppress
 from typing import Any, Iterator, List, Tuple, Type
 
-from .server import library
-from .sql import ANSWER_SECONDS, CONNECT_SECONDS, FIRST, Column, Rows, SqlServer, Table
+from .server import IsSilent, library
+from .sql import CONNECT_SECONDS, FIRST, Column, Rows, SqlServer, Table
 
 __all__ = ['SERVER', 'PostgresqlServer']
+
+# A silent server is left so long after it should have given a statement up.
+_GRACE_SECONDS = 2.0
 
 # A task has the rows of so many pages.
 _PAGES = 2_000
@@ -29,9 +36,32 @@ class PostgresqlServer(SqlServer):
     def connect(self) -> Any:
         self.library = library('psycopg', 'psycopg2')
         url = self.address.plain
-        options = f'-c default_transaction_read_only=on -c statement_timeout={ANSWER_SECONDS * 1000}'
-        connection = self.library.connect(url, connect_timeout=CONNECT_SECONDS, options=options, application_name='picklestep-scan')
-        return connection
+        # (libpq takes a second or less for no limit)
+        seconds = max(2, int(min(self.seconds, CONNECT_SECONDS)))
+        options = f'-c default_transaction_read_only=on -c statement_timeout={int(self.seconds * 1000)}'
+        return self.library.connect(url, connect_timeout=seconds, options=options, application_name='picklestep-scan')
+
+    @contextmanager
+    def waiting(self) -> Iterator[None]:
+        """libpq waits for ever where a server is silent: the connection is cut then, a little after the server itself gives a slow statement
+        up."""
+        cut = threading.Event()
+
+        def end() -> None:
+            cut.set()
+            with suppress(OSError, *self.errors()), socket.socket(fileno=os.dup(self.connection.fileno())) as link:
+                link.shutdown(socket.SHUT_RDWR)
+        timer = threading.Timer(self.seconds + _GRACE_SECONDS, end)
+        timer.daemon = True
+        timer.start()
+        try:
+            yield
+        except self.errors():
+            if cut.is_set():
+                raise IsSilent(f'timed out: no answer within {self.seconds:g} seconds') from None
+            raise
+        finally:
+            timer.cancel()
 
     def errors(self) -> Tuple[Type[BaseException], ...]:
         return (library('psycopg', 'psycopg2').Error,)

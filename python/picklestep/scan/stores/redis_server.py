@@ -6,13 +6,14 @@ The keys come from SCAN, so the server goes on meanwhile.
 from __future__ import annotations
 
 import os
+import socket
 from contextlib import contextmanager
-from typing import Any, Iterator, List, Tuple
+from typing import Any, Dict, Iterator, List, Tuple
 
 from ..blobs import Blob
 from ..results import Place
 from .address import Address
-from .server import NoServer, Server, Wanted, library
+from .server import IsSilent, NoServer, Server, Wanted, library
 from .values import Values, key_name
 from .walk import stops_at_end
 
@@ -39,8 +40,11 @@ class RedisServer(Server):
     def __init__(self, address: Address) -> None:
         super().__init__(address)
         self.redis = library('redis')
-        words = {} if address.password else {'password': os.environ.get('REDISCLI_AUTH') or None}
-        self.client = self.redis.Redis.from_url(address.plain, socket_connect_timeout=_CONNECT_SECONDS, socket_timeout=_ANSWER_SECONDS,
+        words: Dict[str, Any] = {} if address.password else {'password': os.environ.get('REDISCLI_AUTH') or None}
+        if address.split.scheme.lower() == 'rediss':
+            words['ssl_check_hostname'] = True  # (older versions of redis-py take any name where nobody says so)
+        seconds = address.seconds(_ANSWER_SECONDS)
+        self.client = self.redis.Redis.from_url(address.plain, socket_connect_timeout=min(seconds, _CONNECT_SECONDS), socket_timeout=seconds,
                                                 **words)
         # (redis-py makes a dictionary of each entry of a stream, and loses fields that come twice)
         self.client.response_callbacks.pop('XRANGE', None)
@@ -52,7 +56,8 @@ class RedisServer(Server):
         try:
             yield
         except (self.redis.RedisError, OSError, ValueError) as error:
-            raise NoServer(f'{type(error).__name__}: {error}') from None
+            kind = IsSilent if isinstance(error, (self.redis.TimeoutError, socket.timeout)) else NoServer
+            raise kind(f'{type(error).__name__}: {error}') from None
 
     def total(self, wanted: Wanted) -> int:
         with self.named():

@@ -18,7 +18,7 @@ from .values import Values
 if TYPE_CHECKING:
     from ..looking import Options
 
-__all__ = ['NoServer', 'Server', 'Task', 'Wanted', 'server_of', 'work_on']
+__all__ = ['IsSilent', 'NoServer', 'Server', 'Task', 'Wanted', 'ask_again', 'server_of', 'tasks', 'total_of', 'work_on']
 
 _MODULES = {'redis': 'redis_server', 'rediss': 'redis_server', 'memcached': 'memcached_server', 'memcacheds': 'memcached_server',
             'postgresql': 'postgresql_server', 'postgres': 'postgresql_server', 'mysql': 'mysql_server', 'mariadb': 'mysql_server'}
@@ -26,6 +26,10 @@ _MODULES = {'redis': 'redis_server', 'rediss': 'redis_server', 'memcached': 'mem
 
 class NoServer(Exception):
     """A server does not answer, refuses, or went away; or its client library is not installed. The text says which."""
+
+
+class IsSilent(NoServer):
+    """A server let the time for an answer pass. It is not asked again by this process, which would wait as long for each task."""
 
 
 @dataclass(frozen=True)
@@ -83,8 +87,7 @@ def looked(address: Address, options: 'Options', work: Callable[[Server, Values]
     try:
         keys = work(server_of(address), values)
     except NoServer as failure:
-        _servers().pop(address.url, None)
-        error = address.cleaned(str(failure))
+        error = _given_up(address, failure)
     except LimitMet as limit:
         looker.note(looker.at, str(limit), missed=True)
     except Exception as failure:  # a hostile value must not end the others
@@ -106,9 +109,31 @@ def _servers() -> Dict[str, Server]:
     return servers
 
 
+def _silent() -> Dict[str, str]:
+    """What is told of the servers that are silent."""
+    silent: Dict[str, str] = _held.__dict__.setdefault('silent', {})
+    return silent
+
+
+def _given_up(address: Address, failure: NoServer) -> str:
+    """Gives a connection up, and answers why. The next task makes another, unless the server is silent."""
+    _servers().pop(address.url, None)
+    told = address.cleaned(str(failure))
+    if isinstance(failure, IsSilent):
+        _silent()[address.url] = told
+    return told
+
+
+def ask_again(address: Address) -> None:
+    """Lets a silent server be asked again."""
+    _silent().pop(address.url, None)
+
+
 def server_of(address: Address) -> Server:
     """The connection of this process to a server. Raises NoServer."""
     servers = _servers()
+    if address.url in _silent():
+        raise NoServer(_silent()[address.url])
     if address.url not in servers:
         module = import_module(f'{__package__}.{_MODULES[address.split.scheme.lower()]}')
         kind: Type[Server] = module.SERVER
@@ -125,8 +150,16 @@ def tasks(address: Address, wanted: Wanted, failed: Callable[[Result], None]) ->
         for keys in server_of(address).parts(wanted):
             yield Task(address, keys)
     except NoServer as error:
-        _servers().pop(address.url, None)
-        failed(Result(str(address), error=address.cleaned(str(error)), keys=1))
+        failed(Result(str(address), error=_given_up(address, error), keys=1))
+
+
+def total_of(address: Address, wanted: Wanted) -> int:
+    """How many keys a server has, as far as it says so."""
+    try:
+        return server_of(address).total(wanted)
+    except NoServer as error:
+        _given_up(address, error)
+        return 0
 
 
 def work_on(task: Union[str, Task], options: 'Options') -> Result:

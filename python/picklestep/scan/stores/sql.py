@@ -5,14 +5,15 @@ A kind of server says how it is asked. All is read in transactions that cannot w
 
 from __future__ import annotations
 
-from contextlib import closing, contextmanager
+import re
+from contextlib import closing, contextmanager, nullcontext
 from dataclasses import dataclass
 from fnmatch import fnmatchcase
-from typing import Any, Iterator, List, Optional, Tuple, Type
+from typing import Any, ContextManager, Iterator, List, Optional, Tuple, Type
 
 from ..blobs import Blob
 from .address import Address
-from .server import NoServer, Server, Wanted
+from .server import IsSilent, NoServer, Server, Wanted
 from .values import Values
 
 __all__ = ['Column', 'Rows', 'SqlServer', 'Table']
@@ -23,6 +24,9 @@ ROWS = 200
 
 CONNECT_SECONDS = 10
 ANSWER_SECONDS = 600
+
+# What libraries say where the time for an answer has passed.
+_TIMED_OUT = re.compile(r'timed out|timeout expired')
 
 
 @dataclass(frozen=True)
@@ -58,6 +62,7 @@ class SqlServer(Server):
 
     def __init__(self, address: Address) -> None:
         super().__init__(address)
+        self.seconds = address.seconds(ANSWER_SECONDS)
         with self.named():
             self.connection: Any = self.connect()
 
@@ -91,6 +96,10 @@ class SqlServer(Server):
         """A cursor that does not fetch all rows at once."""
         raise NotImplementedError
 
+    def waiting(self) -> ContextManager[None]:
+        """Within it an answer is waited for, and no longer than it may take."""
+        return nullcontext()
+
     # --- Of all ---
 
     @contextmanager
@@ -102,11 +111,12 @@ class SqlServer(Server):
         except NoServer:
             raise
         except kinds as error:
-            raise NoServer(f'{type(error).__name__}: {error}') from None
+            kind = IsSilent if _TIMED_OUT.search(str(error)) else NoServer
+            raise kind(f'{type(error).__name__}: {error}') from None
 
     def all_of(self, query: str, words: Any = ()) -> List[Tuple[Any, ...]]:
         """All rows of a small answer."""
-        with closing(self.connection.cursor()) as cursor:
+        with closing(self.connection.cursor()) as cursor, self.waiting():
             cursor.execute(query, words)
             found: List[Tuple[Any, ...]] = list(cursor.fetchall())
             return found
@@ -132,9 +142,11 @@ class SqlServer(Server):
         count = 0
         table: Table = rows.table
         with self.named(), closing(self.cursor()) as cursor:
-            cursor.execute(*self.query(rows))
+            with self.waiting():
+                cursor.execute(*self.query(rows))
             while most is None or count < most:
-                fetched = cursor.fetchmany(ROWS)
+                with self.waiting():
+                    fetched = cursor.fetchmany(ROWS)
                 for row in fetched[:None if most is None else most - count]:
                     count += 1
                     self._look_at_row(values, table, row)
@@ -145,7 +157,7 @@ class SqlServer(Server):
 
     def _end(self) -> None:
         """Ends the transaction, so that the server keeps nothing for it."""
-        with self.named():
+        with self.named(), self.waiting():
             self.connection.rollback()
 
     def _look_at_row(self, values: Values, table: Table, row: Tuple[Any, ...]) -> None:
