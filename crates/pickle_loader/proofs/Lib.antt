@@ -25,3 +25,4 @@ pub mod Leads
 pub mod Onwards
 pub mod Ways
 pub mod Readings
+pub mod Buffers
