@@ -26,3 +26,4 @@ pub mod Onwards
 pub mod Ways
 pub mod Readings
 pub mod Buffers
+pub mod Losses

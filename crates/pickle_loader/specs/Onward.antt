@@ -17,7 +17,7 @@ use Rattle.pickle_lenient.specs.Stream.{taken}
 use Rattle.pickle_further.specs.declared.way.Pickles.{Pickles}
 use Rattle.pickle_further.specs.declared.way.Pickles.TheVariants as pickles
 use Rattle.pickle_further.specs.declared.way.Way.{Way}
-use Rattle.pickle_further.specs.Going.{Standing, Going as Gone, going, stands_after}
+use Rattle.pickle_further.specs.Going.{Standing, Going as Gone, going, stands_after, search}
 use Rattle.pickle_further.specs.Parts.{ignoring, buffering, are_many, standing_at, standing_first}
 use Rattle.pickle_loader.specs.Environment.{Value, Act, World}
 use Rattle.pickle_loader.specs.Unpickler.{Unpickler, Step, Raised, load_frame, load_get, load_put}
@@ -160,3 +160,12 @@ NoneLost way p k = (j : ℕ) (q : Standing) → j < k → stands way p j ≡ Som
 abbrev pub BufferedIsRead : Type 0
 BufferedIsRead = (V : ℕ → Value) (p : Pickles) (bytes : List ℕ) (k : ℕ) (q : Standing) → stands (buffering p) (standing_first p bytes) k ≡ Some q → NoneLost (buffering p) (standing_first p bytes) k
     → (stands (ignoring p) (standing_first p bytes) k ≡ Some (unbuffered q)) × (acts_before V (buffering p) (standing_first p bytes) k ≡ acts_before V (ignoring p) (standing_first p bytes) k)
+
+-- what is found among the first n items: none that loses bytes, or the first that does
+abbrev pub IsFound : Way → Standing → ℕ → Option Standing → Type 0
+IsFound way p n None = NoneLost way p n
+IsFound way p n (Some q) = (k : ℕ) × (stands way p k ≡ Some q) × NoneLost way p k × ((going way q).gone.lost ≡ true)
+
+-- from where the part of the reading with a buffer is shown
+abbrev pub LossIsFound : Type 0
+LossIsFound = (n : ℕ) (way : Way) (p : Standing) → IsFound way p n (search n way p)
