@@ -27,6 +27,7 @@ use Rattle.pickle_lenient.specs.Reading.{ends_at}
 use Rattle.pickle_lenient.specs.Lenient.{Lenient, lenient, lenient_at, faulty, odd, odd_so, keyed_by}
 use Rattle.pickle_lenient.specs.Stream.{first_read, joined, ends_in, refilled, framed, settled, taken_as, plain, within, across, taken}
 use Rattle.pickle_show.specs.declared.report.Closing.{Closing}
+use Rattle.pickle_show.specs.declared.naming.Detail.TheVariants as detail
 use Rattle.pickle_further.specs.declared.way.Pickles.{Pickles}
 use Rattle.pickle_further.specs.declared.way.Way.{Way}
 use Rattle.pickle_further.specs.Going.{Standing, Going as Gone, used_op, moved_so, gone_to, gone_as, gone_by, going, stands_after}
@@ -260,14 +261,14 @@ item_of p q on lost =
 -- ---- along the items
 
 record Alike (V : ℕ → Value) (p : Pickles) (bytes : List ℕ) (k : ℕ) (q : Standing) : Type 0 where
-  stood : stands (ignoring p) (standing_first p bytes) k ≡ Some (unbuffered q)
-  acts : acts_before V (buffering p) (standing_first p bytes) k ≡ acts_before V (ignoring p) (standing_first p bytes) k
-  proto : protocol (buffering p) (standing_first p bytes) k ≡ protocol (ignoring p) (standing_first p bytes) k
+  stood : stands (ignoring p) (standing_first detail.Cut p bytes) k ≡ Some (unbuffered q)
+  acts : acts_before V (buffering p) (standing_first detail.Cut p bytes) k ≡ acts_before V (ignoring p) (standing_first detail.Cut p bytes) k
+  proto : protocol (buffering p) (standing_first detail.Cut p bytes) k ≡ protocol (ignoring p) (standing_first detail.Cut p bytes) k
 
-alike_first : (V : ℕ → Value) (p : Pickles) (bytes : List ℕ) (q : Standing) → stands (buffering p) (standing_first p bytes) 0 ≡ Some q → Alike V p bytes 0 q
+alike_first : (V : ℕ → Value) (p : Pickles) (bytes : List ℕ) (q : Standing) → stands (buffering p) (standing_first detail.Cut p bytes) 0 ≡ Some q → Alike V p bytes 0 q
 unfolding acts_before protocol stands
 alike_first V p bytes q e =
-    let same : standing_first p bytes ≡ q = cc in
+    let same : standing_first detail.Cut p bytes ≡ q = cc in
     record { stood = ap (λ (x : Standing). Some (unbuffered x)) same; acts = refl; proto = refl }
 
 goes_on : (q p : Standing) (g : Gone) (c : Option Closing) → g.gone.closing ≡ c → stands_behind q g ≡ Some p → g.gone.closing ≡ None
@@ -278,11 +279,11 @@ flat_behind : (q p : Standing) (g : Gone) (b : Bool) → (if b then None else So
 flat_behind q p g true e = absurd cc
 flat_behind q p g false e = let same : stands_after q g ≡ p = cc in ap (λ (x : Standing). Some (unbuffered x)) same
 
-alike_next : (V : ℕ → Value) (p : Pickles) (bytes : List ℕ) (k : ℕ) (q r : Standing) → stands (buffering p) (standing_first p bytes) k ≡ Some q → stands_behind q (going (buffering p) q) ≡ Some r → (going (buffering p) q).gone.lost ≡ false
+alike_next : (V : ℕ → Value) (p : Pickles) (bytes : List ℕ) (k : ℕ) (q r : Standing) → stands (buffering p) (standing_first detail.Cut p bytes) k ≡ Some q → stands_behind q (going (buffering p) q) ≡ Some r → (going (buffering p) q).gone.lost ≡ false
     → Alike V p bytes k q → Alike V p bytes (suc k) r
 unfolding acts_before protocol stands
 alike_next V p bytes k q r stood leads lost alike =
-    let first : Standing = standing_first p bytes in
+    let first : Standing = standing_first detail.Cut p bytes in
     let on : (going (buffering p) q).gone.closing ≡ None = goes_on q r (going (buffering p) q) (going (buffering p) q).gone.closing refl leads in
     let x = item_of p q on lost in
     record {
@@ -316,10 +317,10 @@ stood_before : (p : Pickles) (x : Option Standing) (r : Standing) → stands_on 
 stood_before p None r e = absurd cc
 stood_before p (Some q) r e = record { before = q; there = refl; leads = e }
 
-alike_all : (V : ℕ → Value) (p : Pickles) (bytes : List ℕ) (k : ℕ) (q : Standing) → stands (buffering p) (standing_first p bytes) k ≡ Some q → NoneLost (buffering p) (standing_first p bytes) k → Alike V p bytes k q
+alike_all : (V : ℕ → Value) (p : Pickles) (bytes : List ℕ) (k : ℕ) (q : Standing) → stands (buffering p) (standing_first detail.Cut p bytes) k ≡ Some q → NoneLost (buffering p) (standing_first detail.Cut p bytes) k → Alike V p bytes k q
 alike_all V p bytes zero q e none = alike_first V p bytes q e
 alike_all V p bytes (suc k) r e none =
-    let x = stood_before p (stands (buffering p) (standing_first p bytes) k) r (sym (stands_next (buffering p) (standing_first p bytes) k) ∙ e) in
+    let x = stood_before p (stands (buffering p) (standing_first detail.Cut p bytes) k) r (sym (stands_next (buffering p) (standing_first detail.Cut p bytes) k) ∙ e) in
     alike_next V p bytes k x.before r x.there x.leads (none k x.before (omega arith) x.there) (alike_all V p bytes k x.before x.there (λ j s less there. none j s (omega (arith, less)) there))
 
 pub buffered_is_read : BufferedIsRead
