@@ -25,3 +25,5 @@ pub mod Leads
 pub mod Onwards
 pub mod Ways
 pub mod Readings
+pub mod Buffers
+pub mod Losses

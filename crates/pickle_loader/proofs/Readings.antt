@@ -39,6 +39,7 @@ use Rattle.pickle_show.specs.declared.naming.Naming.{Naming}
 use Rattle.pickle_show.specs.declared.report.Closing.{Closing}
 use Rattle.pickle_show.specs.Event.{before_of, event_of}
 use Rattle.pickle_show.specs.Calls.{naming_on, naming_at}
+use Rattle.pickle_show.specs.declared.naming.Detail.TheVariants as detail
 use Rattle.pickle_further.specs.declared.way.Pickles.{Pickles}
 use Rattle.pickle_further.specs.declared.way.Pickles.TheVariants as pickles
 use Rattle.pickle_further.specs.declared.way.Way.{Way}
@@ -172,11 +173,11 @@ going_item p q o t none reads one moves =
 
 -- where both stand
 record Beside (V : ℕ → Value) (p : Pickles) (d : Contents) (k : ℕ) (s : State) (q : Standing) : Type 0 where
-  stands_there : q ≡ standing_at d k s
-  acts : acts_before V (ignoring p) (standing_first p (document_bytes d)) k ≡ told V d.many (ops_of d) k
-  proto : protocol (ignoring p) (standing_first p (document_bytes d)) k ≡ protocol_at (ops_of d) k
+  stands_there : q ≡ standing_at detail.Cut d k s
+  acts : acts_before V (ignoring p) (standing_first detail.Cut p (document_bytes d)) k ≡ told V d.many (ops_of d) k
+  proto : protocol (ignoring p) (standing_first detail.Cut p (document_bytes d)) k ≡ protocol_at (ops_of d) k
 
-stands_zero : (p : Pickles) (bytes : List ℕ) (q : Standing) → stands (ignoring p) (standing_first p bytes) 0 ≡ Some q → standing_first p bytes ≡ q
+stands_zero : (p : Pickles) (bytes : List ℕ) (q : Standing) → stands (ignoring p) (standing_first detail.Cut p bytes) 0 ≡ Some q → standing_first detail.Cut p bytes ≡ q
 unfolding stands
 stands_zero p bytes q e = cc
 
@@ -188,16 +189,16 @@ no_sizes : (items : List Item) → sizes (take 0 items) ≡ 0
 no_sizes [] = refl
 no_sizes (x ∷ items) = refl
 
-first_stands : (p : Pickles) (d : Contents) → d.many ≡ are_many p → standing_first p (document_bytes d) ≡ standing_at d 0 (start d.many)
+first_stands : (p : Pickles) (d : Contents) → d.many ≡ are_many p → standing_first detail.Cut p (document_bytes d) ≡ standing_at detail.Cut d 0 (start d.many)
 first_stands p d mode =
     let none : 0 ≡ offset_of d 0 = sym (no_sizes (items_of d)) in
-    ap (λ (b : Bool). record { state = start b; rest = document_bytes d; at = record { offset = 0; place = 0; left = 0 }; naming = naming_at d 0 }) (sym mode)
-    ∙ ap (λ (l : List ℕ). record { state = start d.many; rest = l; at = record { offset = 0; place = 0; left = 0 }; naming = naming_at d 0 }) (sym (drop_zero (document_bytes d)))
-    ∙ ap (λ (n : ℕ). record { state = start d.many; rest = drop n (document_bytes d); at = record { offset = n; place = 0; left = 0 }; naming = naming_at d 0 }) none
+    ap (λ (b : Bool). record { state = start b; rest = document_bytes d; at = record { offset = 0; place = 0; left = 0 }; naming = naming_at detail.Cut d 0 }) (sym mode)
+    ∙ ap (λ (l : List ℕ). record { state = start d.many; rest = l; at = record { offset = 0; place = 0; left = 0 }; naming = naming_at detail.Cut d 0 }) (sym (drop_zero (document_bytes d)))
+    ∙ ap (λ (n : ℕ). record { state = start d.many; rest = drop n (document_bytes d); at = record { offset = n; place = 0; left = 0 }; naming = naming_at detail.Cut d 0 }) none
 
-beside_first : (V : ℕ → Value) (p : Pickles) (d : Contents) (s : State) (q : Standing) → d.many ≡ are_many p → start d.many ≡ s → standing_first p (document_bytes d) ≡ q → Beside V p d 0 s q
+beside_first : (V : ℕ → Value) (p : Pickles) (d : Contents) (s : State) (q : Standing) → d.many ≡ are_many p → start d.many ≡ s → standing_first detail.Cut p (document_bytes d) ≡ q → Beside V p d 0 s q
 unfolding acts_before protocol told protocol_at
-beside_first V p d s q mode e f = record { stands_there = sym f ∙ first_stands p d mode ∙ ap (standing_at d 0) e; acts = refl; proto = refl }
+beside_first V p d s q mode e f = record { stands_there = sym f ∙ first_stands p d mode ∙ ap (standing_at detail.Cut d 0) e; acts = refl; proto = refl }
 
 behind_is : (q p : Standing) (g : Gone) (b : Bool) → (if b then None else Some (stands_after q g)) ≡ Some p → stands_after q g ≡ p
 behind_is q p g true e = absurd cc
@@ -213,7 +214,7 @@ came : (way : Way) (x : Option Standing) (p : Standing) → stands_on way x ≡ 
 came way None p e = absurd cc
 came way (Some q) p e = record { before = q; stood = refl; leads = behind_is q p (going way q) (is_some (going way q).gone.closing) e }
 
-stands_next : (p : Pickles) (bytes : List ℕ) (n : ℕ) → stands (ignoring p) (standing_first p bytes) (suc n) ≡ stands_on (ignoring p) (stands (ignoring p) (standing_first p bytes) n)
+stands_next : (p : Pickles) (bytes : List ℕ) (n : ℕ) → stands (ignoring p) (standing_first detail.Cut p bytes) (suc n) ≡ stands_on (ignoring p) (stands (ignoring p) (standing_first detail.Cut p bytes) n)
 unfolding stands
 stands_next p bytes n = refl
 
@@ -229,24 +230,24 @@ drop_more (suc n) m (x ∷ xs) = let sum : suc (n + m) ≡ suc n + m = omega ari
 
 -- the standing behind an item
 next_stands : (p : Pickles) (d : Contents) (k : ℕ) (s t : State) (o : Operation) → begins_anew p ≡ true → item_at d k ≡ Some o → run (start d.many) (ops_of d) (suc k) ≡ Some t
-    → stands_after (standing_at d k s) (gone_to (ignoring p) (standing_at d k s) (item_taken o) (one_move (asks_less (row_of o) (fresh s))) (Ok t)) ≡ standing_at d (suc k) t
+    → stands_after (standing_at detail.Cut d k s) (gone_to (ignoring p) (standing_at detail.Cut d k s) (item_taken o) (one_move (asks_less (row_of o) (fresh s))) (Ok t)) ≡ standing_at detail.Cut d (suc k) t
 next_stands p d k s t o anew there to =
     let state : state_after p o.opcode t ≡ t = anew_state p o.opcode t anew in
     let size : offset_of d k + (size_of o + 0) ≡ offset_of d (suc k) = omega (arith, next_offset (items_of d) k o there) in
     let place : k + 1 ≡ suc k = omega arith in
-    let names : naming_on (Some o) (Some t) (naming_at d k) ≡ naming_at d (suc k) =
-    ap (λ (x : Option State). naming_on (Some o) x (naming_at d k)) (sym to) ∙ ap (λ (x : Option Operation). naming_on x (run (start d.many) (ops_of d) (suc k)) (naming_at d k)) (sym there) in
+    let names : naming_on (Some o) (Some t) (naming_at detail.Cut d k) ≡ naming_at detail.Cut d (suc k) =
+    ap (λ (x : Option State). naming_on (Some o) x (naming_at detail.Cut d k)) (sym to) ∙ ap (λ (x : Option Operation). naming_on x (run (start d.many) (ops_of d) (suc k)) (naming_at detail.Cut d k)) (sym there) in
     let rest : drop (size_of o + 0) (drop (offset_of d k) (document_bytes d)) ≡ drop (offset_of d (suc k)) (document_bytes d) =
     drop_more (offset_of d k) (size_of o + 0) (document_bytes d) ∙ ap (λ (n : ℕ). drop n (document_bytes d)) size in
     ap (λ (x : State). record {
       state = x;
       rest = drop (size_of o + 0) (drop (offset_of d k) (document_bytes d));
       at = record { offset = offset_of d k + (size_of o + 0); place = k + 1; left = 0 };
-      naming = naming_on (Some o) (Some x) (naming_at d k);
+      naming = naming_on (Some o) (Some x) (naming_at detail.Cut d k);
     }) state
-    ∙ ap (λ (l : List ℕ). record { state = t; rest = l; at = record { offset = offset_of d k + (size_of o + 0); place = k + 1; left = 0 }; naming = naming_on (Some o) (Some t) (naming_at d k) }) rest
-    ∙ ap (λ (n : ℕ). record { state = t; rest = drop (offset_of d (suc k)) (document_bytes d); at = record { offset = n; place = k + 1; left = 0 }; naming = naming_on (Some o) (Some t) (naming_at d k) }) size
-    ∙ ap (λ (n : ℕ). record { state = t; rest = drop (offset_of d (suc k)) (document_bytes d); at = record { offset = offset_of d (suc k); place = n; left = 0 }; naming = naming_on (Some o) (Some t) (naming_at d k) }) place
+    ∙ ap (λ (l : List ℕ). record { state = t; rest = l; at = record { offset = offset_of d k + (size_of o + 0); place = k + 1; left = 0 }; naming = naming_on (Some o) (Some t) (naming_at detail.Cut d k) }) rest
+    ∙ ap (λ (n : ℕ). record { state = t; rest = drop (offset_of d (suc k)) (document_bytes d); at = record { offset = n; place = k + 1; left = 0 }; naming = naming_on (Some o) (Some t) (naming_at detail.Cut d k) }) size
+    ∙ ap (λ (n : ℕ). record { state = t; rest = drop (offset_of d (suc k)) (document_bytes d); at = record { offset = offset_of d (suc k); place = n; left = 0 }; naming = naming_on (Some o) (Some t) (naming_at detail.Cut d k) }) place
     ∙ ap (λ (m : Naming). record { state = t; rest = drop (offset_of d (suc k)) (document_bytes d); at = record { offset = offset_of d (suc k); place = suc k; left = 0 }; naming = m }) names
 
 -- what is told of an item
@@ -264,11 +265,11 @@ accepted_move o k s t none leads = ap (λ (x : Option Refusal). outcome x (next 
 
 beside_next : (V : ℕ → Value) (p : Pickles) (d : Contents) (k : ℕ) (s t : State) (o : Operation) (q r : Standing) → IsFormed d → length (document_bytes d) < 2 ^ 64 → begins_anew p ≡ true → item_at d k ≡ Some o
     → run (start d.many) (ops_of d) k ≡ Some s → run (start d.many) (ops_of d) (suc k) ≡ Some t → move o k s ≡ Ok t
-    → stands (ignoring p) (standing_first p (document_bytes d)) k ≡ Some q → stands_after q (going (ignoring p) q) ≡ r → Beside V p d k s q → Beside V p d (suc k) t r
+    → stands (ignoring p) (standing_first detail.Cut p (document_bytes d)) k ≡ Some q → stands_after q (going (ignoring p) q) ≡ r → Beside V p d k s q → Beside V p d (suc k) t r
 unfolding acts_before protocol
 beside_next V p d k s t o q r formed small anew there from to moves stood leads beside =
-    let first : Standing = standing_first p (document_bytes d) in
-    let at : Standing = standing_at d k s in
+    let first : Standing = standing_first detail.Cut p (document_bytes d) in
+    let at : Standing = standing_at detail.Cut d k s in
     let taken_move = loaders_take_moves o k s t moves in
     let both = going_item p at o t refl (reads_item d k o formed small there) taken_move.one taken_move.next in
     let g : Gone = gone_to (ignoring p) at (item_taken o) (one_move (asks_less (row_of o) (fresh s))) (Ok t) in
@@ -290,11 +291,11 @@ beside_next V p d k s t o q r formed small anew there from to moves stood leads 
     }
 
 beside_all : (V : ℕ → Value) (p : Pickles) (d : Contents) → IsFormed d → length (document_bytes d) < 2 ^ 64 → begins_anew p ≡ true → d.many ≡ are_many p
-    → (k : ℕ) (s : State) (q : Standing) → run (start d.many) (ops_of d) k ≡ Some s → stands (ignoring p) (standing_first p (document_bytes d)) k ≡ Some q → Beside V p d k s q
+    → (k : ℕ) (s : State) (q : Standing) → run (start d.many) (ops_of d) k ≡ Some s → stands (ignoring p) (standing_first detail.Cut p (document_bytes d)) k ≡ Some q → Beside V p d k s q
 beside_all V p d formed small anew mode zero s q e stood = beside_first V p d s q mode (run_zero (start d.many) (ops_of d) s e) (stands_zero p (document_bytes d) q stood)
 beside_all V p d formed small anew mode (suc k) t r e stood =
     let m = move_to (start d.many) (ops_of d) k t e in
-    let f = came (ignoring p) (stands (ignoring p) (standing_first p (document_bytes d)) k) r (sym (stands_next p (document_bytes d) k) ∙ stood) in
+    let f = came (ignoring p) (stands (ignoring p) (standing_first detail.Cut p (document_bytes d)) k) r (sym (stands_next p (document_bytes d) k) ∙ stood) in
     beside_next V p d k m.before t m.item f.before r formed small anew m.there m.reached e (accepted_move m.item k m.before t m.accepted m.leads) f.stood f.leads
     (beside_all V p d formed small anew mode k m.before f.before m.reached f.stood)
 

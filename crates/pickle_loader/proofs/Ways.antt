@@ -16,6 +16,7 @@ use Rattle.pickle_lenient.specs.declared.taken.Frames.{Frames}
 use Rattle.pickle_lenient.specs.declared.taken.Taken.{Taken}
 use Rattle.pickle_lenient.specs.Stream.{taken}
 use Rattle.pickle_show.specs.declared.report.Closing.{Closing}
+use Rattle.pickle_show.specs.declared.naming.Detail.TheVariants as detail
 use Rattle.pickle_further.specs.declared.way.Pickles.{Pickles}
 use Rattle.pickle_further.specs.declared.way.Pickles.TheVariants as pickles
 use Rattle.pickle_further.specs.declared.way.Way.{Way}
@@ -174,10 +175,10 @@ new_values way (Some q) l = map (λ (o : Object). top_of_loaded l) (drop (length
 
 values : World → Way → List ℕ → ℕ → List Value
 values w way bytes zero = []
-values w way bytes (suc n) = values w way bytes n ++ new_values way (stands way (standing_first way.pickles bytes) n) (load_way w way bytes (suc n)).now
+values w way bytes (suc n) = values w way bytes n ++ new_values way (stands way (standing_first detail.Cut way.pickles bytes) n) (load_way w way bytes (suc n)).now
 
 abbrev stands_at : Way → List ℕ → ℕ → Option Standing
-stands_at way bytes n = stands way (standing_first way.pickles bytes) n
+stands_at way bytes n = stands way (standing_first detail.Cut way.pickles bytes) n
 
 behind_is : (q p : Standing) (g : Gone) (b : Bool) → (if b then None else Some (stands_after q g)) ≡ Some p → stands_after q g ≡ p
 behind_is q p g true e = absurd cc
@@ -197,7 +198,7 @@ stands_next : (way : Way) (bytes : List ℕ) (n : ℕ) → stands_at way bytes (
 unfolding stands
 stands_next way bytes n = refl
 
-stands_zero : (way : Way) (bytes : List ℕ) (q : Standing) → stands_at way bytes 0 ≡ Some q → standing_first way.pickles bytes ≡ q
+stands_zero : (way : Way) (bytes : List ℕ) (q : Standing) → stands_at way bytes 0 ≡ Some q → standing_first detail.Cut way.pickles bytes ≡ q
 unfolding stands
 stands_zero way bytes q e = cc
 
@@ -265,7 +266,7 @@ right_on w way bytes n m less q e = λ u is more.
 
 abbrev AlongAt : World → Way → List ℕ → (ℕ → Value) → ℕ → Type 0
 AlongAt w way bytes V m =
-    Along w V way.pickles (acts_before V way (standing_first way.pickles bytes) m) (protocol way (standing_first way.pickles bytes) m) (stands_at way bytes m) (load_way w way bytes m)
+    Along w V way.pickles (acts_before V way (standing_first detail.Cut way.pickles bytes) m) (protocol way (standing_first detail.Cut way.pickles bytes) m) (stands_at way bytes m) (load_way w way bytes m)
 
 along_first : (w : World) (way : Way) (bytes : List ℕ) (V : ℕ → Value) → AlongAt w way bytes V 0
 unfolding acts_before protocol stands load_way
@@ -277,7 +278,7 @@ along_first w way bytes V = (
 along_next : (w : World) (way : Way) (bytes : List ℕ) (V : ℕ → Value) (m : ℕ) → IsUsual w → ((q : Standing) → stands_at way bytes m ≡ Some q → RightOn w V way q (load_way w way bytes m)) → AlongAt w way bytes V m → AlongAt w way bytes V (suc m)
 unfolding acts_before protocol stands load_way
 along_next w way bytes V m usual right along =
-    along_on w V way (acts_before V way (standing_first way.pickles bytes) m) (protocol way (standing_first way.pickles bytes) m) (stands_at way bytes m) (load_way w way bytes m) usual along right
+    along_on w V way (acts_before V way (standing_first detail.Cut way.pickles bytes) m) (protocol way (standing_first detail.Cut way.pickles bytes) m) (stands_at way bytes m) (load_way w way bytes m) usual along right
 
 pub along_way : (w : World) (way : Way) (bytes : List ℕ) (n : ℕ) → IsUsual w → (m : ℕ) → m ≤ n → AlongAt w way bytes (value_of w way bytes n) m
 along_way w way bytes n usual zero h = along_first w way bytes (value_of w way bytes n)

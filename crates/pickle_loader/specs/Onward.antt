@@ -14,11 +14,12 @@ use Rattle.pickle_machine.specs.Move.{fresh}
 use Rattle.pickle_machine.specs.Run.{run}
 use Rattle.pickle_lenient.specs.declared.taken.Taken.{Taken}
 use Rattle.pickle_lenient.specs.Stream.{taken}
+use Rattle.pickle_show.specs.declared.naming.Detail.TheVariants as detail
 use Rattle.pickle_further.specs.declared.way.Pickles.{Pickles}
 use Rattle.pickle_further.specs.declared.way.Pickles.TheVariants as pickles
 use Rattle.pickle_further.specs.declared.way.Way.{Way}
-use Rattle.pickle_further.specs.Going.{Standing, Going as Gone, going, stands_after}
-use Rattle.pickle_further.specs.Parts.{ignoring, are_many, standing_at, standing_first}
+use Rattle.pickle_further.specs.Going.{Standing, Going as Gone, going, stands_after, search}
+use Rattle.pickle_further.specs.Parts.{ignoring, buffering, are_many, standing_at, standing_first}
 use Rattle.pickle_loader.specs.Environment.{Value, Act, World}
 use Rattle.pickle_loader.specs.Unpickler.{Unpickler, Step, Raised, load_frame, load_get, load_put}
 use Rattle.pickle_loader.specs.Dispatch.{dispatch, Loaded, Going, Ended, Failed, loaded, acts_of, new_unpickler}
@@ -127,7 +128,7 @@ acts_before V way p (suc n) = acts_before V way p n ++ acts_on V way (protocol w
 -- of the unpickler, up to then and at each opcode before, is a beginning of what the lines of that reading tell
 abbrev pub NothingBeyond : Type 0
 NothingBeyond = (w : World) → IsUsual w → (way : Way) (bytes : List ℕ) (n : ℕ)
-    → (V : ℕ → Value) × ((m : ℕ) → m ≤ n → (rest : List Act) × (told_of (acts_of (load_way w way bytes m).now) ++ rest ≡ acts_before V way (standing_first way.pickles bytes) m))
+    → (V : ℕ → Value) × ((m : ℕ) → m ≤ n → (rest : List Act) × (told_of (acts_of (load_way w way bytes m).now) ++ rest ≡ acts_before V way (standing_first detail.Cut way.pickles bytes) m))
 
 -- ---- the lines of a document
 
@@ -142,5 +143,30 @@ begins_anew pickles.OneMemo = false
 -- of one reading
 abbrev pub LinesAreRead : Type 0
 LinesAreRead = (V : ℕ → Value) (p : Pickles) (d : Contents) → IsFormed d → length (document_bytes d) < 2 ^ 64 → begins_anew p ≡ true → d.many ≡ are_many p
-    → (k : ℕ) (s : State) (q : Standing) → run (start d.many) (ops_of d) k ≡ Some s → stands (ignoring p) (standing_first p (document_bytes d)) k ≡ Some q
-    → (q ≡ standing_at d k s) × (acts_before V (ignoring p) (standing_first p (document_bytes d)) k ≡ told V d.many (ops_of d) k)
+    → (k : ℕ) (s : State) (q : Standing) → run (start d.many) (ops_of d) k ≡ Some s → stands (ignoring p) (standing_first detail.Cut p (document_bytes d)) k ≡ Some q
+    → (q ≡ standing_at detail.Cut d k s) × (acts_before V (ignoring p) (standing_first detail.Cut p (document_bytes d)) k ≡ told V d.many (ops_of d) k)
+
+-- ---- frames in a buffer
+
+-- where a standing is without its buffer
+abbrev pub unbuffered : Standing → Standing
+unbuffered q = record { state = q.state; rest = q.rest; at = record { offset = q.at.offset; place = q.at.place; left = 0 }; naming = q.naming }
+
+-- of the first k items none loses bytes
+abbrev pub NoneLost : Way → Standing → ℕ → Type 0
+NoneLost way p k = (j : ℕ) (q : Standing) → j < k → stands way p j ≡ Some q → (going way q).gone.lost ≡ false
+
+-- up to the first item that loses bytes the reading with a buffer is the one in which frames are ignored: it stands where that does, and told
+-- the same, so that what is shown of it from there on is all that it has more
+abbrev pub BufferedIsRead : Type 0
+BufferedIsRead = (V : ℕ → Value) (p : Pickles) (bytes : List ℕ) (k : ℕ) (q : Standing) → stands (buffering p) (standing_first detail.Cut p bytes) k ≡ Some q → NoneLost (buffering p) (standing_first detail.Cut p bytes) k
+    → (stands (ignoring p) (standing_first detail.Cut p bytes) k ≡ Some (unbuffered q)) × (acts_before V (buffering p) (standing_first detail.Cut p bytes) k ≡ acts_before V (ignoring p) (standing_first detail.Cut p bytes) k)
+
+-- what is found among the first n items: none that loses bytes, or the first that does
+abbrev pub IsFound : Way → Standing → ℕ → Option Standing → Type 0
+IsFound way p n None = NoneLost way p n
+IsFound way p n (Some q) = (k : ℕ) × (stands way p k ≡ Some q) × NoneLost way p k × ((going way q).gone.lost ≡ true)
+
+-- from where the part of the reading with a buffer is shown
+abbrev pub LossIsFound : Type 0
+LossIsFound = (n : ℕ) (way : Way) (p : Standing) → IsFound way p n (search n way p)

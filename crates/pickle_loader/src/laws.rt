@@ -4,7 +4,7 @@ ghost use Rattle.pickle_loader.specs.Laws.{LoadsAreListed, ToldHasLine, AllTold,
 ghost use Rattle.pickle_loader.specs.Reader.{OpsAreFetched};
 ghost use Rattle.pickle_loader.specs.FlatStack.{OneStack};
 ghost use Rattle.pickle_loader.specs.Beyond.{WideMovesAreFollowed, WhatIsMissingRaises, FillsAreFollowed, AStepBeyond};
-ghost use Rattle.pickle_loader.specs.Onward.{NothingBeyond, LinesAreRead};
+ghost use Rattle.pickle_loader.specs.Onward.{NothingBeyond, LinesAreRead, BufferedIsRead, LossIsFound};
 ghost use Rattle.pickle_loader.specs.Bytes.{BytesAreListed, NothingElse};
 
 /// What the unpickler does in any environment is what the lines tell, as far as it does not raise.
@@ -76,4 +76,14 @@ pub fn nothing_beyond()
 /// The lines of a document and those of the part behind their end are lines of one reading, from the first byte on.
 pub fn lines_are_read()
     ensures { LinesAreRead }
+{}
+
+/// Up to the first bytes that it loses, a reading that keeps frames in a buffer is the one that ignores frames.
+pub fn buffered_is_read()
+    ensures { BufferedIsRead }
+{}
+
+/// The part of a reading with a buffer begins at the first item that loses bytes, or there is none.
+pub fn loss_is_found()
+    ensures { LossIsFound }
 {}

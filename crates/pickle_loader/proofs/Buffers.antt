@@ -1,0 +1,329 @@
+-- A reading that keeps frames in a buffer is, up to the first bytes that it loses, the reading that ignores frames.
+use Rattle.std.proofs.Common.{◌≡◌, ℕ, zero, suc, ◌+◌, ◌-◌, ◌<◌, ◌≤◌, Bool, true, false, List, [], ◌∷◌, ◌++◌, length, take, drop, Option, Some, None, Ok, Err, refl, sym, ap, subst, ◌∙◌, inl, inr, arith, append_assoc, length-append, take_all}
+use Rattle.std.specs.Prelude.{◌||◌, nat_lt, nat_le, is_some, if◌then◌else◌, Result}
+use Rattle.std.specs.List.{position, position_or_len, list_any}
+use Rattle.std.proofs.lemmas.Bool.{cases_Bool, lt-ltb, ltb-false}
+use Rattle.std.proofs.lemmas.List.{take_at, take-append-drop}
+use Rattle.pickle_ops.specs.declared.opcode.Opcode.{Opcode}
+use Rattle.pickle_ops.specs.declared.form.Form.{Form}
+use Rattle.pickle_ops.specs.declared.form.Form.TheVariants as form
+use Rattle.pickle_ops.specs.declared.fault.FrontFault.{FrontFault}
+use Rattle.pickle_ops.specs.declared.fault.FrontFault.TheVariants as fault
+use Rattle.pickle_ops.specs.Shape.{is_newline, is_negative, is_quoted, is_decimal, text_of, IsLine, IsArg, value_fault}
+use Rattle.pickle_ops.specs.Table.{code_of, form_of}
+use Rattle.pickle_ops.specs.Spelling.{Front, Ended, Unknown, Cut, Whole, IsFront, front_fault}
+use Rattle.pickle_ops.specs.Front.{front_of}
+use Rattle.pickle_ops.proofs.Fronts.{one_front}
+use Rattle.pickle_doc.specs.DocUnit.{is_stop, is_frame, frame_number}
+use Rattle.pickle_machine.specs.declared.refusal.Refusal.{Refusal}
+use Rattle.pickle_machine.specs.declared.loader.LoaderMove.{LoaderMove}
+use Rattle.pickle_machine.specs.State.{State}
+use Rattle.pickle_machine.specs.Move.{fresh}
+use Rattle.pickle_machine.specs.Loader.{loader_move}
+use Rattle.pickle_lenient.specs.declared.taken.Frames.TheVariants as frames
+use Rattle.pickle_lenient.specs.declared.taken.Taken.{Taken}
+use Rattle.pickle_lenient.specs.Key.{key_of}
+use Rattle.pickle_lenient.specs.Reading.{ends_at}
+use Rattle.pickle_lenient.specs.Lenient.{Lenient, lenient, lenient_at, faulty, odd, odd_so, keyed_by}
+use Rattle.pickle_lenient.specs.Stream.{first_read, joined, ends_in, refilled, framed, settled, taken_as, plain, within, across, taken}
+use Rattle.pickle_show.specs.declared.report.Closing.{Closing}
+use Rattle.pickle_show.specs.declared.naming.Detail.TheVariants as detail
+use Rattle.pickle_further.specs.declared.way.Pickles.{Pickles}
+use Rattle.pickle_further.specs.declared.way.Way.{Way}
+use Rattle.pickle_further.specs.Going.{Standing, Going as Gone, used_op, moved_so, gone_to, gone_as, gone_by, going, stands_after}
+use Rattle.pickle_further.specs.Parts.{ignoring, buffering, standing_first}
+use Rattle.pickle_loader.specs.Environment.{Value, Act}
+use Rattle.pickle_loader.specs.Told.{protocol_after}
+use Rattle.pickle_loader.specs.Onward.{stands_behind, stands_on, stands, protocol_read, protocol_on, protocol, acts_gone, acts_on, acts_before, unbuffered, NoneLost, BufferedIsRead}
+
+-- ---- what is behind bytes in which an opcode ends
+
+-- a value that is no good is a line's
+bad_line : (f : Form) (arg : List ℕ) → value_fault f arg ≡ Some fault.BadArgument → IsArg f arg → IsLine arg
+bad_line form.Line arg e i = i
+bad_line form.Quoted arg e i = i
+bad_line form.Decimal arg e i = i
+bad_line form.Bs4 arg e i = elim (cases_Bool (is_negative arg)) [
+  | inl hit ↦ let f : Some fault.NegativeLength ≡ Some fault.BadArgument = rw hit at e in cc
+  | inr miss ↦ let f : None ≡ Some fault.BadArgument = rw miss at e in cc
+]
+bad_line form.Empty arg e i = let f : None ≡ Some fault.BadArgument = e in cc
+bad_line form.U1 arg e i = let f : None ≡ Some fault.BadArgument = e in cc
+bad_line form.U2 arg e i = let f : None ≡ Some fault.BadArgument = e in cc
+bad_line form.U4 arg e i = let f : None ≡ Some fault.BadArgument = e in cc
+bad_line form.U8 arg e i = let f : None ≡ Some fault.BadArgument = e in cc
+bad_line form.S4 arg e i = let f : None ≡ Some fault.BadArgument = e in cc
+bad_line form.R8 arg e i = let f : None ≡ Some fault.BadArgument = e in cc
+bad_line form.Two arg e i = let f : None ≡ Some fault.BadArgument = e in cc
+bad_line form.B1 arg e i = let f : None ≡ Some fault.BadArgument = e in cc
+bad_line form.B4 arg e i = let f : None ≡ Some fault.BadArgument = e in cc
+bad_line form.B8 arg e i = let f : None ≡ Some fault.BadArgument = e in cc
+
+-- the fault of a value is none of bytes that end
+value_ends : (f : Form) (arg : List ℕ) (g : FrontFault) → value_fault f arg ≡ Some g → ends_at g ≡ true
+value_ends form.Quoted arg g e = elim (cases_Bool (is_quoted (text_of arg))) [
+  | inl hit ↦ let f : None ≡ Some g = rw hit at e in cc
+  | inr miss ↦ let f : Some fault.BadArgument ≡ Some g = rw miss at e in let same : fault.BadArgument ≡ g = cc in rw (← same) refl
+]
+value_ends form.Decimal arg g e = elim (cases_Bool (is_decimal (text_of arg))) [
+  | inl hit ↦ let f : None ≡ Some g = rw hit at e in cc
+  | inr miss ↦ let f : Some fault.BadArgument ≡ Some g = rw miss at e in let same : fault.BadArgument ≡ g = cc in rw (← same) refl
+]
+value_ends form.Bs4 arg g e = elim (cases_Bool (is_negative arg)) [
+  | inl hit ↦ let f : Some fault.NegativeLength ≡ Some g = rw hit at e in let same : fault.NegativeLength ≡ g = cc in rw (← same) refl
+  | inr miss ↦ let f : None ≡ Some g = rw miss at e in cc
+]
+value_ends form.Empty arg g e = let f : None ≡ Some g = e in cc
+value_ends form.U1 arg g e = let f : None ≡ Some g = e in cc
+value_ends form.U2 arg g e = let f : None ≡ Some g = e in cc
+value_ends form.U4 arg g e = let f : None ≡ Some g = e in cc
+value_ends form.U8 arg g e = let f : None ≡ Some g = e in cc
+value_ends form.S4 arg g e = let f : None ≡ Some g = e in cc
+value_ends form.R8 arg g e = let f : None ≡ Some g = e in cc
+value_ends form.Line arg g e = let f : None ≡ Some g = e in cc
+value_ends form.Two arg g e = let f : None ≡ Some g = e in cc
+value_ends form.B1 arg g e = let f : None ≡ Some g = e in cc
+value_ends form.B4 arg g e = let f : None ≡ Some g = e in cc
+value_ends form.B8 arg g e = let f : None ≡ Some g = e in cc
+
+-- ---- lines
+
+line_at : (text more : List ℕ) → list_any is_newline text ≡ false → position_or_len is_newline (text ++ 10 ∷ more) ≡ length text
+line_at [] more h = refl
+line_at (b ∷ bs) more h = elim (cases_Bool (is_newline b)) [
+  | inl hit ↦ let f : true ≡ false = rw hit at h in cc
+  | inr miss ↦ let g : list_any is_newline bs ≡ false = rw miss at h in rw (miss, line_at bs more g) (omega arith)
+]
+
+line_found : (text more : List ℕ) → list_any is_newline text ≡ false → position is_newline (text ++ 10 ∷ more) ≡ Some (length text)
+line_found text more h =
+    rw (lt-ltb (position_or_len is_newline (text ++ 10 ∷ more)) (length (text ++ 10 ∷ more)) (omega (arith, line_at text more h, length-append text (10 ∷ more)))) (ap Some (line_at text more h))
+
+odd_line_is : (code : ℕ) (text more : List ℕ) → list_any is_newline text ≡ false
+    → odd (code ∷ (text ++ 10 ∷ more)) ≡ odd_so (keyed_by code (length text + 2) (key_of text))
+odd_line_is code text more h = rw (line_found text more h, take_at text (10 ∷ more) (length text) refl) refl
+
+odd_is : (code : ℕ) (arg more : List ℕ) (l : IsLine arg) → odd (code ∷ (arg ++ more)) ≡ odd_so (keyed_by code (length l.0 + 2) (key_of l.0))
+odd_is code arg more (text, none, is) = rw (is, append_assoc text (10 ∷ []) more) (odd_line_is code text more none)
+
+-- ---- bytes behind
+
+whole_more : (x y : List ℕ) (o : Opcode) (arg rest : List ℕ) → IsFront x (Whole o arg rest) → front_of (x ++ y) ≡ Whole o arg (rest ++ y)
+whole_more x y o arg rest (e, i) =
+    (one_front (x ++ y)).1 (Whole o arg (rest ++ y)) (ap (λ (s : List ℕ). s ++ y) e ∙ ap (λ (s : List ℕ). code_of o ∷ s) (append_assoc arg rest y), i)
+
+unknown_more : (x y : List ℕ) (byte : ℕ) → IsFront x (Unknown byte) → front_of (x ++ y) ≡ Unknown byte
+unknown_more x y byte (rest, e, none) = (one_front (x ++ y)).1 (Unknown byte) (rest ++ y, ap (λ (s : List ℕ). s ++ y) e, none)
+
+-- a whole argument with this fault is the same to loaders whatever is behind it
+whole_faulty : (x y : List ℕ) (o : Opcode) (arg rest : List ℕ) (f : FrontFault) → IsFront x (Whole o arg rest) → value_fault (form_of o) arg ≡ Some f
+    → faulty (x ++ y) f ≡ faulty x f
+whole_faulty x y o arg rest fault.BadArgument (e, i) bad =
+    let l : IsLine arg = bad_line (form_of o) arg bad i in
+    ap (λ (s : List ℕ). odd (s ++ y)) e ∙ ap (λ (s : List ℕ). odd (code_of o ∷ s)) (append_assoc arg rest y) ∙ odd_is (code_of o) arg (rest ++ y) l
+    ∙ sym (odd_is (code_of o) arg rest l) ∙ ap odd (sym e)
+whole_faulty x y o arg rest fault.Truncated is bad = let f : false ≡ true = value_ends (form_of o) arg fault.Truncated bad in cc
+whole_faulty x y o arg rest fault.Ended is bad = refl
+whole_faulty x y o arg rest fault.NegativeLength is bad = refl
+whole_faulty x y o arg rest (fault.UnknownOpcode byte) is bad = refl
+
+-- loaders read the same of bytes in which an opcode ends, whatever is behind them
+lenient_more : (x y : List ℕ) → ends_in (front_of x) ≡ true → lenient (x ++ y) ≡ lenient x
+unfolding lenient
+lenient_more x y ends = go (front_of x) refl
+  where
+    value : (o : Opcode) (arg rest : List ℕ) (r : Option FrontFault) → IsFront x (Whole o arg rest) → value_fault (form_of o) arg ≡ r
+        → lenient_at (x ++ y) (Whole o arg (rest ++ y)) r ≡ lenient_at x (Whole o arg rest) r
+    value o arg rest None is e = refl
+    value o arg rest (Some f) is e = whole_faulty x y o arg rest f is e
+
+    go : (front : Front) → front_of x ≡ front → lenient_at (x ++ y) (front_of (x ++ y)) (front_fault (front_of (x ++ y))) ≡ lenient_at x (front_of x) (front_fault (front_of x))
+    go Ended e = let f : false ≡ true = rw e at ends in cc
+    go (Cut o) e = let f : false ≡ true = rw e at ends in cc
+    go (Unknown byte) e =
+        let is : IsFront x (Unknown byte) = rw e at (one_front x).0 in
+        rw (unknown_more x y byte is, e) refl
+    go (Whole o arg rest) e =
+        let is : IsFront x (Whole o arg rest) = rw e at (one_front x).0 in
+        rw (whole_more x y o arg rest is, e) (value o arg rest (value_fault (form_of o) arg) is refl)
+
+-- ---- what is taken where nothing is lost
+
+none_of : (a b : Bool) → (a || b) ≡ false → (a ≡ false) × (b ≡ false)
+none_of true b e = absurd cc
+none_of false b e = (refl, e)
+
+-- the item of the same bytes where frames are ignored
+abbrev plain_item : Taken → Taken
+plain_item t = record { op = t.op; row = t.row; size = t.size; left = 0; lost = false }
+
+record Keeps (t item : Taken) : Type 0 where
+  same : plain_item t ≡ plain_item item
+  lost : t.lost ≡ false
+
+ok_taken : (a b : Taken) (x : Result Taken FrontFault) → x ≡ Ok a → x ≡ Ok b → a ≡ b
+ok_taken a b (Ok x) e f = let one : x ≡ a = cc in let two : x ≡ b = cc in sym one ∙ two
+ok_taken a b (Err g) e f = absurd cc
+
+-- the type of what is taken is known
+abbrev took : Taken → Result Taken FrontFault
+took t = Ok t
+
+keeps_all : (t item : Taken) → took t ≡ Ok item → item.lost ≡ false → Keeps t item
+keeps_all t item e lost =
+    let same : t ≡ item = ok_taken t item (Ok t) refl e in
+    record { same = ap plain_item same; lost = ap (λ (x : Taken). x.lost) same ∙ lost }
+
+keeps_filled : (n : ℕ) (t item : Taken) → took (refilled n t) ≡ Ok item → item.lost ≡ false → Keeps t item
+keeps_filled n t item e lost =
+    let same : refilled n t ≡ item = ok_taken (refilled n t) item (Ok (refilled n t)) refl e in
+    let both = none_of t.lost (nat_lt 0 t.left) (ap (λ (x : Taken). x.lost) same ∙ lost) in
+    let size : t.size ≡ t.size + t.left = omega (arith, ltb-false 0 t.left both.1) in
+    record { same = ap (λ (m : ℕ). record { op = t.op; row = t.row; size = m; left = 0; lost = false }) size ∙ ap plain_item same; lost = both.0 }
+
+keeps_framed : (b c : Bool) (n m : ℕ) (t item : Taken) → (if b then took t else (if c then took (refilled n t) else took (refilled m t))) ≡ Ok item → item.lost ≡ false → Keeps t item
+keeps_framed true c n m t item e lost = keeps_all t item e lost
+keeps_framed false true n m t item e lost = keeps_filled n t item e lost
+keeps_framed false false n m t item e lost = keeps_filled m t item e lost
+
+keeps_settled : (b c : Bool) (bytes : List ℕ) (t item : Taken) → (if b then Ok (refilled 0 t) else (if c then framed bytes t (frame_number t.op) else Ok t)) ≡ Ok item → item.lost ≡ false → Keeps t item
+keeps_settled true c bytes t item e lost = keeps_filled 0 t item e lost
+keeps_settled false true bytes t item e lost =
+    keeps_framed (nat_le (frame_number t.op) t.left) (nat_le (frame_number t.op) (length bytes - (t.size + t.left))) (frame_number t.op) (length bytes - (t.size + t.left)) t item e lost
+keeps_settled false false bytes t item e lost = keeps_all t item e lost
+
+within_same : (bytes : List ℕ) (size : ℕ) (x : Result Lenient FrontFault) (item : Taken) → within bytes size x ≡ Ok item → item.lost ≡ false → plain x ≡ Ok (plain_item item)
+within_same bytes size (Ok l) item e lost = let t : Taken = taken_as 0 (size - l.size) l in ap Ok (keeps_settled (is_stop t.op.opcode) (is_frame t.op.opcode) bytes t item e lost).same
+within_same bytes size (Err f) item e lost = absurd cc
+
+across_same : (bytes : List ℕ) (gap : ℕ) (x : Result Lenient FrontFault) (item : Taken) → across bytes gap x ≡ Ok item → item.lost ≡ false → (gap ≡ 0) × (plain x ≡ Ok (plain_item item))
+across_same bytes gap (Ok l) item e lost =
+    let t : Taken = taken_as gap 0 l in
+    let keeps = keeps_settled (is_stop t.op.opcode) (is_frame t.op.opcode) bytes t item e lost in
+    let none : gap ≡ 0 = omega (arith, ltb-false 0 gap keeps.lost) in
+    (none, ap (λ (n : ℕ). Ok (record { op = l.op; row = l.row; size = l.size + n; left = 0; lost = false })) (sym none) ∙ ap Ok keeps.same)
+across_same bytes gap (Err f) item e lost = absurd cc
+
+parted : (left : ℕ) (bytes : List ℕ) → take left bytes ++ drop left bytes ≡ bytes
+parted left bytes = take-append-drop left bytes
+
+same_by : (b : Bool) (left : ℕ) (bytes : List ℕ) (item : Taken) → ends_in (front_of (take left bytes)) ≡ b
+    → (if b then within bytes (length (take left bytes)) (lenient (take left bytes)) else across bytes (length (take left bytes) - first_read (take left bytes)) (lenient (joined left bytes))) ≡ Ok item → item.lost ≡ false
+    → plain (lenient bytes) ≡ Ok (plain_item item)
+same_by true left bytes item ends e lost =
+    ap (λ (l : List ℕ). plain (lenient l)) (sym (parted left bytes)) ∙ ap plain (lenient_more (take left bytes) (drop left bytes) ends)
+    ∙ within_same bytes (length (take left bytes)) (lenient (take left bytes)) item e lost
+same_by false left bytes item ends e lost =
+    let some : List ℕ = take left bytes in
+    let both = across_same bytes (length some - first_read some) (lenient (joined left bytes)) item e lost in
+    let whole : take (first_read some) some ≡ some = take_all (first_read some) some (omega (arith, both.0)) in
+    ap (λ (l : List ℕ). plain (lenient l)) (sym (parted left bytes) ∙ ap (λ (l : List ℕ). l ++ drop left bytes) (sym whole)) ∙ both.1
+
+buffered_same : (left n : ℕ) (bytes : List ℕ) (item : Taken) → taken frames.Buffered left bytes ≡ Ok item → item.lost ≡ false → taken frames.Ignored n bytes ≡ Ok (plain_item item)
+unfolding taken
+buffered_same left n bytes item e lost = same_by (ends_in (front_of (take left bytes))) left bytes item refl e lost
+
+-- ---- one item
+
+abbrev flat : Gone → Gone
+flat g = record { gone = record { event = g.gone.event; row = g.gone.row; size = g.gone.size; left = 0; lost = false; closing = g.gone.closing }; state = g.state }
+
+flat_to : (p : Pickles) (q : Standing) (item : Taken) (m : LoaderMove) (z : Result State Refusal) → gone_to (ignoring p) (unbuffered q) (plain_item item) m z ≡ flat (gone_to (buffering p) q item m z)
+flat_to p q item m (Ok t) = refl
+flat_to p q item m (Err r) = refl
+
+-- where it goes on and loses nothing, so does the other reading
+record Item (p : Pickles) (q : Standing) : Type 0 where
+  item : Taken
+  reads : taken frames.Buffered q.at.left q.rest ≡ Ok item
+  plainly : taken frames.Ignored 0 q.rest ≡ Ok (plain_item item)
+  goes : going (ignoring p) (unbuffered q) ≡ flat (going (buffering p) q)
+
+lost_to : (p : Pickles) (q : Standing) (item : Taken) (m : LoaderMove) (z : Result State Refusal) → (gone_to (buffering p) q item m z).gone.closing ≡ None → (gone_to (buffering p) q item m z).gone.lost ≡ false → item.lost ≡ false
+lost_to p q item m (Ok t) e lost = lost
+lost_to p q item m (Err r) e lost = absurd cc
+
+item_by : (p : Pickles) (q : Standing) (y : Result Taken FrontFault) → taken frames.Buffered q.at.left q.rest ≡ y → (gone_by (buffering p) q y).gone.closing ≡ None → (gone_by (buffering p) q y).gone.lost ≡ false
+    → (item : Taken) × (y ≡ Ok item) × (taken frames.Ignored 0 q.rest ≡ Ok (plain_item item)) × (gone_by (ignoring p) (unbuffered q) (Ok (plain_item item)) ≡ flat (gone_by (buffering p) q y))
+item_by p q (Err f) is on lost = absurd cc
+item_by p q (Ok item) is on lost =
+    let m : LoaderMove = loader_move item.op.opcode item.row (fresh q.state) in
+    let z : Result State Refusal = moved_so m (used_op m item.op) q.at.place q.state in
+    let none : item.lost ≡ false = lost_to p q item m z on lost in
+    (item, refl, buffered_same q.at.left 0 q.rest item is none, flat_to p q item m z)
+
+item_of : (p : Pickles) (q : Standing) → (going (buffering p) q).gone.closing ≡ None → (going (buffering p) q).gone.lost ≡ false → Item p q
+unfolding going
+item_of p q on lost =
+    let x = item_by p q (taken frames.Buffered q.at.left q.rest) refl on lost in
+    record { item = x.0; reads = x.1; plainly = x.2; goes = ap (λ (y : Result Taken FrontFault). gone_by (ignoring p) (unbuffered q) y) x.2 ∙ x.3 }
+
+-- ---- along the items
+
+record Alike (V : ℕ → Value) (p : Pickles) (bytes : List ℕ) (k : ℕ) (q : Standing) : Type 0 where
+  stood : stands (ignoring p) (standing_first detail.Cut p bytes) k ≡ Some (unbuffered q)
+  acts : acts_before V (buffering p) (standing_first detail.Cut p bytes) k ≡ acts_before V (ignoring p) (standing_first detail.Cut p bytes) k
+  proto : protocol (buffering p) (standing_first detail.Cut p bytes) k ≡ protocol (ignoring p) (standing_first detail.Cut p bytes) k
+
+alike_first : (V : ℕ → Value) (p : Pickles) (bytes : List ℕ) (q : Standing) → stands (buffering p) (standing_first detail.Cut p bytes) 0 ≡ Some q → Alike V p bytes 0 q
+unfolding acts_before protocol stands
+alike_first V p bytes q e =
+    let same : standing_first detail.Cut p bytes ≡ q = cc in
+    record { stood = ap (λ (x : Standing). Some (unbuffered x)) same; acts = refl; proto = refl }
+
+goes_on : (q p : Standing) (g : Gone) (c : Option Closing) → g.gone.closing ≡ c → stands_behind q g ≡ Some p → g.gone.closing ≡ None
+goes_on q p g None is e = is
+goes_on q p g (Some c) is e = let bad : None ≡ Some p = ap (λ (b : Bool). if b then None else Some (stands_after q g)) (sym (ap is_some is)) ∙ e in absurd cc
+
+flat_behind : (q p : Standing) (g : Gone) (b : Bool) → (if b then None else Some (stands_after q g)) ≡ Some p → (if b then None else Some (stands_after (unbuffered q) (flat g))) ≡ Some (unbuffered p)
+flat_behind q p g true e = absurd cc
+flat_behind q p g false e = let same : stands_after q g ≡ p = cc in ap (λ (x : Standing). Some (unbuffered x)) same
+
+alike_next : (V : ℕ → Value) (p : Pickles) (bytes : List ℕ) (k : ℕ) (q r : Standing) → stands (buffering p) (standing_first detail.Cut p bytes) k ≡ Some q → stands_behind q (going (buffering p) q) ≡ Some r → (going (buffering p) q).gone.lost ≡ false
+    → Alike V p bytes k q → Alike V p bytes (suc k) r
+unfolding acts_before protocol stands
+alike_next V p bytes k q r stood leads lost alike =
+    let first : Standing = standing_first detail.Cut p bytes in
+    let on : (going (buffering p) q).gone.closing ≡ None = goes_on q r (going (buffering p) q) (going (buffering p) q).gone.closing refl leads in
+    let x = item_of p q on lost in
+    record {
+      stood =
+          ap (stands_on (ignoring p)) alike.stood ∙ ap (stands_behind (unbuffered q)) x.goes
+          ∙ flat_behind q r (going (buffering p) q) (is_some (going (buffering p) q).gone.closing) leads;
+      acts =
+          ap (λ (o : Option Standing). acts_before V (buffering p) first k ++ acts_on V (buffering p) (protocol (buffering p) first k) o) stood
+          ∙ ap (λ (n : ℕ). acts_before V (buffering p) first k ++ acts_gone V n q (going (buffering p) q)) alike.proto
+          ∙ ap (λ (g : Gone). acts_before V (buffering p) first k ++ acts_gone V (protocol (ignoring p) first k) (unbuffered q) g) (sym x.goes)
+          ∙ ap (λ (l : List Act). l ++ acts_gone V (protocol (ignoring p) first k) (unbuffered q) (going (ignoring p) (unbuffered q))) alike.acts
+          ∙ ap (λ (o : Option Standing). acts_before V (ignoring p) first k ++ acts_on V (ignoring p) (protocol (ignoring p) first k) o) (sym alike.stood);
+      proto =
+          ap (λ (o : Option Standing). protocol_on (buffering p) o (protocol (buffering p) first k)) stood
+          ∙ ap (λ (y : Result Taken FrontFault). protocol_read y (protocol (buffering p) first k)) x.reads
+          ∙ ap (protocol_after x.item.op.opcode x.item.op.arg) alike.proto
+          ∙ ap (λ (y : Result Taken FrontFault). protocol_read y (protocol (ignoring p) first k)) (sym x.plainly)
+          ∙ ap (λ (o : Option Standing). protocol_on (ignoring p) o (protocol (ignoring p) first k)) (sym alike.stood);
+    }
+
+stands_next : (way : Way) (from : Standing) (n : ℕ) → stands way from (suc n) ≡ stands_on way (stands way from n)
+unfolding stands
+stands_next way from n = refl
+
+record Stood (p : Pickles) (x : Option Standing) (r : Standing) : Type 0 where
+  before : Standing
+  there : x ≡ Some before
+  leads : stands_behind before (going (buffering p) before) ≡ Some r
+
+stood_before : (p : Pickles) (x : Option Standing) (r : Standing) → stands_on (buffering p) x ≡ Some r → Stood p x r
+stood_before p None r e = absurd cc
+stood_before p (Some q) r e = record { before = q; there = refl; leads = e }
+
+alike_all : (V : ℕ → Value) (p : Pickles) (bytes : List ℕ) (k : ℕ) (q : Standing) → stands (buffering p) (standing_first detail.Cut p bytes) k ≡ Some q → NoneLost (buffering p) (standing_first detail.Cut p bytes) k → Alike V p bytes k q
+alike_all V p bytes zero q e none = alike_first V p bytes q e
+alike_all V p bytes (suc k) r e none =
+    let x = stood_before p (stands (buffering p) (standing_first detail.Cut p bytes) k) r (sym (stands_next (buffering p) (standing_first detail.Cut p bytes) k) ∙ e) in
+    alike_next V p bytes k x.before r x.there x.leads (none k x.before (omega arith) x.there) (alike_all V p bytes k x.before x.there (λ j s less there. none j s (omega (arith, less)) there))
+
+pub buffered_is_read : BufferedIsRead
+buffered_is_read V p bytes k q e none =
+    let x = alike_all V p bytes k q e none in
+    (x.stood, x.acts)
