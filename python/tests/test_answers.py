@@ -387,6 +387,10 @@ class Parts(unittest.TestCase):
         self.assertEqual((answer[3].name, answer[3].value), (Ref(5), Brief('text', b'D')))
         self.assertEqual((answer[4].what, answer[4].count, answer[4].target), ('append', 0, 0))
 
+    def test_there_is_no_part_where_nothing_is_reached(self) -> None:
+        answer = picklestep.calls(b'Np+1\n.')
+        self.assertEqual((answer.end.code, answer.parts), ('F5', ()))
+
     def test_an_end_may_be_unsure(self) -> None:
         answer = Calls('0 imports, 0 calls\nunsure: U1 frame goes on behind STOP at 10\n')
         self.assertEqual((answer.end, answer.parts), (End('unsure', 'U1', 'U1 frame goes on behind STOP at 10', 10), ()))
