@@ -1,4 +1,5 @@
 -- Lemmas of the laws.
+pub mod Cuts
 pub mod Images
 pub mod Pushes
 pub mod Methods
