@@ -28,3 +28,4 @@ pub mod Ways
 pub mod Readings
 pub mod Buffers
 pub mod Losses
+pub mod Unframing
