@@ -12,7 +12,7 @@ use Rattle.pickle_ops.specs.Table.{form_of, opcode_of}
 use Rattle.pickle_ops.specs.Shape.{is_newline, is_negative}
 use Rattle.pickle_ops.specs.Spelling.{Operation}
 use Rattle.pickle_doc.specs.DocUnit.{is_stop}
-use Rattle.pickle_loader.specs.Reader.{Reader, Piece, Line, from_file, from_frame, read_in, read, one_more, line_at, line_in_file, line_in_frame, read_line_in, read_line, joined, and_then, read_counted, read_signed, read_arg, Fetched, Fetch, NoFetch, load_frame_in, behind, fetched, with_arg, with_code, first_byte, with_key, fetch, opened, frame_bytes, all_left, FramesOnlyEnd}
+use Rattle.pickle_loader.specs.Reader.{Reader, Piece, Line, from_file, read_in, read, one_more, line_at, line_in_file, line_in_frame, read_line_in, read_line, joined, and_then, read_arg, Fetch, load_frame_in, behind, fetched, with_arg, with_code, first_byte, with_key, opened, frame_bytes, all_left, FramesOnlyEnd}
 use Rattle.pickle_loader.proofs.Cuts.{drop_zero}
 
 -- a piece as it is read without frames
