@@ -2,7 +2,6 @@
 use Rattle.std.specs.Prelude.{◌≡◌, ◌≢◌, ℕ, zero, suc, ◌^◌, ◌<◌, ◌==◌, ◌&&◌, not, if◌then◌else◌, Bool, true, List, [], ◌∷◌, ◌++◌, length, slice_get, codes, decimal, Option, Some, None}
 use Rattle.pickle_io.specs.Text.{◌⧺◌, quoted}
 use Rattle.pickle_names.specs.Value.{decode_all}
-use Rattle.pickle_names.specs.Renamed.{Import}
 use Rattle.pickle_doc.specs.Document.{Contents, document_bytes, AreBytes}
 use Rattle.pickle_show.specs.declared.naming.Detail.{Detail}
 use Rattle.pickle_show.specs.declared.end.Ending.{Ending}
@@ -21,7 +20,7 @@ use Rattle.pickle_ops.specs.Object.{Object}
 use Rattle.pickle_show.specs.declared.event.Event.{Event}
 use Rattle.pickle_show.specs.declared.event.Event.TheVariants as event
 use Rattle.pickle_show.specs.declared.naming.Naming.{Naming}
-use Rattle.pickle_show.specs.Naming.{Spelled, Pair, global_pair, stack_pair, pair_renamed}
+use Rattle.pickle_show.specs.Naming.{Spelled, Pair, NewPair, global_pair, stack_pair, pair_renamed}
 use Rattle.pickle_show.specs.Brief.{value_text}
 use Rattle.pickle_show.specs.CallsLine.{made_at, event_line, totals_line, unsure_line}
 use Rattle.pickle_show.specs.Calls.{CallsEnd, naming_at, entry_at, entries, calls, calls_end}
@@ -113,14 +112,19 @@ IsRead None text = ⊥
 abbrev pub two_quoted : List ℕ → List ℕ → List ℕ
 two_quoted from name = quoted from ⧺ codes " " ⧺ quoted name
 
+-- the member that is imported: another, or the one that the names say
+abbrev pub member_of : Option (List ℕ) → List ℕ → List ℕ
+member_of (Some other) name = other
+member_of None name = name
+
 -- an import by these names; while they are names of Python 2, what Python 3 imports for them comes first, where that is another
-abbrev pub import_said : Bool → Option Import → List ℕ → List ℕ → List ℕ
+abbrev pub import_said : Bool → Option NewPair → List ℕ → List ℕ → List ℕ
 import_said old None from name = two_quoted from name
-import_said old (Some i) from name = if old then two_quoted i.from i.name ⧺ codes " for " ⧺ two_quoted from name else two_quoted from name
+import_said old (Some i) from name = if old then two_quoted i.from (member_of i.name name) ⧺ codes " for " ⧺ two_quoted from name else two_quoted from name
 
 -- an accepted item that imports an object by names which can be read has exactly the line with these names
 abbrev pub LineOfImport : Type 0
-LineOfImport = (d : Contents) (k : ℕ) (s t : State) (o : Object) (p : Pair) (from name : List ℕ) → IsStep d k s t → slice_get t.heap (length s.heap) ≡ Some o
+LineOfImport = (how : Detail) (d : Contents) (k : ℕ) (s t : State) (o : Object) (p : Pair) (from name : List ℕ) → IsStep d k s t → slice_get t.heap (length s.heap) ≡ Some o
     → names_of t.heap o ≡ Some p → IsRead p.from from → IsRead p.name name
-    → (entry_at d k).text ≡ right_aligned 5 (decimal (offset_of d k)) ⧺ codes ": "
-    ⧺ (codes "import " ⧺ import_said (naming_at d k).old (pair_renamed p) from name ⧺ codes " as " ⧺ id_text (length s.heap)) ⧺ newline
+    → (entry_at how d k).text ≡ right_aligned 5 (decimal (offset_of d k)) ⧺ codes ": "
+    ⧺ (codes "import " ⧺ import_said (naming_at how d k).old (pair_renamed p) from name ⧺ codes " as " ⧺ id_text (length s.heap)) ⧺ newline
