@@ -34,7 +34,7 @@ _UNREAD_AT = {
 }
 _REDIS_DUMP = re.compile(rb'REDIS[0-9]{4}')
 # A first look at both: most bytes begin as none of them.
-_MAY_BE_UNREAD = re.compile(b'|'.join([rb'[\x50-\x5f]\x2a\x4d\x18|REDIS', *map(re.escape, _UNREAD),
+_MAY_BE_UNREAD = re.compile(b'|'.join([rb'[\x50-\x5f]\x2a\x4d\x18|REDIS', *(re.escape(begin) for begin in _UNREAD),
                                        *(b'.{%d}%b' % (at, re.escape(begin)) for at, begin in _UNREAD_AT)]), re.DOTALL)
 # The same for containers that are opened, in bytes that are too few for the sum in the header of a tar archive.
 _MAY_BE_CONTAINER = re.compile(rb'PK|\x93NUMPY|\x1f\x8b\x08|BZh|\xfd7zXZ\0|\x5d\0|ZF|[\x08\x18(8HXhx]|.{257}ustar', re.DOTALL)
