@@ -144,6 +144,12 @@ def install(python: str, program: str, folder: Path) -> Tuple[str, str]:
     return installed, why
 
 
+def add_servers() -> None:
+    """Installs the servers that stores are tried with where they are missing and that can be done. Elsewhere their tests are skipped."""
+    with contextlib.suppress(OSError, subprocess.TimeoutExpired):
+        subprocess.run([ROOT / 'equipment' / 'install_servers'], stdin=subprocess.DEVNULL, capture_output=True, timeout=MOST_SECONDS, check=False)
+
+
 def check_types(folder: Path) -> str:
     """What mypy says of the package, where there is one."""
     words = ['--strict', '--config-file', str(SOURCES / 'pyproject.toml'), '--cache-dir', str(folder / 'types')]
@@ -181,6 +187,8 @@ class Package:
 
     def tests(self, interpreter: str, names: List[str], place: str) -> Iterator[Verdict]:
         """Runs tests where the wheel is installed, or from the source tree; without names all, and counts them."""
+        if not names:
+            add_servers()
         environment = {'PYTHONDONTWRITEBYTECODE': '1'} if interpreter else from_sources(self.program)
         lines = self.folder / 'lines'
         words = [interpreter or sys.executable, str(Path(__file__).resolve()), '--run', str(lines), *names]

@@ -303,7 +303,7 @@ class Calls(Reached):
 
     @property
     def parts(self) -> Tuple[Part, ...]:
-        """The parts under headings, where the strict reading does not end with STOP.
+        """The parts under headings, each with a line at least: of what loaders reach where the strict reading does not end with STOP.
 
         >>> import picklestep
         >>> picklestep.calls(b'N.').parts

@@ -201,6 +201,53 @@ def memcached_values(url: str) -> None:
     client.set('evil', pickle.dumps(Hostile()))
 
 
+def redis_caches(url: str) -> None:
+    """A cache of Django, sessions of Flask, and jobs of APScheduler."""
+    import django
+    import flask
+    import flask_session
+    import redis
+    from apscheduler.jobstores.redis import RedisJobStore
+    from apscheduler.schedulers.background import BackgroundScheduler
+    from django.conf import settings
+    settings.configure(CACHES={'default': {'BACKEND': 'django_redis.cache.RedisCache', 'LOCATION': url}})
+    django.setup()
+    from django.core.cache import cache
+    cache.set('harmless', {'a': 1})
+    cache.set('evil', Hostile())
+
+    app = flask.Flask('app')
+    app.config.update(SESSION_TYPE='redis', SESSION_REDIS=redis.Redis.from_url(url))
+    flask_session.Session(app)
+
+    @app.route('/<word>')
+    def keep(word: str) -> str:
+        flask.session['word'] = Hostile() if word == 'evil' else word
+        return word
+    for word in ('evil', 'harmless'):
+        app.test_client().get(f'/{word}')
+
+    store = RedisJobStore()
+    store.redis = redis.Redis.from_url(url)
+    scheduler = BackgroundScheduler()
+    scheduler.add_jobstore(store)
+    scheduler.start(paused=True)
+    scheduler.add_job(os.getcwd, 'interval', hours=1, id='harmless')
+    scheduler.add_job(print, 'interval', hours=1, id='evil', args=[Hostile()])
+    scheduler.shutdown()
+
+
+def memcached_django(place: str) -> None:
+    """A cache of Django."""
+    import django
+    from django.conf import settings
+    settings.configure(CACHES={'default': {'BACKEND': 'django.core.cache.backends.memcached.PyMemcacheCache', 'LOCATION': place}})
+    django.setup()
+    from django.core.cache import cache
+    cache.set('harmless', {'a': 1})
+    cache.set('evil', Hostile())
+
+
 def redis_queues(port: str, password: str) -> None:
     """Jobs of RQ and Celery."""
     import celery

@@ -6,6 +6,7 @@ import os
 import pwd
 import re
 import shutil
+import signal
 import socket
 import subprocess
 import sys
@@ -76,15 +77,16 @@ class StoreCase(ScanCase):
 
     # --- Servers ---
 
-    def start(self, words: List[str], user: Optional[str] = None) -> 'subprocess.Popen[bytes]':
-        """Starts a server, which is stopped after the test. As root it runs as another user, since some refuse to be root."""
+    def start(self, words: List[str], user: Optional[str] = None, end: int = signal.SIGKILL) -> 'subprocess.Popen[bytes]':
+        """Starts a server, which is ended after the test by a signal. (Nobody wants its data.) As root it runs as another user, since some
+        refuse to be root."""
         more: Dict[str, Any] = {'user': user, 'group': pwd.getpwnam(user).pw_gid} if user is not None else {}
         log = open(self.folder / 'server.log', 'ab')
         self.addCleanup(log.close)
         process = subprocess.Popen(words, cwd=self.home, stdin=subprocess.DEVNULL, stdout=log, stderr=log, **more)
 
         def stop() -> None:
-            process.terminate()
+            process.send_signal(end)
             try:
                 process.wait(60)
             except subprocess.TimeoutExpired:
@@ -168,7 +170,7 @@ class StoreCase(ScanCase):
             (self.home / 'data' / 'pg_hba.conf').write_text('hostssl all all 127.0.0.1/32 scram-sha-256\n')
             words = ['-c', 'ssl=on', '-c', f'ssl_cert_file={self.home}/server.pem', '-c', f'ssl_key_file={self.home}/server.key']
         self.server = self.start([program('postgres'), '-D', str(self.home / 'data'), '-p', str(port), '-h', '127.0.0.1', '-k', str(self.home),
-                                  '-F', *words], user)
+                                  '-F', *words], user, signal.SIGQUIT)
         self.wait_for_port(port)
         return port
 

@@ -138,6 +138,23 @@ class RealPickles(unittest.TestCase):
                 self.assertTrue(first)
                 self.assertTrue(answer.text.endswith('\n'))
 
+    def test_lines_are_read_by_their_columns(self) -> None:
+        """Proved of all lines: an opcode's offset is before the first colon and its code in the four places behind the blank after it; an
+        object's number is before the first blank."""
+        for name, data in self.pickles.items():
+            with self.subTest(name):
+                answer = picklestep.listing(data)
+                lines = [line for line in answer.text.split('\n')[:-1] if not line[0].isalpha()]
+                self.assertEqual(len(lines), len(answer))
+                for line, opcode in zip(lines, answer):
+                    column, _, rest = line.partition(':')
+                    cells = rest[1:5].rstrip()
+                    code = bytes.fromhex(cells[2:]) if len(cells) == 4 else cells.encode()
+                    self.assertEqual((opcode.offset, opcode.code), (int(column), code))
+                objects = picklestep.objects(data)
+                numbers = [int(line.partition(' ')[0][1:]) for line in objects.text.split('\n') if line.startswith('#')]
+                self.assertEqual([made.number for made in objects], numbers)
+
     def test_arguments_can_be_given_back(self) -> None:
         for name, data in self.pickles.items():
             with self.subTest(name):
@@ -386,6 +403,10 @@ class Parts(unittest.TestCase):
         self.assertEqual(answer[2].name, Global(b'os\xff', b'x', ('module',)))
         self.assertEqual((answer[3].name, answer[3].value), (Ref(5), Brief('text', b'D')))
         self.assertEqual((answer[4].what, answer[4].count, answer[4].target), ('append', 0, 0))
+
+    def test_there_is_no_part_where_nothing_is_reached(self) -> None:
+        answer = picklestep.calls(b'Np+1\n.')
+        self.assertEqual((answer.end.code, answer.parts), ('F5', ()))
 
     def test_an_end_may_be_unsure(self) -> None:
         answer = Calls('0 imports, 0 calls\nunsure: U1 frame goes on behind STOP at 10\n')

@@ -6,6 +6,7 @@ import dbm.dumb
 import pickle
 import resource
 import shutil
+import sqlite3
 import subprocess
 import sys
 import types
@@ -39,6 +40,16 @@ class DjangoCache(ScanCase):
                     result = self.look('a.bin', content)
                     self.assertIn("'lib-dynload._ctypes' 'dlopen'", names_of(result))
                     self.assertIn('not in the form that picklers write', notes_of(result))
+                path = self.folder / f'{len(begin)}.db'
+                path.unlink(missing_ok=True)
+                connection = sqlite3.connect(path)
+                connection.execute('CREATE TABLE t (v BLOB)')
+                connection.execute('INSERT INTO t VALUES (?)', (begin + opens,))
+                connection.commit()
+                connection.close()
+                result = look(str(path))
+                self.assertEqual((places_of(result), names_of(result)), (['t.v row 1'], ["'lib-dynload._ctypes' 'dlopen'"]))
+                self.assertIn('not in the form that picklers write', notes_of(result))
         result = self.look('a.bin', HOSTILE[:-1] + b'0N.' + zlib.compress(HOSTILE))
         self.assertIn('posix.system', names_of(result))
         self.assertEqual(result.pickles[0].where, ())

@@ -3,6 +3,7 @@
 from __future__ import annotations
 
 import json
+import re
 import signal
 import socket
 import subprocess
@@ -51,6 +52,14 @@ class RedisServers(StoreCase):
         self.assertEqual(len(evil), 2, found)
         self.assertTrue(any(line.startswith(server + 'rq:job:evil > data > (zlib)') for line in evil), evil)
         self.assertTrue(any(line.startswith(server + 'celery > [') and '(base64 at ' in line for line in evil), evil)
+
+    def test_caches_sessions_and_jobs(self) -> None:
+        """Django, Flask and APScheduler."""
+        python = python_with('redis', 'django_redis', 'flask_session', 'apscheduler')
+        url = f'redis://:{SECRET}@127.0.0.1:{self.redis()}/0'
+        self.fill(python, 'redis_caches', url)
+        found = [line.partition(' > ')[2].partition(': import ')[0] for line in self.told(url, python=python) if EVIL in line]
+        self.assertEqual([re.sub('session:.*', 'session', place) for place in sorted(found)], [':1:evil', 'apscheduler.jobs > evil', 'session'])
 
     def test_match_sample_and_json(self) -> None:
         python = python_with('redis')
@@ -180,6 +189,14 @@ class OtherServers(StoreCase):
         found = self.told('--jobs', '2', f'memcached://127.0.0.1:{port}', python=python)
         self.assertEqual(sorted(line.partition(' once')[0] for line in found),
                          [f'! memcached://127.0.0.1:{port} > {key}: import posix.system' for key in (f'key{MANY}', 'large')])
+
+    def test_a_cache_of_django(self) -> None:
+        python = python_with('pymemcache', 'django')
+        port = self.memcached()
+        self.fill(python, 'memcached_django', f'127.0.0.1:{port}')
+        found = [line for line in self.told(f'memcached://127.0.0.1:{port}', python=python) if EVIL in line]
+        self.assertEqual(len(found), 1)
+        self.assertIn(f'! memcached://127.0.0.1:{port} > :1:evil: ', found[0])
 
     def check_sql(self, python: str, url: str, schema: str, count: int, **variables: str) -> None:
         found = self.told('--jobs', '2', url, python=python, **variables)

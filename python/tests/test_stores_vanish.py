@@ -10,12 +10,16 @@ from unittest import mock
 
 from picklestep.scan import Options
 from picklestep.scan.stores.address import Address
-from picklestep.scan.stores.server import Wanted, tasks
+from picklestep.scan.stores.server import Wanted, ask_again, tasks
 from scan_support import HOSTILE, names_of, notes_of, places_of
 
 
 class _Error(Exception):
     """As all errors of redis-py."""
+
+
+class _TimeoutError(_Error):
+    """No answer came in time."""
 
 
 class _Pipeline:
@@ -59,7 +63,7 @@ class _Client:
 
     def scan(self, cursor: int, match: Any, count: int) -> Any:
         if self.is_silent:
-            raise _Error('Timeout reading from socket')
+            raise _TimeoutError('Timeout reading from socket')
         return 0, [b'string', b'gone', b'hash']
 
 
@@ -67,7 +71,7 @@ class Redis(unittest.TestCase):
     """What is found while values come and go."""
 
     def setUp(self) -> None:
-        module = types.SimpleNamespace(Redis=_Client, RedisError=_Error)
+        module = types.SimpleNamespace(Redis=_Client, RedisError=_Error, TimeoutError=_TimeoutError)
         held = mock.patch.dict(sys.modules, {'redis': module})
         held.start()
         self.addCleanup(held.stop)
@@ -85,6 +89,7 @@ class Redis(unittest.TestCase):
         failed: List[Any] = []
         with mock.patch.object(_Client, 'is_silent', True):
             self.assertEqual(list(tasks(Address('redis://:word@127.0.0.1:1/2'), Wanted(), failed.append)), [])
+        self.addCleanup(ask_again, Address('redis://:word@127.0.0.1:1/2'))
         self.assertIn('Timeout reading from socket', failed[0].error)
         self.assertNotIn('word', failed[0].error + failed[0].path)
 

@@ -1,5 +1,5 @@
 -- A reading that keeps frames in a buffer is, up to the first bytes that it loses, the reading that ignores frames.
-use Rattle.std.proofs.Common.{◌≡◌, ℕ, zero, suc, ◌+◌, ◌-◌, ◌<◌, ◌≤◌, Bool, true, false, List, [], ◌∷◌, ◌++◌, length, take, drop, Option, Some, None, Ok, Err, refl, sym, ap, subst, ◌∙◌, inl, inr, arith, append_assoc, length-append, take_all}
+use Rattle.std.proofs.Common.{◌≡◌, ℕ, zero, suc, ◌+◌, ◌-◌, Bool, true, false, List, [], ◌∷◌, ◌++◌, length, take, drop, Option, Some, None, Ok, Err, refl, sym, ap, ◌∙◌, inl, inr, arith, append_assoc, length-append, take_all}
 use Rattle.std.specs.Prelude.{◌||◌, nat_lt, nat_le, is_some, if◌then◌else◌, Result}
 use Rattle.std.specs.List.{position, position_or_len, list_any}
 use Rattle.std.proofs.lemmas.Bool.{cases_Bool, lt-ltb, ltb-false}
@@ -25,12 +25,12 @@ use Rattle.pickle_lenient.specs.declared.taken.Taken.{Taken}
 use Rattle.pickle_lenient.specs.Key.{key_of}
 use Rattle.pickle_lenient.specs.Reading.{ends_at}
 use Rattle.pickle_lenient.specs.Lenient.{Lenient, lenient, lenient_at, faulty, odd, odd_so, keyed_by}
-use Rattle.pickle_lenient.specs.Stream.{first_read, joined, ends_in, refilled, framed, settled, taken_as, plain, within, across, taken}
+use Rattle.pickle_lenient.specs.Stream.{first_read, joined, ends_in, refilled, framed, taken_as, plain, within, across, taken}
 use Rattle.pickle_show.specs.declared.report.Closing.{Closing}
 use Rattle.pickle_show.specs.declared.naming.Detail.TheVariants as detail
 use Rattle.pickle_further.specs.declared.way.Pickles.{Pickles}
 use Rattle.pickle_further.specs.declared.way.Way.{Way}
-use Rattle.pickle_further.specs.Going.{Standing, Going as Gone, used_op, moved_so, gone_to, gone_as, gone_by, going, stands_after}
+use Rattle.pickle_further.specs.Going.{Standing, Going as Gone, used_op, moved_so, gone_to, gone_by, going, stands_after}
 use Rattle.pickle_further.specs.Parts.{ignoring, buffering, standing_first}
 use Rattle.pickle_loader.specs.Environment.{Value, Act}
 use Rattle.pickle_loader.specs.Told.{protocol_after}

@@ -1,6 +1,6 @@
 -- An item that loaders take, and a step of it.
-use Rattle.std.proofs.Common.{◌≡◌, ◌⊎◌, ℕ, zero, suc, ◌+◌, ◌-◌, Bool, true, false, List, [], ◌∷◌, ◌++◌, length, take, drop, Option, Some, None, Ok, Err, refl, sym, ap, subst, ◌∙◌, inl, inr, arith}
-use Rattle.std.specs.Prelude.{◌&&◌, ◌==◌, ◌||◌, nat_le, nat_lt, position, is_some, if◌then◌else◌, Result}
+use Rattle.std.proofs.Common.{◌≡◌, ℕ, ◌+◌, ◌-◌, Bool, true, false, List, [], ◌∷◌, ◌++◌, length, take, drop, Option, Some, None, Ok, Err, refl, sym, ap, subst, ◌∙◌}
+use Rattle.std.specs.Prelude.{◌==◌, nat_le, position, is_some, if◌then◌else◌, Result}
 use Rattle.std.specs.Option.{option_map}
 use Rattle.std.specs.Ordering.{nat_cmp}
 use Rattle.std.specs.BTreeMap.{insert_entry}
@@ -12,38 +12,37 @@ use Rattle.pickle_ops.specs.declared.kind.Kind.TheVariants as kind
 use Rattle.pickle_ops.specs.declared.row.Row.{Row}
 use Rattle.pickle_ops.specs.declared.row.Row.TheVariants as row
 use Rattle.pickle_ops.specs.Shape.{is_newline}
-use Rattle.pickle_ops.specs.Spelling.{Operation, Front, Ended, Unknown, Cut, Whole, front_fault}
+use Rattle.pickle_ops.specs.Spelling.{Operation, Front, Whole, front_fault}
 use Rattle.pickle_ops.specs.Front.{front_of}
 use Rattle.pickle_ops.specs.Row.{row_of, kind_of}
 use Rattle.pickle_doc.specs.DocUnit.{frame_op, is_stop, is_frame, frame_number}
 use Rattle.pickle_machine.specs.declared.refusal.Refusal.{Refusal}
 use Rattle.pickle_machine.specs.declared.refusal.Refusal.TheVariants as refusal
 use Rattle.pickle_machine.specs.State.{State}
-use Rattle.pickle_machine.specs.Move.{unless, if_deep, memo_at, refusal_of, next_of, fresh, outcome}
-use Rattle.pickle_machine.specs.Loader.{fill_move, loader_move}
+use Rattle.pickle_machine.specs.Move.{unless, memo_at, refusal_of, next_of, fresh, outcome}
+use Rattle.pickle_machine.specs.Loader.{loader_move}
 use Rattle.pickle_machine.specs.declared.loader.LoaderMove.{LoaderMove}
 use Rattle.pickle_machine.specs.LoaderLaws.{one_move}
 use Rattle.pickle_lenient.specs.declared.taken.Frames.{Frames}
 use Rattle.pickle_lenient.specs.declared.taken.Frames.TheVariants as frames
 use Rattle.pickle_lenient.specs.declared.taken.Taken.{Taken}
 use Rattle.pickle_lenient.specs.Key.{key_of}
-use Rattle.pickle_lenient.specs.Lenient.{Lenient, mended, tells_line, keyed_row, sized, keyed_by, odd_to, odd_line, odd_so, odd, taken_so, mended_so, cut_line, cut, faulty, front_size, lenient_at, lenient}
-use Rattle.pickle_lenient.specs.Stream.{first_read, joined, ends_in, refilled, framed, settled, taken_as, plain, within, across, buffered, taken}
+use Rattle.pickle_lenient.specs.Lenient.{Lenient, mended, tells_line, sized, keyed_by, odd_to, odd_so, odd, taken_so, mended_so, cut_line, cut, faulty, front_size, lenient_at, lenient}
+use Rattle.pickle_lenient.specs.Stream.{first_read, joined, ends_in, refilled, framed, taken_as, plain, within, across, taken}
 use Rattle.pickle_further.specs.Going.{used_op, then_as, moved_so}
-use Rattle.pickle_loader.specs.Environment.{Value, Act, Method, World}
+use Rattle.pickle_loader.specs.Environment.{Value, Method, World}
 use Rattle.pickle_loader.specs.Unpickler.{Unpickler, Step, Raised, load_get, load_put, tell}
 use Rattle.pickle_loader.specs.Dispatch.{dispatch}
-use Rattle.pickle_loader.specs.Told.{told_of, acts_told, protocol_after}
+use Rattle.pickle_loader.specs.Told.{told_of, protocol_after}
 use Rattle.pickle_loader.specs.Laws.{entries, IsSame}
 use Rattle.pickle_loader.specs.Whole.{IsWhole}
 use Rattle.pickle_loader.specs.Beyond.{is_missing, IsUsual, RaisesAt, Comes}
 use Rattle.pickle_loader.specs.Onward.{load_keyed, dispatch_as, load_taken}
-use Rattle.pickle_loader.proofs.Images.{image}
-use Rattle.pickle_loader.proofs.Pushes.{Good}
+use Rattle.pickle_loader.proofs.Cuts.{drop_none, take_none}
 use Rattle.pickle_loader.proofs.Methods.{Here, unpickler, fresh_acts, RowGood, raised_good, memo_get_good, put_good}
 use Rattle.pickle_loader.proofs.Still.{fresh_same}
 use Rattle.pickle_loader.proofs.Beyond.{same_image, follows_by}
-use Rattle.pickle_loader.proofs.Missing.{Misses, get_misses, top_misses, never_none}
+use Rattle.pickle_loader.proofs.Missing.{get_misses, top_misses, never_none}
 use Rattle.pickle_loader.proofs.Wholes.{whole_next, no_view_kind}
 use Rattle.pickle_loader.proofs.Steps.{a_step_beyond}
 
@@ -155,14 +154,6 @@ are_items frames.Ignored left bytes = plain_items (lenient bytes) (all_lenient b
 are_items frames.Buffered left bytes = buffered_items (ends_in (front_of (take left bytes))) left bytes
 
 -- ---- of no bytes nothing is
-
-take_none : (n : ℕ) → take {A = ℕ} n [] ≡ []
-take_none zero = refl
-take_none (suc n) = refl
-
-drop_none : (n : ℕ) → drop {A = ℕ} n [] ≡ []
-drop_none zero = refl
-drop_none (suc n) = refl
 
 no_lenient : lenient [] ≡ Err fault.Ended
 unfolding lenient

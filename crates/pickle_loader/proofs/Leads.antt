@@ -1,6 +1,6 @@
 -- What the moves of a loader lead to.
-use Rattle.std.proofs.Common.{◌≡◌, ◌⊎◌, ℕ, zero, suc, ◌+◌, ◌<◌, ◌≤◌, Bool, true, false, cond, List, [], ◌∷◌, length, Option, Some, None, Ok, Err, refl, sym, ap, subst, ◌∙◌, inl, inr, arith}
-use Rattle.std.specs.Prelude.{◌&&◌, ◌==◌, slice_get, nat_le, nat_lt, if◌then◌else◌, Result}
+use Rattle.std.proofs.Common.{◌≡◌, ◌⊎◌, ℕ, ◌≤◌, Bool, true, false, cond, List, length, Option, Some, None, Ok, Err, refl, sym, ap, subst, ◌∙◌, inl, inr, arith}
+use Rattle.std.specs.Prelude.{◌&&◌, ◌==◌, slice_get, if◌then◌else◌, Result}
 use Rattle.pickle_ops.specs.declared.opcode.Opcode.{Opcode}
 use Rattle.pickle_ops.specs.declared.opcode.Opcode.TheVariants as op
 use Rattle.pickle_ops.specs.declared.row.Row.{Row}
@@ -11,21 +11,20 @@ use Rattle.pickle_ops.specs.declared.row.Filling.{Filling}
 use Rattle.pickle_ops.specs.declared.row.Filling.TheVariants as filling
 use Rattle.pickle_ops.specs.Object.{Object}
 use Rattle.pickle_ops.specs.Spelling.{Operation}
-use Rattle.pickle_ops.specs.Row.{values_of, row_of, kind_of}
-use Rattle.pickle_doc.specs.DocUnit.{is_stop, frame_op}
+use Rattle.pickle_ops.specs.Row.{row_of, kind_of}
+use Rattle.pickle_doc.specs.DocUnit.{is_stop}
 use Rattle.pickle_machine.specs.declared.refusal.Refusal.{Refusal}
 use Rattle.pickle_machine.specs.declared.loader.Fill.{Fill as Goes}
 use Rattle.pickle_machine.specs.declared.loader.LoaderMove.{LoaderMove}
 use Rattle.pickle_machine.specs.State.{State}
 use Rattle.pickle_machine.specs.Move.{refusal_of, next_of, begun, fresh, outcome}
 use Rattle.pickle_machine.specs.Loader.{takes_call, takes_call_with, takes_obj, asks_less, fill_of, drop_row, is_inst, import_move, fill_move, loader_move, move_as, cleared}
-use Rattle.pickle_show.specs.declared.event.Event.{Event}
 use Rattle.pickle_show.specs.declared.event.Event.TheVariants as event
-use Rattle.pickle_show.specs.Event.{made_event, made_as, is_shown, before_of, event_of}
+use Rattle.pickle_show.specs.Event.{made_as, is_shown, before_of, event_of}
 use Rattle.pickle_further.specs.declared.way.Pickles.{Pickles}
 use Rattle.pickle_further.specs.declared.way.Pickles.TheVariants as pickles
-use Rattle.pickle_further.specs.Going.{used_op, then_as, moved_so, event_by, keeps, state_after}
-use Rattle.pickle_loader.specs.Environment.{Value, Act}
+use Rattle.pickle_further.specs.Going.{then_as, moved_so, event_by, keeps, state_after}
+use Rattle.pickle_loader.specs.Environment.{Value}
 use Rattle.pickle_loader.specs.Told.{acts_told}
 use Rattle.pickle_loader.proofs.Still.{Still, still, keeps_many, grows, fresh_running, fresh_same, stop_only}
 use Rattle.pickle_loader.proofs.Beyond.{has_moved}

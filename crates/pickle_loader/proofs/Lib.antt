@@ -1,4 +1,5 @@
 -- Lemmas of the laws.
+pub mod Cuts
 pub mod Images
 pub mod Pushes
 pub mod Methods
@@ -27,3 +28,4 @@ pub mod Ways
 pub mod Readings
 pub mod Buffers
 pub mod Losses
+pub mod Unframing

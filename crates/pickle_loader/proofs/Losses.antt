@@ -1,9 +1,9 @@
 -- The search for the first item that loses bytes.
-use Rattle.std.proofs.Common.{◌≡◌, ℕ, zero, suc, ◌<◌, Bool, true, false, Option, Some, None, refl, sym, ap, subst, ◌∙◌, arith}
+use Rattle.std.proofs.Common.{◌≡◌, ℕ, zero, suc, Bool, true, false, Option, Some, None, refl, sym, ap, ◌∙◌, arith}
 use Rattle.std.specs.Prelude.{is_some, if◌then◌else◌}
 use Rattle.pickle_show.specs.declared.report.Closing.{Closing}
 use Rattle.pickle_further.specs.declared.way.Way.{Way}
-use Rattle.pickle_further.specs.Going.{Standing, Going as Gone, going, stands_after, search_on, search}
+use Rattle.pickle_further.specs.Going.{Standing, going, stands_after, search}
 use Rattle.pickle_loader.specs.Onward.{stands_behind, stands_on, stands, NoneLost, IsFound, LossIsFound}
 
 -- ---- from the item behind

@@ -1,46 +1,43 @@
 -- Along the items that loaders take, what is told of the unpickler is a beginning of what their lines tell.
-use Rattle.std.proofs.Common.{◌≡◌, ◌⊎◌, ℕ, zero, suc, ◌+◌, ◌-◌, ◌<◌, ◌≤◌, Bool, true, false, cond, List, [], ◌∷◌, ◌++◌, length, map, drop, get_or, Option, Some, None, Ok, Err, refl, sym, ap, subst, ◌∙◌, inl, inr, arith, length-append}
-use Rattle.std.specs.Prelude.{◌&&◌, ◌==◌, slice_get, is_some, if◌then◌else◌, Result}
-use Rattle.std.proofs.lemmas.Bool.{cases_lt}
-use Rattle.std.proofs.lemmas.List.{append-nil, append_assoc, length-map, length-drop}
+use Rattle.std.proofs.Common.{◌≡◌, ◌⊎◌, ℕ, ◌-◌, ◌<◌, Bool, true, false, List, [], ◌∷◌, ◌++◌, length, drop, Option, Some, None, Ok, Err, refl, sym, ap, subst, ◌∙◌, inl, inr, arith}
+use Rattle.std.specs.Prelude.{◌&&◌, ◌==◌, slice_get, if◌then◌else◌, Result}
+use Rattle.std.proofs.lemmas.List.{append-nil}
 use Rattle.pickle_ops.specs.declared.fault.FrontFault.{FrontFault}
 use Rattle.pickle_ops.specs.declared.opcode.Opcode.{Opcode}
 use Rattle.pickle_ops.specs.declared.opcode.Opcode.TheVariants as op
-use Rattle.pickle_ops.specs.declared.kind.Kind.TheVariants as kind
 use Rattle.pickle_ops.specs.declared.row.Row.{Row}
 use Rattle.pickle_ops.specs.declared.row.Row.TheVariants as row
-use Rattle.pickle_ops.specs.Object.{Object}
 use Rattle.pickle_ops.specs.Spelling.{Operation}
 use Rattle.pickle_doc.specs.DocUnit.{is_stop}
 use Rattle.pickle_machine.specs.declared.refusal.Refusal.{Refusal}
 use Rattle.pickle_machine.specs.declared.loader.LoaderMove.{LoaderMove}
-use Rattle.pickle_machine.specs.State.{State, start, last_result}
+use Rattle.pickle_machine.specs.State.{State}
 use Rattle.pickle_machine.specs.Move.{begun, fresh}
 use Rattle.pickle_machine.specs.Loader.{loader_move, cleared}
 use Rattle.pickle_machine.proofs.HeapGrowth.{fresh_heap}
 use Rattle.pickle_lenient.specs.declared.taken.Taken.{Taken}
-use Rattle.pickle_lenient.specs.Stream.{taken}
 use Rattle.pickle_show.specs.declared.event.Event.{Event}
 use Rattle.pickle_show.specs.declared.report.Closing.{Closing}
 use Rattle.pickle_show.specs.declared.report.Closing.TheVariants as closing
 use Rattle.pickle_further.specs.declared.way.Pickles.{Pickles}
 use Rattle.pickle_further.specs.declared.way.Pickles.TheVariants as pickles
 use Rattle.pickle_further.specs.declared.way.Way.{Way}
-use Rattle.pickle_further.specs.Going.{Standing, Going as Gone, over, used_op, moved_so, event_by, stops, stopped_after, closing_after, keeps, state_after, gone_to, gone_as, gone_by, going, stands_after}
-use Rattle.pickle_further.specs.Parts.{are_many, standing_first}
-use Rattle.pickle_loader.specs.Environment.{Value, Plain, Act, World}
+use Rattle.pickle_further.specs.Going.{Standing, Going as Gone, over, used_op, moved_so, event_by, stops, stopped_after, closing_after, keeps, state_after, gone_to, gone_by}
+use Rattle.pickle_further.specs.Parts.{are_many}
+use Rattle.pickle_loader.specs.Environment.{Value, Act, World}
 use Rattle.pickle_loader.specs.Unpickler.{Unpickler, Step, Ran, Stopped, Raised, item}
 use Rattle.pickle_loader.specs.Dispatch.{dispatch, Loaded, Going, Ended, Failed, loaded, acts_of, new_unpickler}
 use Rattle.pickle_loader.specs.Told.{told_of, acts_told, protocol_after}
-use Rattle.pickle_loader.specs.Laws.{IsSame, IsResult, entries}
+use Rattle.pickle_loader.specs.Laws.{IsSame, IsResult}
 use Rattle.pickle_loader.specs.Whole.{IsWhole}
 use Rattle.pickle_loader.specs.Beyond.{IsUsual, StepFollows, MapsNew, RaisesAt, RaisesIn, Moves, Comes}
-use Rattle.pickle_loader.specs.Onward.{dispatch_as, load_taken, Onward, again, reads_on, load_more, load_read, load_on, load_way, stands_behind, stands_on, stands, protocol_read, protocol_on, protocol, acts_gone, acts_on, acts_before, NothingBeyond}
+use Rattle.pickle_loader.specs.Onward.{dispatch_as, load_taken, Onward, again, reads_on, stands_behind, protocol_read, acts_gone}
+use Rattle.pickle_loader.proofs.Cuts.{zero_only}
 use Rattle.pickle_loader.proofs.Pushes.{top_value}
 use Rattle.pickle_loader.proofs.Still.{Still, fresh_running, fresh_many, fresh_results, fresh_same, fresh_begun}
 use Rattle.pickle_loader.proofs.Listing.{never_stop, ran_by}
-use Rattle.pickle_loader.proofs.Wholes.{whole_start, whole_fresh, whole_cleared}
-use Rattle.pickle_loader.proofs.Items.{IsItem, are_items, none_taken, an_item_beyond}
+use Rattle.pickle_loader.proofs.Wholes.{whole_fresh, whole_cleared}
+use Rattle.pickle_loader.proofs.Items.{IsItem, an_item_beyond}
 use Rattle.pickle_loader.proofs.Leads.{event_fresh, moved_on_fresh, only_stop, stop_is, stop_row, moved_still, Led, once_led, acts_after}
 
 -- ---- how far both are
@@ -209,9 +206,6 @@ once o r s is e = go o.opcode e r (stop_row o r is e)
 zero_length : (xs : List ℕ) → (length xs == 0) ≡ true → xs ≡ []
 zero_length [] e = refl
 zero_length (x ∷ xs) e = let none : length (x ∷ xs) ≡ 0 = zero_only (length (x ∷ xs)) e in absurd (omega (arith, none))
-  where
-    zero_only : (n : ℕ) → (n == 0) ≡ true → n ≡ 0
-    zero_only n e = grind arith
 
 -- why it ends behind STOP
 stop_closing : (p : Pickles) (o : Opcode) (more : ℕ) (b : Bool) → is_stop o ≡ true → stops p more ≡ b → stopped_after p o more ≡ (if b then Some closing.Stopped else None)

@@ -1,28 +1,27 @@
 -- What the values of objects are, which the unpickler can do nothing with.
-use Rattle.std.proofs.Common.{◌≡◌, ℕ, zero, suc, ◌<◌, Bool, true, false, List, [], ◌∷◌, length, map, get_or, Option, Some, None, refl, sym, ap, ◌∙◌, inl, inr, arith}
-use Rattle.std.specs.Prelude.{slice_get, ◌||◌, ◌&&◌}
+use Rattle.std.proofs.Common.{◌≡◌, ℕ, zero, suc, ◌<◌, Bool, true, false, List, [], ◌∷◌, length, map, Option, Some, refl, sym, ap, ◌∙◌, inl, inr, arith}
+use Rattle.std.specs.Prelude.{slice_get, ◌||◌}
 use Rattle.std.specs.Option.{option_map_or}
 use Rattle.pickle_ops.specs.declared.kind.Kind.{Kind}
 use Rattle.pickle_ops.specs.declared.kind.Kind.TheVariants as kind
 use Rattle.pickle_ops.specs.declared.class.Class.{Class}
 use Rattle.pickle_ops.specs.declared.class.Class.TheVariants as class
-use Rattle.pickle_ops.specs.declared.class.Demand.{Demand}
 use Rattle.pickle_ops.specs.declared.class.Demand.TheVariants as demand
 use Rattle.pickle_ops.specs.declared.row.Filling.{Filling}
 use Rattle.pickle_ops.specs.declared.row.Filling.TheVariants as filling
 use Rattle.pickle_ops.specs.Object.{Object}
 use Rattle.pickle_ops.specs.Class.{class_meets, is_any}
 use Rattle.pickle_ops.specs.Kind.{class_of, is_opaque, meets}
-use Rattle.pickle_machine.specs.State.{State}
 use Rattle.pickle_machine.specs.Move.{object_meets}
 use Rattle.pickle_machine.specs.Loader.{opaque_at, views, view_at, loose_at, iterates as can_iterate, iterates_at}
 use Rattle.pickle_show.proofs.Steps.{not_there}
-use Rattle.pickle_loader.specs.Environment.{PyType, PyStr, PyTuple, PyList, PyDict, PySet, PyFrozenSet, PyByteArray, PyMemoryView, PyOther, Value, Plain, Own, Foreign, is_elsewhere, Act, World}
-use Rattle.pickle_loader.specs.Unpickler.{Unpickler, Step, Raised, item, iterates, has_keys, has_memory, is_str, viewed, viewed_string, fill, fill_own}
+use Rattle.pickle_loader.specs.Environment.{PyType, PyStr, PyTuple, PyList, PyDict, PySet, PyFrozenSet, PyByteArray, PyMemoryView, Value, Plain, Own, Foreign, is_elsewhere, Act, World}
+use Rattle.pickle_loader.specs.Unpickler.{Unpickler, Raised, item, iterates, has_keys, has_memory, is_str, viewed, viewed_string, fill, fill_own}
 use Rattle.pickle_loader.specs.Values.{origin, IsFrom}
 use Rattle.pickle_loader.specs.Whole.{IsSeen, IsWhole}
 use Rattle.pickle_loader.specs.Beyond.{IsUsual}
-use Rattle.pickle_loader.proofs.Pushes.{IsRead, IsPlain, StandsAs, stands_as}
+use Rattle.pickle_loader.proofs.Cuts.{no_two}
+use Rattle.pickle_loader.proofs.Pushes.{StandsAs, stands_as}
 use Rattle.pickle_loader.proofs.Methods.{Here}
 
 -- ---- objects that are there
@@ -35,9 +34,6 @@ object_at (o ∷ heap) (suc id) h = object_at heap id (omega (arith, h))
 pub both_ways : (b : Bool) → (b ≡ true → b ≡ false) → b ≡ false
 both_ways true h = h refl
 both_ways false h = refl
-
-no_two : (b : Bool) → b ≡ true → b ≡ false → ⊥
-no_two b t f = let no : true ≡ false = sym t ∙ f in absurd cc
 
 -- ---- values from elsewhere
 

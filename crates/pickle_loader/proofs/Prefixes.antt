@@ -1,6 +1,6 @@
 -- The first opcodes of a document are read from its bytes as far as no STOP before the last of them leaves a frame unfinished.
-use Rattle.std.proofs.Common.{◌≡◌, ◌⊎◌, ℕ, zero, suc, ◌+◌, ◌-◌, ◌^◌, ◌<◌, ◌≤◌, Bool, true, false, cond, List, [], ◌∷◌, ◌++◌, length, take, drop, Option, Some, None, refl, sym, ap, subst, ◌∙◌, inl, inr, arith, length-append}
-use Rattle.std.specs.Prelude.{◌&&◌, nat_lt, not, slice_get, ⊤, MatchBool}
+use Rattle.std.proofs.Common.{◌≡◌, ℕ, zero, suc, ◌+◌, ◌-◌, ◌^◌, ◌<◌, ◌≤◌, Bool, true, false, cond, List, [], ◌∷◌, ◌++◌, length, take, drop, Option, Some, None, refl, sym, ap, subst, ◌∙◌, inl, inr, arith, length-append}
+use Rattle.std.specs.Prelude.{◌&&◌, nat_lt, not, slice_get, ⊤}
 use Rattle.std.proofs.Math.Seq.{take-append-add, drop-append-add}
 use Rattle.std.proofs.lemmas.Bool.{lt-ltb, cases_lt}
 use Rattle.std.proofs.lemmas.List.{append_assoc}
@@ -10,8 +10,8 @@ use Rattle.pickle_ops.specs.declared.opcode.Opcode.{Opcode}
 use Rattle.pickle_ops.specs.declared.opcode.Opcode.TheVariants as op
 use Rattle.pickle_doc.specs.declared.fault.TailFault.{TailFault}
 use Rattle.pickle_doc.specs.DocUnit.{is_frame, is_stop, ends_reading, bytes_of}
-use Rattle.pickle_doc.specs.Document.{Contents, IsFormed, document_bytes, open_of, items_of, ended_by}
-use Rattle.pickle_doc.specs.Fitting.{left_behind, FitsFrame, IsLast, FitsFrom}
+use Rattle.pickle_doc.specs.Document.{Contents, IsFormed, document_bytes, items_of, ended_by}
+use Rattle.pickle_doc.specs.Fitting.{left_behind, FitsFrame, FitsFrom}
 use Rattle.pickle_doc.specs.Place.{ops_of, item_at}
 use Rattle.pickle_doc.proofs.Units.{document_fits, length_bytes}
 use Rattle.pickle_machine.specs.State.{State, start}
@@ -19,7 +19,8 @@ use Rattle.pickle_machine.specs.Run.{run}
 use Rattle.pickle_show.specs.Listing.{reached}
 use Rattle.pickle_show.specs.Calls.{is_inside, or_here, left_on, left_at, first_inside, end_to, end_from, calls_end}
 use Rattle.pickle_loader.specs.Reader.{Reader, fetch, fetched, Fetch, behind, opened}
-use Rattle.pickle_loader.proofs.Fetching.{Side, InFrame, InFile, at_side, fetches_op, stays_in_file, stays_in_frame, leaves_frame}
+use Rattle.pickle_loader.proofs.Fetching.{InFrame, InFile, at_side, fetches_op, stays_in_file, stays_in_frame, leaves_frame}
+use Rattle.pickle_loader.proofs.Cuts.{drop_zero, by_last}
 use Rattle.pickle_loader.proofs.Stops.{none_before}
 
 -- ---- the first opcodes
@@ -84,10 +85,6 @@ stop_left : (n : ℕ) (b : Bool) → b ≡ true → (b && nat_lt 0 n) ≡ false 
 stop_left zero b s e = refl
 stop_left (suc n) true s e = let some : nat_lt 0 (suc n) ≡ true = lt-ltb 0 (suc n) (omega arith) in let two : true ≡ false = sym some ∙ e in absurd cc
 stop_left (suc n) false s e = absurd cc
-
-drop_zero : (xs : List ℕ) → drop 0 xs ≡ xs
-drop_zero [] = refl
-drop_zero (x ∷ xs) = refl
 
 in_frame : (o : Operation) (left : ℕ) (rest : List ℕ) (b : Bool) → is_stop o.opcode ≡ b → is_frame o.opcode ≡ false → size_of o ≤ left → FitsFrame left o
     → Next o left rest (at_side (InFrame (drop (left - size_of o) rest)) (spelling o ++ take (left - size_of o) rest))
@@ -154,10 +151,6 @@ none_more : (n : ℕ) (r : Reader) (ops : List Operation) → ops ≡ [] → Fet
 none_more zero r ops e = tt
 none_more (suc n) r [] e = tt
 none_more (suc n) r (o ∷ ops) e = absurd cc
-
-by_last : {A : Type 0} {B : Type 0} {C : Type 0} (b : Bool) → MatchBool b A B → (b ≡ true → A → C) → (b ≡ false → B → C) → C
-by_last true x f g = f refl x
-by_last false x f g = g refl x
 
 fits_fetched : (many : Bool) (ops : List Operation) (n left : ℕ) (tail : List ℕ) (e : Option TailFault) (r : Reader) → FitsFrom many left ops tail e → IsQuietFor n left ops → IsAt left (bytes_of ops ++ tail) r → FetchesFor (suc n) r ops
 fits_fetched many [] n left tail e r fits quiet at = tt

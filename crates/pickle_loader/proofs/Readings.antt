@@ -1,11 +1,10 @@
 -- The reading of a document's bytes, frames ignored, goes over its items as the machine does.
-use Rattle.std.proofs.Common.{◌≡◌, ◌⊎◌, ℕ, zero, suc, ◌+◌, ◌-◌, ◌^◌, ◌<◌, ◌≤◌, Bool, true, false, cond, List, [], ◌∷◌, ◌++◌, length, take, drop, Option, Some, None, Ok, Err, refl, sym, ap, subst, ◌∙◌, inl, inr, arith, length-append}
-use Rattle.std.specs.Prelude.{◌&&◌, not, slice_get, is_some, if◌then◌else◌, Result, MatchBool}
+use Rattle.std.proofs.Common.{◌≡◌, ℕ, zero, suc, ◌+◌, ◌^◌, ◌<◌, Bool, true, false, cond, List, [], ◌∷◌, ◌++◌, length, take, drop, Option, Some, None, Ok, refl, sym, ap, subst, ◌∙◌, arith, length-append}
+use Rattle.std.specs.Prelude.{slice_get, is_some, Result}
 use Rattle.std.proofs.Math.Seq.{drop-append-add}
-use Rattle.std.proofs.lemmas.List.{append_assoc, append-nil}
+use Rattle.std.proofs.lemmas.List.{append_assoc}
 use Rattle.pickle_ops.specs.declared.fault.FrontFault.{FrontFault}
 use Rattle.pickle_ops.specs.declared.opcode.Opcode.{Opcode}
-use Rattle.pickle_ops.specs.declared.opcode.Opcode.TheVariants as op
 use Rattle.pickle_ops.specs.declared.row.Row.{Row}
 use Rattle.pickle_ops.specs.declared.row.Row.TheVariants as row
 use Rattle.pickle_ops.specs.declared.row.Taking.TheVariants as taking
@@ -13,55 +12,48 @@ use Rattle.pickle_ops.specs.declared.row.Cutting.TheVariants as cutting
 use Rattle.pickle_ops.specs.Spelling.{Operation, spelling, size_of, IsSpelled, Front, Whole, front_fault}
 use Rattle.pickle_ops.specs.Front.{front_of}
 use Rattle.pickle_ops.proofs.Fronts.{one_front}
-use Rattle.pickle_ops.specs.Row.{row_of, kind_of}
+use Rattle.pickle_ops.specs.Row.{row_of}
 use Rattle.pickle_doc.specs.declared.fault.TailFault.{TailFault}
 use Rattle.pickle_doc.specs.declared.item.Item.{Item}
-use Rattle.pickle_doc.specs.DocUnit.{is_stop, ends_reading, sizes, operations, bytes_of}
-use Rattle.pickle_doc.specs.Document.{Contents, IsFormed, items_of, document_bytes, open_of, ended_by}
-use Rattle.pickle_doc.specs.Fitting.{left_behind, FitsFrame, IsLast, FitsFrom}
+use Rattle.pickle_doc.specs.DocUnit.{ends_reading, sizes, operations, bytes_of}
+use Rattle.pickle_doc.specs.Document.{Contents, IsFormed, items_of, document_bytes, ended_by}
+use Rattle.pickle_doc.specs.Fitting.{left_behind, FitsFrom}
 use Rattle.pickle_doc.specs.Place.{ops_of, item_at, offset_of}
 use Rattle.pickle_doc.proofs.Units.{document_fits, length_bytes}
 use Rattle.pickle_machine.specs.declared.refusal.Refusal.{Refusal}
 use Rattle.pickle_machine.specs.declared.loader.LoaderMove.{LoaderMove}
 use Rattle.pickle_machine.specs.State.{State, start}
-use Rattle.pickle_machine.specs.Move.{refusal_of, refusal_at, next, fresh, outcome, move}
-use Rattle.pickle_machine.specs.Loader.{takes_call, takes_call_with, takes_obj, asks_less, loader_move, move_as, cleared}
+use Rattle.pickle_machine.specs.Move.{refusal_at, next, fresh, outcome, move}
+use Rattle.pickle_machine.specs.Loader.{takes_call, takes_call_with, takes_obj, asks_less, loader_move, move_as}
 use Rattle.pickle_machine.specs.LoaderLaws.{one_move}
 use Rattle.pickle_machine.specs.Run.{run}
 use Rattle.pickle_machine.proofs.LoaderRows.{loaders_take_moves}
 use Rattle.pickle_lenient.specs.declared.taken.Frames.TheVariants as frames
 use Rattle.pickle_lenient.specs.declared.taken.Taken.{Taken}
-use Rattle.pickle_lenient.specs.Lenient.{Lenient, lenient_at, lenient}
+use Rattle.pickle_lenient.specs.Lenient.{lenient_at, lenient}
 use Rattle.pickle_lenient.specs.Stream.{plain, taken}
 use Rattle.pickle_show.specs.declared.event.Event.{Event}
 use Rattle.pickle_show.specs.declared.event.Before.{Before}
 use Rattle.pickle_show.specs.declared.naming.Naming.{Naming}
-use Rattle.pickle_show.specs.declared.report.Closing.{Closing}
 use Rattle.pickle_show.specs.Event.{before_of, event_of}
 use Rattle.pickle_show.specs.Calls.{naming_on, naming_at}
 use Rattle.pickle_show.specs.declared.naming.Detail.TheVariants as detail
 use Rattle.pickle_further.specs.declared.way.Pickles.{Pickles}
 use Rattle.pickle_further.specs.declared.way.Pickles.TheVariants as pickles
 use Rattle.pickle_further.specs.declared.way.Way.{Way}
-use Rattle.pickle_further.specs.Going.{Standing, Going as Gone, used_op, then_as, moved_so, event_by, stopped_after, keeps, state_after, gone_to, gone_as, gone_by, going, stands_after}
+use Rattle.pickle_further.specs.Going.{Standing, Going as Gone, used_op, then_as, moved_so, event_by, state_after, gone_to, gone_as, gone_by, going, stands_after}
 use Rattle.pickle_further.specs.Parts.{ignoring, are_many, standing_at, standing_first}
 use Rattle.pickle_loader.specs.Environment.{Value, Act}
-use Rattle.pickle_loader.specs.Told.{acts_told, told_on, told_at, told, protocol_after, protocol_next, protocol_at}
-use Rattle.pickle_loader.specs.Onward.{stands_behind, stands_on, stands, protocol_read, protocol_on, protocol, acts_gone, acts_on, acts_before, begins_anew, LinesAreRead}
+use Rattle.pickle_loader.specs.Told.{acts_told, told, protocol_after, protocol_at}
+use Rattle.pickle_loader.specs.Onward.{stands_on, stands, protocol_read, protocol_on, protocol, acts_gone, acts_on, acts_before, begins_anew, LinesAreRead}
 use Rattle.pickle_loader.proofs.Still.{move_to}
 use Rattle.pickle_loader.proofs.Listing.{next_told, next_protocol}
 use Rattle.pickle_loader.proofs.Leads.{event_fresh, moved_on_fresh}
 use Rattle.pickle_loader.proofs.Bytes.{drop_next}
+use Rattle.pickle_loader.proofs.Ways.{behind_is}
+use Rattle.pickle_loader.proofs.Cuts.{drop_zero, drop_none, by_last}
 
 -- ---- bytes behind items
-
-drop_none : (n : ℕ) → drop {A = ℕ} n [] ≡ []
-drop_none zero = refl
-drop_none (suc n) = refl
-
-drop_zero : (xs : List ℕ) → drop 0 xs ≡ xs
-drop_zero [] = refl
-drop_zero (x ∷ xs) = refl
 
 -- what is left behind the first j items
 rest_is : (items : List Item) (tail : List ℕ) (j : ℕ) → drop (sizes (take j items)) (bytes_of (operations items) ++ tail) ≡ bytes_of (drop j (operations items)) ++ tail
@@ -90,17 +82,13 @@ next_offset (i ∷ items) zero o e =
 next_offset (i ∷ items) (suc j) o e = omega (arith, next_offset items j o e)
 
 -- each operation that fits is spelled
-by_last : {A : Type 0} {B : Type 0} {C : Type 0} (b : Bool) → MatchBool b A B → (A → C) → (B → C) → C
-by_last true x f g = f x
-by_last false x f g = g x
-
 spelled_at : (many : Bool) (ops : List Operation) (left : ℕ) (tail : List ℕ) (f : Option TailFault) (j : ℕ) (o : Operation) → FitsFrom many left ops tail f → slice_get ops j ≡ Some o → IsSpelled o
 spelled_at many [] left tail f j o fits e = absurd cc
 spelled_at many (p ∷ ops) left tail f zero o fits e = let same : p ≡ o = cc in subst (λ (x : Operation). IsSpelled x) same fits.0.spelled
 spelled_at many (p ∷ ops) left tail f (suc j) o fits e =
     by_last (ends_reading many p.opcode) fits.1
-    (λ last. let bad : None ≡ Some o = ap (λ (l : List Operation). slice_get l j) (sym last.none) ∙ e in absurd cc)
-    (λ more. spelled_at many ops (left_behind left p) tail f j o more e)
+    (λ is last. let bad : None ≡ Some o = ap (λ (l : List Operation). slice_get l j) (sym last.none) ∙ e in absurd cc)
+    (λ is more. spelled_at many ops (left_behind left p) tail f j o more e)
 
 -- what loaders read at the front of a spelling
 read_so : (bytes : List ℕ) (o : Operation) (behind : List ℕ) → bytes ≡ spelling o ++ behind → IsSpelled o → lenient bytes ≡ Ok (record { op = o; row = row_of o; size = size_of o })
@@ -199,10 +187,6 @@ first_stands p d mode =
 beside_first : (V : ℕ → Value) (p : Pickles) (d : Contents) (s : State) (q : Standing) → d.many ≡ are_many p → start d.many ≡ s → standing_first detail.Cut p (document_bytes d) ≡ q → Beside V p d 0 s q
 unfolding acts_before protocol told protocol_at
 beside_first V p d s q mode e f = record { stands_there = sym f ∙ first_stands p d mode ∙ ap (standing_at detail.Cut d 0) e; acts = refl; proto = refl }
-
-behind_is : (q p : Standing) (g : Gone) (b : Bool) → (if b then None else Some (stands_after q g)) ≡ Some p → stands_after q g ≡ p
-behind_is q p g true e = absurd cc
-behind_is q p g false e = cc
 
 -- where it stood before
 record Came (way : Way) (x : Option Standing) (p : Standing) : Type 0 where

@@ -3,8 +3,6 @@ use Rattle.std.proofs.Common.{◌≡◌, ◌⊎◌, ℕ, zero, suc, ◌+◌, ◌
 use Rattle.std.proofs.lemmas.Bool.{ltb-false, leb-true, lt-ltb, le-leb}
 use Rattle.std.proofs.lemmas.List.{length-map, length-take-le, length-drop}
 use Rattle.std.specs.Prelude.{◌%◌, ◌/◌, ◌==◌, ◌||◌, ◌&&◌, not, ℤ, pos, int_lt, nat_le, nat_lt, is_some, slice_index, if◌then◌else◌}
-use Rattle.std.specs.Ordering.{nat_cmp}
-use Rattle.std.specs.BTreeMap.{insert_entry}
 use Rattle.pickle_ops.specs.declared.opcode.Opcode.{Opcode}
 use Rattle.pickle_ops.specs.declared.opcode.Opcode.TheVariants as op
 use Rattle.pickle_ops.specs.declared.form.Form.TheVariants as form
@@ -22,17 +20,16 @@ use Rattle.pickle_ops.specs.Row.{count_of, values_of, row_of, row_of_opcode}
 use Rattle.pickle_machine.specs.declared.refusal.Refusal.{Refusal}
 use Rattle.pickle_machine.specs.declared.refusal.Refusal.TheVariants as refusal
 use Rattle.pickle_machine.specs.declared.loader.Fill.{Fill as Goes}
-use Rattle.pickle_machine.specs.State.{Marked, State}
 use Rattle.pickle_machine.specs.Move.{unless, if_deep, if_paired, if_target, if_filled, if_viewable, object_meets, taking_refusal, cutting_refusal, deep, under, cut, last_of, without, memo_at, refusal_of}
-use Rattle.pickle_machine.specs.Loader.{loose_at, view_at, opaque_at, iterates_at, takes_call, takes_call_with, takes_obj, asks_less, parts_in, is_odd, fill_when, fill_of, is_inst}
-use Rattle.pickle_loader.specs.Environment.{PyType, PyList, PyDict, PyByteArray, Value, Plain, Own, Foreign, is_elsewhere, Act, Given, Persist, Find, Call, New, NewEx, SetState, Method, Reply, Raises, Answers, PyTuple, PyFrozenSet, World}
-use Rattle.pickle_loader.specs.Unpickler.{Unpickler, Step, Ran, Stopped, Raised, append, answered, ask, make, get, if_able, can_call, can_call_with, iterates, has_keys, is_str, viewed, put_in, fill_own, fill, fill_none, fills, fill_pairs, then_raises, pop, item, on_top, to_mark, pop_mark, instantiated, load_pop, load_pop_mark, load_get, got, tell}
-use Rattle.pickle_loader.specs.Dispatch.{dispatch, load_op}
+use Rattle.pickle_machine.specs.Loader.{loose_at, view_at, opaque_at, iterates_at, takes_call, takes_call_with, takes_obj, asks_less, is_odd, fill_when, fill_of}
+use Rattle.pickle_loader.specs.Environment.{PyType, PyList, PyDict, PyByteArray, Value, Plain, Own, Foreign, is_elsewhere, Act, Given, Find, Call, New, NewEx, SetState, Method, Reply, Raises, Answers}
+use Rattle.pickle_loader.specs.Unpickler.{Unpickler, Step, Ran, Raised, answered, ask, make, get, if_able, can_call, can_call_with, iterates, has_keys, is_str, viewed, put_in, fill_own, fill, fills, fill_pairs, then_raises, pop, item, on_top, pop_mark, instantiated, tell}
+use Rattle.pickle_loader.specs.Dispatch.{dispatch}
 use Rattle.pickle_loader.specs.Told.{told_of}
-use Rattle.pickle_loader.specs.Laws.{sections, entries}
-use Rattle.pickle_loader.specs.Whole.{AreThere, IsWhole}
+use Rattle.pickle_loader.specs.Whole.{IsWhole}
 use Rattle.pickle_loader.specs.Beyond.{is_missing, IsUsual, RaisesAt}
 use Rattle.pickle_loader.proofs.Images.{image, pop_image, on_top_image, mark_image}
+use Rattle.pickle_loader.proofs.Cuts.{drop_zero, no_two}
 use Rattle.pickle_loader.proofs.Methods.{Here, unpickler, quiet}
 use Rattle.pickle_loader.proofs.Fills.{deep_without}
 use Rattle.pickle_loader.proofs.Wholes.{there_deep, there_first, there_under}
@@ -87,13 +84,9 @@ item_mapped V [] i h = absurd (omega (arith, h))
 item_mapped V (x ∷ xs) zero h = refl
 item_mapped V (x ∷ xs) (suc i) h = item_mapped V xs i (omega (arith, h))
 
-drop_none : (xs : List ℕ) → drop 0 xs ≡ xs
-drop_none [] = refl
-drop_none (x ∷ xs) = refl
-
 item_dropped : (V : ℕ → Value) (xs : List ℕ) (m i : ℕ) → m + i < length xs → item i (map V (drop m xs)) ≡ V (get_or xs (m + i) 0)
 item_dropped V [] m i h = absurd (omega (arith, h))
-item_dropped V (x ∷ xs) zero i h = ap (λ (l : List ℕ). item i (map V l)) (drop_none (x ∷ xs)) ∙ item_mapped V (x ∷ xs) i (omega (arith, h)) ∙ ap (λ (j : ℕ). V (get_or (x ∷ xs) j 0)) (omega arith)
+item_dropped V (x ∷ xs) zero i h = ap (λ (l : List ℕ). item i (map V l)) (drop_zero (x ∷ xs)) ∙ item_mapped V (x ∷ xs) i (omega (arith, h)) ∙ ap (λ (j : ℕ). V (get_or (x ∷ xs) j 0)) (omega arith)
 item_dropped V (x ∷ xs) (suc m) i h = let place : suc (m + i) ≡ suc m + i = omega arith in item_dropped V xs m i (omega (arith, h)) ∙ ap (λ (j : ℕ). V (get_or (x ∷ xs) j 0)) place
 
 -- value i of the n that are popped is that of the object at this depth
@@ -332,11 +325,7 @@ setitem_view h e below =
 build_others : (h : Here) → IsWhole h.s → Others h (refusal_of (row.Change filling.Build) h.s) (pop 1 (unpickler h) (λ vs q. on_top q (λ target. tell h.w (SetState target (item 0 vs)) q)))
 build_others h whole =
     change_others h filling.Build (λ vs target q. tell h.w (SetState target (item 0 vs)) q)
-    (λ enough bad. absurd (two (object_meets (demand.Target filling.Build) h.s (deep 1 h.s.top)) (build_meets h (deep 1 h.s.top) (there_at_depth h 1 2 whole (omega arith) enough)) bad))
-  where
-    two : (b : Bool) → b ≡ true → b ≡ false → ⊥
-    two true t f = absurd cc
-    two false t f = absurd cc
+    (λ enough bad. absurd (no_two (object_meets (demand.Target filling.Build) h.s (deep 1 h.s.top)) (build_meets h (deep 1 h.s.top) (there_at_depth h 1 2 whole (omega arith) enough)) bad))
 
 -- what is above the mark
 cut_change_others : (h : Here) (f : Filling) (go : List Value → Value → Unpickler → Step) → IsWhole h.s
@@ -477,11 +466,7 @@ pop_others h false step = only_missing h (nat_lt 0 (length h.s.marked)) refusal.
 ext_others : (h : Here) (o : Operation) (n : ℤ) (step : Step) → IsUsual h.w → row_of o ≡ row.Extension n → h.w.fails h.acts o ≡ false → Others h (refusal_of (row.Extension n) h.s) step
 ext_others h o n step usual is fine =
     raised_by h (int_lt (pos 0) n) (refusal.BadExtension n) None step
-    (λ bad. absurd (two (h.w.fails h.acts o) (usual.extensions h.acts o n is bad) fine)) (λ _. none h step)
-  where
-    two : (b : Bool) → b ≡ true → b ≡ false → ⊥
-    two true t f = absurd cc
-    two false t f = absurd cc
+    (λ bad. absurd (no_two (h.w.fails h.acts o) (usual.extensions h.acts o n is bad) fine)) (λ _. none h step)
 
 append_items_view : (h : Here) (id : ℕ) → fill_when filling.Append (length h.s.top) id h.s.heap ≡ None → 0 < length h.s.top → view_at h.s.heap id ≡ false
 append_items_view h id e some = pairs_view (nat_lt 0 (length h.s.top)) true (view_at h.s.heap id) false (opaque_at h.s.heap id) _ e (lt-ltb 0 (length h.s.top) some)

@@ -1,7 +1,7 @@
 -- A step beyond what the machine accepts.
 use Rattle.std.proofs.Common.{◌≡◌, ℕ, zero, suc, ◌+◌, ◌-◌, ◌<◌, Bool, true, false, cond, List, [], ◌∷◌, ◌++◌, length, map, take, Option, Some, None, Ok, Err, refl, sym, ap, subst, ◌∙◌, arith, take-take}
 use Rattle.std.proofs.lemmas.Bool.{ltb-true, lt-ltb, le-leb}
-use Rattle.std.proofs.lemmas.List.{append-nil, append_assoc, length-map, length-take-le, take-map}
+use Rattle.std.proofs.lemmas.List.{append-nil, length-map, length-take-le, take-map}
 use Rattle.std.specs.Prelude.{◌%◌, ◌/◌, ◌==◌, ◌&&◌, not, nat_lt, if◌then◌else◌, Result}
 use Rattle.pickle_ops.specs.declared.opcode.Opcode.{Opcode}
 use Rattle.pickle_ops.specs.declared.opcode.Opcode.TheVariants as op
@@ -19,18 +19,19 @@ use Rattle.pickle_machine.specs.declared.refusal.Refusal.TheVariants as refusal
 use Rattle.pickle_machine.specs.declared.loader.Fill.{Fill as Goes}
 use Rattle.pickle_machine.specs.declared.loader.LoaderMove.{LoaderMove}
 use Rattle.pickle_machine.specs.State.{Marked, State}
-use Rattle.pickle_machine.specs.Move.{unless, deep, under, without, cut, push, refusal_of, next_of, fresh, outcome}
-use Rattle.pickle_machine.specs.Loader.{view_at, opaque_at, asks_less, parts_in, is_odd, fills as puts, fill_when, fill_of, drop_row, drops_two, ends_odd, is_inst, import_move, fill_move, move_as}
+use Rattle.pickle_machine.specs.Move.{unless, deep, under, without, cut, push, refusal_of, next_of, outcome}
+use Rattle.pickle_machine.specs.Loader.{asks_less, is_odd, fill_when, fill_of, ends_odd, is_inst, import_move, fill_move, move_as}
 use Rattle.pickle_show.specs.declared.event.Event.TheVariants as event
-use Rattle.pickle_show.specs.Event.{made_event, before_of, event_of}
+use Rattle.pickle_show.specs.Event.{made_event}
 use Rattle.pickle_further.specs.Going.{used_op, then_as, moved_so}
-use Rattle.pickle_loader.specs.Environment.{PyType, Value, Plain, Own, Foreign, Line, Act, Find, Instance, Fill, Reply, Raises, Answers, World}
+use Rattle.pickle_loader.specs.Environment.{PyType, Value, Plain, Own, Foreign, Line, Act, Find, Instance, Fill, Reply, Raises, Answers}
 use Rattle.pickle_loader.specs.Unpickler.{Unpickler, Step, Ran, Stopped, Raised, answered, acted, get, fill_own, fills, fill_pairs, then_raises, to_mark, pop_mark, on_top}
 use Rattle.pickle_loader.specs.Dispatch.{dispatch, load_op}
-use Rattle.pickle_loader.specs.Told.{told_of, acts_told, protocol_after, objects_in, taken}
+use Rattle.pickle_loader.specs.Told.{told_of, acts_told, protocol_after, taken}
 use Rattle.pickle_loader.specs.Laws.{sections, IsSame}
 use Rattle.pickle_loader.specs.Whole.{IsWhole}
 use Rattle.pickle_loader.specs.Beyond.{is_missing, less_of, StepFollows, MapsNew, IsUsual, dropped, RaisesAt, RaisesIn, Moves, Comes, AStepBeyond}
+use Rattle.pickle_loader.proofs.Cuts.{zero_only}
 use Rattle.pickle_loader.proofs.Images.{image, mark_image, on_top_image}
 use Rattle.pickle_loader.proofs.Pushes.{told_pushed, told_one}
 use Rattle.pickle_loader.proofs.Methods.{Here, unpickler}
@@ -79,9 +80,6 @@ refused_by h o r true is usual whole same inst fill e =
 refused_by h o r false is usual whole same inst fill e = untold_by h o (h.w.fails h.acts o) refl (λ fine. others h o.opcode o.arg usual whole fill fine r e is)
 
 -- ---- INST that only imports
-
-zero_only : (n : ℕ) → (n == 0) ≡ true → n ≡ 0
-zero_only n e = grind arith
 
 no_marks : (V : ℕ → Value) (ms : List Marked) (u : Unpickler) (go : List Value → Unpickler → Step) → (length ms == 0) ≡ true → to_mark (sections V ms) u go ≡ Raised u.acts
 no_marks V [] u go e = refl

@@ -1,5 +1,5 @@
 -- The law along a whole reading.
-use Rattle.std.proofs.Common.{◌≡◌, ◌⊎◌, ℕ, zero, suc, ◌+◌, ◌-◌, ◌<◌, ◌≤◌, Bool, true, false, cond, List, [], ◌∷◌, ◌++◌, length, map, drop, get_or, Option, Some, None, Ok, Err, refl, sym, ap, subst, ◌∙◌, inl, inr, arith, length-append}
+use Rattle.std.proofs.Common.{◌≡◌, ◌⊎◌, ℕ, zero, suc, ◌<◌, ◌≤◌, Bool, true, false, List, [], ◌∷◌, ◌++◌, length, map, drop, get_or, Option, Some, None, Ok, Err, refl, sym, ap, subst, ◌∙◌, inl, inr, arith, length-append}
 use Rattle.std.specs.Prelude.{is_some, if◌then◌else◌, Result}
 use Rattle.std.proofs.lemmas.Bool.{cases_lt}
 use Rattle.std.proofs.lemmas.List.{append-nil, append_assoc, length-map, length-drop}
@@ -8,14 +8,12 @@ use Rattle.pickle_ops.specs.declared.kind.Kind.TheVariants as kind
 use Rattle.pickle_ops.specs.Object.{Object}
 use Rattle.pickle_machine.specs.declared.refusal.Refusal.{Refusal}
 use Rattle.pickle_machine.specs.declared.loader.LoaderMove.{LoaderMove}
-use Rattle.pickle_machine.specs.State.{State, start}
+use Rattle.pickle_machine.specs.State.{State}
 use Rattle.pickle_machine.specs.Move.{fresh}
 use Rattle.pickle_machine.specs.Loader.{loader_move}
 use Rattle.pickle_machine.proofs.HeapGrowth.{fresh_heap}
-use Rattle.pickle_lenient.specs.declared.taken.Frames.{Frames}
 use Rattle.pickle_lenient.specs.declared.taken.Taken.{Taken}
 use Rattle.pickle_lenient.specs.Stream.{taken}
-use Rattle.pickle_show.specs.declared.report.Closing.{Closing}
 use Rattle.pickle_show.specs.declared.naming.Detail.TheVariants as detail
 use Rattle.pickle_further.specs.declared.way.Pickles.{Pickles}
 use Rattle.pickle_further.specs.declared.way.Pickles.TheVariants as pickles
@@ -24,9 +22,8 @@ use Rattle.pickle_further.specs.Going.{Standing, Going as Gone, used_op, moved_s
 use Rattle.pickle_further.specs.Parts.{are_many, standing_first}
 use Rattle.pickle_loader.specs.Environment.{Value, Plain, Act, World}
 use Rattle.pickle_loader.specs.Unpickler.{Unpickler}
-use Rattle.pickle_loader.specs.Dispatch.{Loaded, Going, Ended, Failed, loaded, acts_of, new_unpickler}
+use Rattle.pickle_loader.specs.Dispatch.{Loaded, Going, Ended, Failed, loaded, acts_of}
 use Rattle.pickle_loader.specs.Told.{told_of}
-use Rattle.pickle_loader.specs.Laws.{IsSame}
 use Rattle.pickle_loader.specs.Beyond.{IsUsual}
 use Rattle.pickle_loader.specs.Onward.{load_taken, Onward, again, reads_on, load_more, load_read, load_on, load_way, stands_behind, stands_on, stands, protocol_read, protocol_on, protocol, acts_gone, acts_on, acts_before, NothingBeyond}
 use Rattle.pickle_loader.proofs.Pushes.{top_value}
@@ -34,7 +31,7 @@ use Rattle.pickle_loader.proofs.Still.{fresh_running}
 use Rattle.pickle_loader.proofs.Wholes.{whole_start}
 use Rattle.pickle_loader.proofs.Items.{IsItem, are_items, none_taken}
 use Rattle.pickle_loader.proofs.Leads.{moved_on_fresh, only_stop, moved_still, once_led}
-use Rattle.pickle_loader.proofs.Onwards.{OnWay, Ready, Begins, Along, Turn, read_on, read_turn, once, state_heap}
+use Rattle.pickle_loader.proofs.Onwards.{OnWay, Begins, Along, Turn, read_on, read_turn, once, state_heap}
 
 -- ---- one item more
 
@@ -180,7 +177,7 @@ values w way bytes (suc n) = values w way bytes n ++ new_values way (stands way 
 abbrev stands_at : Way → List ℕ → ℕ → Option Standing
 stands_at way bytes n = stands way (standing_first detail.Cut way.pickles bytes) n
 
-behind_is : (q p : Standing) (g : Gone) (b : Bool) → (if b then None else Some (stands_after q g)) ≡ Some p → stands_after q g ≡ p
+pub behind_is : (q p : Standing) (g : Gone) (b : Bool) → (if b then None else Some (stands_after q g)) ≡ Some p → stands_after q g ≡ p
 behind_is q p g true e = absurd cc
 behind_is q p g false e = cc
 

@@ -1,9 +1,7 @@
 -- Moves keep a state whole.
-use Rattle.std.proofs.Common.{◌≡◌, ℕ, zero, suc, ◌+◌, ◌-◌, ◌<◌, ◌≤◌, Bool, true, false, cond, List, [], ◌∷◌, ◌++◌, length, take, get_or, Option, Some, None, refl, sym, ap, subst, ◌∙◌, inl, inr, arith, length-append}
-use Rattle.std.proofs.lemmas.Bool.{leb-true}
+use Rattle.std.proofs.Common.{◌≡◌, ℕ, zero, suc, ◌+◌, ◌-◌, ◌<◌, ◌≤◌, Bool, true, false, cond, List, [], ◌∷◌, ◌++◌, length, take, get_or, Option, Some, None, refl, sym, ap, subst, ◌∙◌, inl, inr, arith}
 use Rattle.std.proofs.lemmas.Option.{slice_get_within}
-use Rattle.std.proofs.lemmas.List.{length-take-le, length-drop}
-use Rattle.std.specs.Prelude.{slice_get, slice_set, is_some, nat_le, nat_lt, ◌||◌, ◌==◌, ◌&&◌, drop, ⊤}
+use Rattle.std.specs.Prelude.{slice_get, slice_set, is_some, nat_le, nat_lt, ◌||◌, drop}
 use Rattle.std.specs.Option.{option_map_or, unwrap_or}
 use Rattle.std.specs.Map.{lookup}
 use Rattle.std.specs.Ordering.{nat_cmp, match_ordering}
@@ -13,7 +11,6 @@ use Rattle.std.specs.BTreeMap.{insert_entry, is_at}
 use Rattle.pickle_doc.proofs.Lists.{get-within}
 use Rattle.pickle_ops.specs.declared.kind.Kind.{Kind}
 use Rattle.pickle_ops.specs.declared.kind.Kind.TheVariants as kind
-use Rattle.pickle_ops.specs.declared.class.Class.{Class}
 use Rattle.pickle_ops.specs.declared.class.Demand.TheVariants as demand
 use Rattle.pickle_ops.specs.declared.object.Change.{Change}
 use Rattle.pickle_ops.specs.declared.opcode.Opcode.{Opcode}
@@ -29,8 +26,7 @@ use Rattle.pickle_machine.specs.State.{Marked, State, start}
 use Rattle.pickle_machine.specs.Move.{deep, last_of, without, under, deeper, cut, put_on, push, changed, change_top, changes_of, put, memo_at, unless, object_meets, if_viewable, refusal_of, next_of, begun, fresh}
 use Rattle.pickle_machine.specs.Loader.{cleared}
 use Rattle.pickle_machine.proofs.HeapGrowth.{changed_length, push_length}
-use Rattle.pickle_machine.proofs.Shown.{last_of_more}
-use Rattle.pickle_show.proofs.Steps.{is_there, get_pushed, AfterChanges, Same, Grown, after_changes}
+use Rattle.pickle_show.proofs.Steps.{is_there, get_pushed, Same, Grown, after_changes}
 use Rattle.pickle_loader.specs.Whole.{AreThere, AreMarked, AreKept, IsSeen, IsWhole}
 use Rattle.pickle_loader.proofs.Images.{within_le}
 use Rattle.pickle_loader.proofs.Methods.{passes}

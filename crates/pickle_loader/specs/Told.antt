@@ -19,7 +19,7 @@ use Rattle.pickle_machine.specs.Run.{run}
 use Rattle.pickle_show.specs.declared.event.Event.{Event}
 use Rattle.pickle_show.specs.declared.event.Event.TheVariants as event
 use Rattle.pickle_show.specs.Event.{before_of, event_of}
-use Rattle.pickle_loader.specs.Environment.{Value, Plain, Own, Foreign, is_elsewhere, Line, Given, Act, Make, Find, Extension, Call, New, NewEx, Instance, SetState, Fill, Persist, NextBuffer, View, Method}
+use Rattle.pickle_loader.specs.Environment.{Value, is_elsewhere, Line, Given, Act, Make, Find, Extension, Call, New, NewEx, Instance, SetState, Fill, Persist, NextBuffer, View, Method}
 use Rattle.pickle_loader.specs.Unpickler.{item}
 
 -- ---- which acts are told

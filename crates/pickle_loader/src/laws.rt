@@ -1,7 +1,7 @@
 //! Laws of the definitions. The functions do nothing: what they ensure holds of all documents and all environments.
 
 ghost use Rattle.pickle_loader.specs.Laws.{LoadsAreListed, ToldHasLine, AllTold, NoLineNoAct};
-ghost use Rattle.pickle_loader.specs.Reader.{OpsAreFetched};
+ghost use Rattle.pickle_loader.specs.Reader.{OpsAreFetched, FramesOnlyEnd};
 ghost use Rattle.pickle_loader.specs.FlatStack.{OneStack};
 ghost use Rattle.pickle_loader.specs.Beyond.{WideMovesAreFollowed, WhatIsMissingRaises, FillsAreFollowed, AStepBeyond};
 ghost use Rattle.pickle_loader.specs.Onward.{NothingBeyond, LinesAreRead, BufferedIsRead, LossIsFound};
@@ -86,4 +86,9 @@ pub fn buffered_is_read()
 /// The part of a reading with a buffer begins at the first item that loses bytes, or there is none.
 pub fn loss_is_found()
     ensures { LossIsFound }
+{}
+
+/// Frames never change what the unpickler in Python reads, but only end some readings.
+pub fn frames_only_end()
+    ensures { FramesOnlyEnd }
 {}

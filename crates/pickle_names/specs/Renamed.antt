@@ -3,7 +3,7 @@
 use Rattle.std.specs.Prelude.{ℕ, ◌/◌, ◌==◌, ◌&&◌, if◌then◌else◌, Bool, false, List, [], ◌∷◌, length, slice_get, slice_index, Option, Some, None}
 use Rattle.std.specs.List.{list_any}
 use Rattle.std.specs.Str.{bytes_eq}
-use Rattle.std.specs.Option.{option_map_or}
+use Rattle.std.specs.Option.{option_map, option_map_or}
 use Rattle.pickle_names.specs.declared.old_names.NewNames.{NewNames}
 use Rattle.pickle_names.specs.declared.old_names.TheConstants.{FIRST_LETTERS, MIDDLE_LETTERS}
 use Rattle.pickle_names.specs.declared.rows.TheConstants.{NAMES, MODULES}
@@ -31,6 +31,13 @@ by_names old new (r ∷ rows) otherwise from name =
 unfoldable pub renamed : List ℕ → List ℕ → Option Import
 renamed from name =
     by_names (λ r. record { from = r.0.now; name = r.1.now }) (λ r. record { from = r.2.now; name = r.3.now }) NAMES (by_modules (λ r. r.0.now) (λ r. r.1.now) MODULES from name) from name
+
+-- the module of a member that is longer than any with a row: by the first row of the module alone
+abbrev pub from_of : Import → List ℕ
+from_of i = i.from
+
+unfoldable pub module_renamed : List ℕ → Option (List ℕ)
+module_renamed from = option_map from_of (by_modules (λ r. r.0.now) (λ r. r.1.now) MODULES from [])
 
 -- ---- which modules have a row
 

@@ -9,6 +9,6 @@ mod rows;
 mod value;
 
 pub use coding::{Coding, Piece};
-pub use old_names::{NewNames, renamed};
+pub use old_names::{NewNames, module_renamed, renamed};
 pub use rows::{MODULES, NAMES};
 pub use value::{Reading, is_plain_name, read, short_value, write_text, write_value};

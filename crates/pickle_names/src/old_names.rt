@@ -4,7 +4,7 @@ ghost use Rattle.std.specs.Prelude.{◌≡◌, ◌&&◌, ◌==◌};
 ghost use Rattle.std.specs.List.{list_any};
 ghost use Rattle.std.specs.Option.{option_map};
 ghost use Rattle.std.specs.Str.{bytes_eq};
-ghost use Rattle.pickle_names.specs.Renamed.{import_of, by_modules, by_names, first_letters, middle_letters, may_have_row, renamed};
+ghost use Rattle.pickle_names.specs.Renamed.{import_of, by_modules, by_names, first_letters, middle_letters, may_have_row, renamed, module_renamed};
 
 use crate::rows::{MODULES, NAMES};
 
@@ -144,5 +144,16 @@ pub fn renamed<'a>(from: &[u8], name: &'a [u8]) -> Option<NewNames<'a>>
         search_rows(from, name)
     } else {
         None
+    }
+}
+
+/// The module that is imported for one of Python 2, where that is not what it says, and the member is longer than any that has a row.
+#[tactic(auto, unfolding(crate::specs::Renamed::module_renamed))]
+pub fn module_renamed(from: &[u8]) -> Option<&'static [u8]>
+    ensures { option_map (λ f. f.now) result ≡ module_renamed from.now }
+{
+    match by_modules(&MODULES, from, b"") {
+        Some(new) => Some(new.from),
+        None => None,
     }
 }

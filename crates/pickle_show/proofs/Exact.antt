@@ -38,7 +38,7 @@ use Rattle.pickle_show.proofs.Reaches.{long, moves_at, no_line_no_reach, only_sh
 -- ---- what a row does to the heap
 
 -- it stays; or gets an object more, which the event is of; or objects of it get changes
-data HeapOf (r : Row) (s t : State) : Type 0 where
+pub data HeapOf (r : Row) (s t : State) : Type 0 where
   Stays : t.heap ≡ s.heap → HeapOf r s t
   Pushes : (x : Object) → t.heap ≡ s.heap ++ x ∷ [] → event_of r (before_of s) t ≡ made_event t.heap (length s.heap) → HeapOf r s t
   Alters : (j : ℕ) (more : List Change) → t.heap ≡ changed s.heap j more → HeapOf r s t
@@ -66,7 +66,7 @@ heap_of _ k place s = Stays refl
 -- ---- a new object
 
 -- there is one only where the row makes it
-pushed_by : (r : Row) (s t : State) (id : ℕ) (o : Object) → HeapOf r s t → slice_get t.heap id ≡ Some o → slice_get s.heap id ≡ None → (id ≡ length s.heap) × (event_of r (before_of s) t ≡ made_event t.heap (length s.heap))
+pub pushed_by : (r : Row) (s t : State) (id : ℕ) (o : Object) → HeapOf r s t → slice_get t.heap id ≡ Some o → slice_get s.heap id ≡ None → (id ≡ length s.heap) × (event_of r (before_of s) t ≡ made_event t.heap (length s.heap))
 pushed_by r s t id o (Stays e) there none = let no : None ≡ Some o = sym none ∙ ap (λ (l : List Object). slice_get l id) (sym e) ∙ there in absurd cc
 pushed_by r s t id o (Pushes x e made) there none = elim (get_pushed s.heap x id o (ap (λ (l : List Object). slice_get l id) (sym e) ∙ there)) [
   | inl old ↦ let no : None ≡ Some o = sym none ∙ old in absurd cc
@@ -78,10 +78,10 @@ pushed_by r s t id o (Alters j more e) there none = elim (after_changes s.heap j
 ]
 
 -- the event of an object that is shown
-made_here : (heap : List Object) (id : ℕ) (o : Object) → slice_get heap id ≡ Some o → (is_opaque o.kind || is_view heap o) ≡ true → made_event heap id ≡ Some (event.Made id)
+pub made_here : (heap : List Object) (id : ℕ) (o : Object) → slice_get heap id ≡ Some o → (is_opaque o.kind || is_view heap o) ≡ true → made_event heap id ≡ Some (event.Made id)
 made_here heap id o there shown = ap (made_as heap id) there ∙ ap (λ (b : Bool). if b then Some (event.Made id) else None) shown
 
-or_true : (a b : Bool) → (a ≡ true) ⊎ (b ≡ true) → (a || b) ≡ true
+pub or_true : (a b : Bool) → (a ≡ true) ⊎ (b ≡ true) → (a || b) ≡ true
 or_true true b h = refl
 or_true false b h = elim h [
   | inl wrong ↦ absurd cc
@@ -103,11 +103,11 @@ kind_stays r s t id old new (Alters j more e) before after = elim (after_changes
 
 -- ---- items
 
-abbrev item_event : Operation → State → State → Option Event
+abbrev pub item_event : Operation → State → State → Option Event
 item_event o s t = event_of (row_of o) (before_of (fresh s)) t
 
 -- the item of a step
-item_of_step : (d : Contents) (k : ℕ) (s t : State) → IsStep d k s t → (o : Operation) × (item_at d k ≡ Some o) × HeapOf (row_of o) (fresh s) t
+pub item_of_step : (d : Contents) (k : ℕ) (s t : State) → IsStep d k s t → (o : Operation) × (item_at d k ≡ Some o) × HeapOf (row_of o) (fresh s) t
 item_of_step d k s t step =
     let m = moves_at d k s t step in
     (m.item, m.there, subst (λ (x : State). HeapOf (row_of m.item) (fresh s) x) m.leads (heap_of (row_of m.item) (kind_of m.item) k (fresh s)))

@@ -9,6 +9,8 @@ pub mod FirstLines
 pub mod WithinLines
 pub mod TextLines
 pub mod QuotesApart
+pub mod OneEvent
+pub mod Imports
 pub mod Codes
 pub mod Names
 pub mod Namings

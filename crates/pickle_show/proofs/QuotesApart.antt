@@ -1,5 +1,5 @@
 -- What is in quotes is read back.
-use Rattle.std.proofs.Common.{◌≡◌, ℕ, zero, suc, ◌+◌, ◌*◌, ◌≤◌, ◌<◌, ◌==◌, ◌&&◌, Bool, true, false, List, [], ◌∷◌, ◌++◌, Option, Some, None, refl, sym, ap, ap₂, ◌∙◌, append_assoc, arith, rules}
+use Rattle.std.proofs.Common.{◌≡◌, ℕ, suc, ◌<◌, ◌==◌, ◌&&◌, Bool, true, false, List, [], ◌∷◌, ◌++◌, Some, refl, sym, ap, ap₂, ◌∙◌, append_assoc, arith, rules}
 use Rattle.std.specs.Prelude.{nat_le, codes, if◌then◌else◌, slice_index, drop, ◌/◌, ◌%◌}
 use Rattle.std.specs.List.{flat_map}
 use Rattle.hex.specs.Hex.{encode_with, lower_digits, hex_digit_value}
@@ -17,7 +17,7 @@ data Stands (byte : ℕ) (text : List ℕ) : Type 0 where
   Itself : (byte ≡ 92 → ⊥) → (byte ≡ 39 → ⊥) → text ≡ byte ∷ [] → Stands byte text
   Digits : text ≡ 92 ∷ 120 ∷ slice_index lower_digits (byte / 16) ∷ slice_index lower_digits (byte % 16) ∷ [] → Stands byte text
 
-other : (a b : ℕ) → (a == b) ≡ false → a ≡ b → ⊥
+pub other : (a b : ℕ) → (a == b) ≡ false → a ≡ b → ⊥
 other a b e same = let is : (b == b) ≡ false = ap (λ (n : ℕ). n == b) (sym same) ∙ e in absurd (search rules)
 
 escaped_is : (byte : ℕ) → escaped byte ≡ 92 ∷ 120 ∷ slice_index lower_digits (byte / 16) ∷ slice_index lower_digits (byte % 16) ∷ []

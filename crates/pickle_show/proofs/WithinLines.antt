@@ -25,7 +25,7 @@ use Rattle.pickle_show.specs.Event.{part}
 use Rattle.pickle_show.specs.declared.naming.Detail.{Detail}
 use Rattle.pickle_show.specs.declared.naming.Detail.TheVariants as detail
 use Rattle.pickle_show.specs.declared.naming.Naming.{Naming}
-use Rattle.pickle_show.specs.Naming.{Spelled, Pair, said_text, pair_text, pair_renamed, import_text, import_for, said_names, renamed_text, names_by, names_text, global_pair, inst_pair, stack_pair, inner, is_text}
+use Rattle.pickle_show.specs.Naming.{Spelled, Pair, NewPair, member_text, said_text, pair_text, pair_renamed, import_text, import_for, said_names, renamed_text, names_by, names_text, global_pair, inst_pair, stack_pair, inner, is_text}
 use Rattle.pickle_show.specs.Brief.{of_object, kind_name, name_text, over_text, cut_quoted, cut_after, cut_value, cut_text, cut_long, shown_quoted, payload_after, shown_text, text_after, shown_long, long_after, kind_brief, brief_text, next_brief, comma_list, more_text, cut_list, shown_list, briefs_text, kind_value, value_text, most_bytes, most_objects, most_characters}
 use Rattle.pickle_show.specs.CallsLine.{inst_text, call_text, call_with_text, obj_text, made_words, made_text, made_at, state_text, fill_keyword, fill_link, filled_text, event_text}
 use Rattle.pickle_show.specs.LineLaws.{is_within_line}
@@ -107,29 +107,33 @@ pair_stays : (p : Pair) → Stays (pair_text p)
 unfolding pair_text
 pair_stays p = two_stay (said_text p.from p.from_id) (said_text p.name p.name_id) (said_stays p.from p.from_id) (said_stays p.name p.name_id)
 
-import_stays : (i : Import) → Stays (import_text i)
-unfolding import_text
-import_stays i = two_stay (quoted i.from) (quoted i.name) (quotes_stay i.from) (quotes_stay i.name)
+member_stays : (name : Option (List ℕ)) (p : Pair) → Stays (member_text name p)
+member_stays (Some name) p = quotes_stay name
+member_stays None p = said_stays p.name p.name_id
 
-import_for_stays : (i : Import) (p : Pair) → Stays (import_for i p)
+import_stays : (i : NewPair) (p : Pair) → Stays (import_text i p)
+unfolding import_text
+import_stays i p = two_stay (quoted i.from) (member_text i.name p) (quotes_stay i.from) (member_stays i.name p)
+
+import_for_stays : (i : NewPair) (p : Pair) → Stays (import_for i p)
 unfolding import_for
-import_for_stays i p = then_stays (import_text i ⧺ codes " for ") (pair_text p) (then_stays (import_text i) (codes " for ") (import_stays i) refl) (pair_stays p)
+import_for_stays i p = then_stays (import_text i p ⧺ codes " for ") (pair_text p) (then_stays (import_text i p) (codes " for ") (import_stays i p) refl) (pair_stays p)
 
 said_names_stay : (object : Option ℕ) (p : Pair) → Stays (said_names object p)
 said_names_stay None p = pair_stays p
 said_names_stay (Some id) p = if_stays (is_text p.from && is_text p.name) (pair_text p) (id_text id) (pair_stays p) (id_stays id)
 
-renamed_stays : (m : Naming) (object : Option ℕ) (i : Import) (p : Pair) → Stays (renamed_text m object i p)
+renamed_stays : (m : Naming) (object : Option ℕ) (i : NewPair) (p : Pair) → Stays (renamed_text m object i p)
 renamed_stays m None i p = if_stays m.old (import_for i p) (pair_text p) (import_for_stays i p) (pair_stays p)
 renamed_stays m (Some id) i p =
-    if_stays (nat_le m.since id) (if m.old then import_text i else said_names (Some id) p) (id_text id)
-    (if_stays m.old (import_text i) (said_names (Some id) p) (import_stays i) (said_names_stay (Some id) p)) (id_stays id)
+    if_stays (nat_le m.since id) (if m.old then import_text i p else said_names (Some id) p) (id_text id)
+    (if_stays m.old (import_text i p) (said_names (Some id) p) (import_stays i p) (said_names_stay (Some id) p)) (id_stays id)
 
 pub names_stay : (m : Naming) (object : Option ℕ) (p : Pair) → Stays (names_text m object p)
 unfolding names_text
 names_stay m object p = go (pair_renamed p)
   where
-    go : (i : Option Import) → Stays (names_by m object i p)
+    go : (i : Option NewPair) → Stays (names_by m object i p)
     go None = said_names_stay object p
     go (Some i) = renamed_stays m object i p
 

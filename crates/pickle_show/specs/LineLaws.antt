@@ -1,15 +1,30 @@
 -- What the lines say: what is in quotes stays within its line, and a text is its lines.
-use Rattle.std.specs.Prelude.{◌≡◌, ℕ, zero, suc, ◌==◌, ◌&&◌, not, if◌then◌else◌, Bool, true, List, [], ◌∷◌, ◌++◌}
-use Rattle.pickle_io.specs.Text.{quoted}
+use Rattle.std.specs.Prelude.{◌≡◌, ◌≢◌, ℕ, zero, suc, ◌^◌, ◌<◌, ◌==◌, ◌&&◌, not, if◌then◌else◌, Bool, true, List, [], ◌∷◌, ◌++◌, length, slice_get, codes, decimal, Option, Some, None}
+use Rattle.pickle_io.specs.Text.{◌⧺◌, quoted}
+use Rattle.pickle_names.specs.Value.{decode_all}
 use Rattle.pickle_doc.specs.Document.{Contents, document_bytes, AreBytes}
 use Rattle.pickle_show.specs.declared.naming.Detail.{Detail}
 use Rattle.pickle_show.specs.declared.end.Ending.{Ending}
 use Rattle.pickle_show.specs.declared.end.Ending.TheVariants as ending
+use Rattle.pickle_show.specs.Column.{right_aligned, newline}
+use Rattle.pickle_show.specs.ObjectText.{id_text}
 use Rattle.pickle_show.specs.Begins.{begins_text}
 use Rattle.pickle_show.specs.Line.{kept_line}
 use Rattle.pickle_show.specs.Report.{closing_line}
-use Rattle.pickle_show.specs.CallsLine.{totals_line, unsure_line}
-use Rattle.pickle_show.specs.Calls.{CallsEnd, entry_at, entries, calls, calls_end}
+use Rattle.pickle_ops.specs.declared.kind.Kind.{Kind}
+use Rattle.pickle_ops.specs.declared.kind.Kind.TheVariants as kind
+use Rattle.pickle_ops.specs.declared.row.Filling.TheVariants as filling
+use Rattle.pickle_machine.specs.State.{State}
+use Rattle.pickle_doc.specs.Place.{offset_of}
+use Rattle.pickle_ops.specs.Object.{Object}
+use Rattle.pickle_show.specs.declared.event.Event.{Event}
+use Rattle.pickle_show.specs.declared.event.Event.TheVariants as event
+use Rattle.pickle_show.specs.declared.naming.Naming.{Naming}
+use Rattle.pickle_show.specs.Naming.{Spelled, Pair, NewPair, global_pair, stack_pair, pair_renamed}
+use Rattle.pickle_show.specs.Brief.{value_text}
+use Rattle.pickle_show.specs.CallsLine.{made_at, event_line, totals_line, unsure_line}
+use Rattle.pickle_show.specs.Calls.{CallsEnd, naming_at, entry_at, entries, calls, calls_end}
+use Rattle.pickle_show.specs.CallsLaws.{IsStep}
 
 -- no byte of a text ends a line
 abbrev pub is_within_line : List ℕ → Bool
@@ -59,3 +74,57 @@ TextIsItsLines = (how : Detail) (d : Contents) → cut_lines (calls how d).text 
 -- what is in quotes is read back, whatever is behind it
 abbrev pub QuotesReadBack : Type 0
 QuotesReadBack = (p q x y : List ℕ) → AreBytes p → AreBytes q → quoted p ++ x ≡ quoted q ++ y → (p ≡ q) × (x ≡ y)
+
+-- an event whose line can be told from others: what was made is there, something went in where that is told, and the numbers are below 2^64
+abbrev pub Tells : List Object → Event → Type 0
+Tells heap (event.Made id) = ((o : Object) × (slice_get heap id ≡ Some o)) × (id < 2 ^ 64)
+Tells heap (event.State value target) = target < 2 ^ 64
+Tells heap (event.Filled f count target) = (f ≢ filling.Build) × ((count < 2 ^ 64) × (target < 2 ^ 64))
+
+-- two events are of one kind, of the same object, and said in the same words
+abbrev pub AreOne : Naming → List Object → Event → Naming → List Object → Event → Type 0
+AreOne m heap (event.Made i) n other (event.Made j) = (i ≡ j) × (made_at m heap i ≡ made_at n other j)
+AreOne m heap (event.State v i) n other (event.State w j) = (i ≡ j) × (value_text m heap v ≡ value_text n other w)
+AreOne m heap (event.Filled f a i) n other (event.Filled g b j) = (f ≡ g) × ((a ≡ b) × (i ≡ j))
+AreOne m heap e n other f = ⊥
+
+-- two events with one line are one
+abbrev pub OneLineOneEvent : Type 0
+OneLineOneEvent = (x y : ℕ) (m n : Naming) (heap other : List Object) (e f : Event) → x < 2 ^ 64 → y < 2 ^ 64 → Tells heap e → Tells other f
+    → event_line x m heap e ≡ event_line y n other f → (x ≡ y) × AreOne m heap e n other f
+
+-- ---- imports
+
+-- the two names by which an object is imported
+abbrev pub names_by_kind : List Object → Kind → List ℕ → Option Pair
+names_by_kind heap (kind.Global names) parts = Some (global_pair names.first names.second)
+names_by_kind heap kind.StackGlobal parts = Some (stack_pair heap parts)
+names_by_kind heap _ parts = None
+
+abbrev pub names_of : List Object → Object → Option Pair
+names_of heap o = names_by_kind heap o.kind o.parts
+
+-- a text can be read, as this
+abbrev pub IsRead : Option Spelled → List ℕ → Type 0
+IsRead (Some s) text = ((decode_all s.coding s.bytes).good ≡ true) × ((decode_all s.coding s.bytes).value ≡ text)
+IsRead None text = ⊥
+
+abbrev pub two_quoted : List ℕ → List ℕ → List ℕ
+two_quoted from name = quoted from ⧺ codes " " ⧺ quoted name
+
+-- the member that is imported: another, or the one that the names say
+abbrev pub member_of : Option (List ℕ) → List ℕ → List ℕ
+member_of (Some other) name = other
+member_of None name = name
+
+-- an import by these names; while they are names of Python 2, what Python 3 imports for them comes first, where that is another
+abbrev pub import_said : Bool → Option NewPair → List ℕ → List ℕ → List ℕ
+import_said old None from name = two_quoted from name
+import_said old (Some i) from name = if old then two_quoted i.from (member_of i.name name) ⧺ codes " for " ⧺ two_quoted from name else two_quoted from name
+
+-- an accepted item that imports an object by names which can be read has exactly the line with these names
+abbrev pub LineOfImport : Type 0
+LineOfImport = (how : Detail) (d : Contents) (k : ℕ) (s t : State) (o : Object) (p : Pair) (from name : List ℕ) → IsStep d k s t → slice_get t.heap (length s.heap) ≡ Some o
+    → names_of t.heap o ≡ Some p → IsRead p.from from → IsRead p.name name
+    → (entry_at how d k).text ≡ right_aligned 5 (decimal (offset_of d k)) ⧺ codes ": "
+    ⧺ (codes "import " ⧺ import_said (naming_at how d k).old (pair_renamed p) from name ⧺ codes " as " ⧺ id_text (length s.heap)) ⧺ newline

@@ -6,8 +6,8 @@ use Rattle.std.specs.Option.{option_map, option_map_or}
 use Rattle.pickle_io.specs.Text.{◌⧺◌, quoted}
 use Rattle.pickle_names.specs.declared.coding.Coding.{Coding}
 use Rattle.pickle_names.specs.declared.coding.Coding.TheVariants as coding
-use Rattle.pickle_names.specs.Value.{short_value, whole_text}
-use Rattle.pickle_names.specs.Renamed.{Import, renamed}
+use Rattle.pickle_names.specs.Value.{decode_all, short_value, whole_text}
+use Rattle.pickle_names.specs.Renamed.{Import, renamed, module_renamed}
 use Rattle.pickle_ops.specs.declared.row.Row.{Row}
 use Rattle.pickle_ops.specs.declared.row.Row.TheVariants as row
 use Rattle.pickle_ops.specs.declared.kind.Kind.{Kind}
@@ -17,6 +17,7 @@ use Rattle.pickle_show.specs.declared.naming.Detail.{Detail}
 use Rattle.pickle_show.specs.declared.naming.Naming.{Naming}
 use Rattle.pickle_show.specs.declared.name.SpelledText.{SpelledText}
 use Rattle.pickle_show.specs.declared.name.NamePair.{NamePair}
+use Rattle.pickle_show.specs.declared.name.Imported.{Imported}
 use Rattle.pickle_show.specs.ObjectText.{id_text}
 use Rattle.pickle_show.specs.Event.{part}
 
@@ -86,20 +87,41 @@ abbrev pub short_of : Option Spelled → Option (List ℕ)
 short_of (Some s) = short_value s.coding s.bytes
 short_of None = None
 
-abbrev pub renamed_by : Option (List ℕ) → Option (List ℕ) → Option Import
-renamed_by (Some from) (Some name) = renamed from name
-renamed_by (Some from) None = None
-renamed_by None name = None
+-- a text that can be read
+abbrev pub is_readable : Option Spelled → Bool
+is_readable (Some s) = (decode_all s.coding s.bytes).good
+is_readable None = false
+
+-- what is imported: from which module, and which member of it, or the one that the names say
+pub record NewPair : Type 0 where
+  pub from : List ℕ
+  pub name : Option (List ℕ)
+
+abbrev pub by_both : Import → NewPair
+by_both i = record { from = i.from; name = Some i.name }
+
+abbrev pub by_module : List ℕ → NewPair
+by_module from = record { from = from; name = None }
+
+-- a member that is no short text has no row of its own; its module may have one
+abbrev pub renamed_by : Option (List ℕ) → Option (List ℕ) → Bool → Option NewPair
+renamed_by (Some from) (Some name) readable = option_map by_both (renamed from name)
+renamed_by (Some from) None readable = if readable then option_map by_module (module_renamed from) else None
+renamed_by None name readable = None
 
 -- what Python 3 imports for them where they are names of Python 2, if that is not what they say
-unfoldable pub pair_renamed : Pair → Option Import
-pair_renamed p = renamed_by (short_of p.from) (short_of p.name)
+unfoldable pub pair_renamed : Pair → Option NewPair
+pair_renamed p = renamed_by (short_of p.from) (short_of p.name) (is_readable p.name)
 
-unfoldable pub import_text : Import → List ℕ
-import_text i = quoted i.from ⧺ codes " " ⧺ quoted i.name
+abbrev pub member_text : Option (List ℕ) → Pair → List ℕ
+member_text (Some name) p = quoted name
+member_text None p = said_text p.name p.name_id
 
-unfoldable pub import_for : Import → Pair → List ℕ
-import_for i p = import_text i ⧺ codes " for " ⧺ pair_text p
+unfoldable pub import_text : NewPair → Pair → List ℕ
+import_text i p = quoted i.from ⧺ codes " " ⧺ member_text i.name p
+
+unfoldable pub import_for : NewPair → Pair → List ℕ
+import_for i p = import_text i p ⧺ codes " for " ⧺ pair_text p
 
 abbrev pub is_text : Option Spelled → Bool
 is_text (Some s) = true
@@ -113,11 +135,11 @@ said_names (Some id) p = if is_text p.from && is_text p.name then pair_text p el
 
 -- another import than the names say: of what is imported now, both; of what was imported as this object, what it is, or where it is not
 -- known any more how names were read then, its number
-abbrev pub renamed_text : Naming → Option ℕ → Import → Pair → List ℕ
+abbrev pub renamed_text : Naming → Option ℕ → NewPair → Pair → List ℕ
 renamed_text m None i p = if m.old then import_for i p else said_names None p
-renamed_text m (Some id) i p = if nat_le m.since id then (if m.old then import_text i else said_names (Some id) p) else id_text id
+renamed_text m (Some id) i p = if nat_le m.since id then (if m.old then import_text i p else said_names (Some id) p) else id_text id
 
-abbrev pub names_by : Naming → Option ℕ → Option Import → Pair → List ℕ
+abbrev pub names_by : Naming → Option ℕ → Option NewPair → Pair → List ℕ
 names_by m object None p = said_names object p
 names_by m object (Some i) p = renamed_text m object i p
 
@@ -148,3 +170,6 @@ spelled_view s = record { coding = s.coding; bytes = s.bytes.now }
 
 abbrev pub pair_view : NamePair → Pair
 pair_view p = record { from = option_map spelled_view p.from; from_id = p.from_id; name = option_map spelled_view p.name; name_id = p.name_id }
+
+abbrev pub new_view : Imported → NewPair
+new_view i = record { from = i.from.now; name = option_map (λ n. n.now) i.name }

@@ -1,7 +1,7 @@
 //! Laws of the definitions. The functions do nothing: what they ensure holds of all documents.
 
 ghost use Rattle.pickle_show.specs.CallsLaws.{OneText, NoLineNoReach, LineExactly, FirstLinesComeFirst};
-ghost use Rattle.pickle_show.specs.LineLaws.{QuotesStay, TextIsItsLines, QuotesReadBack};
+ghost use Rattle.pickle_show.specs.LineLaws.{QuotesStay, TextIsItsLines, QuotesReadBack, OneLineOneEvent, LineOfImport};
 
 /// Each byte string has just one text, with just one status.
 pub fn one_text()
@@ -38,4 +38,16 @@ pub fn text_is_its_lines()
 /// What is in quotes is read back, whatever is behind it: the names and texts of two equal lines are equal.
 pub fn quotes_read_back()
     ensures { QuotesReadBack }
+{}
+
+/// Two events with one line are one: of one kind, at the same offset, of the same object, with the same number of items, and said in the
+/// same words.
+pub fn one_line_one_event()
+    ensures { OneLineOneEvent }
+{}
+
+/// An accepted item that imports an object by names which can be read has exactly the line with these names, its offset and the number of
+/// the object.
+pub fn line_of_import()
+    ensures { LineOfImport }
 {}

@@ -4,16 +4,18 @@ ghost use Rattle.std.specs.Prelude.{◌≡◌, ◌&&◌, if◌then◌else◌, If
 ghost use Rattle.std.specs.Option.{option_map, option_map_or};
 ghost use Rattle.pickle_io.specs.Device.{Writes};
 ghost use Rattle.pickle_io.specs.Text.{◌⧺◌};
-ghost use Rattle.pickle_names.specs.Renamed.{Import, import_of};
+ghost use Rattle.pickle_names.specs.Renamed.{import_of};
 ghost use Rattle.pickle_show.specs.Brief.{kind_name, name_text};
-ghost use Rattle.pickle_show.specs.Naming.{inner, spelled_of, spelled_at, said_text, pair_text, is_text, said_names, short_of, renamed_by, pair_renamed, import_text, import_for, renamed_text, names_by, names_text, global_pair, inst_pair, stack_pair, spelled_view, pair_view, is_as_said};
+ghost use Rattle.pickle_show.specs.Naming.{inner, spelled_of, spelled_at, said_text, pair_text, is_text, said_names, short_of, is_readable, by_both, renamed_by, pair_renamed, member_text, import_text, import_for, renamed_text, names_by, names_text, global_pair, inst_pair, stack_pair, spelled_view, pair_view, new_view, is_as_said};
 
 use crate::event::part;
 use crate::kind::write_kind;
 use crate::naming::Naming;
 use crate::words::write_id;
 use arrayvec::ArrayVec;
-use pickle_names::{Coding, NewNames, is_plain_name, renamed, short_value, write_text};
+use pickle_names::{
+    Coding, NewNames, is_plain_name, module_renamed, read, renamed, short_value, write_text,
+};
 use pickle_ops::{Failed, Kind, ObjId, Object, Page, write_all, write_quoted};
 
 /// A text as it is in a pickle.
@@ -36,6 +38,15 @@ pub struct NamePair<'a> {
     pub name: Option<SpelledText<'a>>,
     /// The object that it is.
     pub name_id: ObjId,
+}
+
+/// What is imported for names of Python 2: from which module, and which member of it, or the one that the names say.
+#[derive(Clone, Copy)]
+pub struct Imported<'a> {
+    /// The module.
+    pub from: &'a [u8],
+    /// The member, if it has another name.
+    pub name: Option<&'a [u8]>,
 }
 
 /// What is between the quotes of a line.
@@ -211,26 +222,76 @@ fn plain_of<'a>(spelled: Option<SpelledText<'a>>) -> Option<&'a [u8]>
     }
 }
 
+/// Whether a name is a text that can be read.
+fn is_readable(spelled: Option<SpelledText<'_>>) -> bool
+    ensures { result ≡ is_readable (option_map spelled_view spelled.entry) }
+{
+    match spelled {
+        Some(text) => read(text.coding, text.bytes.len(), text.bytes).good,
+        None => false,
+    }
+}
+
+/// What is imported where both names have a row.
+fn by_both<'a>(new: Option<NewNames<'a>>) -> Option<Imported<'a>>
+    ensures { option_map new_view result ≡ option_map by_both (option_map import_of new.entry) }
+{
+    match new {
+        Some(new) => Some(Imported {
+            from: new.from,
+            name: Some(new.name),
+        }),
+        None => None,
+    }
+}
+
+/// What is imported where only the module may have a row.
+fn by_module(from: &[u8], readable: bool) -> Option<Imported<'static>>
+    ensures { option_map new_view result ≡ renamed_by (Some from.now) None readable }
+{
+    if !readable {
+        return None;
+    }
+    match module_renamed(from) {
+        Some(from) => Some(Imported { from, name: None }),
+        None => None,
+    }
+}
+
+/// Writes the member that is imported.
+fn write_member<S: Page>(
+    name: Option<&[u8]>,
+    pair: NamePair<'_>,
+    sink: &mut S,
+) -> Result<(), Failed>
+    ensures { Writes (S.told sink.old) (S.told sink.new) result (member_text (option_map (λ n. n.now) name.entry) (pair_view pair.entry)) }
+{
+    match name {
+        Some(name) => write_quoted(name, sink),
+        None => write_said(pair.name, pair.name_id, sink),
+    }
+}
+
 /// Writes what is imported.
 #[tactic(auto, using(pickle_io::proofs::Devices::text_steps), unfolding(crate::specs::Naming::import_text))]
-fn write_import<S: Page>(new: NewNames<'_>, sink: &mut S) -> Result<(), Failed>
-    ensures { Writes (S.told sink.old) (S.told sink.new) result (import_text (import_of new.entry)) }
+fn write_import<S: Page>(new: Imported<'_>, pair: NamePair<'_>, sink: &mut S) -> Result<(), Failed>
+    ensures { Writes (S.told sink.old) (S.told sink.new) result (import_text (new_view new.entry) (pair_view pair.entry)) }
 {
     write_quoted(new.from, sink)?;
     write_all(sink, b" ")?;
-    write_quoted(new.name, sink)
+    write_member(new.name, pair, sink)
 }
 
 /// Writes what is imported, and for which names.
 #[tactic(auto, using(pickle_io::proofs::Devices::text_steps), unfolding(crate::specs::Naming::import_for))]
 fn write_import_for<S: Page>(
-    new: NewNames<'_>,
+    new: Imported<'_>,
     pair: NamePair<'_>,
     sink: &mut S,
 ) -> Result<(), Failed>
-    ensures { Writes (S.told sink.old) (S.told sink.new) result (import_for (import_of new.entry) (pair_view pair.entry)) }
+    ensures { Writes (S.told sink.old) (S.told sink.new) result (import_for (new_view new.entry) (pair_view pair.entry)) }
 {
-    write_import(new, sink)?;
+    write_import(new, pair, sink)?;
     write_all(sink, b" for ")?;
     write_pair(pair, sink)
 }
@@ -239,14 +300,14 @@ fn write_import_for<S: Page>(
 fn write_known<S: Page>(
     old: bool,
     id: ObjId,
-    new: NewNames<'_>,
+    new: Imported<'_>,
     pair: NamePair<'_>,
     sink: &mut S,
 ) -> Result<(), Failed>
-    ensures { Writes (S.told sink.old) (S.told sink.new) result (if old then import_text (import_of new.entry) else said_names (Some id) (pair_view pair.entry)) }
+    ensures { Writes (S.told sink.old) (S.told sink.new) result (if old then import_text (new_view new.entry) (pair_view pair.entry) else said_names (Some id) (pair_view pair.entry)) }
 {
     if old {
-        write_import(new, sink)
+        write_import(new, pair, sink)
     } else {
         write_said_names(Some(id), pair, sink)
     }
@@ -255,11 +316,11 @@ fn write_known<S: Page>(
 /// Writes what is imported now: what it is and for which names, or what these say.
 fn write_now<S: Page>(
     old: bool,
-    new: NewNames<'_>,
+    new: Imported<'_>,
     pair: NamePair<'_>,
     sink: &mut S,
 ) -> Result<(), Failed>
-    ensures { Writes (S.told sink.old) (S.told sink.new) result (if old then import_for (import_of new.entry) (pair_view pair.entry) else said_names None (pair_view pair.entry)) }
+    ensures { Writes (S.told sink.old) (S.told sink.new) result (if old then import_for (new_view new.entry) (pair_view pair.entry) else said_names None (pair_view pair.entry)) }
 {
     if old {
         write_import_for(new, pair, sink)
@@ -272,11 +333,11 @@ fn write_now<S: Page>(
 fn write_renamed<S: Page>(
     naming: Naming,
     object: Option<ObjId>,
-    new: NewNames<'_>,
+    new: Imported<'_>,
     pair: NamePair<'_>,
     sink: &mut S,
 ) -> Result<(), Failed>
-    ensures { Writes (S.told sink.old) (S.told sink.new) result (renamed_text naming object (import_of new.entry) (pair_view pair.entry)) }
+    ensures { Writes (S.told sink.old) (S.told sink.new) result (renamed_text naming object (new_view new.entry) (pair_view pair.entry)) }
 {
     match object {
         None => write_now(naming.old, new, pair, sink),
@@ -294,11 +355,11 @@ fn write_renamed<S: Page>(
 fn write_names_by<S: Page>(
     naming: Naming,
     object: Option<ObjId>,
-    new: Option<NewNames<'_>>,
+    new: Option<Imported<'_>>,
     pair: NamePair<'_>,
     sink: &mut S,
 ) -> Result<(), Failed>
-    ensures { Writes (S.told sink.old) (S.told sink.new) result (names_by naming object (option_map import_of new.entry) (pair_view pair.entry)) }
+    ensures { Writes (S.told sink.old) (S.told sink.new) result (names_by naming object (option_map new_view new.entry) (pair_view pair.entry)) }
 {
     match new {
         Some(new) => write_renamed(naming, object, new, pair, sink),
@@ -314,11 +375,17 @@ fn write_decoded_of<S: Page>(
     pair: NamePair<'_>,
     sink: &mut S,
 ) -> Result<(), Failed>
-    ensures { Writes (S.told sink.old) (S.told sink.new) result (names_by naming object (renamed_by (Some from.now) (short_of (option_map spelled_view pair.entry.name))) (pair_view pair.entry)) }
+    ensures { Writes (S.told sink.old) (S.told sink.new) result (names_by naming object (renamed_by (Some from.now) (short_of (option_map spelled_view pair.entry.name)) (is_readable (option_map spelled_view pair.entry.name))) (pair_view pair.entry)) }
 {
     match short_of(pair.name) {
-        Some(name) => { write_names_by(naming, object, renamed(from, name.as_slice()), pair, sink) }
-        None => write_said_names(object, pair, sink),
+        Some(name) => {
+            let new = by_both(renamed(from, name.as_slice()));
+            write_names_by(naming, object, new, pair, sink)
+        }
+        None => {
+            let new = by_module(from, is_readable(pair.name));
+            write_names_by(naming, object, new, pair, sink)
+        }
     }
 }
 
@@ -330,10 +397,10 @@ fn write_names_of<S: Page>(
     pair: NamePair<'_>,
     sink: &mut S,
 ) -> Result<(), Failed>
-    ensures { Writes (S.told sink.old) (S.told sink.new) result (names_by naming object (renamed_by (Some from.now) (short_of (option_map spelled_view pair.entry.name))) (pair_view pair.entry)) }
+    ensures { Writes (S.told sink.old) (S.told sink.new) result (names_by naming object (renamed_by (Some from.now) (short_of (option_map spelled_view pair.entry.name)) (is_readable (option_map spelled_view pair.entry.name))) (pair_view pair.entry)) }
 {
     match plain_of(pair.name) {
-        Some(name) => write_names_by(naming, object, renamed(from, name), pair, sink),
+        Some(name) => write_names_by(naming, object, by_both(renamed(from, name)), pair, sink),
         None => write_decoded_of(naming, object, from, pair, sink),
     }
 }

@@ -1,6 +1,6 @@
 -- What is left at the devices of the program: its input, its output, and what a session is saved in.
 -- Source: own.
-use Rattle.std.specs.Prelude.{◌≡◌, ◌≢◌, ◌⊎◌, ℕ, Bool, List, [], Option, None, Some, IfSome, Result, Err}
+use Rattle.std.specs.Prelude.{◌≡◌, ◌≢◌, ◌⊎◌, ℕ, Bool, List, [], Option, None, Some, IfSome, Result, Err, IsErr}
 use Rattle.pickle_io.specs.Device.{Told, Wrote, Broke}
 use Rattle.pickle_io.specs.Whole.{IsWhole, StopsSo}
 use Rattle.pickle_io.specs.declared.buffered.Buffered.{Buffered}
@@ -69,3 +69,7 @@ text_of (task.Debug input options) = None
 -- the text that is asked for, in the mode that is asked for, was answered of all bytes of the source
 abbrev pub AnswersTask : Task → Option (List ℕ) → Option (List ℕ) → Told → Told → Result ℕ Stop → Type 0
 AnswersTask t source source' old new result = IfSome (text_of t) (λ text. AnswersInput text (input_of t).many source source' old new result)
+
+-- it was answered of all bytes of the file; or there was an error, and nothing was written
+abbrev pub AnswersFile : Task → Option (List ℕ) → Told → Told → Result ℕ Stop → Type 0
+AnswersFile t file old new result = (IsErr result × (new ≡ old)) ⊎ ((rest : Option (List ℕ)) × AnswersTask t file rest old new result)

@@ -1,8 +1,10 @@
 //! The answer of a task: a text of all bytes of a source, written to a device through a page that holds nothing back at the end.
 
 ghost use Rattle.std.specs.Prelude.{◌≡◌, ◌≢◌, None, Err};
-ghost use Rattle.picklestep.specs.Device.{AnswersInput, AnswersTask, device_of, text_of as asked_text, input_of as asked_input};
+ghost use Rattle.std.specs.String.{string_bytes};
+ghost use Rattle.picklestep.specs.Device.{AnswersInput, AnswersTask, AnswersFile, device_of, text_of as asked_text, input_of as asked_input};
 
+use crate::files::Files;
 use crate::output::write_out;
 use crate::task::{GivenFile, Task};
 use pickle_doc::LIMIT;
@@ -30,7 +32,7 @@ fn answer_text<R: Source, K: Sink + Drop>(
 }
 
 /// The file that a task is done on.
-pub fn input_of(task: &Task) -> &GivenFile
+fn input_of(task: &Task) -> &GivenFile
     ensures { result.now ≡ asked_input task.now }
 {
     match task {
@@ -58,7 +60,7 @@ fn text_of(task: &Task) -> Option<Text>
 ///
 /// `Stop::Read` where the source fails, `Stop::TooLarge` where it has more bytes than `LIMIT`, `Stop::Memory` where memory runs out: a
 /// beginning of the text was written and handed on then, and before all was read nothing. `Stop::Write` where the device fails.
-pub fn answer_task<R: Source, K: Sink + Drop>(
+fn answer_task<R: Source, K: Sink + Drop>(
     alloc: Global,
     task: &Task,
     source: &mut R,
@@ -72,4 +74,19 @@ pub fn answer_task<R: Source, K: Sink + Drop>(
         Some(text) => answer_text(alloc, text, input_of(task).many, source, page),
         None => unreachable!(),
     }
+}
+
+/// Opens the file that such a task is done on, and answers the task as `answer_task` does. The stops are those of `Files::open` too.
+pub fn answer_file<K: Sink + Drop, F: Files>(
+    alloc: Global,
+    task: &Task,
+    files: &F,
+    page: &mut Buffered<K>,
+) -> Result<u8, Stop>
+    requires { asked_text task.now ≢ None }
+    ensures answers { AnswersFile task.now (F.bytes_of files.now (string_bytes (asked_input task.now).file)) (⟦<Buffered<K> as Sink>⟧.told page.old) (⟦<Buffered<K> as Sink>⟧.told page.new) result }
+    ensures handed { result ≢ Err Stop.Write → ⟦<Buffered<K> as Sink>⟧.held page.old ≡ 0 → ⟦<Buffered<K> as Sink>⟧.told page.new ≡ K.told (device_of page.new) }
+{
+    let mut source = files.open(input_of(task).file.as_str())?;
+    answer_task(alloc, task, &mut source, page)
 }

@@ -1,9 +1,9 @@
 //! How a document is saved so that no file is lost: into a new file, which takes the name of the old one when all of it is stored.
 
-use crate::file::stop_for;
-use crate::store::{Store, write_document};
+use crate::file::{open_file, stop_for};
+use crate::files::{Files, write_document};
 use pickle_doc::Document;
-use pickle_ops::{Buffered, ToWrite};
+use pickle_ops::{Buffered, FromRead, ToWrite};
 use pickle_script::Stop;
 use std::fs;
 use std::fs::{File, Metadata, OpenOptions};
@@ -166,7 +166,7 @@ fn save_over(rt: &HostRuntime, document: &Document, path: &str, file: &File) -> 
 
 /// Saves a document to a path. `Stop::Write` where the file, or a new one next to it, cannot be written, `Stop::Memory` where there is
 /// no room; a regular file is then as it was. A device or a pipe may have taken a beginning of the bytes.
-pub fn save_document(rt: &HostRuntime, document: &Document, path: &str) -> Result<(), Stop> {
+fn save_document(rt: &HostRuntime, document: &Document, path: &str) -> Result<(), Stop> {
     // The file is opened first, and left unchanged, so that one that may not be written is not replaced.
     match OpenOptions::new().write(true).open(rt, path) {
         Ok(file) => save_over(rt, document, path, &file),
@@ -177,22 +177,27 @@ pub fn save_document(rt: &HostRuntime, document: &Document, path: &str) -> Resul
     }
 }
 
-/// The file of a path, as a store. It does not report what it has taken.
+/// The files of the system. They do not report which bytes they have, nor what they have taken.
 #[derive(Drop)]
-pub struct SavePath<'a> {
+pub struct SystemFiles<'a> {
     /// What runs the program.
     pub rt: &'a HostRuntime,
-    /// The path.
-    pub path: &'a str,
 }
 
-impl Store for SavePath<'_> {
+impl Files for SystemFiles<'_> {
     ghost use Rattle.std.specs.Prelude.{None};
-    ghost use Rattle.pickle_io.specs.Device.{Told};
 
-    ghost took = { λ _. record { taken = None; failures = 0 } };
+    type Opened = FromRead<File>;
 
-    fn save(&mut self, document: &Document) -> Result<(), Stop> {
-        save_document(self.rt, document, self.path)
+    ghost bytes_of = { λ _ _. None };
+
+    ghost took = { λ _ _. record { taken = None; failures = 0 } };
+
+    fn open(&self, path: &str) -> Result<FromRead<File>, Stop> {
+        Ok(FromRead::new(open_file(self.rt, path)?))
+    }
+
+    fn save(&mut self, path: &str, document: &Document) -> Result<(), Stop> {
+        save_document(self.rt, document, path)
     }
 }

@@ -34,10 +34,11 @@ _UNREAD_AT = {
 }
 _REDIS_DUMP = re.compile(rb'REDIS[0-9]{4}')
 # A first look at both: most bytes begin as none of them.
-_MAY_BE_UNREAD = re.compile(b'|'.join([rb'[\x50-\x5f]\x2a\x4d\x18|REDIS', *map(re.escape, _UNREAD),
+_MAY_BE_UNREAD = re.compile(b'|'.join([rb'[\x50-\x5f]\x2a\x4d\x18|REDIS', *(re.escape(begin) for begin in _UNREAD),
                                        *(b'.{%d}%b' % (at, re.escape(begin)) for at, begin in _UNREAD_AT)]), re.DOTALL)
-# The same for containers that are opened, in bytes that are too few for the sum in the header of a tar archive.
-_MAY_BE_CONTAINER = re.compile(rb'PK|\x93NUMPY|\x1f\x8b\x08|BZh|\xfd7zXZ\0|\x5d\0|ZF|[\x08\x18(8HXhx]|.{257}ustar', re.DOTALL)
+# The same for containers that are opened, in bytes that are too few for the sum in the header of a tar archive; and for all.
+_MAY_BE_OPENED = re.compile(rb'PK|\x93NUMPY|\x1f\x8b\x08|BZh|\xfd7zXZ\0|\x5d\0|ZF|[\x08\x18(8HXhx]|.{257}ustar', re.DOTALL)
+_MAY_BE_KNOWN = re.compile(_MAY_BE_OPENED.pattern + b'|' + _MAY_BE_UNREAD.pattern, re.DOTALL)
 _BLOCK_OF_TAR = 512
 
 _SHAPES: Dict[int, 'pickletools.OpcodeInfo'] = {ord(each.code): each for each in pickletools.opcodes}
@@ -108,13 +109,9 @@ def _is_hexadecimal(text: bytes) -> bool:
         return False
 
 
-def _may_be_known(head: bytes) -> bool:
-    return len(head) >= _BLOCK_OF_TAR or _MAY_BE_CONTAINER.match(head) is not None
-
-
 def may_be_container(head: bytes) -> bool:
     """Whether `kind_of` or `unread_kind_of` may know what begins so: a quick test, which says yes too often and never no too often."""
-    return _may_be_known(head) or _MAY_BE_UNREAD.match(head) is not None
+    return len(head) >= _BLOCK_OF_TAR or _MAY_BE_KNOWN.match(head) is not None
 
 
 def kind_of(head: bytes) -> Optional[str]:
@@ -123,7 +120,7 @@ def kind_of(head: bytes) -> Optional[str]:
     >>> kind_of(b'PK\\x03\\x04'), kind_of(b'BZh9'), kind_of(b'N.')
     ('zip', 'bz2', None)
     """
-    if not _may_be_known(head):
+    if len(head) < _BLOCK_OF_TAR and _MAY_BE_OPENED.match(head) is None:
         return None
     if head[:4] in (b'PK\x03\x04', b'PK\x05\x06', b'PK\x06\x06', b'PK\x01\x02', b'PK\x07\x08'):
         return 'zip'

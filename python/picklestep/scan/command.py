@@ -244,7 +244,9 @@ def _scan(words: argparse.Namespace) -> int:
         failed: List[Result] = []
         keys = chain.from_iterable(tasks(server, wanted, failed.append) for server in servers)
         results = _followed_by(_results(words, chain(paths, keys)), failed)
-        with closing(with_progress(results, len(paths) + sum(total_of(server, wanted) for server in servers))) as shown, closing(results):
+        total = len(paths) + sum(total_of(server, wanted) for server in servers)
+        what = 'files' if not servers else 'files and keys' if paths else 'keys'
+        with closing(with_progress(results, total, what)) as shown, closing(results):
             for result in shown:
                 output.add(result)
     except KeyboardInterrupt:

@@ -14,20 +14,20 @@ from .results import Result
 __all__ = ['with_progress']
 
 
-def with_progress(results: Iterable[Result], total: int) -> Generator[Result, None, None]:
-    """The results as they come, with the progress shown on standard error where that is a terminal."""
+def with_progress(results: Iterable[Result], total: int, what: str = 'files') -> Generator[Result, None, None]:
+    """The results as they come, with the progress shown on standard error where that is a terminal: how many of `what` are done."""
     if not sys.stderr.isatty():
         return (result for result in results)
     if sys.stdout.isatty():
-        return _counted(results, total)
+        return _counted(results, total, what)
     try:
         progress, console = import_module('rich.progress'), import_module('rich.console')
     except ImportError:
-        return _counted(results, total)
-    return _with_bar(results, total, progress, console.Console(stderr=True))
+        return _counted(results, total, what)
+    return _with_bar(results, total, what, progress, console.Console(stderr=True))
 
 
-def _counted(results: Iterable[Result], total: int) -> Generator[Result, None, None]:
+def _counted(results: Iterable[Result], total: int, what: str) -> Generator[Result, None, None]:
     done = 0
     try:
         for result in results:
@@ -35,13 +35,13 @@ def _counted(results: Iterable[Result], total: int) -> Generator[Result, None, N
             print('\r\x1b[K', end='', file=sys.stderr, flush=True)
             yield result
             sys.stdout.flush()
-            print(f'\r\x1b[K{done} of {total} files', end='', file=sys.stderr, flush=True)
+            print(f'\r\x1b[K{done} of {total} {what}', end='', file=sys.stderr, flush=True)
     finally:
         print('\r\x1b[K', end='', file=sys.stderr, flush=True)
 
 
-def _with_bar(results: Iterable[Result], total: int, progress: Any, console: Any) -> Generator[Result, None, None]:
-    columns = (progress.TextColumn('{task.completed} of {task.total} files'), progress.BarColumn(), progress.TimeRemainingColumn())
+def _with_bar(results: Iterable[Result], total: int, what: str, progress: Any, console: Any) -> Generator[Result, None, None]:
+    columns = (progress.TextColumn(f'{{task.completed}} of {{task.total}} {what}'), progress.BarColumn(), progress.TimeRemainingColumn())
     with progress.Progress(*columns, console=console, transient=True, redirect_stdout=False) as bar:
         task = bar.add_task('scan', total=total)
         for result in results:

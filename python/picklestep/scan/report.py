@@ -141,7 +141,8 @@ class Report:
             told.append(f'{count_of(len(self.servers), "server")} with {count_of(counts["keys"], "key")}')
         told.append(f'{count_of(counts["pickles"], "pickle")} in {counts["files with pickles"] + sum(self.servers.values())} of them')
         if counts['others']:
-            told.append(f'{count_of(counts["others"], "file or member", "files or members")} of other forms: {told_forms(self.forms.items())}')
+            forms = told_forms(self.forms.items())
+            told.append(f'{count_of(counts["others"], "file or member", "files or members")} of other forms{": " if forms else ""}{forms}')
         for key, *words in (('not-read', 'pickle not read to a STOP', 'pickles not read to a STOP'),
                             ('not-looked-at', 'file not looked at whole', 'files not looked at whole'),
                             ('cannot-be-read', 'file that cannot be read', 'files that cannot be read'), ('skipped', 'skipped', 'skipped'),

@@ -47,15 +47,30 @@ def decoded(content: bytes) -> Iterator[Tuple[int, str, bytes]]:
         return
     if b'\\' in content:
         content = _ESCAPE.sub(_unescaped, content)
+    inside = _Ahead(match.start() for match in _INSIDE.finditer(content))
     for run in _RUN.finditer(content):
-        text = run[0]
+        text, at = run[0], run.start()
         if _HEXADECIMAL.fullmatch(text):
             inner = binascii.unhexlify(text[:len(text) // 2 * 2])
             if _may_hold(inner):
-                yield run.start(), 'hexadecimal', inner
-        for start, inner in _base64(text):
+                yield at, 'hexadecimal', inner
+        for start, inner in _base64(text, inside.is_between(at, run.end())):
             if _may_hold(inner):
-                yield run.start() + start, 'base64', inner
+                yield at + start, 'base64', inner
+
+
+class _Ahead:
+    """Places that come one after another."""
+
+    def __init__(self, places: Iterator[int]) -> None:
+        self._places = places
+        self._next = next(places, -1)
+
+    def is_between(self, start: int, end: int) -> bool:
+        """Whether one is behind `start` and before `end`. Each is asked for further on than the one before."""
+        while 0 <= self._next <= start:
+            self._next = next(self._places, -1)
+        return start < self._next < end
 
 
 def _may_hold(inner: bytes) -> bool:
@@ -76,11 +91,11 @@ def _unescaped(match: 're.Match[bytes]') -> bytes:
     return _ESCAPED.get(match[2], match[2])
 
 
-def _base64(text: bytes) -> List[Tuple[int, bytes]]:
+def _base64(text: bytes, has_inside: bool) -> List[Tuple[int, bytes]]:
     """What a run is as base64, from its beginning and from places inside at which something known begins."""
     plain = text.translate(_STANDARD, b'\r\n')
     starts = [0]
-    if len(plain) == len(text) and _INSIDE.search(plain, 1):  # (elsewhere places would not be those of the run)
+    if has_inside and len(plain) == len(text):  # (elsewhere places would not be those of the run)
         starts.extend(match.start() for _, match in zip(range(_MOST_INSIDE), _INSIDE.finditer(plain, 1)))
     found = []
     for start in starts:

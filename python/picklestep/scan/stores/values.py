@@ -440,11 +440,15 @@ class Values:
         elif each.guessed and not _names_something(answer):
             return
         elif answer.is_sure or answer.end.is_stopped or answer.trouble is not None:
-            self.looker.pickles.append(answer.pickle(each.where, len(each.content)))
+            pickle = answer.pickle(each.where, len(each.content))
+            # (Names that are no plain ones are no picklers': whether the rest has their form is told, as of a file.)
+            if each.guessed or all(_PLAIN.fullmatch(found.name) for found in pickle.imports) or not self._is_kept(each):
+                self.looker.pickles.append(pickle)
             self._found.add(each.value)
-        elif not each.guessed or walk(each.content, 0).is_called:
+        elif (not each.guessed or walk(each.content, 0).is_called) and self._is_kept(each):
             # The program refused it before an import. What a loader makes of it is asked as it is for a file.
-            before = len(self.looker.pickles)
-            self.looker.is_read(BytesBlob(each.content), each.content[:HEAD], each.where, ())
-            if len(self.looker.pickles) > before:
-                self._found.add(each.value)
+            self._found.add(each.value)
+
+    def _is_kept(self, each: _Waiting) -> bool:
+        """Asks about a value alone, as about a file. Answers whether it is a pickle."""
+        return self.looker.is_read(BytesBlob(each.content), each.content[:HEAD], each.where, ())

@@ -1,0 +1,10 @@
+-- Lemmas of the laws.
+pub mod Readings
+pub mod Answers
+pub mod Transcripts
+pub mod Saves
+pub mod Shown
+pub mod Lacks
+pub mod Pieces
+pub mod Texts
+pub mod Says

@@ -1,0 +1,30 @@
+-- What an edit leaves of the lines of the items before its place.
+-- Source: own. The edit may change the number of the one FRAME that is open at its place: its line in a listing shows another number then,
+-- and no other line does.
+use Rattle.std.specs.Prelude.{◌≡◌, ◌<◌, ◌≤◌, ℕ, List, Option, Some}
+use Rattle.std.specs.Option.{option_map}
+use Rattle.pickle_ops.specs.Spelling.{Operation}
+use Rattle.pickle_doc.specs.Alike.{AreAlike}
+use Rattle.pickle_doc.specs.Document.{Contents}
+use Rattle.pickle_doc.specs.Place.{item_at, offset_of}
+use Rattle.pickle_machine.specs.State.{State}
+use Rattle.pickle_session.specs.Session.{state_at}
+use Rattle.pickle_show.specs.Calls.{entry_at}
+use Rattle.pickle_show.specs.Listing.{line_at}
+use Rattle.pickle_show.specs.ObjectText.{objects_text}
+
+-- the lines of the objects that the items before a place make, as they are there
+abbrev pub objects_at : Contents → ℕ → Option (List ℕ)
+objects_at d k = option_map (λ (s : State). objects_text s.heap) (state_at d k)
+
+-- before this place two documents show the same
+pub record ShowSame (k : ℕ) (d e : Contents) : Type 0 where
+  -- the same item at each place, or two FRAMEs, and each begins at the same offset
+  pub items : (i : ℕ) (o : Operation) → i < k → item_at d i ≡ Some o → (p : Operation) × (item_at e i ≡ Some p) × AreAlike o p
+  pub offsets : (i : ℕ) → i ≤ k → offset_of e i ≡ offset_of d i
+  -- `list`: the line of each item that is the same
+  pub listed : (i : ℕ) → i < k → item_at e i ≡ item_at d i → line_at e i ≡ line_at d i
+  -- `objects`, where the run has come to a place
+  pub objects : (i : ℕ) → i ≤ k → objects_at e i ≡ objects_at d i
+  -- `calls`: what each item comes to
+  pub called : (i : ℕ) → i < k → entry_at e i ≡ entry_at d i

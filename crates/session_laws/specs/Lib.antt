@@ -1,0 +1,5 @@
+-- The definitions that contracts cite.
+pub mod Transcripts
+pub mod Saved
+pub mod Edits
+pub mod Lines

@@ -1,0 +1,62 @@
+//! Laws of sessions and of what they show. The functions without arguments do nothing: what they ensure is the law.
+
+ghost use Rattle.std.specs.Prelude.{◌≡◌, None, OnOk};
+ghost use Rattle.pickle_doc.specs.Edit.{edit_fault, edit_place};
+ghost use Rattle.session_laws.specs.Edits.{ShowSame};
+ghost use Rattle.session_laws.specs.Lines.{PiecesAreLines, TextsAreLines, ItemLineSays, ObjectLineSays};
+ghost use Rattle.session_laws.specs.Saved.{IsSavedWhole};
+ghost use Rattle.session_laws.specs.Transcripts.{OneTranscript, OneOpening};
+
+use pickle_doc::{Document, Edit, EditRecord, one_document};
+use pickle_ops::Op;
+use pickle_session::{Past, Session};
+use std::alloc::AllocError;
+
+/// Lines of a script are answered alike whatever is kept of the past, all of it, a window or nothing, unless memory runs out.
+pub fn one_transcript()
+    ensures { OneTranscript }
+{}
+
+/// The same bytes are opened as the same session.
+pub fn one_opening()
+    ensures { OneOpening }
+{
+    one_document();
+}
+
+/// The bytes that a session saves read as its document. Opened, they give the same machine at the same place.
+pub fn saved_whole<P: Past>(session: &Session<P>)
+    ensures { IsSavedWhole session.now }
+{
+    let _total = session.document().total();
+    let _machine = session.machine();
+}
+
+/// Makes an edit that is not refused, as `Document::apply` does. What is shown of the items before its place is what was shown of them.
+pub fn edit_and_lines(document: &mut Document, edit: Edit<Op>) -> Result<EditRecord, AllocError>
+    requires { edit_fault edit document.old.contents ≡ None }
+    ensures { OnOk result (ShowSame (edit_place edit) document.old.contents document.new.contents) }
+{
+    let _total = document.total();
+    document.apply(edit)
+}
+
+/// Each line of a listing and of a report is one line of its text, whatever names and texts the pickle has.
+pub fn pieces_are_lines()
+    ensures { PiecesAreLines }
+{}
+
+/// A listing and a report are lines, each with its newline, and nothing else. So they are cut into lines in one way, as all bytes are.
+pub fn texts_are_lines()
+    ensures { TextsAreLines }
+{}
+
+/// Of two opcodes with the same line in a listing the opcode is the same, and so is the offset.
+pub fn item_line_says()
+    ensures { ItemLineSays }
+{}
+
+/// The line of an object says which object it is.
+pub fn object_line_says()
+    ensures { ObjectLineSays }
+{}
