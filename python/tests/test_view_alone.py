@@ -138,8 +138,11 @@ class Alone(unittest.TestCase):
             document.close()
 
     def compare(self, paths: List[Path]) -> None:
+        """Drives both pages over pickles, in a small window: fewer rows are drawn."""
+        self.browser.size(900, 500)
         wanted = [self.with_server(path) for path in paths]
         self.load()
+        self.browser.size(900, 500)
         for path, seen in zip(paths, wanted):
             self.give(path)
             for at, (here, there) in enumerate(zip(self.drive(), seen)):
@@ -150,7 +153,7 @@ class Alone(unittest.TestCase):
         """Compares what two pages show. One has a bar more, and so some rows less: those count that both show."""
         rows, others = here.pop('rows'), there.pop('rows')
         both = rows.keys() & others.keys()
-        self.assertGreaterEqual(len(both), min(15, len(others)), what)
+        self.assertGreaterEqual(len(both), min(8, len(others)), what)
         for part in both:
             self.assertEqual(rows[part], others[part], f'{what}: row {part}')
         for part, shown in there.items():
