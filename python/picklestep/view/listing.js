@@ -19,6 +19,7 @@ function scroll(top, fromRail) {
 }
 
 function select(place) {
+  if (!view.state) return; // (another pickle is being opened)
   view.selected = Math.min(Math.max(0, place), Math.max(0, view.state.places - 1));
   if (view.selected < view.top + 1) scroll(view.selected - Math.min(2, seen() - 1));
   else if (view.selected > view.top + seen() - 2) scroll(view.selected - seen() + 3);
@@ -105,7 +106,7 @@ async function fetchChunk(chunk) {
   view.waiting.add(key);
   const answer = await ask('lines', { start: chunk * CHUNK, count: CHUNK });
   view.waiting.delete(key);
-  if (answer.lines && answer.version === view.state.version && state.breaks === view.state.breaks) {
+  if (answer.lines && view.state && answer.version === view.state.version && state.breaks === view.state.breaks) {
     if (view.chunks.size > 100) view.chunks.clear();
     view.chunks.set(chunk, answer.lines);
   }
