@@ -54,11 +54,12 @@ function row() {
   for (const name of ['gutter', 'pointer', 'offset', 'code', 'name', 'argument']) made.append(element('span', name));
   made.lastChild.append(element('span', 'value'), element('span', 'reach'));
   made.addEventListener('mousedown', (event) => {
+    if (!view.state) return;
     const place = Number(made.dataset.place);
     if (event.target.matches('.gutter, .offset')) toggle(place);
     else if (place < view.state.places) select(place);
   });
-  made.addEventListener('dblclick', (event) => { if (!event.target.matches('.gutter, .offset')) go(Number(made.dataset.place)); });
+  made.addEventListener('dblclick', (event) => { if (view.state && !event.target.matches('.gutter, .offset')) go(Number(made.dataset.place)); });
   return made;
 }
 
