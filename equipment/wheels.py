@@ -30,8 +30,12 @@ print(library.answer(['calls'], hostile) is not None, place.find_program().rpart
 SAID = "[\"import 'posix' 'system' as #0\", \"call 'posix' 'system' ('id') as #3\"] GLOBAL 0\nTrue 1 1\n"
 # The tests that are of the package and not of Linux, and that end in minutes though each start of Node takes a third of a second.
 OVER_NODE = (
-    "test_answers.Arguments",
-    "test_runs.Sources",
+    "test_answers.Listings",
+    "test_runs.CommandLine",
+    "test_runs.Errors",
+    "test_sessions.Edits",
+    "test_sessions.Notebooks",
+    "test_sessions.Threads",
 )
 SECONDS = 900
 
