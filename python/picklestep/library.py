@@ -29,7 +29,7 @@ _ROOM = 1 << 16
 
 _DONE, _NO_ROOM = 0, 3
 
-# The functions for the words of the program, and what comes before their other arguments.
+# The functions for the words of the program, and what comes before their other arguments. With other words the program is asked.
 WORDS: Dict[Tuple[str, ...], Tuple[str, Tuple[bool, ...]]] = {
     ('list',): ('picklestep_list', (False,)),
     ('list', '--many'): ('picklestep_list', (True,)),
@@ -106,7 +106,7 @@ def answer(words: Sequence[str], content: bytes, memory: Optional[int] = None) -
     if len(content) > MOST_BYTES:
         return None
     most = _MOST_MEMORY if memory is None else min(_MOST_MEMORY, memory - _OF_PROGRAM)
-    if most <= 0 or tuple(words) not in _FUNCTIONS:
+    if most <= 0 or tuple(words) not in WORDS:
         return None
     library = _library(os.environ.get('PICKLESTEP_PROGRAM'), place._HERE)
     return None if library is None else library.answer(words, content, most)

@@ -7,7 +7,7 @@ from typing import Any, Dict, Iterator, List
 
 __all__ = ['faults']
 
-_TYPES = {'object': dict, 'array': list, 'string': str, 'integer': int, 'number': (int, float), 'boolean': bool}
+_TYPES: Dict[str, Any] = {'object': dict, 'array': list, 'string': str, 'integer': int, 'number': (int, float), 'boolean': bool}
 # (What `format` says is a note, as in a validator that is not told to check it.)
 _KEYWORDS = {'$schema', '$comment', 'type', 'required', 'additionalProperties', 'properties', 'minimum', 'items', 'format', 'anyOf', 'enum',
              'uniqueItems', 'pattern', 'minItems'}

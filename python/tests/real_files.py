@@ -4,7 +4,8 @@
     real_files.py --keep            writes those of each library that is installed into data/real, as an archive
 
 Each library's writer is a function of its name here. `test_sets` looks at what they write, and at what is kept, so that it needs no
-library; each writes ten files or more. Numbers at random have a seed, and the clock stands still, so that the files are the same again.
+library; each writes ten files or more. Numbers at random have a seed, and the clock stands still, so that the files are the same again (but
+for scipy's UnivariateSpline, which keeps memory that nothing was written to).
 """
 
 from __future__ import annotations

@@ -62,9 +62,7 @@ def memcached_vanishes(url: str) -> List[Dict[str, Any]]:
 
     def between(number: int) -> None:
         if not number:
-            evil = client.get('evil')
-            client.flush_all()
-            client.set('evil', evil)
+            client.delete_many([f'key{each}' for each in range(1_000)])
     return looked(url, between)
 
 

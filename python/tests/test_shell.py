@@ -16,7 +16,7 @@ from typing import Iterator, List, Tuple
 
 import picklestep
 from picklestep.shell.complete import completions
-from picklestep.shell.explain import EXPLAINED
+from picklestep.shell.explain import EFFECTS, EXPLAINED
 from picklestep.shell.shell import Shell, WordError
 from picklestep.shell.words import SAMPLE, WORDS
 from pickles import ROOT, real_pickles
@@ -134,6 +134,13 @@ class Words(unittest.TestCase):
     def test_explained_are_the_opcodes(self) -> None:
         self.assertEqual(set(EXPLAINED), {opcode.name for opcode in pickletools.opcodes})
         self.assertEqual(len(set(EXPLAINED.values())), len(EXPLAINED))
+
+    def test_what_opcodes_take_and_leave(self) -> None:
+        """As much as `pickletools` says, which takes what is only looked at for nothing."""
+        for opcode in pickletools.opcodes:
+            found = tuple(len(words.split(', ')) if words else 0 for words in EFFECTS[opcode.name])
+            wanted = (1, 1) if opcode.name.endswith('PUT') else (len(opcode.stack_before), len(opcode.stack_after))
+            self.assertEqual(found, wanted, opcode.name)
 
     def place(self, shell: Shell) -> int:
         return shell.pickle.session.where().place

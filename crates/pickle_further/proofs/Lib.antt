@@ -7,3 +7,4 @@ pub mod Documents
 pub mod Kept
 pub mod Behind
 pub mod Searches
+pub mod PartLines

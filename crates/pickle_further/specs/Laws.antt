@@ -1,5 +1,5 @@
 -- What the text of `calls` promises whoever reads it, behind the end of the lines too.
-use Rattle.std.specs.Prelude.{◌≡◌, ℕ, ◌<◌, ◌++◌, true, List, slice_get, Some, None}
+use Rattle.std.specs.Prelude.{◌≡◌, ℕ, suc, ◌<◌, ◌++◌, true, List, [], length, slice_get, Option, Some, None, is_some}
 use Rattle.pickle_ops.specs.Kind.{is_opaque}
 use Rattle.pickle_ops.specs.Object.{Object}
 use Rattle.pickle_doc.specs.Document.{Contents}
@@ -7,7 +7,8 @@ use Rattle.pickle_show.specs.declared.naming.Detail.{Detail}
 use Rattle.pickle_show.specs.Calls.{calls}
 use Rattle.pickle_further.specs.declared.way.Pickles.{Pickles}
 use Rattle.pickle_further.specs.declared.way.Way.{Way}
-use Rattle.pickle_further.specs.Going.{Standing, going}
+use Rattle.pickle_further.specs.declared.seek.Sought.TheVariants as sought
+use Rattle.pickle_further.specs.Going.{Standing, going, tale, search_from}
 use Rattle.pickle_further.specs.CallsText.{document_calls}
 
 -- the text up to the end of the lines is the beginning of the whole, and the status is its status
@@ -19,3 +20,12 @@ LinesComeFirst = (how : Detail) (p : Pickles) (d : Contents)
 abbrev pub NoLineNoReachBehind : Type 0
 NoLineNoReachBehind = (w : Way) (p : Standing) → 0 < (going w p).gone.size → (going w p).gone.event ≡ None
     → (id : ℕ) (o : Object) → slice_get (going w p).state.heap id ≡ Some o → is_opaque o.kind ≡ true → slice_get p.state.heap id ≡ Some o
+
+-- of at most n items from here on, the lines are those from the first item with an event on; where there is none, there are no lines
+abbrev pub BeginsAtLine : ℕ → Way → Standing → Option Standing → Type 0
+BeginsAtLine n w p (Some q) = (is_some (going w q).gone.event ≡ true) × ((k : ℕ) × (tale n w p ≡ tale (suc k) w q))
+BeginsAtLine n w p None = (tale n w p).lines.text ≡ []
+
+-- a part begins at the first item with a line, and what it passes over has none
+abbrev pub PartsBeginAtLines : Type 0
+PartsBeginAtLines = (w : Way) (p : Standing) → BeginsAtLine (suc (length p.rest)) w p (search_from sought.Event w p)

@@ -1,6 +1,6 @@
 //! Laws of the definitions. The functions do nothing: what they ensure holds of all documents.
 
-ghost use Rattle.pickle_further.specs.Laws.{LinesComeFirst, NoLineNoReachBehind};
+ghost use Rattle.pickle_further.specs.Laws.{LinesComeFirst, NoLineNoReachBehind, PartsBeginAtLines};
 
 /// What is said up to the end of the lines is said first, whatever comes behind it, and the status is that of these lines.
 pub fn lines_come_first()
@@ -11,4 +11,9 @@ pub fn lines_come_first()
 /// it was.
 pub fn no_line_no_reach_behind()
     ensures { NoLineNoReachBehind }
+{}
+
+/// Under a heading the lines begin with the first item that has one, and what is passed over before it has none.
+pub fn parts_begin_at_lines()
+    ensures { PartsBeginAtLines }
 {}

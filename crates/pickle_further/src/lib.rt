@@ -14,6 +14,6 @@ mod seek;
 mod texts;
 mod way;
 
-pub use laws::{lines_come_first, no_line_no_reach_behind};
+pub use laws::{lines_come_first, no_line_no_reach_behind, parts_begin_at_lines};
 pub use texts::calls;
 pub use way::Pickles;

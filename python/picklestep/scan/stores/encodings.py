@@ -12,7 +12,10 @@ from .framed import may_be_framed
 __all__ = ['decoded', 'prefixes']
 
 # A run of signs that may be base64 (in either alphabet) or hexadecimal, also over several lines.
-_RUN = re.compile(rb'[A-Za-z0-9+/_-]{12,}(?:\r?\n[A-Za-z0-9+/_-]+)*')
+_LEAST_RUN = 12
+_RUN = re.compile(rb'[A-Za-z0-9+/_-]{%d,}(?:\r?\n[A-Za-z0-9+/_-]+)*' % _LEAST_RUN)
+# All other signs are blanks.
+_WORDS = bytes(each if chr(each).isalnum() and each < 128 or each in b'+/_-' else 32 for each in range(256))
 # Where base64 that begins inside a run gives PROTO, or the beginning of zlib and gzip.
 _INSIDE = re.compile(rb'gA[I-X]|eJ[wxyz0-3]|eNo|eN[p-r]|eA[EF]|H4sI')
 _HEXADECIMAL = re.compile(rb'[0-9a-fA-F]+')
@@ -47,30 +50,29 @@ def decoded(content: bytes) -> Iterator[Tuple[int, str, bytes]]:
         return
     if b'\\' in content:
         content = _ESCAPE.sub(_unescaped, content)
-    inside = _Ahead(match.start() for match in _INSIDE.finditer(content))
     for run in _RUN.finditer(content):
         text, at = run[0], run.start()
         if _HEXADECIMAL.fullmatch(text):
             inner = binascii.unhexlify(text[:len(text) // 2 * 2])
             if _may_hold(inner):
                 yield at, 'hexadecimal', inner
-        for start, inner in _base64(text, inside.is_between(at, run.end())):
+        for start, inner in _base64(text):
             if _may_hold(inner):
                 yield at + start, 'base64', inner
 
 
-class _Ahead:
-    """Places that come one after another."""
-
-    def __init__(self, places: Iterator[int]) -> None:
-        self._places = places
-        self._next = next(places, -1)
-
-    def is_between(self, start: int, end: int) -> bool:
-        """Whether one is behind `start` and before `end`. Each is asked for further on than the one before."""
-        while 0 <= self._next <= start:
-            self._next = next(self._places, -1)
-        return start < self._next < end
+def _runs(content: bytes) -> Iterator[Tuple[int, bytes]]:
+    """Where runs begin, and the runs. In one line they are words: to split these is quicker than to search for long ones."""
+    if b'\n' in content:
+        for run in _RUN.finditer(content):
+            yield run.start(), run[0]
+        return
+    at = 0
+    for word in content.translate(_WORDS).split():
+        if len(word) >= _LEAST_RUN:
+            at = content.index(word, at)
+            yield at, word
+            at += len(word)
 
 
 def _may_hold(inner: bytes) -> bool:
@@ -91,11 +93,11 @@ def _unescaped(match: 're.Match[bytes]') -> bytes:
     return _ESCAPED.get(match[2], match[2])
 
 
-def _base64(text: bytes, has_inside: bool) -> List[Tuple[int, bytes]]:
+def _base64(text: bytes) -> List[Tuple[int, bytes]]:
     """What a run is as base64, from its beginning and from places inside at which something known begins."""
     plain = text.translate(_STANDARD, b'\r\n')
     starts = [0]
-    if has_inside and len(plain) == len(text):  # (elsewhere places would not be those of the run)
+    if len(plain) == len(text) and _INSIDE.search(plain, 1):  # (elsewhere places would not be those of the run)
         starts.extend(match.start() for _, match in zip(range(_MOST_INSIDE), _INSIDE.finditer(plain, 1)))
     found = []
     for start in starts:

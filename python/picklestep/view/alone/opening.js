@@ -75,11 +75,12 @@ async function openBytes(bytes, name, isPickle, story) {
   await loaded(() => command('load', { bytes, name, isPickle: Boolean(isPickle) }), story);
 }
 
-// Shows what was opened: a pickle from its start, or the members of a container.
+// Shows what was opened: a pickle from its start, or the members of a container. What was there before stays where nothing is opened.
 async function loaded(load, story) {
-  view.state = null;
-  view.story = story || null;
+  const before = [view.state, view.story];
+  [view.state, view.story] = [null, story || null];
   const answer = await load();
+  if (answer.members || answer.failed) [view.state, view.story] = before;
   if (answer.members) showMembers(answer);
   else if (!answer.failed) { by('save-name').value = ''; by('listing').focus(); }
 }
