@@ -5,6 +5,9 @@ import { setFlagsFromString } from 'node:v8';
 
 // Node 20 breaks in the fast calls of its WASI after a longer run.
 try { setFlagsFromString('--no-turbo-fast-api-calls'); } catch { /* another Node has no such flag */ }
+// A limit of memory in bytes, for the module alone.
+const most = Number(process.env.PICKLESTEP_MEMORY);
+if (most > 0) setFlagsFromString(`--wasm-max-mem-pages=${Math.floor(most / 65536)}`);
 const warn = process.emitWarning;
 process.emitWarning = () => {};
 const { WASI } = await import('node:wasi');
@@ -23,4 +26,11 @@ const wasi = new WASI({
     returnOnExit: true,
 });
 const module = new WebAssembly.Module(readFileSync(new URL('picklestep.wasm', import.meta.url)));
-process.exitCode = wasi.start(new WebAssembly.Instance(module, wasi.getImportObject()));
+try {
+    process.exitCode = wasi.start(new WebAssembly.Instance(module, wasi.getImportObject()));
+} catch (error) {
+    // The module's own memory is above the limit.
+    if (!(error instanceof RangeError)) throw error;
+    console.error('picklestep: out of memory');
+    process.exitCode = 2;
+}

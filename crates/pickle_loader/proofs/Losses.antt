@@ -2,6 +2,7 @@
 use Rattle.std.proofs.Common.{◌≡◌, ℕ, zero, suc, Bool, true, false, Option, Some, None, refl, sym, ap, ◌∙◌, arith}
 use Rattle.std.specs.Prelude.{is_some, if◌then◌else◌}
 use Rattle.pickle_show.specs.declared.report.Closing.{Closing}
+use Rattle.pickle_further.specs.declared.seek.Sought.TheVariants as sought
 use Rattle.pickle_further.specs.declared.way.Way.{Way}
 use Rattle.pickle_further.specs.Going.{Standing, going, stands_after, search}
 use Rattle.pickle_loader.specs.Onward.{stands_behind, stands_on, stands, NoneLost, IsFound, LossIsFound}
@@ -51,4 +52,4 @@ pub loss_is_found : LossIsFound
 unfolding search
 loss_is_found zero w p = λ j q less e. absurd (omega (arith, less))
 loss_is_found (suc n) w p =
-    found_on w p n (going w p).gone.lost (going w p).gone.closing (search n w (stands_after p (going w p))) refl refl (loss_is_found n w (stands_after p (going w p)))
+    found_on w p n (going w p).gone.lost (going w p).gone.closing (search sought.Lost n w (stands_after p (going w p))) refl refl (loss_is_found n w (stands_after p (going w p)))

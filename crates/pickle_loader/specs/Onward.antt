@@ -15,6 +15,7 @@ use Rattle.pickle_machine.specs.Run.{run}
 use Rattle.pickle_lenient.specs.declared.taken.Taken.{Taken}
 use Rattle.pickle_lenient.specs.Stream.{taken}
 use Rattle.pickle_show.specs.declared.naming.Detail.TheVariants as detail
+use Rattle.pickle_further.specs.declared.seek.Sought.TheVariants as sought
 use Rattle.pickle_further.specs.declared.way.Pickles.{Pickles}
 use Rattle.pickle_further.specs.declared.way.Pickles.TheVariants as pickles
 use Rattle.pickle_further.specs.declared.way.Way.{Way}
@@ -169,4 +170,4 @@ IsFound way p n (Some q) = (k : ℕ) × (stands way p k ≡ Some q) × NoneLost 
 
 -- from where the part of the reading with a buffer is shown
 abbrev pub LossIsFound : Type 0
-LossIsFound = (n : ℕ) (way : Way) (p : Standing) → IsFound way p n (search n way p)
+LossIsFound = (n : ℕ) (way : Way) (p : Standing) → IsFound way p n (search sought.Lost n way p)

@@ -124,7 +124,7 @@ class Budget:
         self.unpacked += count
         if self.unpacked > self.limits.unpacked:
             raise LimitMet(f'more than {self.limits.unpacked:,} bytes are unpacked: the rest of the file is not looked at')
-        self.spend()
+        self.count(STEPS_OF_A_MEMBER + count * STEPS // CHUNK)
 
     def look(self, count: int) -> None:
         """Counts bytes that are looked at. Those of the file and the unpacked ones may be once; members that share bytes need more."""

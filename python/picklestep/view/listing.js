@@ -19,6 +19,7 @@ function scroll(top, fromRail) {
 }
 
 function select(place) {
+  if (!view.state) return; // (another pickle is being opened)
   view.selected = Math.min(Math.max(0, place), Math.max(0, view.state.places - 1));
   if (view.selected < view.top + 1) scroll(view.selected - Math.min(2, seen() - 1));
   else if (view.selected > view.top + seen() - 2) scroll(view.selected - seen() + 3);
@@ -53,11 +54,12 @@ function row() {
   for (const name of ['gutter', 'pointer', 'offset', 'code', 'name', 'argument']) made.append(element('span', name));
   made.lastChild.append(element('span', 'value'), element('span', 'reach'));
   made.addEventListener('mousedown', (event) => {
+    if (!view.state) return;
     const place = Number(made.dataset.place);
     if (event.target.matches('.gutter, .offset')) toggle(place);
     else if (place < view.state.places) select(place);
   });
-  made.addEventListener('dblclick', (event) => { if (!event.target.matches('.gutter, .offset')) go(Number(made.dataset.place)); });
+  made.addEventListener('dblclick', (event) => { if (view.state && !event.target.matches('.gutter, .offset')) go(Number(made.dataset.place)); });
   return made;
 }
 
@@ -105,7 +107,7 @@ async function fetchChunk(chunk) {
   view.waiting.add(key);
   const answer = await ask('lines', { start: chunk * CHUNK, count: CHUNK });
   view.waiting.delete(key);
-  if (answer.lines && answer.version === view.state.version && state.breaks === view.state.breaks) {
+  if (answer.lines && view.state && answer.version === view.state.version && state.breaks === view.state.breaks) {
     if (view.chunks.size > 100) view.chunks.clear();
     view.chunks.set(chunk, answer.lines);
   }

@@ -16,6 +16,7 @@ async function slowStep(what) {
   if (view.pending) return;
   const before = stackRows();
   await move(what);
+  if (!view.state) return; // (another pickle is being opened)
   const after = stackRows();
   let kept = 0; // (how many rows from the bottom are the same)
   while (kept < Math.min(before.length, after.length) && before.at(-1 - kept).word === after.at(-1 - kept).word) kept += 1;

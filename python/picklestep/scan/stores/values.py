@@ -38,7 +38,7 @@ _MOST_TIMES = 100
 _STEPS_OF_A_VALUE = 64
 
 # The time is looked at after so many values that take little.
-_QUICK_ONES = 512
+_QUICK_ONES = 4096
 
 # Values up to this size are kept in mind, up to so many, where nothing is in them: a column often has the same few again and again.
 _SHORT = 64

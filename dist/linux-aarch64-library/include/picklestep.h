@@ -1,0 +1,63 @@
+/* libpicklestep: shows what a Python pickle would import, call and build. It calls and imports nothing of it.
+ *
+ * Each function reads an input of `length` bytes and puts a text at the start of `out`, which has `room` bytes. The text is, byte for byte,
+ * what the program prints for the same task; the proofs of the program hold for it, up to the bytes in `out`. A text is ASCII, and no NUL
+ * byte ends it. Nothing else is read or written, nothing is kept between calls, and threads may call at once.
+ *
+ * No pointer may be NULL, also where a length is 0, and `out` and `written` may not overlap each other or what is read. Nobody may change what
+ * is read during a call. The proofs take these for granted.
+ */
+#ifndef PICKLESTEP_H
+#define PICKLESTEP_H
+
+#include <stdbool.h>
+#include <stddef.h>
+#include <stdint.h>
+
+#ifdef __cplusplus
+extern "C" {
+#endif
+
+/* What a function answers. */
+enum {
+    PICKLESTEP_DONE = 0,          /* the whole text is in `out` */
+    PICKLESTEP_OUT_OF_MEMORY = 1, /* memory ran out, or the limit of the thread was met */
+    PICKLESTEP_TOO_LARGE = 2,     /* the input has more than 1,073,741,824 bytes */
+    PICKLESTEP_NO_ROOM = 3        /* the text has no room in `out`: its size is told, so that one can ask again with that much room */
+};
+
+/* What is told of a text, where the answer is PICKLESTEP_DONE or PICKLESTEP_NO_ROOM. */
+typedef struct {
+    size_t size;    /* its bytes */
+    uint8_t status; /* the status of the program: 1 where an opcode or a line is refused or the bytes have a fault, else 0 */
+} picklestep_written;
+
+/* The opcodes of a pickle; with `many`, of several pickles that follow one another (`picklestep list FILE [--many]`). */
+uint8_t picklestep_list(bool many, const uint8_t *bytes, size_t length, uint8_t *out, size_t room, picklestep_written *written);
+
+/* The objects that a pickle makes (`picklestep objects FILE [--many]`). */
+uint8_t picklestep_objects(bool many, const uint8_t *bytes, size_t length, uint8_t *out, size_t room, picklestep_written *written);
+
+/* What pickles that follow one another would import and call (`picklestep calls FILE`). */
+uint8_t picklestep_calls(const uint8_t *bytes, size_t length, uint8_t *out, size_t room, picklestep_written *written);
+
+/* What the first pickle alone would import and call (`picklestep calls FILE --first`). */
+uint8_t picklestep_calls_first(const uint8_t *bytes, size_t length, uint8_t *out, size_t room, picklestep_written *written);
+
+/* The same of pickles that one unpickler reads, which keeps its memo (`picklestep calls FILE --memo kept`). */
+uint8_t picklestep_calls_one_memo(const uint8_t *bytes, size_t length, uint8_t *out, size_t room, picklestep_written *written);
+
+/* The answers of a conversation: those to all lines of a script, of `script_length` bytes, in a session of a pickle, or with `many` of several
+ * (`picklestep debug FILE [--many]`, with the script as its standard input). A conversation that goes on is asked with all lines so far. */
+uint8_t picklestep_debug(bool many, const uint8_t *bytes, size_t length, const uint8_t *script, size_t script_length, uint8_t *out, size_t room,
+                         picklestep_written *written);
+
+/* How many bytes of memory each call on this thread may hold at most from now on, besides `bytes` and `out`; SIZE_MAX, as at first, is no
+ * limit. (The module for WebAssembly has no such function: there the limit is that of its memory.) */
+void picklestep_limit_memory(size_t most);
+
+#ifdef __cplusplus
+}
+#endif
+
+#endif
