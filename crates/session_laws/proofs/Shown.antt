@@ -30,6 +30,7 @@ use Rattle.pickle_show.proofs.Moves.{MarkStep, Stays, IsSet, Goes, move_marks}
 use Rattle.pickle_show.specs.declared.naming.Naming.{Naming}
 use Rattle.pickle_show.specs.Naming.{naming_after}
 use Rattle.pickle_show.specs.Event.{before_of, event_of}
+use Rattle.pickle_show.specs.declared.naming.Detail.{Detail}
 use Rattle.pickle_show.specs.Calls.{entry_at, entry_on, naming_at, naming_on, counted_text}
 use Rattle.pickle_show.specs.Listing.{line_at, line_on, topmost_offset}
 use Rattle.pickle_show.specs.ObjectText.{objects_text}
@@ -151,11 +152,11 @@ naming_alike (Some o) None s m a = absurd a
 naming_alike (Some o) (Some p) None m a = refl
 naming_alike (Some o) (Some p) (Some t) m a = ap (λ (r : Row). naming_after r (length t.heap) m) (same_row o p a)
 
-same_naming : (d e : Contents) (k n : ℕ) → n ≤ k → e.many ≡ d.many → AgreeOps k d e → naming_at e n ≡ naming_at d n
-same_naming d e k zero h m a = refl
-same_naming d e k (suc n) h m a =
-    ap₂ (naming_on (item_at e n)) (same_state d e k (suc n) h m a) (same_naming d e k n (omega (arith, h)) m a)
-    ∙ naming_alike (item_at d n) (item_at e n) (state_at d (suc n)) (naming_at d n) (a n (omega (arith, h)))
+same_naming : (how : Detail) (d e : Contents) (k n : ℕ) → n ≤ k → e.many ≡ d.many → AgreeOps k d e → naming_at how e n ≡ naming_at how d n
+same_naming how d e k zero h m a = refl
+same_naming how d e k (suc n) h m a =
+    ap₂ (naming_on (item_at e n)) (same_state d e k (suc n) h m a) (same_naming how d e k n (omega (arith, h)) m a)
+    ∙ naming_alike (item_at d n) (item_at e n) (state_at d (suc n)) (naming_at how d n) (a n (omega (arith, h)))
 
 entry_alike : (offset : ℕ) (m : Naming) (x y : Option Operation) (s t : Option State) → AreAlikeAt x y → entry_on offset m y s t ≡ entry_on offset m x s t
 entry_alike offset m None None s t a = refl
@@ -166,11 +167,11 @@ entry_alike offset m (Some o) (Some p) (Some s) None a = refl
 entry_alike offset m (Some o) (Some p) (Some s) (Some t) a =
     ap (λ (r : Row). counted_text offset m t.heap (event_of r (before_of (fresh s)) t)) (same_row o p a)
 
-called : (k i : ℕ) (d e : Contents) → i < k → e.many ≡ d.many → AgreeOps k d e → SameOffsets k d e → entry_at e i ≡ entry_at d i
+called : (how : Detail) (k i : ℕ) (d e : Contents) → i < k → e.many ≡ d.many → AgreeOps k d e → SameOffsets k d e → entry_at how e i ≡ entry_at how d i
 unfolding entry_at
-called k i d e h m a offsets =
-    rw (offsets i (omega (arith, h)), same_naming d e k i (omega (arith, h)) m a, same_state d e k i (omega (arith, h)) m a, same_state d e k (suc i) (omega (arith, h)) m a)
-    (entry_alike (offset_of d i) (naming_at d i) (item_at d i) (item_at e i) (state_at d i) (state_at d (suc i)) (a i h))
+called how k i d e h m a offsets =
+    rw (offsets i (omega (arith, h)), same_naming how d e k i (omega (arith, h)) m a, same_state d e k i (omega (arith, h)) m a, same_state d e k (suc i) (omega (arith, h)) m a)
+    (entry_alike (offset_of d i) (naming_at how d i) (item_at d i) (item_at e i) (state_at d i) (state_at d (suc i)) (a i h))
 
 -- ---- all of it
 
@@ -188,7 +189,7 @@ show_same k d e m a offsets = record {
   offsets = offsets;
   listed = λ i h same. listed k i d e h m a offsets same;
   objects = λ i h. ap (option_map (λ (s : State). objects_text s.heap)) (same_state d e k i h m a);
-  called = λ i h. called k i d e h m a offsets;
+  called = λ how i h. called how k i d e h m a offsets;
 }
 
 -- ---- an edit
