@@ -31,7 +31,7 @@ const FILLED: Row = (
 const FULL: Row = (
     Pickles::First,
     Detail::Full,
-    FILLED.2,
+    b"(im\nn\n(VaaaaaaaaaabbbbbbbbbbccccccccccddddddddddeeeeeeeeeeffffffffffGGGGGGGG\nNtbNa(NNu(N\x900R",
     "    1: inst 'm' 'n' () as #0\n   79: state ('aaaaaaaaaabbbbbbbbbbccccccccccddddddddddeeeeeeeeeeffffffffffGGGGGGGG', none) to #0\n   81: append 1 to #0\n   85: set 1 in #0\n   88: add 1 to #0\n1 imports, 5 calls\nrefused: item 17: S2 stack underflow\n",
     1,
 );
