@@ -23,7 +23,8 @@ _UNREAD = {
     b'\x28\xb5\x2f\xfd': 'zstd', b'\x04\x22\x4d\x18': 'lz4', b'\x02\x21\x4c\x18': 'lz4', b'7z\xbc\xaf\x27\x1c': '7z', b'Rar!\x1a\x07': 'rar',
     b'LZIP': 'lzip', b'BLOSC': 'blosc', b'ARROW1': 'Arrow', b'PAR1': 'Parquet', b'PGDMP': 'pg_dump', b'TDB file\n': 'tdb',
     b'\x61\x15\x06\0': 'dbm of BSD', b'\0\x06\x15\x61': 'dbm of BSD', b'\x37\x7f\x06\x82': 'write-ahead log of SQLite',
-    b'\x37\x7f\x06\x83': 'write-ahead log of SQLite',
+    b'\x37\x7f\x06\x83': 'write-ahead log of SQLite', b'!<arch>\n': 'ar', b'070701': 'cpio', b'070702': 'cpio', b'070707': 'cpio',
+    b'MSCF\0\0\0\0': 'cab', b'\xff\x06\0\0sNaPpY': 'snappy', b'Obj\x01': 'Avro', b'*2\r\n$6\r\nSELECT': 'append-only file of Redis',
 }
 
 # The same for bytes that are not the first: where they are, and what they are.

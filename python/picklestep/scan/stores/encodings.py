@@ -18,7 +18,6 @@ _RUN = re.compile(rb'[A-Za-z0-9+/_-]{%d,}(?:\r?\n[A-Za-z0-9+/_-]+)*' % _LEAST_RU
 _WORDS = bytes(each if chr(each).isalnum() and each < 128 or each in b'+/_-' else 32 for each in range(256))
 # Where base64 that begins inside a run gives PROTO, or the beginning of zlib and gzip.
 _INSIDE = re.compile(rb'gA[I-X]|eJ[wxyz0-3]|eNo|eN[p-r]|eA[EF]|H4sI')
-_HEXADECIMAL = re.compile(rb'[0-9a-fA-F]+')
 _ESCAPE = re.compile(rb'\\(?:u00([0-7][0-9a-fA-F])|([/"\\nrt]))')
 _ESCAPED = {b'n': b'\n', b'r': b'\r', b't': b'\t'}
 _STANDARD = bytes.maketrans(b'-_', b'+/')
@@ -30,6 +29,8 @@ _NOT_TELLING = bytes(set(range(256)) - set(_TELLING))
 _NAMES = re.compile(rb'\x80[\x02-\x05]|\n[A-Za-z_\x80-\xff][^\n]*\n|[\x8cXUTVS\x8d](?s:.*?)\x93')
 _LEAST = 8
 _NOT_SEARCHED = 512
+# (inside a run: PostgreSQL writes bytes as \x8004.., others as 0x8004.., and keys stand before some)
+_HEXADECIMAL = re.compile(rb'[0-9a-fA-F]{%d,}' % (2 * _LEAST))
 
 # A text has such bytes alone among its first ones.
 _NO_TEXT = re.compile(rb'[^\t\n\r -~]')
@@ -50,12 +51,11 @@ def decoded(content: bytes) -> Iterator[Tuple[int, str, bytes]]:
         return
     if b'\\' in content:
         content = _ESCAPE.sub(_unescaped, content)
-    for run in _RUN.finditer(content):
-        text, at = run[0], run.start()
-        if _HEXADECIMAL.fullmatch(text):
-            inner = binascii.unhexlify(text[:len(text) // 2 * 2])
+    for at, text in _runs(content):
+        for digits in _HEXADECIMAL.finditer(text):
+            inner = binascii.unhexlify(digits[0][:len(digits[0]) // 2 * 2])
             if _may_hold(inner):
-                yield at, 'hexadecimal', inner
+                yield at + digits.start(), 'hexadecimal', inner
         for start, inner in _base64(text):
             if _may_hold(inner):
                 yield at + start, 'base64', inner
