@@ -10,7 +10,7 @@ use Rattle.pickle_further.specs.declared.way.Pickles.{Pickles}
 use Rattle.pickle_further.specs.declared.way.Pickles.TheVariants as pickles
 use Rattle.pickle_further.specs.CallsText.{document_calls, kept_calls}
 use Rattle.pickle_further.specs.CallsText as further
-use Rattle.pickle_show.specs.declared.naming.Detail.{Detail}
+use Rattle.pickle_show.specs.Manner.{Manner, whole}
 use Rattle.pickle_show.specs.declared.stop.TextStop.TheVariants as cut
 use Rattle.pickle_script.specs.declared.stop.Stop.TheVariants as stop
 use Rattle.pickle_script.specs.declared.texts.Text.{Text}
@@ -23,7 +23,7 @@ nothing_written output many bytes a small =
     let some = some_document many bytes small in
     (some.0, some.1, ((output some.0).text, WroteAllBut-none a (output some.0).text))
 
-no_calls : (how : Detail) (p : Pickles) (bytes : List ℕ) (a : Told) → AreBytes bytes → further.CutsCallsText how p bytes a a cut.Memory
+no_calls : (how : Manner) (p : Pickles) (bytes : List ℕ) (a : Told) → AreBytes bytes → further.CutsCallsText how p bytes a a cut.Memory
 no_calls how pickles.First bytes a small =
     let some = some_document false bytes small in
     let o = document_calls how pickles.First some.0 in
@@ -39,7 +39,7 @@ no_calls how pickles.OneMemo bytes a small =
 nothing_left : (t : Text) (many : Bool) (bytes : List ℕ) (a : Told) → AreBytes bytes → StopsText t many bytes a a stop.TooLarge
 nothing_left text.Listing many bytes a small = nothing_written listing many bytes a small
 nothing_left text.Objects many bytes a small = refl
-nothing_left (text.Calls pickles detail) many bytes a small = no_calls detail pickles bytes a small
+nothing_left (text.Calls pickles detail) many bytes a small = no_calls (whole detail) pickles bytes a small
 
 pub refused_large : {S : Type 0} (told : S → Told) (t : Text) (many : Bool) (bytes : List ℕ) (sink : S) → AreBytes bytes → size_limit < length bytes
     → AnswersText t many bytes told sink sink (Err stop.TooLarge)

@@ -1,4 +1,6 @@
+use Rattle.std.proofs.Common.{sym, ◌∙◌}
+use Rattle.picklestep.proofs.Named.{no_holes}
 use Rattle.picklestep.proofs.task.calls_options_of.Goals as goal
 
-pub returns-in-None-clause-none : goal.returns-in-None-clause-none
-returns-in-None-clause-none c = λ is options h. c.pickles_of.ensures.none c.in-None.is options.pickles h.pickles_is
+pub returns-in_default-pickles_of-clause-none : goal.returns-in_default-pickles_of-clause-none
+returns-in_default-pickles_of-clause-none c = λ is options h. c.in_default-pickles_of.ensures.none c.in_default-pickles_of.is options.pickles h.pickles_is
