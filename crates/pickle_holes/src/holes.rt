@@ -2,7 +2,7 @@
 
 ghost use Rattle.std.specs.Prelude.{◌≡◌, ℕ, ◌≤◌, length, nat_le, true, false};
 ghost use Rattle.std.specs.List.Sorted.{IsNonDecreasingBy, IsPartitionPoint};
-ghost use Rattle.pickle_holes.specs.Holes.{left_out, places_from, AreHoles};
+ghost use Rattle.pickle_holes.specs.Holes.{end_of, left_out, places_from, AreHoles};
 
 use crate::hole::Hole;
 use std::alloc::{AllocError, Global};
@@ -45,6 +45,18 @@ fn left_out(holes: &[Hole], places: &[u64], count: usize) -> u64
     last.offset + last.size - places[count - 1]
 }
 
+/// Where the last of these holes ends; 0 where there is none.
+fn end_of(holes: &[Hole]) -> u64
+    requires { AreHoles 0 holes.now }
+    ensures { result ≡ end_of 0 holes.now }
+{
+    if holes.is_empty() {
+        return 0;
+    }
+    let last = holes[holes.len() - 1];
+    last.offset + last.size
+}
+
 /// How many of these places are not behind one.
 fn count_to(places: &[u64], place: u64) -> usize
     requires { IsNonDecreasingBy (λ (p : ℕ). p) places.now }
@@ -80,10 +92,7 @@ impl Holes {
     pub fn end(&self) -> u64
         ensures { result ≡ end_of 0 self.now }
     {
-        match self.holes.last() {
-            Some(hole) => hole.offset + hole.size,
-            None => 0,
-        }
+        end_of(self.holes.as_slice())
     }
 
     /// How many bytes are left out.
