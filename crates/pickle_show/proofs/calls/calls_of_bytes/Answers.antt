@@ -9,10 +9,12 @@ run_items-requires g c κs =
 
 pub returns-clause-ok : goal.returns-clause-ok
 returns-clause-ok g c =
-    let ran = rw c.new.ensures at c.in_ok-ran.ensures.ok in
-    closes_ok _ _ _ _ _ _ _ ran c.write_end.ensures.text c.write_end.ensures.status
+    let ran = rw (c.new.ensures, c.new-holes.ensures) at c.in_ok-ran.ensures.ok in
+    let text = rw c.new-holes.ensures at c.write_end.ensures.text in
+    closes_ok _ _ _ _ _ _ _ ran text c.write_end.ensures.status
 
 pub returns-clause-err : goal.returns-clause-err
 returns-clause-err g c =
-    let ran = rw c.new.ensures at c.in_ok-ran.ensures.ok in
-    closes_err _ _ _ _ _ _ _ ran c.write_end.ensures.text c.write_end.ensures.failed
+    let ran = rw (c.new.ensures, c.new-holes.ensures) at c.in_ok-ran.ensures.ok in
+    let text = rw c.new-holes.ensures at c.write_end.ensures.text in
+    closes_err _ _ _ _ _ _ _ ran text c.write_end.ensures.failed
