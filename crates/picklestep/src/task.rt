@@ -192,8 +192,10 @@ fn detail_of(found: &ArgMatches<'_>) -> Detail
 fn holes_of(alloc: Global, found: &ArgMatches<'_>) -> Result<Option<Holes>, AllocError>
     ensures { IfOk result (λ holes. holes ≡ holes_of (skips_of (rows_of (found_of found.now)))) }
 {
-    let texts = found.get_strs("skip").unwrap_or_default();
-    pickle_holes::holes_of(alloc, texts)
+    match found.get_strs("skip") {
+        Some(texts) => pickle_holes::holes_of(alloc, texts),
+        None => pickle_holes::holes_of(alloc, &[]),
+    }
 }
 
 /// The options of what pickles would import and call; no answer where they name no pickles or no holes.
