@@ -5,8 +5,8 @@ use Rattle.std.specs.Option.{unwrap_or}
 use Rattle.std.proofs.lemmas.Bool.{lt-ltb, cases_lt, leb-true, le-leb}
 use Rattle.std.proofs.lemmas.List.{take-append-le, drop-append-le, length-take-le, length-drop}
 use Rattle.pickle_ops.specs.declared.kind.Kind.TheVariants as kind
-use Rattle.pickle_loader.specs.Environment.{Value, Plain, Method, World}
-use Rattle.pickle_loader.specs.Unpickler.{Unpickler, Raised, append, tell, item, to_mark, load_pop, load_pop_mark}
+use Rattle.pickle_loader.specs.Environment.{Value, Plain, Method, Unpickler, World}
+use Rattle.pickle_loader.specs.Unpickler.{Raised, append, tell, item, to_mark, load_pop, load_pop_mark}
 use Rattle.pickle_loader.specs.FlatStack.{Flat, fence, flat_push, flat_mark, flat_cut_at, between, AreFenced, IsOneStack, PopsAs, LooksAs, CutsAs, OneStack, at_mark, without_mark, DropsAs}
 
 -- ---- marks
