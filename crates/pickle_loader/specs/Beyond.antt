@@ -1,4 +1,5 @@
 -- One step of CPython's unpickler beside a machine that moves by rows that ask for less.
+-- Source: own.
 use Rattle.std.specs.Prelude.{◌≡◌, ℕ, ℤ, pos, int_lt, ◌-◌, ◌<◌, Bool, true, false, List, ◌++◌, length, Option, None, Some, Result, Ok, Err, ⊤}
 use Rattle.pickle_ops.specs.Spelling.{Operation}
 use Rattle.pickle_ops.specs.declared.row.Row.{Row}
