@@ -315,10 +315,10 @@ views_plain w _ u f = refl
 views_foreign : (w : World) (t : PyType) (n : ℕ) (b : Bool) (u : CUnpickler) → Lower u → Fenced u
     → Same (if b then inc.ask w (View (Foreign t n)) u (λ v q. inc.replaced (w.readonly (Foreign t n)) (length u.acts) q) else CRaised u.acts)
     (if b then py.ask (as_in_c w) (View (Foreign t n)) (seen u) (λ v q. py.replaced (w.readonly (Foreign t n)) (length u.acts) q) else Raised u.acts)
+unfolding Lower
 views_foreign w t n true u low f = by (w.reply u.acts (View (Foreign t n)))
   where
     by : (r : Reply) → Same (inc.answered r (View (Foreign t n)) u (λ v q. inc.replaced (w.readonly (Foreign t n)) (length u.acts) q)) (py.answered r (View (Foreign t n)) (seen u) (λ v q. py.replaced (w.readonly (Foreign t n)) (length u.acts) q))
-    unfolding Lower
     by Raises = refl
     by (Answers x) = exchanged (length u.acts) (w.readonly (Foreign t n)) (inc.acted (View (Foreign t n)) u) (lower_acted (View (Foreign t n)) u low) f
 views_foreign w t n false u low f = refl

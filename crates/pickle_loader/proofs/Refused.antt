@@ -401,10 +401,14 @@ tell_untold : (h : Here) (r : Reply) (u : Unpickler) → u.acts ≡ h.acts → U
 tell_untold h Raises u e = quiet u.acts Method refl ∙ ap told_of e
 tell_untold h (Answers x) u e = quiet u.acts Method refl ∙ ap told_of e
 
+nothing_untold : (h : Here) (b : Bool) (u : Unpickler) → u.acts ≡ h.acts → Untold h (then_raises (if b then tell h.w Method u else Ran u))
+nothing_untold h true u e = tell_untold h (h.w.reply u.acts Method) u e
+nothing_untold h false u e = ap told_of e
+
 odd_none : (h : Here) (v : Value) (items : List Value) (u : Unpickler) → u.acts ≡ h.acts → length items ≡ 0 → Untold h (then_raises (fills h.w filling.SetItem v items u))
 odd_none h (Plain k) [] u e bad = ap told_of e
 odd_none h (Own t n) [] u e bad = ap told_of e
-odd_none h (Foreign t n) [] u e bad = tell_untold h (h.w.reply u.acts Method) u e
+odd_none h (Foreign t n) [] u e bad = nothing_untold h h.w.looks_up_for_nothing u e
 odd_none h v (x ∷ items) u e bad = absurd (omega (arith, bad))
 
 odd_by : (h : Here) (id n : ℕ) (items : List Value) (u : Unpickler) (b : Bool) → IsWhole h.s → id < length h.s.heap → u.acts ≡ h.acts → nat_lt 0 (n / 2) ≡ b → length items ≡ n - 1 → n % 2 ≡ 1
