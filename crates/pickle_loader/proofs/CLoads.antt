@@ -1,5 +1,5 @@
 -- A whole load by the unpickler in C is one by the unpickler in Python.
-use Rattle.std.proofs.Common.{◌≡◌, ℕ, zero, suc, Bool, true, false, List, [], ◌++◌, drop, Option, Ok, Err, refl, sym, ap, subst, ◌∙◌}
+use Rattle.std.proofs.Common.{◌≡◌, ℕ, zero, suc, Bool, true, false, List, ◌++◌, drop, Ok, Err, refl, sym, ap, subst}
 use Rattle.std.specs.Prelude.{◌||◌, if◌then◌else◌, Result, ⊤}
 use Rattle.pickle_ops.specs.declared.opcode.Opcode.{Opcode}
 use Rattle.pickle_ops.specs.declared.opcode.Opcode.TheVariants as op
@@ -13,14 +13,14 @@ use Rattle.pickle_further.specs.declared.way.Pickles.{Pickles}
 use Rattle.pickle_further.specs.declared.way.Pickles.TheVariants as pickles
 use Rattle.pickle_further.specs.declared.way.Way.{Way}
 use Rattle.pickle_further.specs.Parts.{standing_first}
-use Rattle.pickle_loader.specs.Environment.{Value, Act, Unpickler, World}
-use Rattle.pickle_loader.specs.Unpickler.{Step, Ran, Stopped, Raised}
-use Rattle.pickle_loader.specs.Dispatch.{Loaded, Going, Ended, Failed, loaded, acts_of, new_unpickler}
+use Rattle.pickle_loader.specs.Environment.{Act, World}
+use Rattle.pickle_loader.specs.Unpickler.{Step, Raised}
+use Rattle.pickle_loader.specs.Dispatch.{Loaded, loaded, acts_of}
 use Rattle.pickle_loader.specs.Told.{told_of}
 use Rattle.pickle_loader.specs.Onward as onward
 use Rattle.pickle_loader.specs.Onward.{Onward, reads_on, load_more, load_read, load_on, load_way, acts_before}
 use Rattle.pickle_loader.specs.CUnpickler.{CUnpickler, CStep, CRan, CStopped, CRaised, seen}
-use Rattle.pickle_loader.specs.CLoad.{load_keyed, dispatch_as, c_load_taken, CLoaded, CGoing, CEnded, CFailed, c_loaded, seen_loaded, COnward, c_new, c_again, c_load_more, c_load_read, c_load_on, c_load_way, asked, raises, as_in_c, seen_onward, OneLoad, NothingBeyondInC}
+use Rattle.pickle_loader.specs.CLoad.{load_keyed, dispatch_as, c_load_taken, CLoaded, CGoing, CEnded, CFailed, c_loaded, seen_loaded, COnward, c_again, c_load_more, c_load_read, c_load_on, c_load_way, asked, raises, as_in_c, seen_onward, OneLoad, NothingBeyondInC}
 use Rattle.pickle_loader.proofs.CSteps.{Fenced, Same, same_is, dispatched, gets_key, puts_key}
 use Rattle.pickle_loader.proofs.Ways.{nothing_beyond}
 

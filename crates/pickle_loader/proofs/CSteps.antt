@@ -16,7 +16,7 @@ use Rattle.pickle_loader.specs.Environment.{PyType, PyStr, PyTuple, PyList, PyDi
 use Rattle.pickle_loader.specs.Unpickler as py
 use Rattle.pickle_loader.specs.Unpickler.{Step, Ran, Stopped, Raised, item, is_str, is_string, has_keys, has_memory, iterates, can_call, can_call_with}
 use Rattle.pickle_loader.specs.Dispatch as loop
-use Rattle.pickle_loader.specs.FlatStack.{Flat, Popped, fence, flat_push, flat_pop, flat_top, flat_mark, flat_cut, flat_load_pop, above, between, AreFenced, IsOneStack, PopsAs, LooksAs, CutsAs, DropsAs}
+use Rattle.pickle_loader.specs.FlatStack.{Flat, Popped, fence, flat_push, flat_pop, flat_top, flat_mark, flat_cut, flat_load_pop, above, AreFenced, IsOneStack, PopsAs, LooksAs, CutsAs, DropsAs}
 use Rattle.pickle_loader.specs.CUnpickler as inc
 use Rattle.pickle_loader.specs.CUnpickler.{CUnpickler, CStep, CRan, CStopped, CRaised, is_tuple, is_dict, are_call, are_call_with, are_pairs, seen}
 use Rattle.pickle_loader.specs.CLoad.{only_if, asked, raises, as_in_c}

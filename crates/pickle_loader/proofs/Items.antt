@@ -27,7 +27,7 @@ use Rattle.pickle_lenient.specs.declared.taken.Frames.{Frames}
 use Rattle.pickle_lenient.specs.declared.taken.Frames.TheVariants as frames
 use Rattle.pickle_lenient.specs.declared.taken.Taken.{Taken}
 use Rattle.pickle_lenient.specs.Key.{key_of}
-use Rattle.pickle_lenient.specs.Lenient.{Lenient, mended, tells_line, sized, keyed_by, odd_to, odd_so, odd, taken_so, mended_so, cut_line, cut, faulty, front_size, lenient_at, lenient}
+use Rattle.pickle_lenient.specs.Lenient.{Lenient, mended, tells_line, sized, keyed_by, odd_to, odd_so, odd, taken_so, mended_so, cut_line, cut, faulty, lenient_at, lenient}
 use Rattle.pickle_lenient.specs.Stream.{first_read, joined, ends_in, refilled, framed, taken_as, plain, within, across, taken}
 use Rattle.pickle_further.specs.Going.{used_op, then_as, moved_so}
 use Rattle.pickle_loader.specs.Environment.{Value, Method, Unpickler, World}

@@ -2,7 +2,7 @@
 use Rattle.std.proofs.Common.{◌≡◌, ◌⊎◌, ℕ, zero, suc, ◌+◌, ◌-◌, ◌<◌, Bool, true, false, cond, List, [], ◌∷◌, ◌++◌, length, map, take, drop, get_or, Option, Some, None, refl, sym, ap, subst, ◌∙◌, inl, inr, arith}
 use Rattle.std.proofs.lemmas.Bool.{ltb-false, leb-true, lt-ltb, le-leb}
 use Rattle.std.proofs.lemmas.List.{length-map, length-take-le, length-drop}
-use Rattle.std.specs.Prelude.{◌%◌, ◌/◌, ◌==◌, ◌||◌, ◌&&◌, not, ℤ, pos, int_lt, nat_le, nat_lt, is_some, slice_index, if◌then◌else◌}
+use Rattle.std.specs.Prelude.{◌%◌, ◌/◌, ◌==◌, ◌||◌, ◌&&◌, not, nat_le, nat_lt, is_some, slice_index, if◌then◌else◌}
 use Rattle.pickle_ops.specs.declared.opcode.Opcode.{Opcode}
 use Rattle.pickle_ops.specs.declared.opcode.Opcode.TheVariants as op
 use Rattle.pickle_ops.specs.declared.form.Form.TheVariants as form
@@ -14,9 +14,8 @@ use Rattle.pickle_ops.specs.declared.row.Cutting.{Cutting}
 use Rattle.pickle_ops.specs.declared.row.Cutting.TheVariants as cutting
 use Rattle.pickle_ops.specs.declared.row.Filling.{Filling}
 use Rattle.pickle_ops.specs.declared.row.Filling.TheVariants as filling
-use Rattle.pickle_ops.specs.Argument.{number_of, integer_of}
-use Rattle.pickle_ops.specs.Spelling.{Operation}
-use Rattle.pickle_ops.specs.Row.{count_of, values_of, row_of, row_of_opcode}
+use Rattle.pickle_ops.specs.Argument.{number_of}
+use Rattle.pickle_ops.specs.Row.{count_of, values_of, row_of_opcode}
 use Rattle.pickle_machine.specs.declared.refusal.Refusal.{Refusal}
 use Rattle.pickle_machine.specs.declared.refusal.Refusal.TheVariants as refusal
 use Rattle.pickle_machine.specs.declared.loader.Fill.{Fill as Goes}

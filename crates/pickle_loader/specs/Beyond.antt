@@ -1,6 +1,6 @@
 -- One step of CPython's unpickler beside a machine that moves by rows that ask for less.
 -- Source: own.
-use Rattle.std.specs.Prelude.{◌≡◌, ℕ, ℤ, pos, int_lt, ◌-◌, ◌<◌, Bool, true, false, List, ◌++◌, length, Option, None, Some, Result, Ok, Err, ⊤}
+use Rattle.std.specs.Prelude.{◌≡◌, ℕ, ◌-◌, ◌<◌, Bool, true, false, List, ◌++◌, length, Option, None, Some, Result, Ok, Err, ⊤}
 use Rattle.pickle_ops.specs.Spelling.{Operation}
 use Rattle.pickle_ops.specs.declared.row.Row.{Row}
 use Rattle.pickle_ops.specs.declared.row.Row.TheVariants as row
@@ -15,7 +15,7 @@ use Rattle.pickle_machine.specs.declared.loader.LoaderMove.{LoaderMove}
 use Rattle.pickle_show.specs.declared.event.Event.TheVariants as event
 use Rattle.pickle_show.specs.Event.{before_of, event_of}
 use Rattle.pickle_further.specs.Going.{used_op, moved_so, event_by}
-use Rattle.pickle_loader.specs.Environment.{PyType, Value, Foreign, Act, Unpickler, World}
+use Rattle.pickle_loader.specs.Environment.{Value, Act, Unpickler, World}
 use Rattle.pickle_loader.specs.Unpickler.{Step, Ran, Stopped, Raised, item}
 use Rattle.pickle_loader.specs.Dispatch.{load_op}
 use Rattle.pickle_loader.specs.Told.{told_of, acts_told, protocol_after}

@@ -17,7 +17,7 @@ use Rattle.pickle_further.specs.declared.way.Pickles.TheVariants as pickles
 use Rattle.pickle_further.specs.declared.way.Way.{Way}
 use Rattle.pickle_further.specs.Parts.{standing_first}
 use Rattle.pickle_loader.specs.Environment.{Value, is_elsewhere, Act, Unpickler, World}
-use Rattle.pickle_loader.specs.Unpickler.{Step, Ran, Stopped, Raised, item, pop, pop_mark}
+use Rattle.pickle_loader.specs.Unpickler.{Step, Ran, Raised, item, pop, pop_mark}
 use Rattle.pickle_loader.specs.Dispatch.{Loaded, Going, Ended, Failed, acts_of}
 use Rattle.pickle_loader.specs.Told.{told_of}
 use Rattle.pickle_loader.specs.Onward.{Onward, reads_on, load_way, acts_before}

@@ -1,7 +1,7 @@
 -- What an unpickler does with the bytes of a file that it reads as loaders do, behind an end of the lines too; and which acts the lines tell.
 -- Source: Lib/pickle.py, `load`, `load_get`, `load_put` (CPython 3.11). What loaders read at the front of bytes, frames ignored or kept in a
 -- buffer, `taken` says, with its sources.
-use Rattle.std.specs.Prelude.{◌≡◌, ℕ, zero, suc, ◌^◌, ◌<◌, ◌≤◌, Bool, true, false, List, [], ◌++◌, length, drop, if◌then◌else◌, Option, Some, None, is_some, Result, Ok, Err}
+use Rattle.std.specs.Prelude.{◌≡◌, ℕ, zero, suc, ◌^◌, ◌<◌, Bool, true, false, List, [], ◌++◌, length, drop, if◌then◌else◌, Option, Some, None, is_some, Result, Ok, Err}
 use Rattle.pickle_ops.specs.declared.opcode.Opcode.{Opcode}
 use Rattle.pickle_ops.specs.declared.opcode.Opcode.TheVariants as op
 use Rattle.pickle_ops.specs.declared.row.Row.{Row}
