@@ -1,10 +1,10 @@
 -- The loop that writes a line for each step.
 use Rattle.std.proofs.Common.{◌≡◌, ℕ, zero, suc, ◌+◌, ◌-◌, ◌<◌, ◌≤◌, ◌==◌, ◌&&◌, Bool, true, false, List, [], ◌++◌, length, drop, Option, Some, None, Ok, refl, sym, ap, subst, ◌∙◌, add-one, append_assoc, arith, rules}
-use Rattle.std.specs.Prelude.{take, if◌then◌else◌, Result, Err, IfOk, IfErr, IsErrAnd, MatchBool}
+use Rattle.std.specs.Prelude.{take, if◌then◌else◌, Result, Err, IfErr, IsErrAnd, MatchBool}
 use Rattle.std.proofs.lemmas.List.{take_all, length-map, append-nil}
 use Rattle.std.proofs.lemmas.Option.{slice_get_past}
 use Rattle.pickle_io.specs.Text.{◌⧺◌}
-use Rattle.pickle_io.specs.Device.{Told, Wrote, Broke, Writes, WroteAllBut}
+use Rattle.pickle_io.specs.Device.{Told, Wrote, Broke, WroteAllBut}
 use Rattle.pickle_io.proofs.Devices.{Wrote-none, Wrote-trans, Broke-after, Broke-more}
 use Rattle.std.specs.Prelude.{not, nat_lt}
 use Rattle.std.proofs.Common.{eq-zero-or-pos, inl, inr}
