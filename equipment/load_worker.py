@@ -22,7 +22,7 @@ from typing import Any, Optional
 
 MOST_ACTS = 3000
 MOST_MEMORY = 3 << 30
-EXTENSIONS = (1, 2, 256, 0x7FFFFFFF)
+EXTENSIONS = (-1, 0, 1, 2, 256, 0x7FFFFFFF)
 
 acts: list[list[Any]] = []
 
@@ -100,13 +100,16 @@ def thing(number: int) -> Any:
 
 
 class Held(bytes):
-    """A buffer from elsewhere, which is read only already."""
+    """A buffer from elsewhere, which is read only already, and has keys."""
 
     append, extend, add = doing("append", one), doing("append", size), doing("add", one)
     __setstate__, __setitem__ = doing("state", one), doing("set", one)
 
     def __call__(self, *values: Any, **named: Any) -> Any:
         return thing(act("call", number_of(self), len(values)))
+
+    def keys(self) -> list[Any]:
+        return []
 
 
 def buffers() -> Iterator[Any]:

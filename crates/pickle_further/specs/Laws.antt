@@ -1,4 +1,5 @@
 -- What the text of `calls` promises whoever reads it, behind the end of the lines too.
+-- Source: own.
 use Rattle.std.specs.Prelude.{◌≡◌, ℕ, suc, ◌<◌, ◌++◌, true, List, [], length, slice_get, Option, Some, None, is_some}
 use Rattle.pickle_ops.specs.Kind.{is_opaque}
 use Rattle.pickle_ops.specs.Object.{Object}

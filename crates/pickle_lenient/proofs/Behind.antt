@@ -1,5 +1,5 @@
 -- What is at the front of bytes, with others behind them.
-use Rattle.std.proofs.Common.{◌≡◌, ◌≢◌, ℕ, ◌+◌, ◌≤◌, Bool, true, false, List, [], ◌∷◌, ◌++◌, length, take, drop, Option, Some, None, Ok, Err, refl, sym, ap, ◌∙◌, inl, inr, arith, length-append, append_assoc}
+use Rattle.std.proofs.Common.{◌≡◌, ◌≢◌, ℕ, ◌+◌, ◌≤◌, true, false, List, [], ◌∷◌, ◌++◌, length, take, drop, Option, Some, None, Ok, Err, refl, sym, ap, ◌∙◌, inl, inr, arith, length-append, append_assoc}
 use Rattle.std.specs.Prelude.{Result, IfOk, IfErr, MatchOption}
 use Rattle.std.specs.List.{position, position_or_len, list_any}
 use Rattle.std.proofs.lemmas.Bool.{cases_Bool, lt-ltb}
@@ -11,7 +11,7 @@ use Rattle.pickle_ops.specs.declared.fault.FrontFault.{FrontFault}
 use Rattle.pickle_ops.specs.declared.fault.FrontFault.TheVariants as fault
 use Rattle.pickle_ops.specs.Shape.{is_newline, is_negative, is_quoted, is_decimal, text_of, IsLine, IsArg, value_fault}
 use Rattle.pickle_ops.specs.Table.{code_of, form_of, opcode_of}
-use Rattle.pickle_ops.specs.Spelling.{Operation, Front, Ended, Unknown, Cut, Whole, IsFront, front_fault, HasFault, Reads, size_of}
+use Rattle.pickle_ops.specs.Spelling.{Operation, Front, Ended, Unknown, Cut, Whole, IsFront, front_fault, HasFault, Reads}
 use Rattle.pickle_ops.specs.Front.{front_of}
 use Rattle.pickle_ops.proofs.Fronts.{one_front}
 use Rattle.pickle_ops.proofs.TableLemmas.{opcode_of-code, code-opcode_of}
@@ -22,7 +22,7 @@ use Rattle.pickle_lenient.specs.Key.{key_of}
 use Rattle.pickle_lenient.specs.Reading.{IsLenient, IsNotLenient, ends_at}
 use Rattle.pickle_lenient.specs.Lenient.{lenient, lenient_at, faulty, odd, odd_so, keyed_by}
 use Rattle.pickle_lenient.specs.Stream.{ends_in}
-use Rattle.pickle_lenient.proofs.Lenients.{AtFront, at_front, no_front}
+use Rattle.pickle_lenient.proofs.Lenients.{at_front, no_front}
 
 -- ---- opcodes by their codes
 

@@ -1,3 +1,3 @@
 -- Lemmas.
 mod Lenients
-mod Behind
+pub mod Behind

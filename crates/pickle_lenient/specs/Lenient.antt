@@ -2,7 +2,7 @@
 -- Source: Lib/pickle.py, class `_Unpickler`: `load_get`, `load_put` (`int(self.readline()[:-1])`), `load_global`, `load_inst`,
 -- `load_persid` (`self.readline()[:-1]`, which at the end of a file loses a byte). What more a payload or a number may be at the end of
 -- a file tells nothing, since there is nothing after it. FRAME is an opcode that does nothing here.
-use Rattle.std.specs.Prelude.{ℕ, ◌+◌, ◌*◌, ◌-◌, ◌^◌, ◌==◌, ◌&&◌, ◌||◌, nat_lt, nat_le, if◌then◌else◌, Bool, true, false, List, [], ◌∷◌, ◌++◌, length, take, fold, position, Option, Some, None, Result, Ok, Err}
+use Rattle.std.specs.Prelude.{ℕ, ◌+◌, ◌-◌, ◌==◌, ◌||◌, if◌then◌else◌, Bool, List, [], ◌∷◌, ◌++◌, length, take, position, Option, Some, None, Result, Ok, Err}
 use Rattle.std.specs.Option.{option_map}
 use Rattle.pickle_ops.specs.declared.row.Row.{Row}
 use Rattle.pickle_ops.specs.declared.row.Row.TheVariants as row

@@ -15,10 +15,9 @@ use Rattle.pickle_ops.specs.declared.opcode.Opcode.TheVariants as op
 use Rattle.pickle_ops.specs.declared.form.Form.{Form}
 use Rattle.pickle_ops.specs.declared.form.Form.TheVariants as form
 use Rattle.pickle_ops.specs.declared.fault.FrontFault.{FrontFault}
-use Rattle.pickle_ops.specs.declared.fault.FrontFault.TheVariants as fault
 use Rattle.pickle_ops.specs.Shape.{is_newline}
 use Rattle.pickle_ops.specs.Table.{form_of, opcode_of}
-use Rattle.pickle_ops.specs.Spelling.{Front, Ended, Unknown, Cut, Whole}
+use Rattle.pickle_ops.specs.Spelling.{Front, Unknown, Whole}
 use Rattle.pickle_ops.specs.Front.{front_of}
 use Rattle.pickle_ops.specs.Inside.Sizes.{length_bytes}
 use Rattle.pickle_doc.specs.DocUnit.{is_frame, is_stop, frame_number}

@@ -2,33 +2,36 @@
 use Rattle.std.proofs.Common.{◌≡◌, ℕ, ◌<◌, Bool, true, false, cond, List, [], ◌++◌, length, map, Option, Some, None, Ok, refl, sym, ap, subst, ◌∙◌, arith}
 use Rattle.std.proofs.lemmas.Bool.{ltb-true, le-leb}
 use Rattle.std.proofs.lemmas.List.{append-nil}
-use Rattle.std.specs.Prelude.{◌&&◌, nat_le, if◌then◌else◌}
+use Rattle.std.specs.Prelude.{ℤ, ◌&&◌, nat_le, if◌then◌else◌}
 use Rattle.pickle_ops.specs.declared.opcode.Opcode.{Opcode}
 use Rattle.pickle_ops.specs.declared.opcode.Opcode.TheVariants as op
 use Rattle.pickle_ops.specs.declared.form.Form.TheVariants as form
+use Rattle.pickle_ops.specs.declared.kind.Kind.{Kind}
 use Rattle.pickle_ops.specs.declared.kind.Kind.TheVariants as kind
 use Rattle.pickle_ops.specs.declared.row.Row.TheVariants as row
 use Rattle.pickle_ops.specs.declared.row.Taking.TheVariants as taking
 use Rattle.pickle_ops.specs.declared.row.Cutting.TheVariants as cutting
-use Rattle.pickle_ops.specs.Argument.{number_of}
+use Rattle.pickle_ops.specs.Argument.{number_of, integer_of}
 use Rattle.pickle_ops.specs.Spelling.{Operation}
 use Rattle.pickle_ops.specs.Row.{row_of_opcode, kind_of_opcode, kind_of}
 use Rattle.pickle_machine.specs.declared.refusal.Refusal.{Refusal}
 use Rattle.pickle_machine.specs.State.{State}
-use Rattle.pickle_machine.specs.Move.{last_of, without, refusal_of, next_of, fresh, outcome}
-use Rattle.pickle_machine.specs.Loader.{takes_call, takes_call_with, takes_obj, asks_less}
+use Rattle.pickle_machine.specs.Move.{deep, last_of, without, refusal_of, next_of, fresh, outcome}
+use Rattle.pickle_machine.specs.Loader.{takes_call, takes_call_with, takes_obj, is_string, takes_string, asks_less}
 use Rattle.pickle_show.specs.Event.{before_of, event_of}
-use Rattle.pickle_loader.specs.Environment.{Value, Act, Call, New, NewEx, World}
-use Rattle.pickle_loader.specs.Unpickler.{Unpickler, Step, Ran, Stopped, Raised, item, get, if_able, can_call, can_call_with, instantiated, load_reduce, load_newobj, load_newobj_ex, load_obj}
+use Rattle.pickle_loader.specs.Environment.{Value, Plain, Act, Extension, Call, New, NewEx, Unpickler, World}
+use Rattle.pickle_loader.specs.Unpickler.{Step, Ran, Stopped, Raised, item, get, if_able, can_call, can_call_with, instantiated, load_reduce, load_newobj, load_newobj_ex, load_obj, load_ext, load_readonly_buffer, viewed, viewed_string}
 use Rattle.pickle_loader.specs.Dispatch.{dispatch, load_op}
 use Rattle.pickle_loader.specs.Told.{told_of, acts_told, protocol_after}
-use Rattle.pickle_loader.specs.Values.{Knows}
+use Rattle.pickle_loader.specs.Values.{origin, IsFrom, Knows}
 use Rattle.pickle_loader.specs.Laws.{sections, entries, IsSame}
 use Rattle.pickle_loader.specs.Beyond.{less_of, StepFollows, MapsNew, WideMovesAreFollowed}
-use Rattle.pickle_loader.proofs.Images.{image}
+use Rattle.pickle_show.proofs.Steps.{is_there}
+use Rattle.pickle_loader.proofs.Images.{image, on_top_image}
 use Rattle.pickle_loader.proofs.Pushes.{Good}
 use Rattle.pickle_loader.proofs.Still.{fresh_same}
-use Rattle.pickle_loader.proofs.Methods.{Here, unpickler, fresh_acts, RowGood, raised_good, stays_good, able_got, taken_good, cut_good, obj_by, reduce_good, newobj_good, newobj_ex_good, obj_good}
+use Rattle.pickle_loader.proofs.Methods.{Here, unpickler, fresh_acts, RowGood, raised_good, stays_good, able_got, got_good, taken_good, cut_good, obj_by, reduce_good, newobj_good, newobj_ex_good, obj_good}
+use Rattle.pickle_loader.proofs.Views.{readonly_good}
 use Rattle.pickle_loader.proofs.Opcodes.{opcode_good}
 
 -- ---- rows that ask for less
@@ -60,9 +63,46 @@ obj_less h true is =
     cut_good h cutting.Any kind.Obj (λ items q. instantiated h.w items q) (λ e. obj_by h h.s.top refl (le-leb 1 (length h.s.top) (omega (arith, some))))
 obj_less h false is = obj_good h
 
+-- EXT makes what it finds, whatever its code
+ext_less : (h : Here) (n : ℤ) → RowGood h row.Push (kind.Ext n) h.proto (load_ext h.w n (unpickler h))
+ext_less h n e = got_good h h.s (kind.Ext n) [] (λ proto. Extension n) refl refl refl
+
+-- READONLY_BUFFER on a string, which stays where it is bytes
+string_by : (h : Here) (b : Bool) → RowGood h row.Nothing kind.None h.proto (viewed_string b (unpickler h))
+string_by h true e = stays_good h h.s h.proto (unpickler h) [] refl refl (sym (append-nil h.acts)) refl
+string_by h false e = raised_good h.V h.w h.s.heap h.acts h.s _ h.proto h.acts refl
+
+string_viewed : (h : Here) (k : Kind) → is_string k ≡ true → RowGood h row.Nothing kind.None h.proto (viewed h.w (Plain k) (unpickler h))
+string_viewed h (kind.LegacyString bytes) is = string_by h h.w.strings_are_bytes
+string_viewed h (kind.LegacyLine bytes) is = string_by h h.w.strings_are_bytes
+string_viewed h _ is = absurd cc
+
+string_value : (w : World) (acts : List Act) (k : Kind) (vs : List Value) (v : Value) → is_string k ≡ true → IsFrom w acts k v (origin k vs) → v ≡ Plain k
+string_value w acts (kind.LegacyString bytes) vs v is from = from
+string_value w acts (kind.LegacyLine bytes) vs v is from = from
+string_value w acts _ vs v is from = absurd cc
+
+second_holds : (b c : Bool) → (b && c) ≡ true → c ≡ true
+second_holds true c e = e
+second_holds false c e = absurd cc
+
+view_less : (h : Here) (b : Bool) → takes_string h.s ≡ b → RowGood h (cond b row.Nothing row.ReadOnly) kind.None h.proto (load_readonly_buffer h.w (unpickler h))
+view_less h false is = readonly_good h kind.None
+view_less h true is =
+    let id : ℕ = deep 0 h.s.top in
+    let some : 0 < length h.s.top = ltb-true 0 (length h.s.top) (both_hold _ _ is) in
+    let o = is_there is_string h.s.heap id (second_holds _ _ is) in
+    let value : h.V id ≡ Plain o.0.kind = string_value h.w h.acts o.0.kind (map h.V o.0.parts) (h.V id) o.2 (h.knows id o.0 o.1) in
+    subst (λ (x : Step). RowGood h row.Nothing kind.None h.proto x) (sym (on_top_image h.V h.s h.proto h.acts (λ v. viewed h.w v (unpickler h)) (le-leb 1 (length h.s.top) (omega (arith, some)))))
+    (subst (λ (v : Value). RowGood h row.Nothing kind.None h.proto (viewed h.w v (unpickler h))) (sym value) (string_viewed h o.0.kind o.2))
+
 -- the method of an opcode is right for the row that asks for less
 wide_good : (h : Here) (o : Opcode) (arg : List ℕ) → RowGood h (asks_less (row_of_opcode o arg) h.s) (kind_of_opcode o arg) (protocol_after o arg h.proto) (dispatch h.w o arg (unpickler h))
 wide_good h op.Proto arg = proto_by h (nat_le (number_of form.U1 arg) 5) (number_of form.U1 arg)
+wide_good h op.Ext1 arg = ext_less h (integer_of form.U1 arg)
+wide_good h op.Ext2 arg = ext_less h (integer_of form.U2 arg)
+wide_good h op.Ext4 arg = ext_less h (integer_of form.S4 arg)
+wide_good h op.ReadOnlyBuffer arg = view_less h (takes_string h.s) refl
 wide_good h op.Reduce arg = reduce_less h (takes_call 0 h.s)
 wide_good h op.NewObj arg = newobj_less h (takes_call 0 h.s)
 wide_good h op.NewObjEx arg = newobj_ex_less h (takes_call_with h.s)
@@ -113,7 +153,7 @@ wide_moves_are_followed w V s t u o place running same moved maps =
     let both = has_moved (refusal_of (less_of o s) s) (next_of (less_of o s) (kind_of o) place s) t step in
     let good : Good V w s.heap u.acts t (acts_told V u.proto s t (event_of (less_of o s) (before_of s) t)) (protocol_after o.opcode o.arg u.proto) (load_op w o (image V s u.proto u.acts)) =
     subst (λ (t : State). Good V w s.heap u.acts t (acts_told V u.proto s t (event_of (less_of o s) (before_of s) t)) (protocol_after o.opcode o.arg u.proto) (load_op w o (image V s u.proto u.acts))) both.1
-    (op_good h o (w.fails u.acts o) both.0) in
+    (op_good h o (w.fails (unpickler h) o) both.0) in
     let is : u ≡ image V s u.proto u.acts = same_image w V s u same in
     follows_by w V s t u.acts (acts_told V u.proto s t (event_of (less_of o s) (before_of s) t)) (protocol_after o.opcode o.arg u.proto) (load_op w o u) maps
     (subst (λ (x : Unpickler). Good V w s.heap u.acts t (acts_told V u.proto s t (event_of (less_of o s) (before_of s) t)) (protocol_after o.opcode o.arg u.proto) (load_op w o x)) (sym is) good)

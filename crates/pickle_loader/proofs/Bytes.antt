@@ -23,8 +23,8 @@ use Rattle.pickle_show.specs.Listing.{reached}
 use Rattle.pickle_show.specs.Report.{refused_on, closing_status}
 use Rattle.pickle_show.specs.Calls.{first_inside, closing_of, closing_to, end_to, end_from, calls_end}
 use Rattle.pickle_show.proofs.Places.{is_reached}
-use Rattle.pickle_loader.specs.Environment.{Value, Act, World}
-use Rattle.pickle_loader.specs.Unpickler.{Unpickler, Step, Ran, Stopped, Raised}
+use Rattle.pickle_loader.specs.Environment.{Value, Act, Unpickler, World}
+use Rattle.pickle_loader.specs.Unpickler.{Step, Ran, Stopped, Raised}
 use Rattle.pickle_loader.specs.Dispatch.{Loaded, Going, Ended, Failed, loaded, acts_of, load_op, dispatch, load_item, load}
 use Rattle.pickle_loader.specs.Reader.{Fetched, NoFetch, fetch, frame_left, Fetches, opened, StopsEndFrames}
 use Rattle.pickle_loader.specs.Told.{told_of, told_at, told}
@@ -254,7 +254,7 @@ is_stop_op _ e = absurd cc
 
 -- after STOP one load is over
 stop_over : (w : World) (o : Operation) (u : Unpickler) (x : Step) → is_stop o.opcode ≡ true → load_op w o u ≡ x → goes_on false (loaded x) ≡ false
-stop_over w o u (Ran q) stop e = absurd (never_stop w o.opcode o.arg u q (is_stop_op o.opcode stop) (ran_by (w.fails u.acts o) u.acts (dispatch w o.opcode o.arg u) q e))
+stop_over w o u (Ran q) stop e = absurd (never_stop w o.opcode o.arg u q (is_stop_op o.opcode stop) (ran_by (w.fails u o) u.acts (dispatch w o.opcode o.arg u) q e))
 stop_over w o u (Stopped v q) stop e = refl
 stop_over w o u (Raised acts) stop e = refl
 

@@ -28,8 +28,8 @@ use Rattle.pickle_show.specs.declared.event.Event.TheVariants as event
 use Rattle.pickle_show.specs.declared.event.Before.{Before}
 use Rattle.pickle_show.specs.Event.{top_of, before_of, object_is, taken_count, filled_count, touches, into, filled_event}
 use Rattle.pickle_show.proofs.Steps.{top_is, is_there, Same, Grown, after_changes}
-use Rattle.pickle_loader.specs.Environment.{PyType, PyList, PyDict, PySet, PyByteArray, Value, Plain, Own, Foreign, Act, SetState, Fill, Method, Reply, Raises, Answers, World}
-use Rattle.pickle_loader.specs.Unpickler.{Unpickler, Step, Ran, item, answered, tell, pop, on_top, pop_mark, put_in, fill_own, fill, fill_none, fills, fill_pairs, then_raises, load_append, load_appends, load_setitem, load_setitems, load_additems, load_build}
+use Rattle.pickle_loader.specs.Environment.{PyType, PyList, PyDict, PySet, PyByteArray, Value, Plain, Own, Foreign, Act, SetState, Fill, Method, Reply, Raises, Answers, Unpickler, World}
+use Rattle.pickle_loader.specs.Unpickler.{Step, Ran, item, answered, tell, pop, on_top, pop_mark, put_in, fill_own, fill, fill_none, fills, fill_pairs, then_raises, load_append, load_appends, load_setitem, load_setitems, load_additems, load_build}
 use Rattle.pickle_loader.specs.Told.{told_of, acts_told, taken, objects_in}
 use Rattle.pickle_loader.proofs.Images.{image, pop_image, on_top_image, mark_image, last_image}
 use Rattle.pickle_loader.specs.Values.{origin, IsFrom, Knows}
@@ -198,7 +198,11 @@ by_class h u more new filling.Add vs v _ e ne m s new_is = absurd cc
 -- with nothing to put in
 none_good : (h : Here) (u : State) (more : List Change) (new : List Act) (v : Value) → u.heap ≡ h.s.heap → new ≡ [] → Filled h u more new (fill_none h.w v (image h.V u h.proto h.acts))
 unfolding Filled
-none_good h u more new (Foreign t n) e none = tell_good h (h.w.reply h.acts Method) u more new Method e (sym none)
+none_good h u more new (Foreign t n) e none = looked_up h.w.looks_up_for_nothing
+  where
+    looked_up : (b : Bool) → Filled h u more new (if b then tell h.w Method (image h.V u h.proto h.acts) else Ran (image h.V u h.proto h.acts))
+    looked_up true = tell_good h (h.w.reply h.acts Method) u more new Method e (sym none)
+    looked_up false = λ foretold. (refl, knows_at_once h u more e, sym (append-nil (told_of h.acts)) ∙ ap (λ (l : List Act). told_of h.acts ++ l) (sym none))
 none_good h u more new (Own t n) e none = λ foretold. (refl, knows_at_once h u more e, sym (append-nil (told_of h.acts)) ∙ ap (λ (l : List Act). told_of h.acts ++ l) (sym none))
 none_good h u more new (Plain k) e none = λ foretold. (refl, knows_at_once h u more e, sym (append-nil (told_of h.acts)) ∙ ap (λ (l : List Act). told_of h.acts ++ l) (sym none))
 

@@ -5,8 +5,8 @@ use Rattle.std.specs.Option.{unwrap_or}
 use Rattle.std.proofs.lemmas.Bool.{lt-ltb, cases_lt, leb-true, le-leb}
 use Rattle.std.proofs.lemmas.List.{take-append-le, drop-append-le, length-take-le, length-drop}
 use Rattle.pickle_ops.specs.declared.kind.Kind.TheVariants as kind
-use Rattle.pickle_loader.specs.Environment.{Value, Plain, Method, World}
-use Rattle.pickle_loader.specs.Unpickler.{Unpickler, Raised, append, tell, item, to_mark, load_pop, load_pop_mark}
+use Rattle.pickle_loader.specs.Environment.{Value, Plain, Method, Unpickler, World}
+use Rattle.pickle_loader.specs.Unpickler.{Raised, append, tell, item, to_mark, load_pop, load_pop_mark}
 use Rattle.pickle_loader.specs.FlatStack.{Flat, fence, flat_push, flat_mark, flat_cut_at, between, AreFenced, IsOneStack, PopsAs, LooksAs, CutsAs, OneStack, at_mark, without_mark, DropsAs}
 
 -- ---- marks
@@ -154,7 +154,8 @@ cuts_by : (vs : List Value) (ms : List ℕ) (u : Unpickler) → AreFenced ms (le
 cuts_by vs [] u fenced stack meta = λ go. ap (λ (x : List (List Value)). to_mark x u go) meta
 cuts_by vs (m ∷ ms) u fenced stack meta =
     let size : length (take m vs) ≡ m = length-take-le m vs fenced.0 in (
-      record u { stack = drop (fence ms) (take m vs); metastack = between vs ms },
+      drop (fence ms) (take m vs),
+      between vs ms,
       record {
         fenced = subst (λ (n : ℕ). AreFenced ms n) (sym size) fenced.1;
         stack = refl;
@@ -180,7 +181,8 @@ drops_mark w vs (m ∷ ms) u fenced stack meta e =
     let here : m ≡ length vs = equal_at m (length vs) e in
     let none : nat_lt 0 (length u.stack) ≡ false = lt_false (length u.stack) (omega (arith, ap length stack, length-drop m vs, here)) in
     let all : take m vs ≡ vs = ap (λ (k : ℕ). take k vs) here ∙ take_all vs in (
-      record u { stack = drop (fence ms) (take m vs); metastack = between vs ms },
+      drop (fence ms) (take m vs),
+      between vs ms,
       record { fenced = subst (λ (k : ℕ). AreFenced ms k) here fenced.1; stack = ap (drop (fence ms)) all; metastack = refl },
       ap (λ (b : Bool). if b then tell w Method (record u { stack = take (length u.stack - 1) u.stack }) else load_pop_mark w u) none
           ∙ ap (λ (x : List (List Value)). to_mark x u (λ items q. tell w Method q)) meta,
@@ -201,7 +203,8 @@ drops_value w f u o h =
     let some : nat_lt 0 (length u.stack) ≡ true = lt-ltb 0 (length u.stack) (omega (arith, h, size)) in
     let room : nat_le (fence f.marks + 1) (length f.cells) ≡ true = le-leb (fence f.marks + 1) (length f.cells) (omega (arith, h)) in
     let popped = pops_by f u 1 true room o in (
-      record u { stack = take (length u.stack - 1) u.stack },
+      take (length u.stack - 1) u.stack,
+      u.metastack,
       popped.0,
       ap (λ (b : Bool). if b then tell w Method (record u { stack = take (length u.stack - 1) u.stack }) else load_pop_mark w u) some,
     )

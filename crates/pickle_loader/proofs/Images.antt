@@ -12,8 +12,8 @@ use Rattle.std.proofs.lemmas.List.{length-map, take-map, drop-map}
 use Rattle.pickle_ops.specs.declared.kind.Kind.TheVariants as kind
 use Rattle.pickle_machine.specs.State.{Marked, State}
 use Rattle.pickle_machine.specs.Move.{deep, last_of, without, under, deeper, cut}
-use Rattle.pickle_loader.specs.Environment.{Value, Plain, Act}
-use Rattle.pickle_loader.specs.Unpickler.{Unpickler, Step, Raised, item, pop, on_top, to_mark, pop_mark}
+use Rattle.pickle_loader.specs.Environment.{Value, Plain, Act, Unpickler}
+use Rattle.pickle_loader.specs.Unpickler.{Step, Raised, item, pop, on_top, to_mark, pop_mark}
 use Rattle.pickle_loader.specs.Told.{is_told, told_of}
 use Rattle.pickle_loader.specs.Laws.{sections, entries}
 

@@ -1,5 +1,5 @@
 -- An item that loaders take, and a step of it.
-use Rattle.std.proofs.Common.{◌≡◌, ℕ, ◌+◌, ◌-◌, Bool, true, false, List, [], ◌∷◌, ◌++◌, length, take, drop, Option, Some, None, Ok, Err, refl, sym, ap, subst, ◌∙◌}
+use Rattle.std.proofs.Common.{◌≡◌, ◌<◌, ℕ, ◌+◌, ◌-◌, Bool, true, false, List, [], ◌∷◌, ◌++◌, length, take, drop, Option, Some, None, Ok, Err, refl, sym, ap, subst, ◌∙◌, arith}
 use Rattle.std.specs.Prelude.{◌==◌, nat_le, position, is_some, if◌then◌else◌, Result}
 use Rattle.std.specs.Option.{option_map}
 use Rattle.std.specs.Ordering.{nat_cmp}
@@ -27,16 +27,16 @@ use Rattle.pickle_lenient.specs.declared.taken.Frames.{Frames}
 use Rattle.pickle_lenient.specs.declared.taken.Frames.TheVariants as frames
 use Rattle.pickle_lenient.specs.declared.taken.Taken.{Taken}
 use Rattle.pickle_lenient.specs.Key.{key_of}
-use Rattle.pickle_lenient.specs.Lenient.{Lenient, mended, tells_line, sized, keyed_by, odd_to, odd_so, odd, taken_so, mended_so, cut_line, cut, faulty, front_size, lenient_at, lenient}
+use Rattle.pickle_lenient.specs.Lenient.{Lenient, mended, tells_line, sized, keyed_by, odd_to, odd_so, odd, taken_so, mended_so, cut_line, cut, faulty, lenient_at, lenient}
 use Rattle.pickle_lenient.specs.Stream.{first_read, joined, ends_in, refilled, framed, taken_as, plain, within, across, taken}
 use Rattle.pickle_further.specs.Going.{used_op, then_as, moved_so}
-use Rattle.pickle_loader.specs.Environment.{Value, Method, World}
-use Rattle.pickle_loader.specs.Unpickler.{Unpickler, Step, Raised, load_get, load_put, tell}
+use Rattle.pickle_loader.specs.Environment.{Value, Method, Unpickler, World}
+use Rattle.pickle_loader.specs.Unpickler.{Step, Raised, load_get, load_put, tell}
 use Rattle.pickle_loader.specs.Dispatch.{dispatch}
 use Rattle.pickle_loader.specs.Told.{told_of, protocol_after}
 use Rattle.pickle_loader.specs.Laws.{entries, IsSame}
 use Rattle.pickle_loader.specs.Whole.{IsWhole}
-use Rattle.pickle_loader.specs.Beyond.{is_missing, IsUsual, RaisesAt, Comes}
+use Rattle.pickle_loader.specs.Beyond.{is_missing, RaisesAt, Comes}
 use Rattle.pickle_loader.specs.Onward.{load_keyed, dispatch_as, load_taken}
 use Rattle.pickle_loader.proofs.Cuts.{drop_none, take_none}
 use Rattle.pickle_loader.proofs.Methods.{Here, unpickler, fresh_acts, RowGood, raised_good, memo_get_good, put_good}
@@ -54,55 +54,55 @@ pub data IsItem (o : Operation) (r : Row) : Type 0 where
   Gets : (key : ℕ) → o ≡ frame_op 0 → r ≡ row.Get key → IsItem o r
   Puts : (key : ℕ) → o ≡ frame_op 0 → r ≡ row.Put key → IsItem o r
 
--- of what a reading answers
+-- of what a reading answers; and it takes a byte at least
 abbrev AreLenient : Result Lenient FrontFault → Type 0
-AreLenient x = (l : Lenient) → x ≡ Ok l → IsItem l.op l.row
+AreLenient x = (l : Lenient) → x ≡ Ok l → IsItem l.op l.row × (0 < l.size)
 
-abbrev pub AreItems : Result Taken FrontFault → Type 0
-AreItems x = (t : Taken) → x ≡ Ok t → IsItem t.op t.row
+abbrev AreItems : Result Taken FrontFault → Type 0
+AreItems x = (t : Taken) → x ≡ Ok t → IsItem t.op t.row × (0 < t.size)
 
 ok_same : {A : Type 0} (a b : A) (x : Result A FrontFault) → x ≡ Ok a → x ≡ Ok b → a ≡ b
 ok_same a b (Ok x) e f = let one : x ≡ a = cc in let two : x ≡ b = cc in sym one ∙ two
 ok_same a b (Err g) e f = absurd cc
 
-ok_lenient : (l : Lenient) → IsItem l.op l.row → AreLenient (Ok l)
-ok_lenient l is k e = subst (λ (x : Lenient). IsItem x.op x.row) (ok_same l k (Ok l) refl e) is
+ok_lenient : (l : Lenient) → IsItem l.op l.row → 0 < l.size → AreLenient (Ok l)
+ok_lenient l is some k e = subst (λ (x : Lenient). IsItem x.op x.row × (0 < x.size)) (ok_same l k (Ok l) refl e) (is, some)
 
 err_lenient : (f : FrontFault) → AreLenient (Err f)
 err_lenient f l e = absurd cc
 
-taken_lenient : (size : ℕ) (f : Front) → AreLenient (taken_so size f)
-taken_lenient size (Whole o arg rest) = ok_lenient _ (Itself refl)
-taken_lenient size _ = err_lenient fault.Truncated
+taken_lenient : (size : ℕ) (f : Front) → 0 < size → AreLenient (taken_so size f)
+taken_lenient size (Whole o arg rest) some = ok_lenient _ (Itself refl) some
+taken_lenient size _ some = err_lenient fault.Truncated
 
-keyed_lenient : (code key size : ℕ) (a b : Bool) → (code == 103) ≡ a → (code == 112) ≡ b → AreLenient (odd_so (option_map (sized size) (if a then Some (row.Get key) else (if b then Some (row.Put key) else None))))
-keyed_lenient code key size true b e f = ok_lenient _ (Gets key refl refl)
-keyed_lenient code key size false true e f = ok_lenient _ (Puts key refl refl)
-keyed_lenient code key size false false e f = err_lenient fault.BadArgument
+keyed_lenient : (code key size : ℕ) (a b : Bool) → 0 < size → (code == 103) ≡ a → (code == 112) ≡ b → AreLenient (odd_so (option_map (sized size) (if a then Some (row.Get key) else (if b then Some (row.Put key) else None))))
+keyed_lenient code key size true b some e f = ok_lenient _ (Gets key refl refl) some
+keyed_lenient code key size false true some e f = ok_lenient _ (Puts key refl refl) some
+keyed_lenient code key size false false some e f = err_lenient fault.BadArgument
 
-by_lenient : (code size : ℕ) (x : Option ℕ) → AreLenient (odd_so (keyed_by code size x))
-by_lenient code size None = err_lenient fault.BadArgument
-by_lenient code size (Some key) = keyed_lenient code key size (code == 103) (code == 112) refl refl
+by_lenient : (code size : ℕ) (x : Option ℕ) → 0 < size → AreLenient (odd_so (keyed_by code size x))
+by_lenient code size None some = err_lenient fault.BadArgument
+by_lenient code size (Some key) some = keyed_lenient code key size (code == 103) (code == 112) some refl refl
 
 to_lenient : (code : ℕ) (rest : List ℕ) (x : Option ℕ) → AreLenient (odd_so (odd_to code rest x))
 to_lenient code rest None = err_lenient fault.BadArgument
-to_lenient code rest (Some end) = by_lenient code (end + 2) (key_of (take end rest))
+to_lenient code rest (Some end) = by_lenient code (end + 2) (key_of (take end rest)) (omega arith)
 
 odd_lenient : (bytes : List ℕ) → AreLenient (odd bytes)
 odd_lenient [] = err_lenient fault.BadArgument
 odd_lenient (code ∷ rest) = to_lenient code rest (position is_newline rest)
 
-mended_lenient : (size : ℕ) (f : Front) (x : Option FrontFault) → AreLenient (mended_so size f x)
-mended_lenient size f None = taken_lenient size f
-mended_lenient size f (Some g) = err_lenient fault.Truncated
+mended_lenient : (size : ℕ) (f : Front) (x : Option FrontFault) → 0 < size → AreLenient (mended_so size f x)
+mended_lenient size f None some = taken_lenient size f some
+mended_lenient size f (Some g) some = err_lenient fault.Truncated
 
-line_lenient : (b : Bool) (bytes : List ℕ) → AreLenient (if b then cut_line bytes else Err fault.Truncated)
-line_lenient true bytes = mended_lenient (length bytes) (front_of (mended bytes)) (front_fault (front_of (mended bytes)))
-line_lenient false bytes = err_lenient fault.Truncated
+line_lenient : (b : Bool) (bytes : List ℕ) → 0 < length bytes → AreLenient (if b then cut_line bytes else Err fault.Truncated)
+line_lenient true bytes some = mended_lenient (length bytes) (front_of (mended bytes)) (front_fault (front_of (mended bytes))) some
+line_lenient false bytes some = err_lenient fault.Truncated
 
 cut_lenient : (bytes : List ℕ) → AreLenient (cut bytes)
 cut_lenient [] = err_lenient fault.Truncated
-cut_lenient (code ∷ rest) = line_lenient (tells_line code) (code ∷ rest)
+cut_lenient (code ∷ rest) = line_lenient (tells_line code) (code ∷ rest) (omega arith)
 
 faulty_lenient : (bytes : List ℕ) (f : FrontFault) → AreLenient (faulty bytes f)
 faulty_lenient bytes fault.BadArgument = odd_lenient bytes
@@ -110,37 +110,48 @@ faulty_lenient bytes fault.Truncated = cut_lenient bytes
 faulty_lenient bytes f = err_lenient f
 
 at_lenient : (bytes : List ℕ) (f : Front) (x : Option FrontFault) → AreLenient (lenient_at bytes f x)
-at_lenient bytes f None = taken_lenient (front_size f) f
+at_lenient bytes (Whole o arg rest) None = ok_lenient _ (Itself refl) (omega arith)
+at_lenient bytes _ None = err_lenient fault.Truncated
 at_lenient bytes f (Some g) = faulty_lenient bytes g
 
 all_lenient : (bytes : List ℕ) → AreLenient (lenient bytes)
 unfolding lenient
 all_lenient bytes = at_lenient bytes (front_of bytes) (front_fault (front_of bytes))
 
-ok_item : (t : Taken) → IsItem t.op t.row → AreItems (Ok t)
-ok_item t is k e = subst (λ (x : Taken). IsItem x.op x.row) (ok_same t k (Ok t) refl e) is
+ok_item : (t : Taken) → IsItem t.op t.row × (0 < t.size) → AreItems (Ok t)
+ok_item t is k e = subst (λ (x : Taken). IsItem x.op x.row × (0 < x.size)) (ok_same t k (Ok t) refl e) is
 
-framed_items : (b c : Bool) (bytes : List ℕ) (t : Taken) (n m : ℕ) → IsItem t.op t.row → AreItems (if b then Ok t else (if c then Ok (refilled n t) else Ok (refilled m t)))
+-- with more bytes lost, or others in the buffer
+ok_refilled : (n : ℕ) (t : Taken) → IsItem t.op t.row × (0 < t.size) → AreItems (Ok (refilled n t))
+ok_refilled n t is = ok_item (refilled n t) (is.0, omega (arith, is.1))
+
+taken_some : (gap : ℕ) (l : Lenient) → IsItem l.op l.row × (0 < l.size) → IsItem l.op l.row × (0 < l.size + gap)
+taken_some gap l is = (is.0, omega (arith, is.1))
+
+ok_taken : (gap left : ℕ) (l : Lenient) → IsItem l.op l.row × (0 < l.size) → AreItems (Ok (taken_as gap left l))
+ok_taken gap left l is = ok_item (taken_as gap left l) (taken_some gap l is)
+
+framed_items : (b c : Bool) (bytes : List ℕ) (t : Taken) (n m : ℕ) → IsItem t.op t.row × (0 < t.size) → AreItems (if b then Ok t else (if c then Ok (refilled n t) else Ok (refilled m t)))
 framed_items true c bytes t n m is = ok_item t is
-framed_items false true bytes t n m is = ok_item (refilled n t) is
-framed_items false false bytes t n m is = ok_item (refilled m t) is
+framed_items false true bytes t n m is = ok_refilled n t is
+framed_items false false bytes t n m is = ok_refilled m t is
 
-settled_items : (b c : Bool) (bytes : List ℕ) (t : Taken) → IsItem t.op t.row → AreItems (if b then Ok (refilled 0 t) else (if c then framed bytes t (frame_number t.op) else Ok t))
-settled_items true c bytes t is = ok_item (refilled 0 t) is
+settled_items : (b c : Bool) (bytes : List ℕ) (t : Taken) → IsItem t.op t.row × (0 < t.size) → AreItems (if b then Ok (refilled 0 t) else (if c then framed bytes t (frame_number t.op) else Ok t))
+settled_items true c bytes t is = ok_refilled 0 t is
 settled_items false true bytes t is =
     framed_items (nat_le (frame_number t.op) t.left) (nat_le (frame_number t.op) (length bytes - (t.size + t.left))) bytes t (frame_number t.op) (length bytes - (t.size + t.left)) is
 settled_items false false bytes t is = ok_item t is
 
 plain_items : (x : Result Lenient FrontFault) → AreLenient x → AreItems (plain x)
-plain_items (Ok l) all = ok_item (taken_as 0 0 l) (all l refl)
+plain_items (Ok l) all = ok_taken 0 0 l (all l refl)
 plain_items (Err f) all = λ t e. absurd cc
 
 within_items : (bytes : List ℕ) (size : ℕ) (x : Result Lenient FrontFault) → AreLenient x → AreItems (within bytes size x)
-within_items bytes size (Ok l) all = let t : Taken = taken_as 0 (size - l.size) l in settled_items (is_stop t.op.opcode) (is_frame t.op.opcode) bytes t (all l refl)
+within_items bytes size (Ok l) all = let t : Taken = taken_as 0 (size - l.size) l in settled_items (is_stop t.op.opcode) (is_frame t.op.opcode) bytes t (taken_some 0 l (all l refl))
 within_items bytes size (Err f) all = λ t e. absurd cc
 
 across_items : (bytes : List ℕ) (gap : ℕ) (x : Result Lenient FrontFault) → AreLenient x → AreItems (across bytes gap x)
-across_items bytes gap (Ok l) all = let t : Taken = taken_as gap 0 l in settled_items (is_stop t.op.opcode) (is_frame t.op.opcode) bytes t (all l refl)
+across_items bytes gap (Ok l) all = let t : Taken = taken_as gap 0 l in settled_items (is_stop t.op.opcode) (is_frame t.op.opcode) bytes t (taken_some gap l (all l refl))
 across_items bytes gap (Err f) all = λ t e. absurd cc
 
 buffered_items : (b : Bool) (left : ℕ) (bytes : List ℕ)
@@ -148,10 +159,16 @@ buffered_items : (b : Bool) (left : ℕ) (bytes : List ℕ)
 buffered_items true left bytes = within_items bytes (length (take left bytes)) (lenient (take left bytes)) (all_lenient (take left bytes))
 buffered_items false left bytes = across_items bytes (length (take left bytes) - first_read (take left bytes)) (lenient (joined left bytes)) (all_lenient (joined left bytes))
 
-pub are_items : (f : Frames) (left : ℕ) (bytes : List ℕ) → AreItems (taken f left bytes)
+all_items : (f : Frames) (left : ℕ) (bytes : List ℕ) → AreItems (taken f left bytes)
 unfolding taken
-are_items frames.Ignored left bytes = plain_items (lenient bytes) (all_lenient bytes)
-are_items frames.Buffered left bytes = buffered_items (ends_in (front_of (take left bytes))) left bytes
+all_items frames.Ignored left bytes = plain_items (lenient bytes) (all_lenient bytes)
+all_items frames.Buffered left bytes = buffered_items (ends_in (front_of (take left bytes))) left bytes
+
+pub are_items : (f : Frames) (left : ℕ) (bytes : List ℕ) (t : Taken) → taken f left bytes ≡ Ok t → IsItem t.op t.row
+are_items f left bytes t e = (all_items f left bytes t e).0
+
+pub take_some : (f : Frames) (left : ℕ) (bytes : List ℕ) (t : Taken) → taken f left bytes ≡ Ok t → 0 < t.size
+take_some f left bytes t e = (all_items f left bytes t e).1
 
 -- ---- of no bytes nothing is
 
@@ -221,7 +238,7 @@ put_right h key = record {
 
 ItemComes : World → (ℕ → Value) → State → Unpickler → ℕ → Operation → Row → Type 0
 ItemComes w V s u place o r =
-    Comes w V s u (loader_move o.opcode r s) (protocol_after o.opcode o.arg u.proto) (if w.fails u.acts o then Raised u.acts else dispatch_as w r o.opcode o.arg u)
+    Comes w V s u (loader_move o.opcode r s) (protocol_after o.opcode o.arg u.proto) (if w.fails u o then Raised u.acts else dispatch_as w r o.opcode o.arg u)
     (moved_so (loader_move o.opcode r s) (used_op (loader_move o.opcode r s) o) place s)
 
 frame_comes : (w : World) (V : ℕ → Value) (s : State) (u : Unpickler) (place : ℕ) (r : Row) → s.stopped ≡ false → IsWhole s → IsSame w V s u
@@ -229,32 +246,32 @@ frame_comes : (w : World) (V : ℕ → Value) (s : State) (u : Unpickler) (place
 unfolding ItemComes
 frame_comes w V s u place r running whole same right one =
     let h : Here = record { V = V; w = w; s = s; proto = u.proto; acts = u.acts; place = place; knows = same.objects } in
-    subst (λ (m : LoaderMove). Comes w V s u m u.proto (if w.fails u.acts (frame_op 0) then Raised u.acts else load_keyed w r u) (moved_so m (used_op m (frame_op 0)) place s)) (sym one)
-    (subst (λ (x : Unpickler). Comes w V s x (one_move r) x.proto (if w.fails x.acts (frame_op 0) then Raised x.acts else load_keyed w r x) (moved_so (one_move r) (frame_op 0) place s)) (sym (same_image w V s u same))
-    (one_comes h r (frame_op 0) (if w.fails h.acts (frame_op 0) then Raised h.acts else load_keyed w r (unpickler h)) running whole (right_or h r (frame_op 0) (w.fails h.acts (frame_op 0)) (load_keyed w r (unpickler h)) (right h))))
+    subst (λ (m : LoaderMove). Comes w V s u m u.proto (if w.fails u (frame_op 0) then Raised u.acts else load_keyed w r u) (moved_so m (used_op m (frame_op 0)) place s)) (sym one)
+    (subst (λ (x : Unpickler). Comes w V s x (one_move r) x.proto (if w.fails x (frame_op 0) then Raised x.acts else load_keyed w r x) (moved_so (one_move r) (frame_op 0) place s)) (sym (same_image w V s u same))
+    (one_comes h r (frame_op 0) (if w.fails (unpickler h) (frame_op 0) then Raised h.acts else load_keyed w r (unpickler h)) running whole (right_or h r (frame_op 0) (w.fails (unpickler h) (frame_op 0)) (load_keyed w r (unpickler h)) (right h))))
 
 -- an operation whose row is its own
 own_dispatch : (w : World) (o : Opcode) (arg : List ℕ) (r : Row) (u : Unpickler) → r ≡ row_of (record { opcode = o; arg = arg }) → dispatch_as w r o arg u ≡ dispatch w o arg u
 own_dispatch w op.Frame arg r u e = ap (λ (x : Row). load_keyed w x u) e
 own_dispatch w _ arg r u e = refl
 
-item_comes : (w : World) (V : ℕ → Value) (s : State) (u : Unpickler) (place : ℕ) (o : Operation) (r : Row) → IsUsual w → IsWhole s → s.stopped ≡ false → IsSame w V s u → IsItem o r → ItemComes w V s u place o r
+item_comes : (w : World) (V : ℕ → Value) (s : State) (u : Unpickler) (place : ℕ) (o : Operation) (r : Row) → IsWhole s → s.stopped ≡ false → IsSame w V s u → IsItem o r → ItemComes w V s u place o r
 unfolding ItemComes
-item_comes w V s u place o r usual whole running same (Itself is) =
-    subst (λ (x : Step). Comes w V s u (loader_move o.opcode r s) (protocol_after o.opcode o.arg u.proto) (if w.fails u.acts o then Raised u.acts else x) (moved_so (loader_move o.opcode r s) (used_op (loader_move o.opcode r s) o) place s))
+item_comes w V s u place o r whole running same (Itself is) =
+    subst (λ (x : Step). Comes w V s u (loader_move o.opcode r s) (protocol_after o.opcode o.arg u.proto) (if w.fails u o then Raised u.acts else x) (moved_so (loader_move o.opcode r s) (used_op (loader_move o.opcode r s) o) place s))
     (sym (own_dispatch w o.opcode o.arg r u is))
-    (subst (λ (x : Row). Comes w V s u (loader_move o.opcode x s) (protocol_after o.opcode o.arg u.proto) (if w.fails u.acts o then Raised u.acts else dispatch w o.opcode o.arg u) (moved_so (loader_move o.opcode x s) (used_op (loader_move o.opcode x s) o) place s))
-    (sym is) (a_step_beyond w V s u o place usual whole running same))
-item_comes w V s u place o r usual whole running same (Gets key a b) =
+    (subst (λ (x : Row). Comes w V s u (loader_move o.opcode x s) (protocol_after o.opcode o.arg u.proto) (if w.fails u o then Raised u.acts else dispatch w o.opcode o.arg u) (moved_so (loader_move o.opcode x s) (used_op (loader_move o.opcode x s) o) place s))
+    (sym is) (a_step_beyond w V s u o place whole running same))
+item_comes w V s u place o r whole running same (Gets key a b) =
     subst (λ (x : Operation). ItemComes w V s u place x r) (sym a)
     (subst (λ (x : Row). ItemComes w V s u place (frame_op 0) x) (sym b) (frame_comes w V s u place (row.Get key) running whole same (λ h. get_right h key) refl))
-item_comes w V s u place o r usual whole running same (Puts key a b) =
+item_comes w V s u place o r whole running same (Puts key a b) =
     subst (λ (x : Operation). ItemComes w V s u place x r) (sym a)
     (subst (λ (x : Row). ItemComes w V s u place (frame_op 0) x) (sym b) (frame_comes w V s u place (row.Put key) running whole same (λ h. put_right h key) refl))
 
 -- where a loader moves in another way, or is refused, so does the unpickler
-pub an_item_beyond : (w : World) (V : ℕ → Value) (s : State) (u : Unpickler) (place : ℕ) (item : Taken) → IsUsual w → IsWhole s → s.stopped ≡ false → IsSame w V s u → IsItem item.op item.row
+pub an_item_beyond : (w : World) (V : ℕ → Value) (s : State) (u : Unpickler) (place : ℕ) (item : Taken) → IsWhole s → s.stopped ≡ false → IsSame w V s u → IsItem item.op item.row
     → Comes w V s u (loader_move item.op.opcode item.row s) (protocol_after item.op.opcode item.op.arg u.proto) (load_taken w item u)
     (moved_so (loader_move item.op.opcode item.row s) (used_op (loader_move item.op.opcode item.row s) item.op) place s)
 unfolding ItemComes
-an_item_beyond w V s u place item usual whole running same is = item_comes w V s u place item.op item.row usual whole running same is
+an_item_beyond w V s u place item whole running same is = item_comes w V s u place item.op item.row whole running same is

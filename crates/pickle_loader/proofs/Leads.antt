@@ -18,7 +18,7 @@ use Rattle.pickle_machine.specs.declared.loader.Fill.{Fill as Goes}
 use Rattle.pickle_machine.specs.declared.loader.LoaderMove.{LoaderMove}
 use Rattle.pickle_machine.specs.State.{State}
 use Rattle.pickle_machine.specs.Move.{refusal_of, next_of, begun, fresh, outcome}
-use Rattle.pickle_machine.specs.Loader.{takes_call, takes_call_with, takes_obj, asks_less, fill_of, drop_row, is_inst, import_move, fill_move, loader_move, move_as, cleared}
+use Rattle.pickle_machine.specs.Loader.{takes_call, takes_call_with, takes_obj, takes_string, asks_less, fill_of, drop_row, is_inst, import_move, fill_move, loader_move, move_as, cleared}
 use Rattle.pickle_show.specs.declared.event.Event.TheVariants as event
 use Rattle.pickle_show.specs.Event.{made_as, is_shown, before_of, event_of}
 use Rattle.pickle_further.specs.declared.way.Pickles.{Pickles}
@@ -91,6 +91,11 @@ asks_stop (row.Take taking.Names) s e = absurd cc
 asks_stop (row.Cut cutting.Any) s e = absurd cc
 asks_stop (row.Cut cutting.Pairs) s e = absurd cc
 asks_stop (row.Protocol n) s e = absurd cc
+asks_stop (row.Extension n) s e = absurd cc
+asks_stop row.ReadOnly s e = elim (less_stop (takes_string s) row.Nothing row.ReadOnly e) [
+  | inl x ↦ absurd cc
+  | inr x ↦ absurd cc
+]
 asks_stop r s e = e
 
 drop_stop : (r : Row) → drop_row r ≡ row.Stop → r ≡ row.Stop

@@ -25,6 +25,8 @@ pub mod Items
 pub mod Leads
 pub mod Onwards
 pub mod Ways
+pub mod CSteps
+pub mod CLoads
 pub mod Readings
 pub mod Buffers
 pub mod Losses

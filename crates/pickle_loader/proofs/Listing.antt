@@ -17,8 +17,8 @@ use Rattle.pickle_machine.specs.Move.{begun, fresh, next, next_of, refusal_of, r
 use Rattle.pickle_machine.specs.Run.{run}
 use Rattle.pickle_machine.proofs.HeapGrowth.{fresh_heap}
 use Rattle.pickle_show.specs.Event.{before_of, event_of}
-use Rattle.pickle_loader.specs.Environment.{Value, Plain, Act, World}
-use Rattle.pickle_loader.specs.Unpickler.{Unpickler, Step, Ran, Stopped, Raised}
+use Rattle.pickle_loader.specs.Environment.{Value, Plain, Act, Unpickler, World}
+use Rattle.pickle_loader.specs.Unpickler.{Step, Ran, Stopped, Raised}
 use Rattle.pickle_loader.specs.Dispatch.{dispatch, load_op, Loaded, Going, Ended, Failed, loaded, new_unpickler, load_item, load}
 use Rattle.pickle_loader.specs.Told.{told_of, acts_told, told_on, told_at, told, protocol_after, protocol_next, protocol_at}
 use Rattle.pickle_loader.specs.Laws.{IsResult, Follows, LoadsAreListed}
@@ -71,7 +71,7 @@ leads_on h before o (Ran q) is running told agrees good =
     let all = good (agrees q refl) in
     let more : told_of q.acts ≡ before ++ tells h o = all.2 ∙ ap (λ (l : List Act). l ++ tells h o) told in
     elim (still (row_of o) (kind_of o) h.place h.s) [
-      | inl stop ↦ absurd (never_stop h.w o.opcode o.arg (unpickler h) q (stop_only o.opcode o.arg stop) (ran_by (h.w.fails h.acts o) h.acts (dispatch h.w o.opcode o.arg (unpickler h)) q is))
+      | inl stop ↦ absurd (never_stop h.w o.opcode o.arg (unpickler h) q (stop_only o.opcode o.arg stop) (ran_by (h.w.fails (unpickler h) o) h.acts (dispatch h.w o.opcode o.arg (unpickler h)) q is))
       | inr same ↦
           let same_state : fresh (after_item h o) ≡ after_item h o = fresh_same (after_item h o) (same.stopped ∙ running) in
           (all.0 ∙ ap (λ (t : State). image h.V t (protocol_after o.opcode o.arg h.proto) q.acts) (sym same_state), all.1, more)
@@ -84,7 +84,7 @@ item_on : (h : Here) (before : List Act) (o : Operation) → refusal_of (row_of 
     → ((q : Unpickler) → load_op h.w o (unpickler h) ≡ Ran q → length h.s.heap < length (after_item h o).heap → h.V (length h.s.heap) ≡ top_value q.stack)
     → Standing h.V h.w (before ++ tells h o) (protocol_after o.opcode o.arg h.proto) (after_item h o) (loaded (load_op h.w o (unpickler h)))
 item_on h before o accepted running told agrees =
-    leads_on h before o (load_op h.w o (unpickler h)) refl running told agrees (op_good h o (h.w.fails h.acts o) accepted)
+    leads_on h before o (load_op h.w o (unpickler h)) refl running told agrees (op_good h o (h.w.fails (unpickler h) o) accepted)
 
 -- the same of the unpickler that the state tells of
 item_by : (V : ℕ → Value) (w : World) (s f : State) (proto : ℕ) (acts before : List Act) (n : ℕ) (o : Operation) → fresh s ≡ f → Knows w V acts s.heap → refusal_at o s ≡ None → told_of acts ≡ before

@@ -2,7 +2,7 @@
 use Rattle.std.proofs.Common.{◌≡◌, ℕ, ◌+◌, ◌-◌, Bool, true, false, cond, List, [], ◌∷◌, length, map, take, drop, Option, Some, None, refl, sym, ap, ◌∙◌, arith}
 use Rattle.std.proofs.lemmas.Bool.{ltb-false, leb-false}
 use Rattle.std.proofs.lemmas.List.{length-map, length-take-le}
-use Rattle.std.specs.Prelude.{◌%◌, ◌==◌, ◌||◌, ℤ, pos, int_lt, nat_le, nat_lt, is_some, if◌then◌else◌}
+use Rattle.std.specs.Prelude.{◌%◌, ◌==◌, ◌||◌, nat_le, nat_lt, is_some, if◌then◌else◌}
 use Rattle.std.specs.Option.{option_map}
 use Rattle.std.specs.Ordering.{nat_cmp}
 use Rattle.std.specs.BTreeMap.{insert_entry}
@@ -17,16 +17,16 @@ use Rattle.pickle_ops.specs.declared.row.Cutting.{Cutting}
 use Rattle.pickle_ops.specs.declared.row.Cutting.TheVariants as cutting
 use Rattle.pickle_ops.specs.declared.row.Filling.{Filling}
 use Rattle.pickle_ops.specs.declared.row.Filling.TheVariants as filling
-use Rattle.pickle_ops.specs.Argument.{number_of, integer_of}
+use Rattle.pickle_ops.specs.Argument.{number_of}
 use Rattle.pickle_ops.specs.Spelling.{Operation}
 use Rattle.pickle_ops.specs.Row.{count_of, values_of, row_of_opcode}
 use Rattle.pickle_machine.specs.declared.refusal.Refusal.{Refusal}
 use Rattle.pickle_machine.specs.declared.refusal.Refusal.TheVariants as refusal
 use Rattle.pickle_machine.specs.State.{Marked, State}
 use Rattle.pickle_machine.specs.Move.{unless, if_deep, if_paired, if_target, if_viewable, object_meets, taking_refusal, cutting_refusal, deep, under, cut, last_of, without, memo_at, refusal_of}
-use Rattle.pickle_machine.specs.Loader.{takes_call, takes_call_with, takes_obj, asks_less, is_inst}
-use Rattle.pickle_loader.specs.Environment.{Value, Act, Given, Persist, Find, Call, New, NewEx, SetState, Method, PyTuple, PyList, PyFrozenSet, PyDict}
-use Rattle.pickle_loader.specs.Unpickler.{Unpickler, Step, Ran, Stopped, Raised, append, ask, make, get, if_able, can_call, can_call_with, is_str, viewed, fills, fill_pairs, pop, item, on_top, to_mark, pop_mark, instantiated, load_pop, load_pop_mark, load_get, got, tell}
+use Rattle.pickle_machine.specs.Loader.{takes_call, takes_call_with, takes_obj, takes_string, asks_less, is_inst}
+use Rattle.pickle_loader.specs.Environment.{Value, Act, Given, Persist, Find, Call, New, NewEx, SetState, Method, PyTuple, PyList, PyFrozenSet, PyDict, Unpickler}
+use Rattle.pickle_loader.specs.Unpickler.{Step, Ran, Stopped, Raised, append, ask, make, get, if_able, can_call, can_call_with, is_str, viewed, fills, fill_pairs, pop, item, on_top, to_mark, pop_mark, instantiated, load_pop, load_pop_mark, load_get, got, tell}
 use Rattle.pickle_loader.specs.Dispatch.{dispatch, load_op}
 use Rattle.pickle_loader.specs.Laws.{sections, entries}
 use Rattle.pickle_loader.specs.Beyond.{is_missing, WhatIsMissingRaises}
@@ -183,11 +183,12 @@ get_misses h key = by (memo_at key h.s) refl
     by (Some id) is = misses_never h None _ never_none
     by None is = λ r e m. ap (λ (y : Option Value). got y (unpickler h)) (lookup_image h.V h.s.memo key ∙ ap (option_map h.V) is)
 
-extension_misses : (h : Here) (n : ℤ) (step : Step) → Misses h (refusal_of (row.Extension n) h.s) step
-extension_misses h n step = misses_never h _ step (never_unless (int_lt (pos 0) n) (refusal.BadExtension n) None refl never_none)
-
 viewable_never : (s : State) (id : ℕ) → Never (if_viewable s id)
 viewable_never s id = never_unless (object_meets demand.ReadOnly s id || object_meets demand.Writable s id) (refusal.WrongKind id) None refl never_none
+
+view_misses : (h : Here) (b : Bool) → Misses h (refusal_of (cond b row.Nothing row.ReadOnly) h.s) (on_top (unpickler h) (λ v. viewed h.w v (unpickler h)))
+view_misses h true = misses_never h None _ never_none
+view_misses h false = top_misses h (λ v. viewed h.w v (unpickler h)) (if_viewable h.s (deep 0 h.s.top)) (viewable_never h.s (deep 0 h.s.top))
 
 -- ---- opcodes
 
@@ -207,10 +208,7 @@ missing h op.List arg i = any_misses h (λ items q. make PyList items q)
 missing h op.FrozenSet arg i = any_misses h (λ items q. ask h.w Method q (λ v r. make PyFrozenSet items r))
 missing h op.Dict arg i = pairs_misses h (λ items q. ask h.w Method q (λ v r. if length items % 2 == 0 then make PyDict items r else Raised r.acts))
 missing h op.Obj arg i = obj_misses h (takes_obj h.s)
-missing h op.Ext1 arg i = extension_misses h (integer_of form.U1 arg) _
-missing h op.Ext2 arg i = extension_misses h (integer_of form.U2 arg) _
-missing h op.Ext4 arg i = extension_misses h (integer_of form.S4 arg) _
-missing h op.ReadOnlyBuffer arg i = top_misses h (λ v. viewed h.w v (unpickler h)) (if_viewable h.s (deep 0 h.s.top)) (viewable_never h.s (deep 0 h.s.top))
+missing h op.ReadOnlyBuffer arg i = view_misses h (takes_string h.s)
 missing h op.Append arg i = change_misses h filling.Append (λ vs target q. fills h.w filling.Append target vs q)
 missing h op.SetItem arg i = change_misses h filling.SetItem (λ vs target q. fills h.w filling.SetItem target vs q)
 missing h op.Build arg i = change_misses h filling.Build (λ vs target q. tell h.w (SetState target (item 0 vs)) q)
@@ -237,4 +235,4 @@ raised_by h o false e = e
 pub what_is_missing_raises : WhatIsMissingRaises
 what_is_missing_raises w V s u o r same inst refused lacks =
     let h : Here = record { V = V; w = w; s = s; proto = u.proto; acts = u.acts; place = 0; knows = same.objects } in
-    ap (load_op w o) (same_image w V s u same) ∙ raised_by h o (w.fails u.acts o) (missing h o.opcode o.arg inst r refused lacks)
+    ap (load_op w o) (same_image w V s u same) ∙ raised_by h o (w.fails (unpickler h) o) (missing h o.opcode o.arg inst r refused lacks)

@@ -24,13 +24,13 @@ use Rattle.pickle_further.specs.declared.way.Pickles.TheVariants as pickles
 use Rattle.pickle_further.specs.declared.way.Way.{Way}
 use Rattle.pickle_further.specs.Going.{Standing, Going as Gone, over, used_op, moved_so, event_by, stops, stopped_after, closing_after, keeps, state_after, gone_to, gone_by}
 use Rattle.pickle_further.specs.Parts.{are_many}
-use Rattle.pickle_loader.specs.Environment.{Value, Act, World}
-use Rattle.pickle_loader.specs.Unpickler.{Unpickler, Step, Ran, Stopped, Raised, item}
+use Rattle.pickle_loader.specs.Environment.{Value, Act, Unpickler, World}
+use Rattle.pickle_loader.specs.Unpickler.{Step, Ran, Stopped, Raised, item}
 use Rattle.pickle_loader.specs.Dispatch.{dispatch, Loaded, Going, Ended, Failed, loaded, acts_of, new_unpickler}
 use Rattle.pickle_loader.specs.Told.{told_of, acts_told, protocol_after}
 use Rattle.pickle_loader.specs.Laws.{IsSame, IsResult}
 use Rattle.pickle_loader.specs.Whole.{IsWhole}
-use Rattle.pickle_loader.specs.Beyond.{IsUsual, StepFollows, MapsNew, RaisesAt, RaisesIn, Moves, Comes}
+use Rattle.pickle_loader.specs.Beyond.{StepFollows, MapsNew, RaisesAt, RaisesIn, Moves, Comes}
 use Rattle.pickle_loader.specs.Onward.{dispatch_as, load_taken, Onward, again, reads_on, stands_behind, protocol_read, acts_gone}
 use Rattle.pickle_loader.proofs.Cuts.{zero_only}
 use Rattle.pickle_loader.proofs.Pushes.{top_value}
@@ -72,7 +72,6 @@ pub record Turn (p : Pickles) : Type 0 where
   pub acts : List Act
   pub proto : ℕ
   pub r : Unpickler
-  pub usual : IsUsual w
   pub same : IsSame w V (fresh q.state) r
   pub at : r.proto ≡ proto
   pub told : told_of r.acts ≡ acts
@@ -147,7 +146,7 @@ ran_on : (w : World) (item : Taken) (r u : Unpickler) (b : Bool) → is_stop ite
 ran_on w item r u false is e = is
 ran_on w item r u true is e =
     let stop : item.op.opcode ≡ op.Stop = stop_is item.op.opcode is in
-    let ran : dispatch_as w item.row item.op.opcode item.op.arg r ≡ Ran u = ran_by (w.fails r.acts item.op) r.acts (dispatch_as w item.row item.op.opcode item.op.arg r) u e in
+    let ran : dispatch_as w item.row item.op.opcode item.op.arg r ≡ Ran u = ran_by (w.fails r item.op) r.acts (dispatch_as w item.row item.op.opcode item.op.arg r) u e in
     absurd (never_stop w item.op.opcode item.op.arg r u stop (sym (stop_dispatch w item.op.opcode item.op.arg item.row r stop) ∙ ran))
 
 ran_turn : (p : Pickles) (t : Turn p) (item : Taken) (a : State) (u : Unpickler) (acts : List Act) → IsItem item.op item.row → load_taken t.w item t.r ≡ Ran u → moved_so (move_of p t item) (used_op (move_of p t item) item.op) t.q.at.place (fresh t.q.state) ≡ Ok a
@@ -359,6 +358,6 @@ read_turn way t x (Ok item) items right =
     let is : IsItem item.op item.row = items item refl in
     item_turn way t item z is same
     (subst (λ (y : Result State Refusal). Comes t.w t.V (fresh t.q.state) t.r m (protocol_after item.op.opcode item.op.arg t.r.proto) (load_taken t.w item t.r) y) same
-    (an_item_beyond t.w t.V (fresh t.q.state) t.r t.q.at.place item t.usual (whole_fresh t.q.state t.whole) (fresh_running t.q.state) t.same is))
+    (an_item_beyond t.w t.V (fresh t.q.state) t.r t.q.at.place item (whole_fresh t.q.state t.whole) (fresh_running t.q.state) t.same is))
     (λ a e. right_maps way t item x z a e right)
 read_turn way t x (Err f) items right = (([], ap (λ (l : List Act). l ++ []) t.told), inl refl)

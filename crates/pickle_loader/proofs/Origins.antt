@@ -1,5 +1,5 @@
 -- What the values of objects are, which the unpickler can do nothing with.
-use Rattle.std.proofs.Common.{◌≡◌, ℕ, zero, suc, ◌<◌, Bool, true, false, List, [], ◌∷◌, length, map, Option, Some, refl, sym, ap, ◌∙◌, inl, inr, arith}
+use Rattle.std.proofs.Common.{◌≡◌, ℕ, zero, suc, ◌<◌, Bool, true, false, List, [], ◌∷◌, length, map, Option, None, Some, refl, sym, ap, ◌∙◌, inl, inr, arith}
 use Rattle.std.specs.Prelude.{slice_get, ◌||◌}
 use Rattle.std.specs.Option.{option_map_or}
 use Rattle.pickle_ops.specs.declared.kind.Kind.{Kind}
@@ -13,13 +13,12 @@ use Rattle.pickle_ops.specs.Object.{Object}
 use Rattle.pickle_ops.specs.Class.{class_meets, is_any}
 use Rattle.pickle_ops.specs.Kind.{class_of, is_opaque, meets}
 use Rattle.pickle_machine.specs.Move.{object_meets}
-use Rattle.pickle_machine.specs.Loader.{opaque_at, views, view_at, loose_at, iterates as can_iterate, iterates_at}
+use Rattle.pickle_machine.specs.Loader.{opaque_at, views, view_at, loose_at, keyed_at, iterates as can_iterate, iterates_at, is_string, string_at}
 use Rattle.pickle_show.proofs.Steps.{not_there}
-use Rattle.pickle_loader.specs.Environment.{PyType, PyStr, PyTuple, PyList, PyDict, PySet, PyFrozenSet, PyByteArray, PyMemoryView, Value, Plain, Own, Foreign, is_elsewhere, Act, World}
-use Rattle.pickle_loader.specs.Unpickler.{Unpickler, Raised, item, iterates, has_keys, has_memory, is_str, viewed, viewed_string, fill, fill_own}
+use Rattle.pickle_loader.specs.Environment.{PyType, PyStr, PyTuple, PyList, PyDict, PySet, PyFrozenSet, PyByteArray, PyMemoryView, Value, Plain, Own, Foreign, is_elsewhere, Act, Unpickler, World}
+use Rattle.pickle_loader.specs.Unpickler.{Raised, item, iterates, has_keys, has_memory, is_str, viewed, fill, fill_own}
 use Rattle.pickle_loader.specs.Values.{origin, IsFrom}
 use Rattle.pickle_loader.specs.Whole.{IsSeen, IsWhole}
-use Rattle.pickle_loader.specs.Beyond.{IsUsual}
 use Rattle.pickle_loader.proofs.Cuts.{no_two}
 use Rattle.pickle_loader.proofs.Pushes.{StandsAs, stands_as}
 use Rattle.pickle_loader.proofs.Methods.{Here}
@@ -120,32 +119,51 @@ not_iterates h id within e =
 
 -- ---- what has no keys
 
-keys_by : (w : World) (acts : List Act) (k : Kind) (vs : List Value) (v : Value) → IsUsual w → IsFrom w acts k v (origin k vs) → meets demand.Keywords k ≡ false → has_keys w v ≡ false
-keys_by w acts kind.ReadOnly vs v usual (inl (n, is)) e = ap (has_keys w) is
-keys_by w acts kind.ReadOnly vs v usual (inr (t, n, is, of, memory, only)) e = ap (has_keys w) is ∙ usual.keys t n only
-keys_by w acts kind.Tuple vs v usual (n, is, at) e = ap (has_keys w) is
-keys_by w acts kind.List vs v usual (n, is, at) e = ap (has_keys w) is
-keys_by w acts kind.Set vs v usual (n, is, at) e = ap (has_keys w) is
-keys_by w acts kind.FrozenSet vs v usual (n, is, at) e = ap (has_keys w) is
-keys_by w acts (kind.ByteArray bytes) vs v usual (n, is, at) e = ap (has_keys w) is
-keys_by w acts kind.Dict vs v usual from e = absurd cc
-keys_by w acts (kind.Global names) vs v usual from e = absurd cc
-keys_by w acts kind.StackGlobal vs v usual from e = absurd cc
-keys_by w acts (kind.Ext m) vs v usual from e = absurd cc
-keys_by w acts (kind.Inst names) vs v usual from e = absurd cc
-keys_by w acts kind.Call vs v usual from e = absurd cc
-keys_by w acts kind.New vs v usual from e = absurd cc
-keys_by w acts kind.NewEx vs v usual from e = absurd cc
-keys_by w acts kind.Obj vs v usual from e = absurd cc
-keys_by w acts (kind.PersistentLine line) vs v usual from e = absurd cc
-keys_by w acts kind.Persistent vs v usual from e = absurd cc
-keys_by w acts (kind.Buffer m) vs v usual from e = absurd cc
-keys_by w acts k vs v usual from e = ap (has_keys w) from
+keys_by : (w : World) (acts : List Act) (k : Kind) (vs : List Value) (v : Value) → is_elsewhere v ≡ false → IsFrom w acts k v (origin k vs) → meets demand.Keywords k ≡ false → has_keys w v ≡ false
+keys_by w acts kind.ReadOnly vs v near (inl (n, is)) e = ap (has_keys w) is
+keys_by w acts kind.ReadOnly vs v near (inr (t, n, is, of, memory, only)) e = absurd (no_two (is_elsewhere v) (ap is_elsewhere is) near)
+keys_by w acts kind.Tuple vs v near (n, is, at) e = ap (has_keys w) is
+keys_by w acts kind.List vs v near (n, is, at) e = ap (has_keys w) is
+keys_by w acts kind.Set vs v near (n, is, at) e = ap (has_keys w) is
+keys_by w acts kind.FrozenSet vs v near (n, is, at) e = ap (has_keys w) is
+keys_by w acts (kind.ByteArray bytes) vs v near (n, is, at) e = ap (has_keys w) is
+keys_by w acts kind.Dict vs v near from e = absurd cc
+keys_by w acts (kind.Global names) vs v near from e = absurd cc
+keys_by w acts kind.StackGlobal vs v near from e = absurd cc
+keys_by w acts (kind.Ext m) vs v near from e = absurd cc
+keys_by w acts (kind.Inst names) vs v near from e = absurd cc
+keys_by w acts kind.Call vs v near from e = absurd cc
+keys_by w acts kind.New vs v near from e = absurd cc
+keys_by w acts kind.NewEx vs v near from e = absurd cc
+keys_by w acts kind.Obj vs v near from e = absurd cc
+keys_by w acts (kind.PersistentLine line) vs v near from e = absurd cc
+keys_by w acts kind.Persistent vs v near from e = absurd cc
+keys_by w acts (kind.Buffer m) vs v near from e = absurd cc
+keys_by w acts k vs v near from e = ap (has_keys w) from
 
-pub not_keys : (h : Here) (id : ℕ) → IsUsual h.w → id < length h.s.heap → object_meets demand.Keywords h.s id ≡ false → has_keys h.w (h.V id) ≡ false
-not_keys h id usual within e =
+-- what may be of any type may have keys
+any_keyed : (c : Class) → is_any c ≡ true → class_meets demand.Keywords c ≡ true
+any_keyed class.Dict e = refl
+any_keyed _ e = e
+
+opaque_keyed : (g : Option Object) → option_map_or (λ (o : Object). is_opaque o.kind) g false ≡ true → option_map_or (λ (o : Object). meets demand.Keywords o.kind) g false ≡ true
+opaque_keyed None e = absurd cc
+opaque_keyed (Some o) e = any_keyed (class_of o.kind) e
+
+pub neither : (a b : Bool) → (a || b) ≡ false → (a ≡ false) × (b ≡ false)
+neither true b e = absurd cc
+neither false b e = (refl, e)
+
+both_false : (a b : Bool) → a ≡ false → b ≡ false → (a || b) ≡ false
+both_false true b e f = absurd cc
+both_false false b e f = f
+
+pub not_keys : (h : Here) (id : ℕ) → IsWhole h.s → id < length h.s.heap → keyed_at h.s id ≡ false → has_keys h.w (h.V id) ≡ false
+not_keys h id whole within e =
     let o = object_at h.s.heap id within in
-    keys_by h.w h.acts o.0.kind (map h.V o.0.parts) (h.V id) usual (h.knows id o.0 o.1) (not_there (meets demand.Keywords) h.s.heap id o.0 o.1 e)
+    let both = neither (object_meets demand.Keywords h.s id) (view_at h.s.heap id) e in
+    let closed : opaque_at h.s.heap id ≡ false = both_ways (opaque_at h.s.heap id) (λ is. absurd (no_two (object_meets demand.Keywords h.s id) (opaque_keyed (slice_get h.s.heap id) is) both.0)) in
+    keys_by h.w h.acts o.0.kind (map h.V o.0.parts) (h.V id) (not_elsewhere h id whole within (both_false (opaque_at h.s.heap id) (view_at h.s.heap id) closed both.1)) (h.knows id o.0 o.1) (not_there (meets demand.Keywords) h.s.heap id o.0 o.1 both.0)
 
 -- ---- what is no text
 
@@ -193,36 +211,36 @@ blind_as : (w : World) (x v : Value) (u : Unpickler) → v ≡ x → Blind w x u
 unfolding Blind
 blind_as w x v u is e = ap (λ (y : Value). viewed w y u) is ∙ e
 
-view_by : (w : World) (acts : List Act) (k : Kind) (vs : List Value) (v : Value) (u : Unpickler) → IsUsual w → IsFrom w acts k v (origin k vs) → meets demand.ReadOnly k ≡ false → meets demand.Writable k ≡ false → Blind w v u
+view_by : (w : World) (acts : List Act) (k : Kind) (vs : List Value) (v : Value) (u : Unpickler) → is_string k ≡ false → IsFrom w acts k v (origin k vs) → meets demand.ReadOnly k ≡ false → meets demand.Writable k ≡ false → Blind w v u
 unfolding Blind
-view_by w acts kind.Tuple vs v u usual (n, is, at) r e = blind_as w (Own PyTuple n) v u is refl
-view_by w acts kind.List vs v u usual (n, is, at) r e = blind_as w (Own PyList n) v u is refl
-view_by w acts kind.Dict vs v u usual (n, is, at) r e = blind_as w (Own PyDict n) v u is refl
-view_by w acts kind.Set vs v u usual (n, is, at) r e = blind_as w (Own PySet n) v u is refl
-view_by w acts kind.FrozenSet vs v u usual (n, is, at) r e = blind_as w (Own PyFrozenSet n) v u is refl
-view_by w acts kind.ReadOnly vs v u usual from r e = absurd cc
-view_by w acts (kind.Bytes bytes) vs v u usual from r e = absurd cc
-view_by w acts (kind.ByteArray bytes) vs v u usual from r e = absurd cc
-view_by w acts (kind.Global names) vs v u usual from r e = absurd cc
-view_by w acts kind.StackGlobal vs v u usual from r e = absurd cc
-view_by w acts (kind.Ext m) vs v u usual from r e = absurd cc
-view_by w acts (kind.Inst names) vs v u usual from r e = absurd cc
-view_by w acts kind.Call vs v u usual from r e = absurd cc
-view_by w acts kind.New vs v u usual from r e = absurd cc
-view_by w acts kind.NewEx vs v u usual from r e = absurd cc
-view_by w acts kind.Obj vs v u usual from r e = absurd cc
-view_by w acts (kind.PersistentLine line) vs v u usual from r e = absurd cc
-view_by w acts kind.Persistent vs v u usual from r e = absurd cc
-view_by w acts (kind.Buffer m) vs v u usual from r e = absurd cc
-view_by w acts (kind.LegacyString bytes) vs v u usual from r e = blind_as w (Plain (kind.LegacyString bytes)) v u from (ap (λ (b : Bool). viewed_string b u) usual.texts)
-view_by w acts (kind.LegacyLine bytes) vs v u usual from r e = blind_as w (Plain (kind.LegacyLine bytes)) v u from (ap (λ (b : Bool). viewed_string b u) usual.texts)
-view_by w acts k vs v u usual from r e = blind_as w (Plain k) v u from refl
+view_by w acts kind.Tuple vs v u text (n, is, at) r e = blind_as w (Own PyTuple n) v u is refl
+view_by w acts kind.List vs v u text (n, is, at) r e = blind_as w (Own PyList n) v u is refl
+view_by w acts kind.Dict vs v u text (n, is, at) r e = blind_as w (Own PyDict n) v u is refl
+view_by w acts kind.Set vs v u text (n, is, at) r e = blind_as w (Own PySet n) v u is refl
+view_by w acts kind.FrozenSet vs v u text (n, is, at) r e = blind_as w (Own PyFrozenSet n) v u is refl
+view_by w acts kind.ReadOnly vs v u text from r e = absurd cc
+view_by w acts (kind.Bytes bytes) vs v u text from r e = absurd cc
+view_by w acts (kind.ByteArray bytes) vs v u text from r e = absurd cc
+view_by w acts (kind.Global names) vs v u text from r e = absurd cc
+view_by w acts kind.StackGlobal vs v u text from r e = absurd cc
+view_by w acts (kind.Ext m) vs v u text from r e = absurd cc
+view_by w acts (kind.Inst names) vs v u text from r e = absurd cc
+view_by w acts kind.Call vs v u text from r e = absurd cc
+view_by w acts kind.New vs v u text from r e = absurd cc
+view_by w acts kind.NewEx vs v u text from r e = absurd cc
+view_by w acts kind.Obj vs v u text from r e = absurd cc
+view_by w acts (kind.PersistentLine line) vs v u text from r e = absurd cc
+view_by w acts kind.Persistent vs v u text from r e = absurd cc
+view_by w acts (kind.Buffer m) vs v u text from r e = absurd cc
+view_by w acts (kind.LegacyString bytes) vs v u text from r e = absurd cc
+view_by w acts (kind.LegacyLine bytes) vs v u text from r e = absurd cc
+view_by w acts k vs v u text from r e = blind_as w (Plain k) v u from refl
 
-pub not_viewed : (h : Here) (id : ℕ) (u : Unpickler) → IsUsual h.w → id < length h.s.heap → object_meets demand.ReadOnly h.s id ≡ false → object_meets demand.Writable h.s id ≡ false → viewed h.w (h.V id) u ≡ Raised u.acts
+pub not_viewed : (h : Here) (id : ℕ) (u : Unpickler) → id < length h.s.heap → string_at h.s.heap id ≡ false → object_meets demand.ReadOnly h.s id ≡ false → object_meets demand.Writable h.s id ≡ false → viewed h.w (h.V id) u ≡ Raised u.acts
 unfolding Blind
-not_viewed h id u usual within r e =
+not_viewed h id u within text r e =
     let o = object_at h.s.heap id within in
-    view_by h.w h.acts o.0.kind (map h.V o.0.parts) (h.V id) u usual (h.knows id o.0 o.1) (not_there (meets demand.ReadOnly) h.s.heap id o.0 o.1 r) (not_there (meets demand.Writable) h.s.heap id o.0 o.1 e)
+    view_by h.w h.acts o.0.kind (map h.V o.0.parts) (h.V id) u (not_there is_string h.s.heap id o.0 o.1 text) (h.knows id o.0 o.1) (not_there (meets demand.ReadOnly) h.s.heap id o.0 o.1 r) (not_there (meets demand.Writable) h.s.heap id o.0 o.1 e)
 
 -- ---- what nothing can be put into
 

@@ -24,7 +24,7 @@ use Rattle.pickle_machine.specs.declared.refusal.Refusal.{Refusal}
 use Rattle.pickle_machine.specs.declared.loader.LoaderMove.{LoaderMove}
 use Rattle.pickle_machine.specs.State.{State, start}
 use Rattle.pickle_machine.specs.Move.{refusal_at, next, fresh, outcome, move}
-use Rattle.pickle_machine.specs.Loader.{takes_call, takes_call_with, takes_obj, asks_less, loader_move, move_as}
+use Rattle.pickle_machine.specs.Loader.{takes_call, takes_call_with, takes_obj, takes_string, asks_less, loader_move, move_as}
 use Rattle.pickle_machine.specs.LoaderLaws.{one_move}
 use Rattle.pickle_machine.specs.Run.{run}
 use Rattle.pickle_machine.proofs.LoaderRows.{loaders_take_moves}
@@ -136,6 +136,12 @@ event_less (row.Take taking.Names) s b t = refl
 event_less (row.Cut cutting.Any) s b t = refl
 event_less (row.Cut cutting.Pairs) s b t = refl
 event_less (row.Protocol n) s b t = refl
+event_less (row.Extension n) s b t = refl
+event_less row.ReadOnly s b t = either (takes_string s)
+  where
+    either : (c : Bool) → event_of (cond c row.Nothing row.ReadOnly) b t ≡ event_of row.ReadOnly b t
+    either true = refl
+    either false = refl
 event_less r s b t = refl
 
 -- what an item comes to that the machine accepts

@@ -2,7 +2,7 @@
 use Rattle.std.proofs.Common.{◌≡◌, ◌⊎◌, ℕ, zero, suc, ◌+◌, ◌-◌, ◌<◌, Bool, true, false, cond, List, [], ◌∷◌, ◌++◌, length, map, take, drop, get_or, Option, Some, None, refl, sym, ap, subst, ◌∙◌, inl, inr, arith}
 use Rattle.std.proofs.lemmas.Bool.{ltb-false, leb-true, lt-ltb, le-leb}
 use Rattle.std.proofs.lemmas.List.{length-map, length-take-le, length-drop}
-use Rattle.std.specs.Prelude.{◌%◌, ◌/◌, ◌==◌, ◌||◌, ◌&&◌, not, ℤ, pos, int_lt, nat_le, nat_lt, is_some, slice_index, if◌then◌else◌}
+use Rattle.std.specs.Prelude.{◌%◌, ◌/◌, ◌==◌, ◌||◌, ◌&&◌, not, nat_le, nat_lt, is_some, slice_index, if◌then◌else◌}
 use Rattle.pickle_ops.specs.declared.opcode.Opcode.{Opcode}
 use Rattle.pickle_ops.specs.declared.opcode.Opcode.TheVariants as op
 use Rattle.pickle_ops.specs.declared.form.Form.TheVariants as form
@@ -14,26 +14,25 @@ use Rattle.pickle_ops.specs.declared.row.Cutting.{Cutting}
 use Rattle.pickle_ops.specs.declared.row.Cutting.TheVariants as cutting
 use Rattle.pickle_ops.specs.declared.row.Filling.{Filling}
 use Rattle.pickle_ops.specs.declared.row.Filling.TheVariants as filling
-use Rattle.pickle_ops.specs.Argument.{number_of, integer_of}
-use Rattle.pickle_ops.specs.Spelling.{Operation}
-use Rattle.pickle_ops.specs.Row.{count_of, values_of, row_of, row_of_opcode}
+use Rattle.pickle_ops.specs.Argument.{number_of}
+use Rattle.pickle_ops.specs.Row.{count_of, values_of, row_of_opcode}
 use Rattle.pickle_machine.specs.declared.refusal.Refusal.{Refusal}
 use Rattle.pickle_machine.specs.declared.refusal.Refusal.TheVariants as refusal
 use Rattle.pickle_machine.specs.declared.loader.Fill.{Fill as Goes}
 use Rattle.pickle_machine.specs.Move.{unless, if_deep, if_paired, if_target, if_filled, if_viewable, object_meets, taking_refusal, cutting_refusal, deep, under, cut, last_of, without, memo_at, refusal_of}
-use Rattle.pickle_machine.specs.Loader.{loose_at, view_at, opaque_at, iterates_at, takes_call, takes_call_with, takes_obj, asks_less, is_odd, fill_when, fill_of}
-use Rattle.pickle_loader.specs.Environment.{PyType, PyList, PyDict, PyByteArray, Value, Plain, Own, Foreign, is_elsewhere, Act, Given, Find, Call, New, NewEx, SetState, Method, Reply, Raises, Answers}
-use Rattle.pickle_loader.specs.Unpickler.{Unpickler, Step, Ran, Raised, answered, ask, make, get, if_able, can_call, can_call_with, iterates, has_keys, is_str, viewed, put_in, fill_own, fill, fills, fill_pairs, then_raises, pop, item, on_top, pop_mark, instantiated, tell}
+use Rattle.pickle_machine.specs.Loader.{loose_at, view_at, opaque_at, iterates_at, keyed_at, takes_call, takes_call_with, takes_obj, string_at, takes_string, asks_less, is_odd, fill_when, fill_of}
+use Rattle.pickle_loader.specs.Environment.{PyType, PyList, PyDict, PyByteArray, Value, Plain, Own, Foreign, is_elsewhere, Act, Given, Find, Call, New, NewEx, SetState, Method, Reply, Raises, Answers, Unpickler}
+use Rattle.pickle_loader.specs.Unpickler.{Step, Ran, Raised, answered, ask, make, get, if_able, can_call, can_call_with, iterates, has_keys, is_str, viewed, put_in, fill_own, fill, fills, fill_pairs, then_raises, pop, item, on_top, pop_mark, instantiated, tell}
 use Rattle.pickle_loader.specs.Dispatch.{dispatch}
 use Rattle.pickle_loader.specs.Told.{told_of}
 use Rattle.pickle_loader.specs.Whole.{IsWhole}
-use Rattle.pickle_loader.specs.Beyond.{is_missing, IsUsual, RaisesAt}
+use Rattle.pickle_loader.specs.Beyond.{is_missing, RaisesAt}
 use Rattle.pickle_loader.proofs.Images.{image, pop_image, on_top_image, mark_image}
 use Rattle.pickle_loader.proofs.Cuts.{drop_zero, no_two}
 use Rattle.pickle_loader.proofs.Methods.{Here, unpickler, quiet}
 use Rattle.pickle_loader.proofs.Fills.{deep_without}
 use Rattle.pickle_loader.proofs.Wholes.{there_deep, there_first, there_under}
-use Rattle.pickle_loader.proofs.Origins.{not_elsewhere, not_iterates, not_keys, not_text, not_viewed, not_filled, target_loose, build_meets}
+use Rattle.pickle_loader.proofs.Origins.{neither, not_elsewhere, not_iterates, not_keys, not_text, not_viewed, not_filled, target_loose, build_meets}
 
 -- ---- tests
 
@@ -164,11 +163,11 @@ call_others h false act whole e =
 enough_less : (n m : ℕ) (l : ℕ) → m < n → nat_le n l ≡ true → nat_le (m + 1) l ≡ true
 enough_less n m l less e = le-leb (m + 1) l (omega (arith, less, leb-true n l e))
 
-call_with_others : (h : Here) (b : Bool) → IsUsual h.w → IsWhole h.s → takes_call_with h.s ≡ b
+call_with_others : (h : Here) (b : Bool) → IsWhole h.s → takes_call_with h.s ≡ b
     → Others h (refusal_of (cond b (row.Take taking.Three) (row.Take taking.CallWith)) h.s) (pop 3 (unpickler h) (λ vs q. if_able h.w (can_call_with h.w (item 0 vs) (item 1 vs) (item 2 vs)) q (get h.w (NewEx (item 0 vs) (item 1 vs) (item 2 vs)) q)))
-call_with_others h true usual whole e =
+call_with_others h true whole e =
     take_others h taking.Three (λ vs q. if_able h.w (can_call_with h.w (item 0 vs) (item 1 vs) (item 2 vs)) q (get h.w (NewEx (item 0 vs) (item 1 vs) (item 2 vs)) q)) (λ enough. none h _)
-call_with_others h false usual whole e =
+call_with_others h false whole e =
     take_others h taking.CallWith (λ vs q. if_able h.w (can_call_with h.w (item 0 vs) (item 1 vs) (item 2 vs)) q (get h.w (NewEx (item 0 vs) (item 1 vs) (item 2 vs)) q))
     (λ enough.
     let vs : List Value = map h.V (last_of 3 h.s) in
@@ -176,9 +175,9 @@ call_with_others h false usual whole e =
     let f : Value = h.V (deep 2 h.s.top) in
     let a : Value = h.V (deep 1 h.s.top) in
     let k : Value = h.V (deep 0 h.s.top) in
-    let able : can_call_with h.w f a k ≡ false = elim (not_both (takes_call 1 h.s) (object_meets demand.Keywords h.s (deep 0 h.s.top)) e) [
+    let able : can_call_with h.w f a k ≡ false = elim (not_both (takes_call 1 h.s) (keyed_at h.s (deep 0 h.s.top)) e) [
       | inl bad ↦ left_false (can_call f a) (has_keys h.w k) (no_call h 1 whole enough bad)
-      | inr bad ↦ right_false (can_call f a) (has_keys h.w k) (not_keys h (deep 0 h.s.top) usual (there_at_depth h 0 3 whole (omega arith) enough) bad)
+      | inr bad ↦ right_false (can_call f a) (has_keys h.w k) (not_keys h (deep 0 h.s.top) whole (there_at_depth h 0 3 whole (omega arith) enough) bad)
     ] in
     let same : can_call_with h.w (item 0 vs) (item 1 vs) (item 2 vs) ≡ false =
     ap (λ (v : Value). can_call_with h.w v (item 1 vs) (item 2 vs)) (value_at h 3 0 2 refl enough)
@@ -241,21 +240,20 @@ dict_others h =
 
 -- ---- READONLY_BUFFER
 
-neither : (a b : Bool) → (a || b) ≡ false → (a ≡ false) × (b ≡ false)
-neither true b e = absurd cc
-neither false b e = (refl, e)
-
 raised_untold : (h : Here) (x : Step) → x ≡ Raised h.acts → Untold h x
 raised_untold h x e = subst (λ (y : Step). Untold h y) (sym e) refl
 
-view_others : (h : Here) → IsUsual h.w → IsWhole h.s → Others h (refusal_of row.ReadOnly h.s) (on_top (unpickler h) (λ v. viewed h.w v (unpickler h)))
-view_others h usual whole =
+view_others : (h : Here) (b : Bool) → IsWhole h.s → takes_string h.s ≡ b → Others h (refusal_of (cond b row.Nothing row.ReadOnly) h.s) (on_top (unpickler h) (λ v. viewed h.w v (unpickler h)))
+view_others h true whole is = none h _
+view_others h false whole is =
     let id : ℕ = deep 0 h.s.top in
     top_others h (λ v. viewed h.w v (unpickler h)) (if_viewable h.s id)
     (λ enough. raised_by h (object_meets demand.ReadOnly h.s id || object_meets demand.Writable h.s id) (refusal.WrongKind id) None _
     (λ bad.
     let both = neither (object_meets demand.ReadOnly h.s id) (object_meets demand.Writable h.s id) bad in
-    raised_untold h (viewed h.w (h.V id) (unpickler h)) (not_viewed h id (unpickler h) usual (there_at_depth h 0 1 whole (omega arith) enough) both.0 both.1))
+    let some : 0 < length h.s.top = omega (arith, leb-true 1 (length h.s.top) enough) in
+    let text : string_at h.s.heap id ≡ false = ap (λ (b : Bool). b && string_at h.s.heap id) (sym (lt-ltb 0 (length h.s.top) some)) ∙ is in
+    raised_untold h (viewed h.w (h.V id) (unpickler h)) (not_viewed h id (unpickler h) (there_at_depth h 0 1 whole (omega arith) enough) text both.0 both.1))
     (λ _. none h _))
 
 -- ---- what is put in
@@ -402,10 +400,14 @@ tell_untold : (h : Here) (r : Reply) (u : Unpickler) → u.acts ≡ h.acts → U
 tell_untold h Raises u e = quiet u.acts Method refl ∙ ap told_of e
 tell_untold h (Answers x) u e = quiet u.acts Method refl ∙ ap told_of e
 
+nothing_untold : (h : Here) (b : Bool) (u : Unpickler) → u.acts ≡ h.acts → Untold h (then_raises (if b then tell h.w Method u else Ran u))
+nothing_untold h true u e = tell_untold h (h.w.reply u.acts Method) u e
+nothing_untold h false u e = ap told_of e
+
 odd_none : (h : Here) (v : Value) (items : List Value) (u : Unpickler) → u.acts ≡ h.acts → length items ≡ 0 → Untold h (then_raises (fills h.w filling.SetItem v items u))
 odd_none h (Plain k) [] u e bad = ap told_of e
 odd_none h (Own t n) [] u e bad = ap told_of e
-odd_none h (Foreign t n) [] u e bad = tell_untold h (h.w.reply u.acts Method) u e
+odd_none h (Foreign t n) [] u e bad = nothing_untold h h.w.looks_up_for_nothing u e
 odd_none h v (x ∷ items) u e bad = absurd (omega (arith, bad))
 
 odd_by : (h : Here) (id n : ℕ) (items : List Value) (u : Unpickler) (b : Bool) → IsWhole h.s → id < length h.s.heap → u.acts ≡ h.acts → nat_lt 0 (n / 2) ≡ b → length items ≡ n - 1 → n % 2 ≡ 1
@@ -463,52 +465,44 @@ pop_others : (h : Here) (b : Bool) (step : Step) → Others h (cond b None (unle
 pop_others h true step = none h step
 pop_others h false step = only_missing h (nat_lt 0 (length h.s.marked)) refusal.Underflow step refl
 
-ext_others : (h : Here) (o : Operation) (n : ℤ) (step : Step) → IsUsual h.w → row_of o ≡ row.Extension n → h.w.fails h.acts o ≡ false → Others h (refusal_of (row.Extension n) h.s) step
-ext_others h o n step usual is fine =
-    raised_by h (int_lt (pos 0) n) (refusal.BadExtension n) None step
-    (λ bad. absurd (no_two (h.w.fails h.acts o) (usual.extensions h.acts o n is bad) fine)) (λ _. none h step)
-
 append_items_view : (h : Here) (id : ℕ) → fill_when filling.Append (length h.s.top) id h.s.heap ≡ None → 0 < length h.s.top → view_at h.s.heap id ≡ false
 append_items_view h id e some = pairs_view (nat_lt 0 (length h.s.top)) true (view_at h.s.heap id) false (opaque_at h.s.heap id) _ e (lt-ltb 0 (length h.s.top) some)
 
 add_items_view : (h : Here) (id : ℕ) → fill_when filling.Add (length h.s.top) id h.s.heap ≡ None → 0 < length h.s.top → view_at h.s.heap id ≡ false
 add_items_view h id e some = pairs_view (nat_lt 0 (length h.s.top)) true (view_at h.s.heap id) false (opaque_at h.s.heap id) _ e (lt-ltb 0 (length h.s.top) some)
 
-pub others : (h : Here) (o : Opcode) (arg : List ℕ) → IsUsual h.w → IsWhole h.s → fill_of (row_of_opcode o arg) h.s ≡ None → h.w.fails h.acts (record { opcode = o; arg = arg }) ≡ false
+pub others : (h : Here) (o : Opcode) (arg : List ℕ) → IsWhole h.s → fill_of (row_of_opcode o arg) h.s ≡ None
     → Others h (refusal_of (asks_less (row_of_opcode o arg) h.s) h.s) (dispatch h.w o arg (unpickler h))
-others h op.Inst arg usual whole fill fine = only_missing h (nat_lt 0 (length h.s.marked)) refusal.NoMark _ refl
-others h op.BinPersId arg usual whole fill fine = only_missing h (nat_le 1 (length h.s.top)) refusal.Underflow _ refl
-others h op.Tuple1 arg usual whole fill fine = only_missing h (nat_le 1 (length h.s.top)) refusal.Underflow _ refl
-others h op.Tuple2 arg usual whole fill fine = only_missing h (nat_le 2 (length h.s.top)) refusal.Underflow _ refl
-others h op.Tuple3 arg usual whole fill fine = only_missing h (nat_le 3 (length h.s.top)) refusal.Underflow _ refl
-others h op.StackGlobal arg usual whole fill fine = names_others h whole
-others h op.Reduce arg usual whole fill fine = call_others h (takes_call 0 h.s) (λ vs. Call (item 0 vs) (item 1 vs)) whole refl
-others h op.NewObj arg usual whole fill fine = call_others h (takes_call 0 h.s) (λ vs. New (item 0 vs) (item 1 vs)) whole refl
-others h op.NewObjEx arg usual whole fill fine = call_with_others h (takes_call_with h.s) usual whole refl
-others h op.Tuple arg usual whole fill fine = only_missing h (nat_lt 0 (length h.s.marked)) refusal.NoMark _ refl
-others h op.List arg usual whole fill fine = only_missing h (nat_lt 0 (length h.s.marked)) refusal.NoMark _ refl
-others h op.FrozenSet arg usual whole fill fine = only_missing h (nat_lt 0 (length h.s.marked)) refusal.NoMark _ refl
-others h op.Dict arg usual whole fill fine = dict_others h
-others h op.Obj arg usual whole fill fine = obj_others h (takes_obj h.s) whole refl
-others h op.Ext1 arg usual whole fill fine = ext_others h (record { opcode = op.Ext1; arg = arg }) (integer_of form.U1 arg) _ usual refl fine
-others h op.Ext2 arg usual whole fill fine = ext_others h (record { opcode = op.Ext2; arg = arg }) (integer_of form.U2 arg) _ usual refl fine
-others h op.Ext4 arg usual whole fill fine = ext_others h (record { opcode = op.Ext4; arg = arg }) (integer_of form.S4 arg) _ usual refl fine
-others h op.ReadOnlyBuffer arg usual whole fill fine = view_others h usual whole
-others h op.Append arg usual whole fill fine = fill_others h filling.Append whole (omega arith) (append_view h) fill
-others h op.SetItem arg usual whole fill fine = fill_others h filling.SetItem whole (omega arith) (setitem_view h) fill
-others h op.Build arg usual whole fill fine = build_others h whole
-others h op.Appends arg usual whole fill fine = items_others h filling.Append whole (λ rest. refl) (append_items_view h (deep 0 (under h.s.marked))) fill
-others h op.AddItems arg usual whole fill fine = items_others h filling.Add whole (λ rest. refl) (add_items_view h (deep 0 (under h.s.marked))) fill
-others h op.SetItems arg usual whole fill fine = setitems_others h whole fill
-others h op.Pop arg usual whole fill fine = pop_others h (nat_lt 0 (length h.s.top)) _
-others h op.PopMark arg usual whole fill fine = only_missing h (nat_lt 0 (length h.s.marked)) refusal.NoMark _ refl
-others h op.Dup arg usual whole fill fine = only_missing h (nat_le 1 (length h.s.top)) refusal.Underflow _ refl
-others h op.Get arg usual whole fill fine = only_missing h (is_some (memo_at (number_of form.Decimal arg) h.s)) (refusal.NoMemoEntry (number_of form.Decimal arg)) _ refl
-others h op.BinGet arg usual whole fill fine = only_missing h (is_some (memo_at (number_of form.U1 arg) h.s)) (refusal.NoMemoEntry (number_of form.U1 arg)) _ refl
-others h op.LongBinGet arg usual whole fill fine = only_missing h (is_some (memo_at (number_of form.U4 arg) h.s)) (refusal.NoMemoEntry (number_of form.U4 arg)) _ refl
-others h op.Put arg usual whole fill fine = only_missing h (nat_le 1 (length h.s.top)) refusal.Underflow _ refl
-others h op.BinPut arg usual whole fill fine = only_missing h (nat_le 1 (length h.s.top)) refusal.Underflow _ refl
-others h op.LongBinPut arg usual whole fill fine = only_missing h (nat_le 1 (length h.s.top)) refusal.Underflow _ refl
-others h op.Memoize arg usual whole fill fine = only_missing h (nat_le 1 (length h.s.top)) refusal.Underflow _ refl
-others h op.Stop arg usual whole fill fine = only_missing h (nat_le 1 (length h.s.top)) refusal.Underflow _ refl
-others h o arg usual whole fill fine = none h (dispatch h.w o arg (unpickler h))
+others h op.Inst arg whole fill = only_missing h (nat_lt 0 (length h.s.marked)) refusal.NoMark _ refl
+others h op.BinPersId arg whole fill = only_missing h (nat_le 1 (length h.s.top)) refusal.Underflow _ refl
+others h op.Tuple1 arg whole fill = only_missing h (nat_le 1 (length h.s.top)) refusal.Underflow _ refl
+others h op.Tuple2 arg whole fill = only_missing h (nat_le 2 (length h.s.top)) refusal.Underflow _ refl
+others h op.Tuple3 arg whole fill = only_missing h (nat_le 3 (length h.s.top)) refusal.Underflow _ refl
+others h op.StackGlobal arg whole fill = names_others h whole
+others h op.Reduce arg whole fill = call_others h (takes_call 0 h.s) (λ vs. Call (item 0 vs) (item 1 vs)) whole refl
+others h op.NewObj arg whole fill = call_others h (takes_call 0 h.s) (λ vs. New (item 0 vs) (item 1 vs)) whole refl
+others h op.NewObjEx arg whole fill = call_with_others h (takes_call_with h.s) whole refl
+others h op.Tuple arg whole fill = only_missing h (nat_lt 0 (length h.s.marked)) refusal.NoMark _ refl
+others h op.List arg whole fill = only_missing h (nat_lt 0 (length h.s.marked)) refusal.NoMark _ refl
+others h op.FrozenSet arg whole fill = only_missing h (nat_lt 0 (length h.s.marked)) refusal.NoMark _ refl
+others h op.Dict arg whole fill = dict_others h
+others h op.Obj arg whole fill = obj_others h (takes_obj h.s) whole refl
+others h op.ReadOnlyBuffer arg whole fill = view_others h (takes_string h.s) whole refl
+others h op.Append arg whole fill = fill_others h filling.Append whole (omega arith) (append_view h) fill
+others h op.SetItem arg whole fill = fill_others h filling.SetItem whole (omega arith) (setitem_view h) fill
+others h op.Build arg whole fill = build_others h whole
+others h op.Appends arg whole fill = items_others h filling.Append whole (λ rest. refl) (append_items_view h (deep 0 (under h.s.marked))) fill
+others h op.AddItems arg whole fill = items_others h filling.Add whole (λ rest. refl) (add_items_view h (deep 0 (under h.s.marked))) fill
+others h op.SetItems arg whole fill = setitems_others h whole fill
+others h op.Pop arg whole fill = pop_others h (nat_lt 0 (length h.s.top)) _
+others h op.PopMark arg whole fill = only_missing h (nat_lt 0 (length h.s.marked)) refusal.NoMark _ refl
+others h op.Dup arg whole fill = only_missing h (nat_le 1 (length h.s.top)) refusal.Underflow _ refl
+others h op.Get arg whole fill = only_missing h (is_some (memo_at (number_of form.Decimal arg) h.s)) (refusal.NoMemoEntry (number_of form.Decimal arg)) _ refl
+others h op.BinGet arg whole fill = only_missing h (is_some (memo_at (number_of form.U1 arg) h.s)) (refusal.NoMemoEntry (number_of form.U1 arg)) _ refl
+others h op.LongBinGet arg whole fill = only_missing h (is_some (memo_at (number_of form.U4 arg) h.s)) (refusal.NoMemoEntry (number_of form.U4 arg)) _ refl
+others h op.Put arg whole fill = only_missing h (nat_le 1 (length h.s.top)) refusal.Underflow _ refl
+others h op.BinPut arg whole fill = only_missing h (nat_le 1 (length h.s.top)) refusal.Underflow _ refl
+others h op.LongBinPut arg whole fill = only_missing h (nat_le 1 (length h.s.top)) refusal.Underflow _ refl
+others h op.Memoize arg whole fill = only_missing h (nat_le 1 (length h.s.top)) refusal.Underflow _ refl
+others h op.Stop arg whole fill = only_missing h (nat_le 1 (length h.s.top)) refusal.Underflow _ refl
+others h o arg whole fill = none h (dispatch h.w o arg (unpickler h))

@@ -20,8 +20,8 @@ use Rattle.pickle_machine.specs.State.{State}
 use Rattle.pickle_machine.specs.Move.{deep, under, without, cut, last_of}
 use Rattle.pickle_machine.specs.Loader.{views, view_at, opaque_at, parts_in, is_odd, fills as puts, fill_when, fill_of, ends_odd}
 use Rattle.pickle_show.specs.declared.event.Event.TheVariants as event
-use Rattle.pickle_loader.specs.Environment.{Reply, Raises, Answers, PyMemoryView, Value, Own, Foreign, Act, Fill}
-use Rattle.pickle_loader.specs.Unpickler.{Unpickler, Step, Ran, Raised, item, answered, pop, on_top, pop_mark, fill, fills, fill_pairs, then_raises}
+use Rattle.pickle_loader.specs.Environment.{Reply, Raises, Answers, PyMemoryView, Value, Own, Foreign, Act, Fill, Unpickler}
+use Rattle.pickle_loader.specs.Unpickler.{Step, Ran, Raised, item, answered, pop, on_top, pop_mark, fill, fills, fill_pairs, then_raises}
 use Rattle.pickle_loader.specs.Dispatch.{dispatch, load_op}
 use Rattle.pickle_loader.specs.Told.{told_of, acts_told, taken, objects_in}
 use Rattle.pickle_loader.specs.Values.{origin, IsFrom, Knows}
@@ -203,6 +203,6 @@ fills_are_followed w V s u o g same put odd maps =
     let h : Here = record { V = V; w = w; s = s; proto = u.proto; acts = u.acts; place = 0; knows = same.objects } in
     let t : State = dropped (row_of o) s in
     let new : List Act = acts_told V u.proto s t (Some (event.Filled g.filling g.count g.target)) in
-    let good : Good V w s.heap u.acts t new u.proto (load_op w o (image V s u.proto u.acts)) = op_fills h o g (w.fails u.acts o) (opcode_fills h o.opcode o.arg g put odd) in
+    let good : Good V w s.heap u.acts t new u.proto (load_op w o (image V s u.proto u.acts)) = op_fills h o g (w.fails (unpickler h) o) (opcode_fills h o.opcode o.arg g put odd) in
     follows_by w V s t u.acts new u.proto (load_op w o u) maps
     (subst (λ (x : Unpickler). Good V w s.heap u.acts t new u.proto (load_op w o x)) (sym (same_image w V s u same)) good)

@@ -1,9 +1,10 @@
 -- The law along a whole reading.
-use Rattle.std.proofs.Common.{◌≡◌, ◌⊎◌, ℕ, zero, suc, ◌<◌, ◌≤◌, Bool, true, false, List, [], ◌∷◌, ◌++◌, length, map, drop, get_or, Option, Some, None, Ok, Err, refl, sym, ap, subst, ◌∙◌, inl, inr, arith, length-append}
+use Rattle.std.proofs.Common.{◌≡◌, ◌≢◌, ◌⊎◌, ℕ, zero, suc, ◌+◌, ◌-◌, ◌<◌, ◌≤◌, Bool, true, false, List, [], ◌∷◌, ◌++◌, length, map, drop, get_or, Option, Some, None, Ok, Err, refl, sym, ap, subst, ◌∙◌, inl, inr, arith, length-append}
 use Rattle.std.specs.Prelude.{is_some, if◌then◌else◌, Result}
 use Rattle.std.proofs.lemmas.Bool.{cases_lt}
 use Rattle.std.proofs.lemmas.List.{append-nil, append_assoc, length-map, length-drop}
 use Rattle.pickle_ops.specs.declared.fault.FrontFault.{FrontFault}
+use Rattle.pickle_ops.specs.declared.fault.FrontFault.TheVariants as fault
 use Rattle.pickle_ops.specs.declared.kind.Kind.TheVariants as kind
 use Rattle.pickle_ops.specs.Object.{Object}
 use Rattle.pickle_machine.specs.declared.refusal.Refusal.{Refusal}
@@ -14,22 +15,21 @@ use Rattle.pickle_machine.specs.Loader.{loader_move}
 use Rattle.pickle_machine.proofs.HeapGrowth.{fresh_heap}
 use Rattle.pickle_lenient.specs.declared.taken.Taken.{Taken}
 use Rattle.pickle_lenient.specs.Stream.{taken}
+use Rattle.pickle_show.specs.declared.report.Closing.{Closing}
 use Rattle.pickle_show.specs.declared.naming.Detail.TheVariants as detail
 use Rattle.pickle_further.specs.declared.way.Pickles.{Pickles}
 use Rattle.pickle_further.specs.declared.way.Pickles.TheVariants as pickles
 use Rattle.pickle_further.specs.declared.way.Way.{Way}
 use Rattle.pickle_further.specs.Going.{Standing, Going as Gone, used_op, moved_so, state_after, gone_to, gone_by, going, stands_after}
 use Rattle.pickle_further.specs.Parts.{are_many, standing_first}
-use Rattle.pickle_loader.specs.Environment.{Value, Plain, Act, World}
-use Rattle.pickle_loader.specs.Unpickler.{Unpickler}
+use Rattle.pickle_loader.specs.Environment.{Value, Plain, Act, Unpickler, World}
 use Rattle.pickle_loader.specs.Dispatch.{Loaded, Going, Ended, Failed, loaded, acts_of}
 use Rattle.pickle_loader.specs.Told.{told_of}
-use Rattle.pickle_loader.specs.Beyond.{IsUsual}
 use Rattle.pickle_loader.specs.Onward.{load_taken, Onward, again, reads_on, load_more, load_read, load_on, load_way, stands_behind, stands_on, stands, protocol_read, protocol_on, protocol, acts_gone, acts_on, acts_before, NothingBeyond}
 use Rattle.pickle_loader.proofs.Pushes.{top_value}
 use Rattle.pickle_loader.proofs.Still.{fresh_running}
 use Rattle.pickle_loader.proofs.Wholes.{whole_start}
-use Rattle.pickle_loader.proofs.Items.{IsItem, are_items, none_taken}
+use Rattle.pickle_loader.proofs.Items.{IsItem, are_items, take_some, none_taken}
 use Rattle.pickle_loader.proofs.Leads.{moved_on_fresh, only_stop, moved_still, once_led}
 use Rattle.pickle_loader.proofs.Onwards.{OnWay, Begins, Along, Turn, read_on, read_turn, once, state_heap}
 
@@ -83,15 +83,15 @@ as_one_ended pickles.First w v u e = absurd cc
 as_one_ended pickles.All w v u e = record { reads = refl; more = λ item. refl; acts = refl }
 as_one_ended pickles.OneMemo w v u e = record { reads = refl; more = λ item. refl; acts = refl }
 
-next_on : (w : World) (V : ℕ → Value) (way : Way) (acts : List Act) (proto : ℕ) (q : Standing) (l : Loaded) (rest : List ℕ) (left : ℕ) → IsUsual w → Along w V way.pickles acts proto (Some q) (record { now = l; rest = rest; left = left })
+next_on : (w : World) (V : ℕ → Value) (way : Way) (acts : List Act) (proto : ℕ) (q : Standing) (l : Loaded) (rest : List ℕ) (left : ℕ) → Along w V way.pickles acts proto (Some q) (record { now = l; rest = rest; left = left })
     → RightOn w V way q (record { now = l; rest = rest; left = left }) → NextOn w V way acts proto q (record { now = l; rest = rest; left = left })
-next_on w V way acts proto q (Going u) rest left usual along =
+next_on w V way acts proto q (Going u) rest left along =
     let ready = along.1 refl in
     in_step w V way acts proto q (Going u) rest left ready.rest ready.left
     (as_one_next way
-    (record { V = V; w = w; q = q; acts = acts; proto = proto; r = u; usual = usual; same = along.0.0; at = along.0.1; told = along.0.2; whole = ready.whole; many = ready.many; few = ready.few })
+    (record { V = V; w = w; q = q; acts = acts; proto = proto; r = u; same = along.0.0; at = along.0.1; told = along.0.2; whole = ready.whole; many = ready.many; few = ready.few })
     (Going u) (record { reads = refl; more = λ item. refl; acts = refl }))
-next_on w V way acts proto q (Ended v u) rest left usual along =
+next_on w V way acts proto q (Ended v u) rest left along =
     let ready = along.1 along.0.3 in
     in_step w V way acts proto q (Ended v u) rest left ready.rest ready.left
     (as_one_next way
@@ -102,7 +102,6 @@ next_on w V way acts proto q (Ended v u) rest left usual along =
       acts = acts;
       proto = proto;
       r = again way.pickles u;
-      usual = usual;
       same = along.0.0;
       at = along.0.1;
       told = along.0.2;
@@ -111,7 +110,7 @@ next_on w V way acts proto q (Ended v u) rest left usual along =
       few = ready.few;
     })
     (Ended v u) (as_one_ended way.pickles w v u along.0.3))
-next_on w V way acts proto q (Failed done) rest left usual along =
+next_on w V way acts proto q (Failed done) rest left along =
     let more : List Act = acts_gone V proto q (going way q) in
     λ right. failed_along w V way.pickles (acts ++ more) (protocol_read (taken way.frames q.at.left q.rest) proto) (stands_behind q (going way q)) done (along.0.0 ++ more) rest left
     (sym (append_assoc (told_of done) along.0.0 more) ∙ ap (λ (a : List Act). a ++ more) along.0.1)
@@ -127,10 +126,10 @@ over_on w way acts x true is begins (inr none) =
     subst (λ (y : Result Taken FrontFault). Begins (acts ++ []) (load_read w way.pickles x y).now × ((reads_on way.pickles (load_read w way.pickles x y).now ≡ false) ⊎ ((load_read w way.pickles x y).rest ≡ []))) (sym nothing)
     ((begins.0, begins.1 ∙ sym (append-nil acts)), inl refl)
 
-along_on : (w : World) (V : ℕ → Value) (way : Way) (acts : List Act) (proto : ℕ) (o : Option Standing) (x : Onward) → IsUsual w → Along w V way.pickles acts proto o x
+along_on : (w : World) (V : ℕ → Value) (way : Way) (acts : List Act) (proto : ℕ) (o : Option Standing) (x : Onward) → Along w V way.pickles acts proto o x
     → ((q : Standing) → o ≡ Some q → RightOn w V way q x) → Along w V way.pickles (acts ++ acts_on V way proto o) (protocol_on way o proto) (stands_on way o) (load_on w way x)
-along_on w V way acts proto None x usual along right = over_on w way acts x (reads_on way.pickles x.now) refl along.0 along.1
-along_on w V way acts proto (Some q) x usual along right = next_on w V way acts proto q x.now x.rest x.left usual along (right q refl)
+along_on w V way acts proto None x along right = over_on w way acts x (reads_on way.pickles x.now) refl along.0 along.1
+along_on w V way acts proto (Some q) x along right = next_on w V way acts proto q x.now x.rest x.left along (right q refl)
 
 -- ---- objects
 
@@ -272,15 +271,15 @@ along_first w way bytes V = (
   λ reads. record { rest = refl; left = refl; whole = whole_start (are_many way.pickles); many = refl; few = λ one. refl },
 )
 
-along_next : (w : World) (way : Way) (bytes : List ℕ) (V : ℕ → Value) (m : ℕ) → IsUsual w → ((q : Standing) → stands_at way bytes m ≡ Some q → RightOn w V way q (load_way w way bytes m)) → AlongAt w way bytes V m → AlongAt w way bytes V (suc m)
+along_next : (w : World) (way : Way) (bytes : List ℕ) (V : ℕ → Value) (m : ℕ) → ((q : Standing) → stands_at way bytes m ≡ Some q → RightOn w V way q (load_way w way bytes m)) → AlongAt w way bytes V m → AlongAt w way bytes V (suc m)
 unfolding acts_before protocol stands load_way
-along_next w way bytes V m usual right along =
-    along_on w V way (acts_before V way (standing_first detail.Cut way.pickles bytes) m) (protocol way (standing_first detail.Cut way.pickles bytes) m) (stands_at way bytes m) (load_way w way bytes m) usual along right
+along_next w way bytes V m right along =
+    along_on w V way (acts_before V way (standing_first detail.Cut way.pickles bytes) m) (protocol way (standing_first detail.Cut way.pickles bytes) m) (stands_at way bytes m) (load_way w way bytes m) along right
 
-pub along_way : (w : World) (way : Way) (bytes : List ℕ) (n : ℕ) → IsUsual w → (m : ℕ) → m ≤ n → AlongAt w way bytes (value_of w way bytes n) m
-along_way w way bytes n usual zero h = along_first w way bytes (value_of w way bytes n)
-along_way w way bytes n usual (suc m) h =
-    along_next w way bytes (value_of w way bytes n) m usual (λ q e. right_on w way bytes n m (omega (arith, h)) q e) (along_way w way bytes n usual m (omega (arith, h)))
+pub along_way : (w : World) (way : Way) (bytes : List ℕ) (n : ℕ) → (m : ℕ) → m ≤ n → AlongAt w way bytes (value_of w way bytes n) m
+along_way w way bytes n zero h = along_first w way bytes (value_of w way bytes n)
+along_way w way bytes n (suc m) h =
+    along_next w way bytes (value_of w way bytes n) m (λ q e. right_on w way bytes n m (omega (arith, h)) q e) (along_way w way bytes n m (omega (arith, h)))
 
 again_acts : (p : Pickles) (u : Unpickler) → (again p u).acts ≡ u.acts
 again_acts pickles.First u = refl
@@ -296,8 +295,79 @@ begins : (w : World) (V : ℕ → Value) (p : Pickles) (acts : List Act) (proto 
 begins w V p acts proto None x along = along.0
 begins w V p acts proto (Some q) x along = on_begins w V p acts proto q.state x.now along.0
 
+-- ---- one map
+
+-- an item after which it goes on takes a byte
+shrinks_to : (way : Way) (q : Standing) (item : Taken) (m : LoaderMove) (z : Result State Refusal) → 0 < item.size → 0 < length q.rest → (gone_to way q item m z).gone.closing ≡ None
+    → length (drop (gone_to way q item m z).gone.size q.rest) < length q.rest
+shrinks_to way q item m (Ok t) some more none = omega (arith, some, more, length-drop item.size q.rest)
+shrinks_to way q item m (Err r) some more none = absurd cc
+
+some_bytes : (bytes : List ℕ) → bytes ≢ [] → 0 < length bytes
+some_bytes [] h = absurd (h refl)
+some_bytes (b ∷ bytes) h = omega arith
+
+shrinks_by : (way : Way) (q : Standing) (y : Result Taken FrontFault) → ((item : Taken) → y ≡ Ok item → 0 < item.size) → (q.rest ≡ [] → y ≡ Err fault.Ended) → (gone_by way q y).gone.closing ≡ None
+    → length (drop (gone_by way q y).gone.size q.rest) < length q.rest
+shrinks_by way q (Err f) some ends none = absurd cc
+shrinks_by way q (Ok item) some ends none =
+    let m : LoaderMove = loader_move item.op.opcode item.row (fresh q.state) in
+    shrinks_to way q item m (moved_so m (used_op m item.op) q.at.place q.state) (some item refl) (some_bytes q.rest (λ empty. no_ok item (ends empty))) none
+  where
+    no_ok : (item : Taken) → Ok item ≡ Err fault.Ended → ⊥
+    no_ok item e = cc
+
+shrinks : (way : Way) (q : Standing) → (going way q).gone.closing ≡ None → length (drop (going way q).gone.size q.rest) < length q.rest
+unfolding going
+shrinks way q none = shrinks_by way q (taken way.frames q.at.left q.rest) (take_some way.frames q.at.left q.rest) (λ empty. ap (taken way.frames q.at.left) empty ∙ none_taken way.frames q.at.left) none
+
+open_closing : (c : Option Closing) → is_some c ≡ false → c ≡ None
+open_closing None e = refl
+open_closing (Some x) e = absurd cc
+
+goes_on : (q p : Standing) (g : Gone) (b : Bool) → is_some g.gone.closing ≡ b → (if b then None else Some (stands_after q g)) ≡ Some p → is_some g.gone.closing ≡ false
+goes_on q p g true is e = absurd cc
+goes_on q p g false is e = is
+
+-- so there are no more items than bytes
+few_items : (way : Way) (bytes : List ℕ) (n : ℕ) (q : Standing) → stands_at way bytes n ≡ Some q → n + length q.rest ≤ length bytes
+few_items way bytes zero q e = omega (arith, ap (λ (x : Standing). length x.rest) (stands_zero way bytes q e))
+few_items way bytes (suc n) p e =
+    let f = from way (stands_at way bytes n) p (sym (stands_next way bytes n) ∙ e) in
+    let q : Standing = f.before in
+    let g : Gone = going way q in
+    let on : is_some g.gone.closing ≡ false = goes_on q p g (is_some g.gone.closing) refl (sym (ap (stands_on way) f.stood) ∙ sym (stands_next way bytes n) ∙ e) in
+    omega (arith, few_items way bytes n q f.stood, shrinks way q (open_closing g.gone.closing on), ap (λ (x : Standing). length x.rest) f.leads)
+
+over_at : (way : Way) (bytes : List ℕ) (n : ℕ) (x : Option Standing) → stands_at way bytes n ≡ x → length bytes < n → x ≡ None
+over_at way bytes n None e more = refl
+over_at way bytes n (Some q) e more = absurd (omega (arith, few_items way bytes n q e, more))
+
+-- and then no values come
+values_over : (w : World) (way : Way) (bytes : List ℕ) (n : ℕ) → stands_at way bytes n ≡ None → values w way bytes (suc n) ≡ values w way bytes n
+unfolding values new_values
+values_over w way bytes n none = ap (λ (x : Option Standing). values w way bytes n ++ new_values way x (load_way w way bytes (suc n)).now) none ∙ append-nil (values w way bytes n)
+
+values_last : (w : World) (way : Way) (bytes : List ℕ) (k : ℕ) → values w way bytes (suc (length bytes) + k) ≡ values w way bytes (suc (length bytes))
+values_last w way bytes zero = ap (values w way bytes) (omega arith)
+values_last w way bytes (suc k) =
+    let n : ℕ = suc (length bytes) + k in
+    let place : suc (length bytes) + suc k ≡ suc n = omega arith in
+    let none : stands_at way bytes n ≡ None = over_at way bytes n (stands_at way bytes n) refl (omega arith) in
+    ap (values w way bytes) place ∙ values_over w way bytes n none ∙ values_last w way bytes k
+
+along_last : (w : World) (way : Way) (bytes : List ℕ) (n : ℕ) → AlongAt w way bytes (value_of w way bytes (suc (length bytes))) n
+unfolding value_of
+along_last w way bytes n = elim (cases_lt n (suc (length bytes))) [
+  | inl less ↦ along_way w way bytes (suc (length bytes)) n (omega (arith, less))
+  | inr far ↦
+      let k : ℕ = n - suc (length bytes) in
+      let place : suc (length bytes) + k ≡ n = omega (arith, far) in
+      subst (λ (vs : List Value). AlongAt w way bytes (λ (id : ℕ). get_or vs id (Plain kind.None)) n) (ap (values w way bytes) (sym place) ∙ values_last w way bytes k) (along_way w way bytes n n (omega arith))
+]
+
 pub nothing_beyond : NothingBeyond
-nothing_beyond w usual way bytes n = (
-  value_of w way bytes n,
-  λ m h. begins w (value_of w way bytes n) way.pickles _ _ (stands_at way bytes m) (load_way w way bytes m) (along_way w way bytes n usual m h),
+nothing_beyond w way bytes = (
+  value_of w way bytes (suc (length bytes)),
+  λ n. begins w (value_of w way bytes (suc (length bytes))) way.pickles _ _ (stands_at way bytes n) (load_way w way bytes n) (along_last w way bytes n),
 )

@@ -1,5 +1,6 @@
 -- One step of CPython's unpickler beside a machine that moves by rows that ask for less.
-use Rattle.std.specs.Prelude.{◌≡◌, ℕ, ℤ, pos, int_lt, ◌-◌, ◌<◌, Bool, true, false, List, ◌++◌, length, Option, None, Some, Result, Ok, Err, ⊤}
+-- Source: own.
+use Rattle.std.specs.Prelude.{◌≡◌, ℕ, ◌-◌, ◌<◌, Bool, true, false, List, ◌++◌, length, Option, None, Some, Result, Ok, Err, ⊤}
 use Rattle.pickle_ops.specs.Spelling.{Operation}
 use Rattle.pickle_ops.specs.declared.row.Row.{Row}
 use Rattle.pickle_ops.specs.declared.row.Row.TheVariants as row
@@ -14,8 +15,8 @@ use Rattle.pickle_machine.specs.declared.loader.LoaderMove.{LoaderMove}
 use Rattle.pickle_show.specs.declared.event.Event.TheVariants as event
 use Rattle.pickle_show.specs.Event.{before_of, event_of}
 use Rattle.pickle_further.specs.Going.{used_op, moved_so, event_by}
-use Rattle.pickle_loader.specs.Environment.{PyType, Value, Foreign, Act, World}
-use Rattle.pickle_loader.specs.Unpickler.{Unpickler, Step, Ran, Stopped, Raised, item}
+use Rattle.pickle_loader.specs.Environment.{Value, Act, Unpickler, World}
+use Rattle.pickle_loader.specs.Unpickler.{Step, Ran, Stopped, Raised, item}
 use Rattle.pickle_loader.specs.Dispatch.{load_op}
 use Rattle.pickle_loader.specs.Told.{told_of, acts_told, protocol_after}
 use Rattle.pickle_loader.specs.Laws.{IsSame, IsResult}
@@ -37,16 +38,6 @@ abbrev pub MapsNew : (ℕ → Value) → State → State → Step → Type 0
 MapsNew V s t (Ran q) = length s.heap < length t.heap → V (length s.heap) ≡ item (length q.stack - 1) q.stack
 MapsNew V s t (Stopped v q) = ⊤
 MapsNew V s t (Raised done) = ⊤
-
--- ---- environments
-
--- as CPython's are, but for what is left out by name: strings of Python 2 are texts (not so with encoding="bytes"); what has a buffer has
--- no keys (not so for classes with both, from Python 3.12); and nobody registered an extension of a code up to 0 (copyreg registers
--- none, and the unpickler in C takes none)
-pub record IsUsual (w : World) : Type 0 where
-  pub texts : w.strings_are_bytes ≡ false
-  pub keys : (t : PyType) (n : ℕ) → w.readonly (Foreign t n) ≡ true → w.mapping (Foreign t n) ≡ false
-  pub extensions : (acts : List Act) (o : Operation) (n : ℤ) → row_of o ≡ row.Extension n → int_lt (pos 0) n ≡ false → w.fails acts o ≡ true
 
 -- ---- the law
 
@@ -109,9 +100,9 @@ abbrev pub Comes : World → (ℕ → Value) → State → Unpickler → LoaderM
 Comes w V s u m proto x (Err r) = RaisesAt (told_of u.acts) x
 Comes w V s u m proto x (Ok t) = IsWhole t × Moves w V (told_of u.acts ++ acts_told V u.proto s t (event_by m s t m.fill)) proto s t x m.last
 
--- in every environment that is as CPython's are, for each opcode and each state in which all is there: where a loader does not move, the
+-- in every environment, for each opcode and each state in which all is there: where a loader does not move, the
 -- unpickler that holds what the state holds raises at this opcode and told nothing; where it moves, the unpickler does exactly what the
 -- event of that move tells, or raises and did a beginning of it; and where the loader ends after the move it raises
 abbrev pub AStepBeyond : Type 0
-AStepBeyond = (w : World) (V : ℕ → Value) (s : State) (u : Unpickler) (o : Operation) (place : ℕ) → IsUsual w → IsWhole s → s.stopped ≡ false → IsSame w V s u
+AStepBeyond = (w : World) (V : ℕ → Value) (s : State) (u : Unpickler) (o : Operation) (place : ℕ) → IsWhole s → s.stopped ≡ false → IsSame w V s u
     → Comes w V s u (loader_move o.opcode (row_of o) s) (protocol_after o.opcode o.arg u.proto) (load_op w o u) (moved_so (loader_move o.opcode (row_of o) s) (used_op (loader_move o.opcode (row_of o) s) o) place s)

@@ -8,6 +8,8 @@ pub mod Reader
 pub mod Laws
 pub mod Bytes
 pub mod FlatStack
+pub mod CUnpickler
 pub mod Whole
 pub mod Beyond
 pub mod Onward
+pub mod CLoad

@@ -1,7 +1,7 @@
 -- What an unpickler does with the bytes of a file that it reads as loaders do, behind an end of the lines too; and which acts the lines tell.
 -- Source: Lib/pickle.py, `load`, `load_get`, `load_put` (CPython 3.11). What loaders read at the front of bytes, frames ignored or kept in a
 -- buffer, `taken` says, with its sources.
-use Rattle.std.specs.Prelude.{◌≡◌, ℕ, zero, suc, ◌^◌, ◌<◌, ◌≤◌, Bool, true, false, List, [], ◌++◌, length, drop, if◌then◌else◌, Option, Some, None, is_some, Result, Ok, Err}
+use Rattle.std.specs.Prelude.{◌≡◌, ℕ, zero, suc, ◌^◌, ◌<◌, Bool, true, false, List, [], ◌++◌, length, drop, if◌then◌else◌, Option, Some, None, is_some, Result, Ok, Err}
 use Rattle.pickle_ops.specs.declared.opcode.Opcode.{Opcode}
 use Rattle.pickle_ops.specs.declared.opcode.Opcode.TheVariants as op
 use Rattle.pickle_ops.specs.declared.row.Row.{Row}
@@ -21,11 +21,10 @@ use Rattle.pickle_further.specs.declared.way.Pickles.TheVariants as pickles
 use Rattle.pickle_further.specs.declared.way.Way.{Way}
 use Rattle.pickle_further.specs.Going.{Standing, Going as Gone, going, stands_after, search}
 use Rattle.pickle_further.specs.Parts.{ignoring, buffering, are_many, standing_at, standing_first}
-use Rattle.pickle_loader.specs.Environment.{Value, Act, World}
-use Rattle.pickle_loader.specs.Unpickler.{Unpickler, Step, Raised, load_frame, load_get, load_put}
+use Rattle.pickle_loader.specs.Environment.{Value, Act, Unpickler, World}
+use Rattle.pickle_loader.specs.Unpickler.{Step, Raised, load_frame, load_get, load_put}
 use Rattle.pickle_loader.specs.Dispatch.{dispatch, Loaded, Going, Ended, Failed, loaded, acts_of, new_unpickler}
 use Rattle.pickle_loader.specs.Told.{told_of, acts_told, told, protocol_after}
-use Rattle.pickle_loader.specs.Beyond.{IsUsual}
 
 -- ---- an item
 
@@ -41,7 +40,7 @@ dispatch_as w r o arg u = dispatch w o arg u
 
 -- it may raise before it does anything
 abbrev pub load_taken : World → Taken → Unpickler → Step
-load_taken w item u = if w.fails u.acts item.op then Raised u.acts else dispatch_as w item.row item.op.opcode item.op.arg u
+load_taken w item u = if w.fails u item.op then Raised u.acts else dispatch_as w item.row item.op.opcode item.op.arg u
 
 -- ---- a file
 
@@ -124,12 +123,12 @@ acts_before V way p (suc n) = acts_before V way p n ++ acts_on V way (protocol w
 
 -- ---- the law
 
--- in every environment that is as CPython's are, for any bytes, read as one pickle, as several, or by one Unpickler that loads again, with
--- frames ignored or buffered: after any number of opcodes there is a map from the numbers of objects to values under which all that is told
--- of the unpickler, up to then and at each opcode before, is a beginning of what the lines of that reading tell
+-- in every environment, for any bytes, read as one pickle, as several, or by one Unpickler that loads again, with frames ignored or
+-- buffered, there is a map from the numbers of objects to values under which, after any number of opcodes, all that is told of the
+-- unpickler is a beginning of what the lines of that reading tell
 abbrev pub NothingBeyond : Type 0
-NothingBeyond = (w : World) → IsUsual w → (way : Way) (bytes : List ℕ) (n : ℕ)
-    → (V : ℕ → Value) × ((m : ℕ) → m ≤ n → (rest : List Act) × (told_of (acts_of (load_way w way bytes m).now) ++ rest ≡ acts_before V way (standing_first detail.Cut way.pickles bytes) m))
+NothingBeyond = (w : World) (way : Way) (bytes : List ℕ)
+    → (V : ℕ → Value) × ((n : ℕ) → (rest : List Act) × (told_of (acts_of (load_way w way bytes n).now) ++ rest ≡ acts_before V way (standing_first detail.Cut way.pickles bytes) n))
 
 -- ---- the lines of a document
 

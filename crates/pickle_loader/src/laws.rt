@@ -6,6 +6,7 @@ ghost use Rattle.pickle_loader.specs.FlatStack.{OneStack};
 ghost use Rattle.pickle_loader.specs.Beyond.{WideMovesAreFollowed, WhatIsMissingRaises, FillsAreFollowed, AStepBeyond};
 ghost use Rattle.pickle_loader.specs.Onward.{NothingBeyond, LinesAreRead, BufferedIsRead, LossIsFound};
 ghost use Rattle.pickle_loader.specs.Bytes.{BytesAreListed, NothingElse};
+ghost use Rattle.pickle_loader.specs.CLoad.{OneLoad, NothingBeyondInC};
 
 /// What the unpickler does in any environment is what the lines tell, as far as it does not raise.
 pub fn loads_are_listed()
@@ -40,6 +41,17 @@ pub fn nothing_else()
 /// The stack of the unpickler in C, one list with marks and a fence, is the stack and metastack of the one in Python.
 pub fn one_stack()
     ensures { OneStack }
+{}
+
+/// A whole load by the unpickler in C is one by the unpickler in Python, but for what it asks before it does anything, and for the look-up
+/// where nothing is put in.
+pub fn one_load()
+    ensures { OneLoad }
+{}
+
+/// Whatever the unpickler in C does is a beginning of what the lines tell, behind an end too.
+pub fn nothing_beyond_in_c()
+    ensures { NothingBeyondInC }
 {}
 
 /// An accepted item without a line makes the unpickler do nothing that is told.

@@ -1,5 +1,5 @@
 -- Loaders take what the machine accepts.
-use Rattle.std.proofs.Common.{◌≡◌, ℕ, ◌<◌, Bool, true, false, cond, List, length, Option, Some, None, Ok, refl, ap, subst, ◌∙◌, arith}
+use Rattle.std.proofs.Common.{◌≡◌, ℕ, ◌<◌, Bool, true, false, cond, List, length, Option, Some, None, Ok, refl, sym, ap, subst, ◌∙◌, arith}
 use Rattle.std.proofs.lemmas.Bool.{ltb-true, ltb-false}
 use Rattle.std.specs.Prelude.{◌&&◌, ◌||◌, ◌==◌, ◌%◌, nat_lt, not}
 use Rattle.std.specs.Option.{option_map_or}
@@ -23,7 +23,7 @@ use Rattle.pickle_machine.specs.declared.refusal.Refusal.TheVariants as refusal
 use Rattle.pickle_machine.specs.declared.loader.Fill.{Fill}
 use Rattle.pickle_machine.specs.State.{State}
 use Rattle.pickle_machine.specs.Move.{unless, if_target, if_filled, if_paired, object_meets, deep, under, refusal_of, next_of, fresh, outcome}
-use Rattle.pickle_machine.specs.Loader.{views, view_at, opaque_at, takes_call, takes_call_with, takes_obj, asks_less, parts_in, is_odd, fills, fill_when, fill_of, is_inst, import_move, fill_move}
+use Rattle.pickle_machine.specs.Loader.{views, view_at, opaque_at, takes_call, takes_call_with, takes_obj, is_string, takes_string, asks_less, parts_in, is_odd, fills, fill_when, fill_of, is_inst, import_move, fill_move}
 use Rattle.pickle_machine.specs.LoaderLaws.{one_move, LoadersTakeWhatIsAccepted, LoadersTakeMoves}
 use Rattle.pickle_machine.proofs.Leading.{good_of}
 
@@ -135,12 +135,37 @@ obj_taken : (b : Bool) (k : Kind) (place : ℕ) (s : State) → refusal_of (row.
 obj_taken true k place s e = (first_only _ refusal.NoMark _ e, refl)
 obj_taken false k place s e = (e, refl)
 
+-- no string has a view that the machine takes
+no_string : (k : Kind) → is_string k ≡ true → (meets demand.ReadOnly k || meets demand.Writable k) ≡ false
+no_string (kind.LegacyString bytes) e = refl
+no_string (kind.LegacyLine bytes) e = refl
+no_string _ e = absurd cc
+
+no_string_in : (g : Option Object) → option_map_or (λ (o : Object). is_string o.kind) g false ≡ true
+    → (option_map_or (λ (o : Object). meets demand.ReadOnly o.kind) g false || option_map_or (λ (o : Object). meets demand.Writable o.kind) g false) ≡ false
+no_string_in None e = absurd cc
+no_string_in (Some o) e = no_string o.kind e
+
+second_true : (b c : Bool) → (b && c) ≡ true → c ≡ true
+second_true true c e = e
+second_true false c e = absurd cc
+
+view_taken : (b : Bool) (k : Kind) (place : ℕ) (s : State) → takes_string s ≡ b → refusal_of row.ReadOnly s ≡ None
+    → (refusal_of (cond b row.Nothing row.ReadOnly) s ≡ None) × (next_of (cond b row.Nothing row.ReadOnly) k place s ≡ next_of row.ReadOnly k place s)
+view_taken false k place s is e = (e, refl)
+view_taken true k place s is e =
+    let id : ℕ = deep 0 s.top in
+    let none = no_string_in (slice_get s.heap id) (second_true _ _ is) in
+    let some : (object_meets demand.ReadOnly s id || object_meets demand.Writable s id) ≡ true = good_of _ (refusal.WrongKind id) None (rest_of _ refusal.Underflow _ e) in
+    let two : true ≡ false = sym some ∙ none in
+    absurd cc
+
 pub loaders_take_what_is_accepted : LoadersTakeWhatIsAccepted
 loaders_take_what_is_accepted row.Nothing k place s e = record { accepted = e; next = refl; fill = refl }
-loaders_take_what_is_accepted (row.Extension n) k place s e = record { accepted = e; next = refl; fill = refl }
+loaders_take_what_is_accepted (row.Extension n) k place s e = record { accepted = refl; next = refl; fill = refl }
 loaders_take_what_is_accepted row.Push k place s e = record { accepted = e; next = refl; fill = refl }
 loaders_take_what_is_accepted row.Buffer k place s e = record { accepted = e; next = refl; fill = refl }
-loaders_take_what_is_accepted row.ReadOnly k place s e = record { accepted = e; next = refl; fill = refl }
+loaders_take_what_is_accepted row.ReadOnly k place s e = let both = view_taken (takes_string s) k place s refl e in record { accepted = both.0; next = both.1; fill = refl }
 loaders_take_what_is_accepted (row.Take taking.One) k place s e = record { accepted = e; next = refl; fill = refl }
 loaders_take_what_is_accepted (row.Take taking.Two) k place s e = record { accepted = e; next = refl; fill = refl }
 loaders_take_what_is_accepted (row.Take taking.Three) k place s e = record { accepted = e; next = refl; fill = refl }

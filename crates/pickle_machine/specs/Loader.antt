@@ -1,8 +1,10 @@
 -- What loaders take that the machine refuses: the same moves, by rows that ask for less.
 -- Source: Lib/pickle.py, class `_Unpickler` (`load_reduce`, `load_newobj`, `load_newobj_ex`: func(*args) of whatever can be iterated;
+-- `get_extension`: a code that copyreg's cache or registry holds is taken before it is asked whether it is above 0;
 -- `load_setitems`: the pairs are set one by one, before the odd item is missed; `load_inst`: the class is found before the mark is;
 -- `load_readonly_buffer`), Modules/_pickle.c (`load_readonly_buffer`: what is read only already stays on the stack as it is, so that a
--- view may be the thing itself), torch/_weights_only_unpickler.py (PROTO's number is not looked at).
+-- view may be the thing itself, called and filled, and with keys; a string of Python 2 is bytes where `encoding` is "bytes"),
+-- torch/_weights_only_unpickler.py (PROTO's number is not looked at).
 use Rattle.std.specs.Prelude.{ℕ, ◌+◌, ◌/◌, ◌%◌, ◌==◌, ◌&&◌, ◌||◌, not, Bool, true, false, List, [], length, nat_lt, nat_le, slice_get, slice_index, if◌then◌else◌, Option, Some, None, Result}
 use Rattle.std.specs.Option.{option_map_or}
 use Rattle.pickle_ops.specs.declared.opcode.Opcode.{Opcode}
@@ -69,15 +71,33 @@ iterates_at heap id = object_test (λ (o : Object). iterates o.kind) heap id
 abbrev pub takes_call : ℕ → State → Bool
 takes_call above s = nat_le (above + 2) (length s.top) && (loose_at s.heap (deep (above + 1) s.top) && iterates_at s.heap (deep above s.top))
 
+-- it may be the keywords of a call: a dictionary, or a view of what may have keys
+abbrev pub keyed_at : State → ℕ → Bool
+keyed_at s id = object_meets demand.Keywords s id || view_at s.heap id
+
 abbrev pub takes_call_with : State → Bool
-takes_call_with s = takes_call 1 s && object_meets demand.Keywords s (deep 0 s.top)
+takes_call_with s = takes_call 1 s && keyed_at s (deep 0 s.top)
 
 abbrev pub takes_obj : State → Bool
 takes_obj s = nat_lt 0 (length s.top) && loose_at s.heap (slice_index s.top 0)
 
+-- a string of Python 2: where it becomes bytes it is read only already, and stays
+abbrev pub is_string : Kind → Bool
+is_string (kind.LegacyString bytes) = true
+is_string (kind.LegacyLine bytes) = true
+is_string _ = false
+
+abbrev pub string_at : List Object → ℕ → Bool
+string_at heap id = object_test (λ (o : Object). is_string o.kind) heap id
+
+abbrev pub takes_string : State → Bool
+takes_string s = nat_lt 0 (length s.top) && string_at s.heap (deep 0 s.top)
+
 -- the row as which an opcode moves: the same move, and where loaders take more, fewer demands
 abbrev pub asks_less : Row → State → Row
 asks_less (row.Protocol n) s = row.Nothing
+asks_less (row.Extension n) s = row.Push
+asks_less row.ReadOnly s = if takes_string s then row.Nothing else row.ReadOnly
 asks_less (row.Take taking.Call) s = if takes_call 0 s then row.Take taking.Two else row.Take taking.Call
 asks_less (row.Take taking.CallWith) s = if takes_call_with s then row.Take taking.Three else row.Take taking.CallWith
 asks_less (row.Cut cutting.Callable) s = if takes_obj s then row.Cut cutting.Any else row.Cut cutting.Callable

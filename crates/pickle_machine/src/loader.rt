@@ -4,7 +4,7 @@ ghost use Rattle.std.specs.Prelude.{◌≡◌, ◌<◌, length, nat_le, nat_lt, 
 ghost use Rattle.std.specs.Option.{option_map_or};
 ghost use Rattle.pickle_machine.specs.State.{State};
 ghost use Rattle.pickle_machine.specs.Move.{deep, under, begun};
-ghost use Rattle.pickle_machine.specs.Loader.{opaque_at, views, view_at, loose_at, iterates, iterates_at, takes_call, takes_call_with, takes_obj, asks_less, parts_in, is_odd, fills, fill_when, fill_of, drop_row, drops_two, ends_odd, is_inst, import_move, fill_move, loader_move};
+ghost use Rattle.pickle_machine.specs.Loader.{opaque_at, views, view_at, loose_at, iterates, iterates_at, keyed_at, takes_call, takes_call_with, takes_obj, is_string, string_at, takes_string, asks_less, parts_in, is_odd, fills, fill_when, fill_of, drop_row, drops_two, ends_odd, is_inst, import_move, fill_move, loader_move};
 
 use crate::check::Operands;
 use crate::machine::{Core, Machine};
@@ -99,6 +99,23 @@ fn iterates_at(heap: &[Object], id: ObjId) -> bool
     }
 }
 
+/// Whether an object of this kind is a string of Python 2.
+fn is_string(kind: &Kind) -> bool
+    ensures { result ≡ is_string kind.now }
+{
+    matches!(kind, Kind::LegacyString(_) | Kind::LegacyLine(_))
+}
+
+/// Whether the object of this number is there and is such a string.
+fn string_at(heap: &[Object], id: ObjId) -> bool
+    ensures { result ≡ string_at heap.now id }
+{
+    match heap.get(id as usize) {
+        Some(object) => is_string(object.kind()),
+        None => false,
+    }
+}
+
 /// How many items, pairs or members these objects are.
 fn parts_in(filling: Filling, objects: usize) -> usize
     ensures { result ≡ parts_in filling objects }
@@ -176,7 +193,7 @@ fn is_inst(opcode: Opcode) -> bool
 
 impl Core {
     ghost use Rattle.std.specs.Prelude.{◌≡◌};
-    ghost use Rattle.pickle_machine.specs.Loader.{takes_call, takes_call_with, takes_obj, asks_less, fill_of, ends_odd, loader_move, cleared};
+    ghost use Rattle.pickle_machine.specs.Loader.{keyed_at, takes_call, takes_call_with, takes_obj, takes_string, asks_less, fill_of, ends_odd, loader_move, cleared};
 
     /// Whether a call is taken whose arguments are below this many objects.
     fn takes_call(&self, above: usize) -> bool
@@ -191,11 +208,18 @@ impl Core {
         loose_at(heap, deep(top, above + 1)) && iterates_at(heap, deep(top, above))
     }
 
+    /// Whether the object of this number may be the keywords of a call.
+    fn keyed_at(&self, id: ObjId) -> bool
+        ensures { result ≡ keyed_at self.now.state id }
+    {
+        self.meets(id, Demand::Keywords) || view_at(self.objects.as_slice(), id)
+    }
+
     /// Whether a call with names is taken.
     fn takes_call_with(&self) -> bool
         ensures { result ≡ takes_call_with self.now.state }
     {
-        self.takes_call(1) && self.meets(deep(self.stack.top(), 0), Demand::Keywords)
+        self.takes_call(1) && self.keyed_at(deep(self.stack.top(), 0))
     }
 
     /// Whether a call of the lowest object above the mark is taken.
@@ -209,12 +233,31 @@ impl Core {
         loose_at(self.objects.as_slice(), top[0])
     }
 
+    /// Whether the top is a string that may be bytes.
+    fn takes_string(&self) -> bool
+        ensures { result ≡ takes_string self.now.state }
+    {
+        let top = self.stack.top();
+        if top.is_empty() {
+            return false;
+        }
+        string_at(self.objects.as_slice(), deep(top, 0))
+    }
+
     /// The row that asks for less.
     fn asks_less(&self, row: Row) -> Row
         ensures { result ≡ asks_less row self.now.state }
     {
         match row {
             Row::Protocol(_) => Row::Nothing,
+            Row::Extension(_) => Row::Push,
+            Row::ReadOnly => {
+                if self.takes_string() {
+                    Row::Nothing
+                } else {
+                    row
+                }
+            }
             Row::Take(Taking::Call) => {
                 if self.takes_call(0) {
                     Row::Take(Taking::Two)
@@ -339,6 +382,7 @@ fn first_loader_move(opcode: Opcode, row: Row) -> LoaderMove
     }
     let row = match row {
         Row::Protocol(_) => Row::Nothing,
+        Row::Extension(_) => Row::Push,
         _ => row,
     };
     LoaderMove {

@@ -17,7 +17,7 @@ use Rattle.pickle_show.specs.declared.event.Event.TheVariants as event
 use Rattle.pickle_show.specs.declared.naming.Naming.{Naming}
 use Rattle.pickle_show.specs.Brief.{value_text}
 use Rattle.pickle_show.specs.CallsLine.{made_words, made_text, made_at, state_text, fill_keyword, fill_link, filled_text, event_text, event_line}
-use Rattle.pickle_show.specs.LineLaws.{Tells, AreOne, OneLineOneEvent}
+use Rattle.pickle_show.specs.LineLaws.{HasOwnLine, AreOne, OneLineOneEvent}
 use Rattle.pickle_show.proofs.LinesApart.{both_hold, first_of, rest_of}
 use Rattle.pickle_show.proofs.QuotesApart.{other}
 
@@ -225,7 +225,7 @@ words_same : (m n : Naming) (heap other : List Object) (i j : ℕ) → event_tex
 unfolding event_text
 words_same m n heap other i j e = e
 
-events_apart : (m n : Naming) (heap others : List Object) (e f : Event) → Tells heap e → Tells others f → event_text m heap e ≡ event_text n others f → AreOne m heap e n others f
+events_apart : (m n : Naming) (heap others : List Object) (e f : Event) → HasOwnLine heap e → HasOwnLine others f → event_text m heap e ≡ event_text n others f → AreOne m heap e n others f
 events_apart m n heap others (event.Made i) (event.Made j) h k e =
     let p = about_apart _ _ i j h.1 k.1 (sym (made_is m heap i h.0.0 h.0.1) ∙ e ∙ made_is n others j k.0.0 k.0.1) in
     (p.1, words_same m n heap others i j e)

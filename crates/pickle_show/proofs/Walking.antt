@@ -1,10 +1,10 @@
 -- The loop that writes a line for each step.
 use Rattle.std.proofs.Common.{◌≡◌, ℕ, zero, suc, ◌+◌, ◌-◌, ◌<◌, ◌≤◌, ◌==◌, ◌&&◌, Bool, true, false, List, [], ◌++◌, length, drop, Option, Some, None, Ok, refl, sym, ap, subst, ◌∙◌, add-one, append_assoc, arith, rules}
-use Rattle.std.specs.Prelude.{take, if◌then◌else◌, Result, Err, IfOk, IfErr, IsErrAnd, MatchBool}
+use Rattle.std.specs.Prelude.{take, if◌then◌else◌, Result, Err, IfErr, IsErrAnd, MatchBool}
 use Rattle.std.proofs.lemmas.List.{take_all, length-map, append-nil}
 use Rattle.std.proofs.lemmas.Option.{slice_get_past}
 use Rattle.pickle_io.specs.Text.{◌⧺◌}
-use Rattle.pickle_io.specs.Device.{Told, Wrote, Broke, Writes, WroteAllBut}
+use Rattle.pickle_io.specs.Device.{Told, Wrote, Broke, WroteAllBut}
 use Rattle.pickle_io.proofs.Devices.{Wrote-none, Wrote-trans, Broke-after, Broke-more}
 use Rattle.std.specs.Prelude.{not, nat_lt}
 use Rattle.std.proofs.Common.{eq-zero-or-pos, inl, inr}
@@ -53,7 +53,7 @@ use Rattle.pickle_show.specs.Naming.{begin, naming_after}
 use Rattle.pickle_show.specs.Calls.{naming_at, left_at, is_inside, or_here, first_inside, CallsEnd, end_from, end_by, calls_end, CountedText, no_entry, counted_text, entry_at, entries, closing_of, closed, calls, calls_to}
 use Rattle.pickle_show.specs.declared.calls.Ran.{Ran}
 use Rattle.pickle_show.specs.Ran.{IsRun}
-use Rattle.pickle_show.specs.CallsWritten.{CompletesCalls, BreaksCalls, BeginsCalls, CutsCalls}
+use Rattle.pickle_show.specs.CallsWritten.{BreaksCalls, BeginsCalls, CutsCalls}
 
 -- ---- what items come to
 
@@ -305,28 +305,6 @@ run_whole {how = how} bytes a b s r w =
 pub run_answers : {how : Manner} {many : Bool} (bytes : List ℕ) (a b : Told) (s : State) (r : Ran) → (w : IsRun how many bytes a b s r) → (calls how w.d).status ≡ ending_status r.ending
 unfolding calls
 run_answers {how = how} bytes a b s r w = ap (λ (e : CallsEnd). (calls_to how w.d e).status) w.ends
-
-pub run_written : {how : Manner} {many : Bool} (bytes : List ℕ) (a b e : Told) (s : State) (r : Ran) → IsRun how many bytes a b s r
-    → Wrote b e (calls_end_text bytes r.course.imports r.course.calls (ending_in how.holes r.ending)) → CompletesCalls how many bytes a e (ending_status r.ending)
-run_written {how = how} bytes a b e s r w q =
-    let all : Wrote a e (calls how w.d).text = rw (run_whole bytes a b s r w) (Wrote-trans a b e (entries how w.d r.place).text (calls_end_text bytes r.course.imports r.course.calls (ending_in how.holes r.ending)) w.written q) in
-    (w.d, w.reads, (all, sym (run_answers bytes a b s r w)))
-
-pub run_breaks : {how : Manner} {many : Bool} (bytes : List ℕ) (a b e : Told) (s : State) (r : Ran) → IsRun how many bytes a b s r
-    → Broke b e (calls_end_text bytes r.course.imports r.course.calls (ending_in how.holes r.ending)) → BreaksCalls how many bytes a e
-run_breaks {how = how} bytes a b e s r w q =
-    let all : Broke a e (calls how w.d).text = rw (run_whole bytes a b s r w) (Broke-after a b e (entries how w.d r.place).text (calls_end_text bytes r.course.imports r.course.calls (ending_in how.holes r.ending)) w.written q) in
-    (w.d, w.reads, all)
-
-pub closes_ok : {how : Manner} {many : Bool} (bytes : List ℕ) (a b e : Told) (s : State) (r : Ran) (x : Result ℕ TextStop) → IsRun how many bytes a b s r
-    → Writes b e x (calls_end_text bytes r.course.imports r.course.calls (ending_in how.holes r.ending)) → IfOk x (λ y. y ≡ ending_status r.ending) → IfOk x (CompletesCalls how many bytes a e)
-closes_ok bytes a b e s r (Ok x) w q is = rw is (run_written bytes a b e s r w q)
-closes_ok bytes a b e s r (Err x) w q is = tt
-
-pub closes_err : {how : Manner} {many : Bool} (bytes : List ℕ) (a b e : Told) (s : State) (r : Ran) (x : Result ℕ TextStop) → IsRun how many bytes a b s r
-    → Writes b e x (calls_end_text bytes r.course.imports r.course.calls (ending_in how.holes r.ending)) → IfErr x (λ y. y ≡ stop.Failed) → IfErr x (CutsCalls how many bytes a e)
-closes_err bytes a b e s r (Ok x) w q is = tt
-closes_err bytes a b e s r (Err x) w q is = rw is (run_breaks bytes a b e s r w q)
 
 pub refused_runs : {how : Manner} {many : Bool} {last : Bool} (bytes : List ℕ) (a b : Told) (rest : List ℕ) (left k offset : ℕ) (o : Operation) (s : State) (course : Course) (r : Refusal)
     → Walked how many bytes a b rest left k offset s course last → IsNextItem left rest o (size_of o) → refusal_at o s ≡ Some r

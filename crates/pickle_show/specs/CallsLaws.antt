@@ -1,4 +1,5 @@
 -- What the lines promise whoever reads them.
+-- Source: own.
 use Rattle.std.specs.Prelude.{◌≡◌, ◌≢◌, ◌⊎◌, ℕ, suc, ◌<◌, ◌^◌, Bool, true, false, List, [], ◌++◌, length, slice_get, Some, None}
 use Rattle.pickle_ops.specs.Spelling.{Operation}
 use Rattle.pickle_ops.specs.declared.opcode.Opcode.TheVariants as op

@@ -1,14 +1,12 @@
 -- What became of the text of imports and calls that was to be written: that of the document that the bytes read as, as several
 -- pickles or as one.
+-- Source: own.
 use Rattle.std.specs.Prelude.{ℕ, Bool, List}
 use Rattle.pickle_io.specs.Device.{Told}
 use Rattle.pickle_show.specs.declared.stop.TextStop.{TextStop}
 use Rattle.pickle_show.specs.Manner.{Manner}
-use Rattle.pickle_show.specs.Output.{Completes, Breaks, Begins, Cuts}
+use Rattle.pickle_show.specs.Output.{Breaks, Begins, Cuts}
 use Rattle.pickle_show.specs.Calls.{calls}
-
-abbrev pub CompletesCalls : Manner → Bool → List ℕ → Told → Told → ℕ → Type 0
-CompletesCalls how many bytes old new status = Completes (calls how) many bytes old new status
 
 abbrev pub BreaksCalls : Manner → Bool → List ℕ → Told → Told → Type 0
 BreaksCalls how many bytes old new = Breaks (calls how) many bytes old new

@@ -1,4 +1,5 @@
 -- What the lines say: what is in quotes stays within its line, and a text is its lines.
+-- Source: own.
 use Rattle.std.specs.Prelude.{◌≡◌, ◌≢◌, ℕ, zero, suc, ◌^◌, ◌<◌, ◌==◌, ◌&&◌, not, if◌then◌else◌, Bool, true, List, [], ◌∷◌, ◌++◌, length, slice_get, codes, decimal, Option, Some, None}
 use Rattle.pickle_io.specs.Text.{◌⧺◌, quoted}
 use Rattle.pickle_names.specs.Value.{decode_all}
@@ -77,10 +78,10 @@ abbrev pub QuotesReadBack : Type 0
 QuotesReadBack = (p q x y : List ℕ) → AreBytes p → AreBytes q → quoted p ++ x ≡ quoted q ++ y → (p ≡ q) × (x ≡ y)
 
 -- an event whose line can be told from others: what was made is there, something went in where that is told, and the numbers are below 2^64
-abbrev pub Tells : List Object → Event → Type 0
-Tells heap (event.Made id) = ((o : Object) × (slice_get heap id ≡ Some o)) × (id < 2 ^ 64)
-Tells heap (event.State value target) = target < 2 ^ 64
-Tells heap (event.Filled f count target) = (f ≢ filling.Build) × ((count < 2 ^ 64) × (target < 2 ^ 64))
+abbrev pub HasOwnLine : List Object → Event → Type 0
+HasOwnLine heap (event.Made id) = ((o : Object) × (slice_get heap id ≡ Some o)) × (id < 2 ^ 64)
+HasOwnLine heap (event.State value target) = target < 2 ^ 64
+HasOwnLine heap (event.Filled f count target) = (f ≢ filling.Build) × ((count < 2 ^ 64) × (target < 2 ^ 64))
 
 -- two events are of one kind, of the same object, and said in the same words
 abbrev pub AreOne : Naming → List Object → Event → Naming → List Object → Event → Type 0
@@ -91,7 +92,7 @@ AreOne m heap e n other f = ⊥
 
 -- two events with one line are one
 abbrev pub OneLineOneEvent : Type 0
-OneLineOneEvent = (x y : ℕ) (m n : Naming) (heap other : List Object) (e f : Event) → x < 2 ^ 64 → y < 2 ^ 64 → Tells heap e → Tells other f
+OneLineOneEvent = (x y : ℕ) (m n : Naming) (heap other : List Object) (e f : Event) → x < 2 ^ 64 → y < 2 ^ 64 → HasOwnLine heap e → HasOwnLine other f
     → event_line x m heap e ≡ event_line y n other f → (x ≡ y) × AreOne m heap e n other f
 
 -- ---- imports

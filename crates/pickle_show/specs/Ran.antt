@@ -1,4 +1,5 @@
 -- How far the items of a document were run, their lines being written.
+-- Source: own.
 use Rattle.std.specs.Prelude.{◌≡◌, ℕ, ◌≤◌, Bool, List, length, Some}
 use Rattle.pickle_io.specs.Device.{Told, Wrote}
 use Rattle.pickle_doc.specs.Document.{Contents, ReadsAs}

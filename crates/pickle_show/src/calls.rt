@@ -1,21 +1,20 @@
 //! What items would import and call, one after another.
 
-ghost use Rattle.std.specs.Prelude.{◌≡◌, ◌≤◌, length, IfOk, IfErr};
-ghost use Rattle.pickle_doc.specs.Document.{size_limit};
+ghost use Rattle.std.specs.Prelude.{◌≡◌, IfOk, IfErr};
 ghost use Rattle.pickle_machine.specs.State.{start};
 ghost use Rattle.pickle_show.specs.Source.{GivesDocument};
-ghost use Rattle.pickle_show.specs.CallsWritten.{CompletesCalls, CutsCalls};
-ghost use Rattle.pickle_show.specs.Manner.{manner, whole};
+ghost use Rattle.pickle_show.specs.CallsWritten.{CutsCalls};
+ghost use Rattle.pickle_show.specs.Manner.{manner};
 ghost use Rattle.pickle_show.specs.Ran.{IsRun};
 
 use crate::calls_line::write_line;
 use crate::course::Course;
-use crate::end::{Ending, write_end};
+use crate::end::Ending;
 use crate::event::{Before, event_of};
 use crate::naming::{Detail, leaves_frame};
 use crate::report::{Closing, closing_at, step_over};
 use crate::stop::TextStop;
-use pickle_doc::{ItemSource, Items, NextRef, ends_reading, is_stop};
+use pickle_doc::{ItemSource, NextRef, ends_reading, is_stop};
 use pickle_holes::Holes;
 use pickle_machine::{Machine, Refusal};
 use pickle_ops::{Page, Row};
@@ -113,33 +112,4 @@ pub fn run_items<'a, I: ItemSource<'a>, S: Page>(
             }
         }
     }
-}
-
-/// Writes what a pickle, or several pickles, would import and call: the lines of their items, and the last lines. Answers the status: 0
-/// where the reading ended with the bytes, right behind a STOP, else 1. There are to be no more bytes than the limit.
-///
-/// `Memory` (M) where memory runs out, `Failed` where the sink fails; what was written then is a beginning of the text.
-pub fn calls_of_bytes<S: Page>(
-    alloc: Global,
-    detail: Detail,
-    many: bool,
-    bytes: &[u8],
-    sink: &mut S,
-) -> Result<u8, TextStop>
-    requires { length bytes.now ≤ size_limit }
-    ensures ok { IfOk result (CompletesCalls (whole detail) many bytes.now (S.told sink.old) (S.told sink.new)) }
-    ensures err { IfErr result (CutsCalls (whole detail) many bytes.now (S.told sink.old) (S.told sink.new)) }
-{
-    let holes = Holes::new(alloc);
-    let mut machine = Machine::start(alloc, many);
-    let ran = run_items(
-        alloc,
-        detail,
-        &holes,
-        many,
-        Items::new(bytes),
-        &mut machine,
-        sink,
-    )?;
-    write_end(&holes, bytes, ran.course, ran.ending, sink)
 }

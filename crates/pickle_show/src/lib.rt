@@ -42,7 +42,7 @@ mod stop;
 mod words;
 
 pub use begins::{CONTAINERS, write_begins};
-pub use calls::{Ran, calls_of_bytes, run_items};
+pub use calls::{Ran, run_items};
 pub use calls_laws::{
     first_lines_come_first, line_exactly, line_of_import, no_line_no_reach, one_line_one_event,
     one_text, quotes_read_back, quotes_stay, text_is_its_lines,

@@ -1,6 +1,6 @@
 -- A text that was put into memory is the one that was wanted.
-use Rattle.std.proofs.Common.{◌≡◌, ◌<◌, ◌≤◌, ℕ, List, length, sym, inl, inr, arith}
-use Rattle.std.specs.Prelude.{◌≢◌, ◌⊎◌, take, drop}
+use Rattle.std.proofs.Common.{◌≡◌, ◌<◌, ℕ, List, length, sym, inl, inr, arith}
+use Rattle.std.specs.Prelude.{◌≢◌, ◌⊎◌}
 use Rattle.pickle_doc.specs.Document.{size_limit}
 use Rattle.picklestep_library.specs.declared.fill.Written.{Written}
 use Rattle.picklestep_library.specs.Answer.{Puts, Fills}

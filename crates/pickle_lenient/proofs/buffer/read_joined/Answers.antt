@@ -1,6 +1,4 @@
-use Rattle.std.proofs.Common.{◌≡◌, List, ℕ, ◌++◌, take, true, ◌∙◌, sym}
-use Rattle.pickle_ops.specs.Front.{front_of}
-use Rattle.pickle_lenient.specs.Stream.{ends_in}
+use Rattle.std.proofs.Common.{◌∙◌, sym}
 use Rattle.pickle_lenient.proofs.Behind.{begin_ok, begin_err}
 use Rattle.pickle_lenient.proofs.buffer.read_joined.Goals as goal
 

@@ -1,0 +1,113 @@
+-- A whole load by the unpickler in C is one by the unpickler in Python.
+use Rattle.std.proofs.Common.{◌≡◌, ℕ, zero, suc, Bool, true, false, List, ◌++◌, drop, Ok, Err, refl, sym, ap, subst}
+use Rattle.std.specs.Prelude.{◌||◌, if◌then◌else◌, Result, ⊤}
+use Rattle.pickle_ops.specs.declared.opcode.Opcode.{Opcode}
+use Rattle.pickle_ops.specs.declared.opcode.Opcode.TheVariants as op
+use Rattle.pickle_ops.specs.declared.row.Row.{Row}
+use Rattle.pickle_ops.specs.declared.row.Row.TheVariants as row
+use Rattle.pickle_ops.specs.declared.fault.FrontFault.{FrontFault}
+use Rattle.pickle_lenient.specs.declared.taken.Taken.{Taken}
+use Rattle.pickle_lenient.specs.Stream.{taken}
+use Rattle.pickle_show.specs.declared.naming.Detail.TheVariants as detail
+use Rattle.pickle_further.specs.declared.way.Pickles.{Pickles}
+use Rattle.pickle_further.specs.declared.way.Pickles.TheVariants as pickles
+use Rattle.pickle_further.specs.declared.way.Way.{Way}
+use Rattle.pickle_further.specs.Parts.{standing_first}
+use Rattle.pickle_loader.specs.Environment.{Act, World}
+use Rattle.pickle_loader.specs.Unpickler.{Step, Raised}
+use Rattle.pickle_loader.specs.Dispatch.{Loaded, loaded, acts_of}
+use Rattle.pickle_loader.specs.Told.{told_of}
+use Rattle.pickle_loader.specs.Onward as onward
+use Rattle.pickle_loader.specs.Onward.{Onward, reads_on, load_more, load_read, load_on, load_way, acts_before}
+use Rattle.pickle_loader.specs.CUnpickler.{CUnpickler, CStep, CRan, CStopped, CRaised, seen}
+use Rattle.pickle_loader.specs.CLoad.{load_keyed, dispatch_as, c_load_taken, CLoaded, CGoing, CEnded, CFailed, c_loaded, seen_loaded, COnward, c_again, c_load_more, c_load_read, c_load_on, c_load_way, asked, raises, as_in_c, seen_onward, OneLoad, NothingBeyondInC}
+use Rattle.pickle_loader.proofs.CSteps.{Fenced, Same, same_is, dispatched, gets_key, puts_key}
+use Rattle.pickle_loader.proofs.Ways.{nothing_beyond}
+
+-- ---- an item
+
+keyed : (w : World) (r : Row) (u : CUnpickler) → Fenced u → Same (load_keyed w r u) (onward.load_keyed (as_in_c w) r (seen u))
+keyed w (row.Get key) u f = gets_key key u f
+keyed w (row.Put key) u f = puts_key w key u f
+keyed w _ u f = (f, refl)
+
+as_row : (w : World) (r : Row) (o : Opcode) (arg : List ℕ) (u : CUnpickler) → Fenced u → Same (dispatch_as w r o arg u) (if raises (asked w o arg (seen u)) then Raised u.acts else onward.dispatch_as (as_in_c w) r o arg (seen u))
+as_row w r op.Frame arg u f = keyed w r u f
+as_row w r o arg u f = dispatched w o arg u f
+
+-- it may raise before it does anything
+first : (a b : Bool) (u : CUnpickler) (x : CStep) (y : Step) → Same x (if b then Raised u.acts else y) → Same (if a then CRaised u.acts else x) (if a || b then Raised u.acts else y)
+first true b u x y same = refl
+first false b u x y same = same
+
+item_same : (w : World) (item : Taken) (u : CUnpickler) → Fenced u → Same (c_load_taken w item u) (onward.load_taken (as_in_c w) item (seen u))
+item_same w item u f =
+    first (w.fails (seen u) item.op) (raises (asked w item.op.opcode item.op.arg (seen u))) u (dispatch_as w item.row item.op.opcode item.op.arg u) (onward.dispatch_as (as_in_c w) item.row item.op.opcode item.op.arg (seen u))
+    (as_row w item.row item.op.opcode item.op.arg u f)
+
+-- ---- along a file
+
+abbrev Held : CLoaded → Type 0
+Held (CGoing u) = Fenced u
+Held (CEnded v u) = Fenced u
+Held (CFailed acts) = ⊤
+
+record SameLoaded (l : CLoaded) (x : Loaded) : Type 0 where
+  held : Held l
+  is : seen_loaded l ≡ x
+
+step_loaded : (x : CStep) (y : Step) → Same x y → SameLoaded (c_loaded x) (loaded y)
+step_loaded (CRan u) y (f, e) = record { held = f; is = ap loaded e }
+step_loaded (CStopped v u) y (f, e) = record { held = f; is = ap loaded e }
+step_loaded (CRaised acts) y e = record { held = tt; is = ap loaded e }
+
+again_seen : (p : Pickles) (u : CUnpickler) → seen (c_again p u) ≡ onward.again p (seen u)
+again_seen pickles.First u = refl
+again_seen pickles.All u = refl
+again_seen pickles.OneMemo u = refl
+
+again_fenced : (p : Pickles) (u : CUnpickler) → Fenced (c_again p u)
+again_fenced pickles.First u = tt
+again_fenced pickles.All u = tt
+again_fenced pickles.OneMemo u = tt
+
+more_same : (w : World) (p : Pickles) (item : Taken) (l : CLoaded) → Held l → SameLoaded (c_load_more w p item l) (load_more (as_in_c w) p item (seen_loaded l))
+more_same w p item (CGoing u) f = step_loaded (c_load_taken w item u) (onward.load_taken (as_in_c w) item (seen u)) (item_same w item u f)
+more_same w p item (CEnded v u) f =
+    step_loaded (c_load_taken w item (c_again p u)) (onward.load_taken (as_in_c w) item (onward.again p (seen u)))
+    (same_is (c_load_taken w item (c_again p u)) (onward.load_taken (as_in_c w) item (seen (c_again p u))) (onward.load_taken (as_in_c w) item (onward.again p (seen u)))
+    (ap (onward.load_taken (as_in_c w) item) (again_seen p u)) (item_same w item (c_again p u) (again_fenced p u)))
+more_same w p item (CFailed acts) f = record { held = tt; is = refl }
+
+record SameOnward (x : COnward) (y : Onward) : Type 0 where
+  held : Held x.now
+  is : seen_onward x ≡ y
+
+read_same : (w : World) (p : Pickles) (x : COnward) (r : Result Taken FrontFault) → Held x.now → SameOnward (c_load_read w p x r) (load_read (as_in_c w) p (seen_onward x) r)
+read_same w p x (Ok item) f =
+    let more = more_same w p item x.now f in
+    record { held = more.held; is = ap (λ (l : Loaded). record { now = l; rest = drop item.size x.rest; left = item.left }) more.is }
+read_same w p x (Err e) f = record { held = tt; is = refl }
+
+on_by : (w : World) (way : Way) (x : COnward) (b : Bool) → Held x.now
+    → SameOnward (if b then c_load_read w way.pickles x (taken way.frames x.left x.rest) else x) (if b then load_read (as_in_c w) way.pickles (seen_onward x) (taken way.frames x.left x.rest) else seen_onward x)
+on_by w way x true f = read_same w way.pickles x (taken way.frames x.left x.rest) f
+on_by w way x false f = record { held = f; is = refl }
+
+on_same : (w : World) (way : Way) (x : COnward) (y : Onward) → SameOnward x y → SameOnward (c_load_on w way x) (load_on (as_in_c w) way y)
+on_same w way x y same = subst (λ (z : Onward). SameOnward (c_load_on w way x) (load_on (as_in_c w) way z)) same.is (on_by w way x (reads_on way.pickles (seen_loaded x.now)) same.held)
+
+ways_same : (w : World) (way : Way) (bytes : List ℕ) (n : ℕ) → SameOnward (c_load_way w way bytes n) (load_way (as_in_c w) way bytes n)
+unfolding c_load_way load_way
+ways_same w way bytes zero = record { held = tt; is = refl }
+ways_same w way bytes (suc n) = on_same w way (c_load_way w way bytes n) (load_way (as_in_c w) way bytes n) (ways_same w way bytes n)
+
+pub one_load : OneLoad
+one_load w way bytes n = (ways_same w way bytes n).is
+
+pub nothing_beyond_in_c : NothingBeyondInC
+nothing_beyond_in_c w way bytes =
+    let all = nothing_beyond (as_in_c w) way bytes in (
+      all.0,
+      λ n. subst (λ (x : Onward). (rest : List Act) × (told_of (acts_of x.now) ++ rest ≡ acts_before all.0 way (standing_first detail.Cut way.pickles bytes) n)) (sym (one_load w way bytes n)) (all.1 n),
+    )
