@@ -4,6 +4,7 @@
 //! A run that is not finished is a `Stop`.
 #![tactic(auto)]
 
+mod edited;
 mod fault_text;
 mod file_calls;
 mod grammar;
@@ -22,6 +23,7 @@ mod talk;
 mod texts;
 mod words;
 
+pub use edited::write_session_text;
 pub use file_calls::calls_of_file;
 pub use grammar::read_command;
 pub use items::write_items;
