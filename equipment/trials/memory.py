@@ -71,8 +71,6 @@ TESTS = (
     ("document_tests", "document::refused_memory"),
     ("document_tests", "document::refused_memory_of_many"),
     ("unit_tests", "machine::refused_memory"),
-    ("session_tests", "session::refused_memory"),
-    ("session_tests", "session::refused_memory_of_many"),
     ("document_tests", "report::refused_memory"),
     ("document_tests", "report::refused_memory_of_many"),
     ("script_tests", "scripts::refused_memory"),

@@ -1,6 +1,5 @@
-//! Tests of sessions. `session`: worked commands with every reader compared, ways from every place to every place, and what is
-//! left where memory is refused, by what the session shows. The program, `runs`: random commands to sessions over files. Test
-//! equipment.
+//! Tests of sessions. `session`: counts that no text shows, ways from every place to every place, steps that ask for no memory, and
+//! large inputs. The program, `runs`: random commands to sessions over files. Test equipment.
 #![tactic(auto)]
 
 mod runs;

@@ -2,84 +2,27 @@
 
 ghost use Rattle.std.specs.Prelude.{◌≡◌, []};
 
-mod further;
 mod many;
-mod rows;
 mod script;
 
-use crate::session::many::{IN_A_WINDOW, MANY, MANY_WALKED, MANY_WAYS, WINDOWED};
-use crate::session::rows::{CYCLE, DUMP, PAIR, SCRIPTS, WALKED};
-use crate::session::script::{
-    Counts, Script, Told, command, follow, go_home, open_whole, open_window,
-};
+use crate::session::many::{IN_A_WINDOW, MANY_WALKED, MANY_WAYS, WINDOWED};
+use crate::session::script::{Counts, Told, command, open_whole, open_window};
+use pickle_doc::End;
+use pickle_machine::Refusal;
 use pickle_ops::Opcode;
-use pickle_session::{Command, Past, Reply, Session, Whole, Why};
+use pickle_session::{Command, Fault, Past, Reply, Session, Whole, Why};
 use std::alloc::{AllocError, Global};
 use std::test::Fail;
 use test_equipment::{Comparison, paper, shows, taken, write_session};
 
-/// Follows a script and goes all the way back, where one request for memory may be refused; the number of rows that are as
-/// they should be, and whether the opened bytes are there again.
-fn try_whole(alloc: Global, many: bool, script: &Script) -> Option<(usize, bool)> {
-    let mut session = open_whole(alloc, many, script.bytes)?;
-    let rows = follow(&mut session, alloc, script, None);
-    Some((rows, go_home(&mut session, alloc, script.bytes)))
-}
+/// The usual dump of a list with the number 1.
+const DUMP: &[u8] = b"\x80\x04\x95\x06\x00\x00\x00\x00\x00\x00\x00]\x94K\x01a.";
 
-/// The same with only this many of the latest records.
-fn try_window(alloc: Global, many: bool, count: usize, script: &Script) -> Option<(usize, bool)> {
-    let mut session = open_window(alloc, many, count, script.bytes)?;
-    let rows = follow(&mut session, alloc, script, Some(count));
-    Some((rows, go_home(&mut session, alloc, script.bytes)))
-}
+/// Two numbers in a tuple that is memoized.
+const PAIR: &[u8] = b"K\x01K\x02\x86q\x00.";
 
-/// Follows scripts over one pickle or many and goes back, with all records or with this many of the latest; the first script that
-/// is answered in another way, if one is.
-fn first_wrong(
-    alloc: Global,
-    many: bool,
-    scripts: &[Script],
-    window: Option<usize>,
-) -> Option<usize> {
-    for (k, script) in scripts.iter().enumerate() {
-        let found = match window {
-            Some(count) => try_window(alloc, many, count, script),
-            None => try_whole(alloc, many, script),
-        };
-        if found != Some((script.rows.len(), true)) {
-            return Some(k);
-        }
-    }
-    None
-}
-
-/// Run also with each request for memory refused in turn: a command that is refused so leaves every reader as it was, and
-/// given again it is answered as with ample memory. Then comes the way back to the bytes that were opened.
-#[test]
-fn refused_memory(rt: HostRuntime) {
-    assert_eq!(rt; first_wrong(rt.alloc(), false, &SCRIPTS, None), None);
-    assert_eq!(rt; first_wrong(rt.alloc(), false, &SCRIPTS, Some(2)), None);
-}
-
-/// The same over several pickles.
-#[test]
-fn refused_memory_of_many(rt: HostRuntime) {
-    assert_eq!(rt; first_wrong(rt.alloc(), true, &MANY, None), None);
-    assert_eq!(rt; first_wrong(rt.alloc(), true, &MANY, Some(2)), None);
-}
-
-/// Every script is answered alike whatever the window, and one over one pickle also where many are read.
-#[test]
-fn in_every_window(rt: HostRuntime) {
-    for count in [1, 2, 3, 1000] {
-        let found = first_wrong(rt.alloc(), false, &SCRIPTS, Some(count));
-        assert_eq!(rt; found, None, "a window of {count}");
-        let found = first_wrong(rt.alloc(), true, &SCRIPTS, Some(count));
-        assert_eq!(rt; found, None, "read as many, a window of {count}");
-        let found = first_wrong(rt.alloc(), true, &MANY, Some(count));
-        assert_eq!(rt; found, None, "over many, a window of {count}");
-    }
-}
+/// A list appended to itself.
+const CYCLE: &[u8] = b"]2a.";
 
 /// What a session shows, as a text.
 fn note_of<P: Past>(alloc: Global, session: &Session<P>) -> Result<Vec<u8>, Fail> {
@@ -179,6 +122,18 @@ fn is_walked(alloc: Global, many: bool, bytes: &[u8]) -> Result<bool, Fail> {
     )
 }
 
+/// Pickles that are walked from every place to every place.
+const WALKED: [&[u8]; 8] = [
+    DUMP,
+    PAIR,
+    CYCLE,
+    b"]22aa.",
+    b"]q\x00h\x00a(h\x00e.",
+    b"\x8f\x94(h\x00h\x00\x90.",
+    b"}22s.",
+    b"}2b.",
+];
+
 #[test]
 fn from_every_place_to_every_place(rt: HostRuntime) -> Result<(), Fail> {
     for (k, bytes) in WALKED.iter().enumerate() {
@@ -238,6 +193,75 @@ fn counts_in_a_window(rt: HostRuntime) {
         for (k, row) in rows.iter().enumerate() {
             let is_answered = is_answered(&mut session, rt.alloc(), row);
             assert!(rt; is_answered, "row {k} of window {w}");
+        }
+    }
+}
+
+/// Bytes, and commands to a session over them that keeps all records.
+const ALL_KEPT: [(&[u8], &[Counts]); 3] = [
+    (
+        DUMP,
+        &[
+            (Told::Goto(4), Reply::At(4), 4, 4, 4),
+            (Told::Run, Reply::Ran(7, Why::End), 7, 7, 3),
+            (
+                Told::Run,
+                Reply::Refused(Fault::AtEnd(End::Stopped)),
+                7,
+                7,
+                0,
+            ),
+            (Told::Goto(0), Reply::At(0), 0, 0, 7),
+        ],
+    ),
+    // an entry of the memo that is not there
+    (
+        b"K\x01q\x00K\x02q\x00h\x07.",
+        &[
+            (Told::Goto(3), Reply::At(3), 3, 3, 3),
+            (
+                Told::Goto(5),
+                Reply::Refused(Fault::Item(4, Refusal::NoMemoEntry(7))),
+                3,
+                3,
+                2,
+            ),
+            (
+                Told::Run,
+                Reply::Ran(4, Why::Refused(Refusal::NoMemoEntry(7))),
+                4,
+                4,
+                1,
+            ),
+            (
+                Told::Run,
+                Reply::Refused(Fault::Item(4, Refusal::NoMemoEntry(7))),
+                4,
+                4,
+                0,
+            ),
+        ],
+    ),
+    // an odd number of items: as far as it, and back again
+    (
+        b"ccollections\nOrderedDict\n)R(K\x01K\x02Nu.",
+        &[(
+            Told::Goto(8),
+            Reply::Refused(Fault::Item(7, Refusal::OddItems)),
+            0,
+            0,
+            14,
+        )],
+    ),
+];
+
+#[test]
+fn counts_with_all_records(rt: HostRuntime) {
+    for (b, (bytes, rows)) in ALL_KEPT.iter().enumerate() {
+        let mut session = open_whole(rt.alloc(), false, bytes).expect(&rt, "room");
+        for (k, row) in rows.iter().enumerate() {
+            let is_answered = is_answered(&mut session, rt.alloc(), row);
+            assert!(rt; is_answered, "row {k} of session {b}");
         }
     }
 }
