@@ -165,7 +165,10 @@ class Maker:
         self.top = []
 
     def cut(self) -> None:
-        if self.under:
+        if self.under and not self.top and self.chance.random() < 0.2:
+            self.put(b"0")
+            self.top = self.under.pop()
+        elif self.under:
             self.opcodes.append(self.chance.choice([b"t", b"l", b"\x91", b"1", b"d"] if len(self.top) % 2 == 0 else [b"t", b"l", b"1"]))
             made = {b"t": "t", b"l": "l", b"\x91": "f", b"d": "d", b"1": ""}[self.opcodes[-1]]
             self.top = self.under.pop() + list(made)
