@@ -78,7 +78,10 @@ class Maker:
         if how < 5:
             self.put(b"c" + self.text_of(MODULES) + b"\n" + self.text_of(MEMBERS) + b"\n", makes="o")
         elif how < 8:
-            self.text(MODULES)
+            if how == 7:
+                self.put(b"Ptext\n", makes="s")
+            else:
+                self.text(MODULES)
             self.text(MEMBERS)
             self.put(b"\x93", 2, "o")
         elif how == 8:

@@ -18,7 +18,7 @@ from load_worker import EXTENSIONS, LOADERS, has_more
 
 # Of 1000 answers so many are of a kind: with things almost alone pickles go far, with all kinds they meet more cases.
 CALM = [("raises", 4), ("buffer", 10), ("thing", 986)]
-MIXED = [("raises", 20), ("str", 60), ("tuple", 40), ("dict", 40), ("buffer", 60), ("array", 60), ("thing", 720)]
+MIXED = [("raises", 20), ("str", 120), ("tuple", 40), ("dict", 40), ("buffer", 60), ("array", 60), ("thing", 660)]
 TAKING = ("thing", "buffer", "array")
 
 
