@@ -183,8 +183,7 @@ class Likeness:
 
     def match_act(self, want: Seen, found: Act) -> None:
         if want.what not in WHAT.get(found.what, (found.what,)):
-            if (want.what, found.what) not in (("nextbuffer", "buffer"),):
-                raise Unlike(f"{want.what} is not {found.what}")
+            raise Unlike(f"{want.what} is not {found.what}")
         target = None if want.target is None else self.record.answers[want.target]
         if target is not found.target:
             raise Unlike(f"{found.what} of another thing")
@@ -205,10 +204,10 @@ class Likeness:
                 self.match_names(want.operands[1], dict(found.named), want.place)
         elif want.what == "instance":
             self._match_all(want.operands[0], found.operands)
-        elif want.what == "extension":
+        elif want.what in ("extension", "nextbuffer"):
             if want.operands != found.operands:
-                raise Unlike(f"the code {want.operands} is not {found.operands}")
-        elif want.what != "nextbuffer":
+                raise Unlike(f"the number {want.operands} is not {found.operands}")
+        else:
             self._match_all(want.operands, found.operands)
 
     def _match_all(self, want: Sequence[Value], found: Sequence[Any]) -> None:

@@ -19,6 +19,11 @@ ODD_KEYS = [b" %d", b"%d ", b"+%d", b"%d\r", b"\t%d", b"0%d", b"%d\0", b"%d\0x",
 ODD_NUMBERS = [b"I0x10\n", b"I1_0\n", b"L5\n", b"I 7\n", b"F1_0.5\n", b"Fnan\n", b"I01\n", b"I\n", b"Fx\n", b"S'a\n", b"S\"b\"\n", b"Sa\n"]
 NO_TUPLES = [b"X\x02\0\0\0ab", b"C\x01a", b"]", b"}", b"\x8f", b"(\x91", b"N", b"K\x07", b"\x96\0\0\0\0\0\0\0\0"]
 FILLS = [b"(e", b"(\x90", b"(u", b"(NNe", b"Na", b"NNs", b"(NNu", b"(NN\x90", b"(NNNu", b"\x98", b"\x98Na", b"\x98(e"]
+EIGHT = b"\x02" + b"\0" * 7
+PLAIN = [
+    *[b"N"] * 6, b"\x88", b"\x89", b"K\x05", b"M\x07\x01", b"J\xff\xff\xff\xff", b"I7\n", b"I-12\n", b"L8L\n", b"F1.5\n", b"F-0.0\n", b"G@\x09!\xfbTD-\x18",
+    b"\x8a\x01\x09", b"\x8a\0", b"\x8b\x02\0\0\0\xff\x7f", b"B\x02\0\0\0yz", b"\x8e" + EIGHT + b"yz", b"\x8d" + EIGHT + b"yz", b"T\x02\0\0\0yz",
+]
 MOST_BYTES = 3000
 
 
@@ -67,7 +72,7 @@ class Maker:
         if self.is_odd():
             self.put(self.chance.choice(ODD_NUMBERS), makes="p")
         else:
-            self.put(self.chance.choice([b"N", b"\x88", b"\x89", b"K\x05", b"J\xff\xff\xff\xff", b"I7\n", b"L8L\n", b"F1.5\n", b"\x8a\x01\x09"]), makes="p")
+            self.put(self.chance.choice(PLAIN), makes="p")
 
     def container(self) -> None:
         opcode, kind = self.chance.choice([(b"]", "l"), (b"}", "d"), (b")", "t"), (b"\x8f", "e"), (b"C\x02ab", "b"), (b"\x96\x01" + b"\0" * 7 + b"a", "a")])

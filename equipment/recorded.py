@@ -213,12 +213,14 @@ class Buffers:
 
     def __init__(self, record: Record) -> None:
         self.record = record
+        self.count = 0
 
     def __iter__(self) -> Iterator[Any]:
         return self
 
     def __next__(self) -> Any:
-        return self.record.answer(Act("buffer"))
+        self.count += 1
+        return self.record.answer(Act("nextbuffer", None, (self.count - 1,)))
 
 
 def load(name: str, data: bytes, plan: Plan, encoding: str, pickles: str = "All") -> Record:
