@@ -19,7 +19,10 @@ from antt_words import Function, Made, Value, apply
 
 TOKEN = re.compile(r'\s+|--[^\n]*|(?P<text>"(?:[^"\\]|\\.)*")|(?P<sign>[(){};,.])|(?P<word>[^\s(){}.;,@"«»]+)')
 # How much an operator binds: what is on its left, and what on its right.
-INFIX = {"||": (30, 31), "&&": (35, 36), "==": (41, 41), "++": (65, 66), "+": (65, 66), "-": (65, 66), "∷": (68, 67), "*": (70, 71), "/": (70, 71), "%": (70, 71), "^": (76, 75)}
+INFIX = {
+    "||": (30, 31), "&&": (35, 36), "==": (41, 41), "++": (65, 66), "+": (65, 66), "-": (65, 66), "∷": (68, 67),
+    "*": (70, 71), "/": (70, 71), "%": (70, 71), "^": (76, 75),
+}
 ENDS = (")", "}", ";", ",", "then", "else", "in", "=", "|", "")
 VARIANTS = ".TheVariants"
 CONSTANTS = ".TheConstants"

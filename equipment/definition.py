@@ -24,7 +24,8 @@ SHAPE = "Rattle.pickle_ops.specs.Shape"
 TYPES = {"str": "PyStr", "tuple": "PyTuple", "dict": "PyDict", "buffer": "PyOther", "array": "PyOther", "thing": "PyOther"}
 ASKING = ("Find", "Persist", "NextBuffer", "Extension")
 CALLING = ("Call", "New", "NewEx", "Instance")
-MOST_DIGITS = sys.get_int_max_str_digits()
+# (what int() takes; before 3.11 some versions take any number)
+MOST_DIGITS = getattr(sys, "get_int_max_str_digits", lambda: sys.maxsize)()
 RAISES = Made("Environment.Raises")
 ANSWERS = Made("Environment.Answers", (Made("Environment.PyOther"),))
 

@@ -173,17 +173,14 @@ class Maker:
         self.top = []
 
     def cut(self) -> None:
-        if self.under and not self.top and self.chance.random() < 0.2:
-            self.put(b"0")
-            self.top = self.under.pop()
-        elif self.under:
+        if self.under:
             self.opcodes.append(self.chance.choice([b"t", b"l", b"\x91", b"1", b"d"] if len(self.top) % 2 == 0 else [b"t", b"l", b"1"]))
             made = {b"t": "t", b"l": "l", b"\x91": "f", b"d": "d", b"1": ""}[self.opcodes[-1]]
             self.top = self.under.pop() + list(made)
 
     def handle(self) -> None:
         if self.top:
-            self.put(*self.chance.choice([(b"2", 0, self.top[-1]), (b"0", 1, "")]))
+            self.put(*self.chance.choice([(b"2", 0, self.top[-1]), (b"0", 1, ""), (b"(0", 0, ""), (b"(N1", 0, "")]))
 
     def protocol(self) -> None:
         self.put(b"\x80" + bytes([self.chance.choice([2, 3, 4, 5] if not self.is_odd() else [1, 6, 200])]))
