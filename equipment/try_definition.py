@@ -99,8 +99,8 @@ def try_all(definition: Definition, seed: int, count: int, given: Sequence[bytes
 
 def _trial(number: int, pickles: Sequence[pathlib.Path]) -> Noted:
     """Runs this script in a process of its own, whose memory is limited."""
-    given = ["--odd", *map(str, pickles)] if number == 0 else []
-    words = [sys.executable, "-W", "ignore", "-B", __file__, str(SEED + number), str(EACH), *given]
+    words = [sys.executable, "-W", "ignore", "-B", __file__, *(["--odd"] if number == 0 else []), str(SEED + number), str(EACH)]
+    words += map(str, pickles if number == 0 else [])
     done = subprocess.run(words, capture_output=True, text=True, check=False, timeout=600)
     if done.returncode != 0 or done.stderr:
         return Noted(f"it ended with status {done.returncode}: {done.stderr.strip()[-300:]}", "")
@@ -128,14 +128,17 @@ def main() -> None:
         given += [row.data for row in loads.oddities()]
     resource.setrlimit(resource.RLIMIT_AS, (MOST_MEMORY, MOST_MEMORY))
     register_extensions()
-    tally = try_all(Definition(words.crates), words.seed, words.count, given)
-    print(json.dumps({**vars(tally), "different": sorted(tally.different, key=len)}))
-
-
-if __name__ == "__main__":
+    found: list[Tally] = []
     # (definitions call themselves once for each byte of a line)
     sys.setrecursionlimit(1_000_000)
     threading.stack_size(STACK)
-    thread = threading.Thread(target=main)
+    thread = threading.Thread(target=lambda: found.append(try_all(Definition(words.crates), words.seed, words.count, given)))
     thread.start()
     thread.join()
+    if not found:
+        sys.exit(1)
+    print(json.dumps({**vars(found[0]), "different": sorted(found[0].different, key=len)}))
+
+
+if __name__ == "__main__":
+    main()
