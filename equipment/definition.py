@@ -14,8 +14,7 @@ from typing import Any, Optional
 
 import antt
 from antt_words import Function, Made, Value
-from load_worker import EXTENSIONS
-from recorded import TAKING, Plan
+from recorded import CODES, TAKING, Plan
 
 ROOT = pathlib.Path(__file__).resolve().parent.parent
 LOADER = "Rattle.pickle_loader.specs"
@@ -49,13 +48,14 @@ class World:
     found: dict[int, int] = field(default_factory=dict)
     again: set[int] = field(default_factory=set)
 
-    def record(self) -> dict[str, Value]:
+    def record(self, is_python: bool) -> dict[str, Value]:
         return {
-            "fails": Function(2, lambda acts, op: False),
+            "fails": Function(2, lambda before, op: False),
             "reply": Function(2, self.reply),
             "readonly": Function(1, lambda value: self.kind(value) == "buffer"),
             "mapping": Function(1, lambda value: self.kind(value) in ("thing", "dict")),
             "strings_are_bytes": self.strings_are_bytes,
+            "looks_up_for_nothing": is_python,
         }
 
     def kind(self, value: Made) -> str:
@@ -102,7 +102,7 @@ class World:
         if short(act) != "Extension":
             return self._next(len(acts))
         code, = act.parts
-        if code not in EXTENSIONS:
+        if code not in CODES:
             return RAISES
         if code in self.found and self.found[code] < len(acts):
             self.again.add(len(acts))
@@ -146,6 +146,11 @@ class Definition:
         self.load_next = self.program.value(f"{LOADER}.Bytes", "load_next")
         self.load_way = self.program.value(f"{LOADER}.Onward", "load_way")
         self.load_on = self.program.value(f"{LOADER}.Onward", "load_on")
+        self.has_c = self.program.module(f"{LOADER}.CLoad") is not None
+        if self.has_c:
+            self.c_load_way = self.program.value(f"{LOADER}.CLoad", "c_load_way")
+            self.c_load_on = self.program.value(f"{LOADER}.CLoad", "c_load_on")
+            self.seen_onward = self.program.value(f"{LOADER}.CLoad", "seen_onward")
         self.acts_of = self.program.value(f"{LOADER}.Dispatch", "acts_of")
         self.fetch = self.program.value(f"{LOADER}.Reader", "fetch")
         self.form_of = self.program.value(TABLE, "form_of")
@@ -154,17 +159,25 @@ class Definition:
     def python(self, data: bytes, plan: Plan, encoding: str) -> Run:
         """What the unpickler in Python does with all pickles of some bytes, up to a key that is not spelled as pickletools says."""
         world = World(plan, encoding == "bytes")
-        record = world.record()
+        record = world.record(is_python=True)
         begin = self.load_bytes(record, True, tuple(data), 0)
         return self._run(Run(world), begin, lambda x: self.load_next(record, True, x), self._is_odd_key)
 
     def way(self, data: bytes, plan: Plan, encoding: str, pickles: str, frames: str) -> Run:
-        """What an unpickler does that reads in this way, behind an end of the lines too, up to a key of more than 64 bits."""
+        """What the unpickler in Python does where it reads in this way, behind an end of the lines too, up to a key of more than 64 bits."""
         world = World(plan, encoding == "bytes")
-        record = world.record()
-        way = {"pickles": Made(f"Pickles.{pickles}"), "frames": Made(f"Frames.{frames}")}
+        record, way = world.record(is_python=True), _way(pickles, frames)
         begin = self.load_way(record, way, tuple(data), 0)
         return self._run(Run(world), begin, lambda x: self.load_on(record, way, x), lambda x: _is_large_key(bytes(x["rest"])))
+
+    def in_c(self, data: bytes, plan: Plan, encoding: str, pickles: str, frames: str) -> Run:
+        """What the unpickler in C does where it reads in this way."""
+        if not self.has_c:
+            return self.way(data, plan, encoding, pickles, frames)
+        world = World(plan, encoding == "bytes")
+        record, way = world.record(is_python=False), _way(pickles, frames)
+        begin = self.c_load_way(record, way, tuple(data), 0)
+        return self._run(Run(world), begin, lambda x: self.c_load_on(record, way, x), lambda x: False, self.seen_onward)
 
     def _is_odd_key(self, loading: Value) -> bool:
         fetched = self.fetch(loading["reader"])
@@ -174,22 +187,27 @@ class Definition:
         form = self.form_of(op["opcode"])
         return short(form) == "Decimal" and short(self.value_fault(form, op["arg"])) != "None"
 
-    def _run(self, run: Run, begin: Value, step: Callable[[Value], Value], is_cut: Callable[[Value], bool]) -> Run:
-        """Goes opcode by opcode, as the definition does it, until it ends."""
-        now: Value = None
-        after = begin
-        while after is not now and short(after["now"]) != "Failed":
+    def _run(self, run: Run, begin: Value, step: Value, is_cut: Callable[[Value], bool], held: Callable[[Value], Value] = lambda x: x) -> Run:
+        """Goes opcode by opcode, as the definition does it, until it ends. `held` is what the unpickler in Python would hold."""
+        now, after = None, begin
+        loaded = held(after)["now"]
+        while after is not now and short(loaded) != "Failed":
             now = after
             run.is_cut = is_cut(now)
             if run.is_cut:
                 break
             after = step(now)
-            if after is not now and short(after["now"]) != "Failed":
+            loaded = held(after)["now"]
+            if after is not now and short(loaded) != "Failed":
                 run.opcodes += 1
-            if after is not now and short(after["now"]) == "Ended":
-                run.stops.append(after["now"].parts)
-        run.acts = self.acts_of(after["now"])
+            if after is not now and short(loaded) == "Ended":
+                run.stops.append(loaded.parts)
+        run.acts = self.acts_of(loaded)
         return run
+
+
+def _way(pickles: str, frames: str) -> dict[str, Value]:
+    return {"pickles": Made(f"Pickles.{pickles}"), "frames": Made(f"Frames.{frames}")}
 
 
 def _is_large_key(rest: bytes) -> bool:

@@ -90,7 +90,8 @@ class Maker:
             self.text(MEMBERS)
             self.put(b"\x93", 2, "o")
         elif how == 8:
-            self.put(self.chance.choice([b"\x82\x01", b"\x82\x02", b"\x83\x00\x01", b"\x84\xff\xff\xff\x7f", b"\x82\x01"]), makes="o")
+            codes = [b"\x82\x01", b"\x82\x02", b"\x83\x00\x01", b"\x84\xff\xff\xff\x7f", b"\x82\x01"]
+            self.put(self.chance.choice(codes if not self.is_odd() else [b"\x82\0", b"\x84\xff\xff\xff\xff"]), makes="o")
         elif how == 9:
             self.put(b"P" + self.chance.choice([b"17", b"text", b"\xff" if self.is_odd() else b"a"]) + b"\n", makes="o")
         elif how == 10:

@@ -4,7 +4,7 @@
     try_definition.py [--crates FOLDER] [--odd] SEED COUNT [PICKLE..]
 
 The unpickler in Python is compared with `load_bytes` of crates/pickle_loader/specs, and one load of it with `load_way`, frames ignored; those
-in C with `load_way`, frames ignored and buffered. COUNT pickles are made by load_cases.py from the seed and from the real pickles. The pickles
+in C with `c_load_way`, frames ignored and buffered. COUNT pickles are made by load_cases.py from the seed and from the real pickles. The pickles
 that are given come before them, and with --odd the rows of oddities.txt. With --crates the definition is that of another folder of crates.
 What is printed is JSON: what was tried, and what differs.
 """
@@ -85,7 +85,7 @@ def try_case(definition: Definition, tally: Tally, case: bytes, kind: str, plan:
         tally.add("Python", case, definition.python(case, plan, encoding), load("Python", case, plan, encoding), encoding)
         first = definition.way(case, plan, encoding, "First", "Ignored")
         tally.add("Python, one load", case, first, load("Python", case, plan, encoding, "First"), encoding)
-    runs = {frames: definition.way(case, plan, encoding, pickles, frames) for frames in ("Ignored", "Buffered")}
+    runs = {frames: definition.in_c(case, plan, encoding, pickles, frames) for frames in ("Ignored", "Buffered")}
     for name, frames in READERS.items():
         tally.add(name, case, runs[frames], load(name, case, plan, encoding, pickles), encoding)
 
@@ -102,7 +102,7 @@ def _trial(number: int, pickles: Sequence[pathlib.Path]) -> Noted:
     words = [sys.executable, "-W", "ignore", "-B", __file__, *(["--odd"] if number == 0 else []), str(SEED + number), str(EACH)]
     words += map(str, pickles if number == 0 else [])
     done = subprocess.run(words, capture_output=True, text=True, check=False, timeout=600)
-    if done.returncode != 0 or done.stderr:
+    if done.returncode != 0:
         return Noted(f"it ended with status {done.returncode}: {done.stderr.strip()[-300:]}", "")
     found = json.loads(done.stdout)
     different = found["different"]
