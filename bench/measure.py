@@ -1,4 +1,7 @@
 """measure.py PROGRAM PLAIN SCALE: makes big pickles in a temporary folder, runs the listings, and prints the tables."""
+
+from __future__ import annotations
+
 import datetime
 import fractions
 import os
@@ -11,6 +14,8 @@ import struct
 import subprocess
 import sys
 import tempfile
+from collections.abc import Callable, Sequence
+from typing import BinaryIO, NamedTuple
 
 # the bars: instructions for each opcode, and how many times as many for twice the file
 INSTRUCTIONS = {'a': 270, 'b': 290, 'c': 180, 'e': 230, 'f': 1500}
@@ -32,61 +37,63 @@ RUNS = 3
 
 # --- The files, each of this many items or bytes ---
 
-def numbers_and_strings(file, count):
+def numbers_and_strings(file: BinaryIO, count: int) -> None:
     """A list of small integers and short strings at protocol 4."""
     draw = random.Random(7)
     pickle.dump([draw.randrange(-300, 70000) if n % 2 else 's%d' % draw.randrange(100000) for n in range(count)], file, 4)
 
 
-def text(file, count):
+def text(file: BinaryIO, count: int) -> None:
     """Tuples at protocol 0."""
     pickle.dump([(n, 'name %d' % n, n * 0.5, [n, None]) for n in range(count)], file, 0)
 
 
-def one_byte_opcodes(file, count):
+def one_byte_opcodes(file: BinaryIO, count: int) -> None:
     """NONE and POP in turn, and then NONE and STOP."""
     file.write(b'N0' * (count - 1) + b'N.')
 
 
-def one_string(file, count):
+def one_string(file: BinaryIO, count: int) -> None:
     """One BINBYTES8."""
     file.write(b'\x80\x04\x8e' + struct.pack('<Q', count) + bytes(count) + b'.')
 
 
-def dictionaries(file, count):
+def dictionaries(file: BinaryIO, count: int) -> None:
     """Dictionaries in dictionaries, which share keys and values by the memo."""
-    draw, made, keys = random.Random(5), [], ['key%d' % n for n in range(40)]
+    draw, keys = random.Random(5), ['key%d' % n for n in range(40)]
+    made: list[dict[str, object]] = []
     for n in range(count):
-        table = {keys[n % 40]: n, keys[(n + 7) % 40]: {keys[n * 3 % 40]: [n], 'v': keys[n % 11]}}
+        table: dict[str, object] = {keys[n % 40]: n, keys[(n + 7) % 40]: {keys[n * 3 % 40]: [n], 'v': keys[n % 11]}}
         if n > 20:
             table['old'] = made[draw.randrange(n)]
         made.append(table)
     pickle.dump(made, file, 2)
 
 
-def under_marks(file, count):
+def under_marks(file: BinaryIO, count: int) -> None:
     """NONE and POP in turn above 1,000 open marks, whose lines are indented by 4,000 blanks."""
     file.write(b'(' * 1000 + b'N0' * count + b'N.')
 
 
-def calls(file, count):
+def calls(file: BinaryIO, count: int) -> None:
     """A class that is called again and again, with no arguments; each result is dropped."""
     file.write(b'cm\nn\nq\x000' + b'h\x00)R0' * count + b'N.')
 
 
-def small_pickles(file, count):
+def small_pickles(file: BinaryIO, count: int) -> None:
     """NONE and STOP, again and again."""
     file.write(b'N.' * count)
 
 
-def behind_a_large_one(file, count):
+def behind_a_large_one(file: BinaryIO, count: int) -> None:
     """Small pickles behind one with a thousand open marks and ten thousand entries of the memo."""
     file.write(b'(' * 1000 + b'N\x94' * 10_000 + b'.')
     small_pickles(file, count)
 
 
+Writer = Callable[[BinaryIO, int], None]
 # letter, what it is, who writes it, how many items or bytes
-FILES = [
+FILES: list[tuple[str, str, Writer, int]] = [
     ('a', 'small integers and short strings, protocol 4', numbers_and_strings, 4_125_000),
     ('b', 'text, protocol 0', text, 340_000),
     ('c', 'one-byte opcodes `N0`', one_byte_opcodes, 8_388_608),
@@ -99,14 +106,15 @@ SEVERAL, SEVERAL_TWICE, BYTES_A_PICKLE = 1_000_000, 2.1, 3
 
 # --- Runs ---
 
-class Measured:
+class Measured(NamedTuple):
     """The seconds that one processor took for a command, the most memory that it held in bytes, and its status."""
 
-    def __init__(self, seconds, memory, status):
-        self.seconds, self.memory, self.status = seconds, memory, status
+    seconds: float
+    memory: int
+    status: int
 
 
-def measure(command):
+def measure(command: Sequence[str]) -> Measured:
     """Runs a command by GNU time; its output is thrown away."""
     with tempfile.NamedTemporaryFile('r') as figures:
         status = subprocess.run(['/usr/bin/time', '-o', figures.name, '-f', '%U %S %M', *command],
@@ -116,26 +124,28 @@ def measure(command):
     return Measured(max(float(user) + float(system), 0.01), int(kibibytes) * 1024, status)
 
 
-def shortest(command, runs=RUNS):
+def shortest(command: Sequence[str], runs: int = RUNS) -> Measured:
     """The shortest of some runs."""
     return min((measure(command) for _ in range(runs)), key=lambda m: m.seconds)
 
 
-def instructions(command):
+def instructions(command: Sequence[str]) -> int:
     """How many instructions the whole process takes, as callgrind counts them."""
     told = subprocess.run(['valgrind', '--tool=callgrind', '--callgrind-out-file=/dev/null', *command],
                           stdout=subprocess.DEVNULL, stderr=subprocess.PIPE, text=True).stderr
-    return int(re.search(r'Collected : (\d+)', told).group(1))
+    counted = re.search(r'Collected : (\d+)', told)
+    assert counted is not None, told
+    return int(counted[1])
 
 
-def made(folder, letter, write, count):
+def made(folder: str, letter: str, write: Writer, count: int) -> str:
     path = os.path.join(folder, '%s-%d.pickle' % (letter, count))
     with open(path, 'wb') as file:
         write(file, count)
     return path
 
 
-def opcodes_of(path):
+def opcodes_of(path: str) -> int:
     """How many opcodes a file has."""
     with open(path, 'rb') as file:
         return sum(1 for _ in pickletools.genops(file))
@@ -143,15 +153,15 @@ def opcodes_of(path):
 
 # --- Tables ---
 
-def megabytes(count):
+def megabytes(count: float) -> str:
     return '%.1f' % (count / 1e6)
 
 
-def verdict(holds):
+def verdict(holds: bool) -> str:
     return 'holds' if holds else '**does not hold**'
 
 
-def counted_row(folder, program, plain, letter, what, write, count):
+def counted_row(folder: str, program: str, plain: str, letter: str, what: str, write: Writer, count: int) -> str:
     """A line of the table of instructions."""
     once, twice = made(folder, letter, write, count), made(folder, letter, write, 2 * count)
     opcodes, listing = opcodes_of(once), instructions([program, 'list', once])
@@ -162,7 +172,7 @@ def counted_row(folder, program, plain, letter, what, write, count):
         letter, what, opcodes, listing / opcodes, bar or '', instructions([plain, once]) / opcodes, factor, verdict(good))
 
 
-def timed_row(folder, program, plain, letter, what, write, count):
+def timed_row(folder: str, program: str, plain: str, letter: str, what: str, write: Writer, count: int) -> str:
     """A line of the table of times and memory."""
     path = made(folder, letter, write, count)
     length, opcodes = os.path.getsize(path), opcodes_of(path)
@@ -177,7 +187,7 @@ def timed_row(folder, program, plain, letter, what, write, count):
         megabytes(listing.memory), beside, verdict(good))
 
 
-def called_row(folder, program, letter, what, write, count):
+def called_row(folder: str, program: str, letter: str, what: str, write: Writer, count: int) -> str:
     """A line of the table of `calls` against `objects`."""
     small = int(count * SMALL)
     once, twice, whole = (made(folder, letter, write, many) for many in (small, 2 * small, count))
@@ -191,7 +201,7 @@ def called_row(folder, program, letter, what, write, count):
         letter, what, told / opcodes, objects / opcodes, growth, ours.seconds, theirs.seconds, longer, verdict(good))
 
 
-def long_string(folder, program, count):
+def long_string(folder: str, program: str, count: int) -> str:
     """What is said of one long string, against a copy of the listing's own text."""
     path, listed = made(folder, 'd', one_string, count), os.path.join(folder, 'listed')
     listing = shortest([program, 'list', path])
@@ -199,25 +209,27 @@ def long_string(folder, program, count):
         subprocess.run([program, 'list', path], stdout=file, check=True)
     copy = shortest(['sh', '-c', 'cat "$0" | cat', listed])
     factor = listing.seconds / copy.seconds
-    os.unlink(path), os.unlink(listed)
+    os.unlink(path)
+    os.unlink(listed)
     return '(d) One BINBYTES8 of %s MB: %.2f s and %s MB of memory; `cat TEXT | cat` on its listing %.2f s: %.1f times, bar %s: %s.' % (
         megabytes(count), listing.seconds, megabytes(listing.memory), copy.seconds, factor, AS_COPY, verdict(factor <= AS_COPY))
 
 
-def several_row(folder, program, letter, what, write, count):
+def several_row(folder: str, program: str, letter: str, what: str, write: Writer, count: int) -> str:
     """A line of the table of several pickles in one input."""
     once, twice = made(folder, letter, write, count), made(folder, letter, write, 2 * count)
     length, command = os.path.getsize(once), [program, 'list', '--many']
     listing, longer = shortest([*command, once]), shortest([*command, twice])
     factor, beside = longer.seconds / listing.seconds, (listing.memory - length) / count
     counted = instructions([*command, made(folder, letter, write, 2 * count // 25)]) / instructions([*command, made(folder, letter, write, count // 25)])
-    os.unlink(once), os.unlink(twice)
+    os.unlink(once)
+    os.unlink(twice)
     good = factor <= SEVERAL_TWICE and counted <= SEVERAL_TWICE and beside <= BYTES_A_PICKLE and listing.status == 0
     return '| (%s) %s | %d | %.2f s | %.2f | %.3f | %s | %.1f | %s |' % (
         letter, what, count, listing.seconds, factor, counted, megabytes(listing.memory), beside, verdict(good))
 
 
-def full_file(folder, program, count):
+def full_file(folder: str, program: str, count: int) -> str:
     """What is said of a large input, all of it one-byte opcodes."""
     path = made(folder, 'n', one_byte_opcodes, count)
     length, listing = os.path.getsize(path), measure([program, 'list', path])
@@ -226,16 +238,16 @@ def full_file(folder, program, count):
         length, listing.seconds, megabytes(listing.memory), megabytes(MOST_MEMORY), verdict(listing.memory <= MOST_MEMORY))
 
 
-def processor():
+def processor() -> str:
     """What the system says the processor is."""
     with open('/proc/cpuinfo') as file:
         return next((line.split(':', 1)[1].strip() for line in file if line.startswith('model name')), platform.machine())
 
 
-def main():
+def main() -> None:
     program, plain, scale = sys.argv[1], sys.argv[2], fractions.Fraction(sys.argv[3])
     print('%s, %d processors (%s), Python %s, scale %s, load %.1f at the start. MB of 1,000,000 bytes.\n' % (
-        datetime.date.today(), os.cpu_count(), processor(), platform.python_version(), scale, os.getloadavg()[0]))
+        datetime.date.today(), os.cpu_count() or 1, processor(), platform.python_version(), scale, os.getloadavg()[0]))
     with tempfile.TemporaryDirectory() as folder:
         print('| Instructions for each opcode | opcodes | list | bar | bare loop | twice the file | |')
         print('|---|---|---|---|---|---|---|')

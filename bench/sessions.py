@@ -1,10 +1,14 @@
 """sessions.py PROGRAM TESTS SCALE: runs long conversations, and the tests of many edits, and prints the tables."""
+
+from __future__ import annotations
+
 import fractions
 import os
 import subprocess
 import sys
 import tempfile
 import time
+from collections.abc import Sequence
 
 # commands a second, how many times as long for twice the way, how many times as long for places by offset, seconds for 10,000 edits at
 # one place and 1,000 at random ones, bytes of memory for each opcode besides the file
@@ -13,11 +17,11 @@ A_SECOND, TWICE, BY_OFFSET, ONE_PLACE, RANDOM_PLACES, BYTES_AN_OPCODE = 2_000_00
 A_LINE = 20
 
 
-def verdict(holds):
+def verdict(holds: bool) -> str:
     return 'holds' if holds else '**does not hold**'
 
 
-def measure(command, script=b''):
+def measure(command: Sequence[str], script: bytes = b'') -> tuple[float, int]:
     """The seconds that one processor took for a command, and the most memory that it held in bytes."""
     with tempfile.NamedTemporaryFile('r') as figures, tempfile.TemporaryFile() as lines:
         lines.write(script)
@@ -28,7 +32,7 @@ def measure(command, script=b''):
     return float(user) + float(system), int(kibibytes) * 1024
 
 
-def one_byte_opcodes(folder, count):
+def one_byte_opcodes(folder: str, count: int) -> str:
     """A pickle of this many opcodes: NONE and POP in turn, then NONE and STOP."""
     path = os.path.join(folder, 'n-%d.pickle' % count)
     with open(path, 'wb') as file:
@@ -36,7 +40,7 @@ def one_byte_opcodes(folder, count):
     return path
 
 
-def conversation_row(program, what, once, twice, commands, *options):
+def conversation_row(program: str, what: str, once: tuple[str, bytes], twice: tuple[str, bytes], commands: int, *options: str) -> str:
     """A line of the table of conversations: each a file and a script; the second has twice as many commands, or opcodes."""
     (first, memory), (second, _) = (min(measure([program, 'debug', path, *options], script) for _ in range(3)) for path, script in (once, twice))
     first, rate = max(first, 0.01), commands / max(first, 0.01)
@@ -45,7 +49,7 @@ def conversation_row(program, what, once, twice, commands, *options):
         what, first, '%.0f' % rate if commands else '', second / first, memory / 1e6, verdict(good))
 
 
-def near_places(program, path, middle):
+def near_places(program: str, path: str, middle: int) -> str:
     """What is said of a thousand gotos between two places in the middle of one-byte opcodes, by number and by offset. A walk to a place
     and one that looks for it go over the same opcodes."""
     ways = b'goto %d\n' % middle + (b'goto %d\n' % (middle + 1000) + b'goto %d\n' % middle) * 500
@@ -55,9 +59,10 @@ def near_places(program, path, middle):
         number, offset, times, BY_OFFSET, verdict(times <= BY_OFFSET))
 
 
-def seconds_over_a_pipe(program, path, count):
+def seconds_over_a_pipe(program: str, path: str, count: int) -> float:
     """The seconds from the first of some `step` lines to the last answer, where each line waits for the answer before it."""
     with subprocess.Popen([program, 'debug', path], stdin=subprocess.PIPE, stdout=subprocess.PIPE, bufsize=0) as process:
+        assert process.stdin is not None and process.stdout is not None
         start = time.perf_counter()
         for _ in range(count):
             process.stdin.write(b'step\n')
@@ -65,19 +70,19 @@ def seconds_over_a_pipe(program, path, count):
         return time.perf_counter() - start
 
 
-def over_a_pipe(program, path, count):
+def over_a_pipe(program: str, path: str, count: int) -> str:
     """What is said of a `step` line from another program."""
     line = min(seconds_over_a_pipe(program, path, count) for _ in range(3)) / count * 1e6
     return 'A `step` line over a pipe and its answer: %.1f microseconds, bar %s: %s.' % (line, A_LINE, verdict(line <= A_LINE))
 
 
-def edits_row(tests, what, name, bar, base):
+def edits_row(tests: str, what: str, name: str, bar: float, base: float) -> str:
     """A line of the table of edits; the tests also open and write the document, which takes as long as the base."""
     seconds = min(measure([tests, 'document::' + name])[0] for _ in range(3)) - base
     return '| %s | %.2f s | %s s | %s |' % (what, seconds, bar, verdict(seconds <= bar))
 
 
-def main():
+def main() -> None:
     program, tests, scale = sys.argv[1], sys.argv[2], fractions.Fraction(sys.argv[3])
     million = int(1_000_000 * scale)
     half = million // 2

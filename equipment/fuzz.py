@@ -27,6 +27,9 @@ The laws:
 
 A third of the cases are several pickles in one input, and every command has the option --many.
 """
+
+from __future__ import annotations
+
 import argparse
 import datetime
 import pathlib
@@ -37,6 +40,9 @@ import re
 import subprocess
 import sys
 import time
+from collections.abc import Callable, Mapping, Sequence
+from random import Random
+from typing import Any, Optional
 
 OPCODES = {opcode.name: opcode for opcode in pickletools.opcodes}
 WINDOWS = (1, 2, 3, 7, 1000)
@@ -52,25 +58,25 @@ WHERE = re.compile(r"at (\d+) of (\d+), offset (\d+), buffers (\d+), result (non
 VIEW = "where\nitems\nstack\nmemo\nobjects\n"
 
 
-def numbered(width, rng, most):
+def numbered(width: int, rng: Random, most: int) -> bytes:
     return rng.choice([0, 1, 2, rng.randrange(most)]).to_bytes(width, "little")
 
 
-def counted(width, rng):
+def counted(width: int, rng: Random) -> bytes:
     text = bytes(rng.choice(b"ab'\\\n\x00\xff") for _ in range(rng.choice([0, 1, 3, 13, 14, 20])))
     return len(text).to_bytes(width, "little") + text
 
 
-def line(rng):
+def line(rng: Random) -> bytes:
     return bytes(rng.choice(b"0123az'\\ ") for _ in range(rng.choice([0, 1, 2, 3, 3, 16]))) + b"\n"
 
 
-def key_line(rng):
+def key_line(rng: Random) -> bytes:
     return b"0" * rng.randrange(3) + b"%d\n" % rng.choice([0, 1, 2, 7, 2**64 - 1, 2**64])
 
 
 # How an argument is made, by the name that pickletools gives its form.
-ARGUMENTS = {
+ARGUMENTS: Mapping[str, Callable[[Random], bytes]] = {
     "uint1": lambda rng: numbered(1, rng, 6),
     "uint2": lambda rng: numbered(2, rng, 2**16),
     "uint4": lambda rng: numbered(4, rng, 9),
@@ -99,7 +105,7 @@ ARGUMENTS = {
 KEYED = {"GET", "PUT"}
 
 
-def argument(name, rng):
+def argument(name: str, rng: Random) -> bytes:
     opcode = OPCODES[name]
     if opcode.arg is None:
         return b""
@@ -108,7 +114,7 @@ def argument(name, rng):
     return ARGUMENTS[opcode.arg.name](rng)
 
 
-def spelled(name, rng):
+def spelled(name: str, rng: Random) -> bytes:
     return OPCODES[name].code.encode("latin-1") + argument(name, rng)
 
 
@@ -123,11 +129,11 @@ GROUPS = [
 ] + CALLS
 
 
-def framed(body):
+def framed(body: bytes) -> bytes:
     return b"\x95" + len(body).to_bytes(8, "little") + body
 
 
-def make_body(rng, most):
+def make_body(rng: Random, most: int) -> bytes:
     pieces = []
     for _ in range(rng.randrange(most)):
         draw = rng.random()
@@ -142,7 +148,7 @@ def make_body(rng, most):
     return b"".join(pieces)
 
 
-def put_together(rng):
+def put_together(rng: Random) -> bytes:
     parts = []
     for _ in range(rng.randrange(1, 4)):
         body = make_body(rng, 8)
@@ -150,8 +156,8 @@ def put_together(rng):
     return b"".join(parts) + b"N."
 
 
-def any_object(rng, depth):
-    leaves = [None, True, 0, 255, 256, 65536, -1, 2**31, -(2**40), 2**200, 1.5, "", "ab'\\\n\u20ac", b"\x00\xff", "x" * 20, bytearray(b"y"),
+def any_object(rng: Random, depth: int) -> Any:
+    leaves: Sequence[Any] = [None, True, 0, 255, 256, 65536, -1, 2**31, -(2**40), 2**200, 1.5, "", "ab'\\\n\u20ac", b"\x00\xff", "x" * 20, bytearray(b"y"),
               datetime.date(2001, 2, 3), complex(1, 2), range(3), datetime.timedelta, Exception("e")]
     if depth == 0 or rng.random() < 0.3:
         return rng.choice(leaves)
@@ -170,7 +176,7 @@ def any_object(rng, depth):
     return inner
 
 
-def mutated(pickled, rng):
+def mutated(pickled: bytes, rng: Random) -> bytes:
     for _ in range(rng.choice([1, 1, 2, 5])):
         place = rng.randrange(len(pickled) + 1)
         kind = rng.randrange(5)
@@ -188,7 +194,7 @@ def mutated(pickled, rng):
     return pickled
 
 
-def make_pickle(rng, pickles):
+def make_pickle(rng: Random, pickles: Sequence[bytes]) -> bytes:
     draw = rng.random()
     if draw < 0.5:
         pickled = put_together(rng)
@@ -201,7 +207,7 @@ def make_pickle(rng, pickles):
     return mutated(pickled, rng) if rng.random() < 0.4 else pickled
 
 
-def make_several(rng, pickles):
+def make_several(rng: Random, pickles: Sequence[bytes]) -> bytes:
     """Some pickles one after another, most of them cut after their STOP."""
     parts = []
     for _ in range(rng.randrange(1, 5)):
@@ -217,7 +223,7 @@ MALFORMED = ("fly", "goto", "goto x", "step 1", "insert 0 NOPE", "insert 0 BININ
              "replace 0 STOP", "insert 0 FRAME 0000000000000000", "insert 0 GET 780A", "show 4294967296")
 
 
-def edit_line(rng, place, items):
+def edit_line(rng: Random, place: int, items: int) -> str:
     word = rng.choice(["replace", "insert", "insert", "delete", "frame", "unframe"])
     if word == "frame":
         return f"frame {place} {rng.choice([0, 1, 2, 3, items])}"
@@ -227,9 +233,9 @@ def edit_line(rng, place, items):
     return f"{word} {place} {name} {argument(name, rng).hex()}"
 
 
-def make_lines(rng, items):
+def make_lines(rng: Random, items: int) -> list[str]:
     """Lines with every word; the queries and `quit` are not among them."""
-    lines = []
+    lines: list[str] = []
     ahead = 0
     for _ in range(rng.randrange(1, 25)):
         place = rng.choice([ahead, min(items, ahead + rng.randrange(4)), rng.randrange(min(ahead, items), items + 1), rng.randrange(items + 3)])
@@ -253,7 +259,7 @@ def make_lines(rng, items):
     return lines
 
 
-def with_queries(rng, lines, items):
+def with_queries(rng: Random, lines: Sequence[str], items: int) -> list[str]:
     mixed = []
     for text in lines:
         mixed.append(text)
@@ -263,35 +269,43 @@ def with_queries(rng, lines, items):
 
 
 class Broken(Exception):
-    pass
+    """A law is broken."""
+
+
+def position(text: str) -> re.Match[str]:
+    """What a line of `where` says."""
+    found = WHERE.fullmatch(text)
+    if found is None:
+        raise Broken(f"{text!r} says no position")
+    return found
 
 
 class Shown:
     """What is shown at a place."""
 
-    def __init__(self, lines):
-        self.where = WHERE.fullmatch(lines[0])
+    def __init__(self, lines: Sequence[str]) -> None:
+        self.where = position(lines[0])
         rest = lines[1:]
         count = next(k for k, text in enumerate(rest) if text.startswith("stack"))
         self.items = rest[:count]
         self.state = rest[count:]
 
-    def place(self):
+    def place(self) -> int:
         return int(self.where[1])
 
-    def offset(self):
+    def offset(self) -> int:
         return int(self.where[3])
 
-    def document(self):
+    def document(self) -> list[str]:
         return [text[2:] for text in self.items]
 
-    def all(self):
+    def all(self) -> tuple[str, Sequence[str], Sequence[str]]:
         return self.where[0], self.items, self.state
 
 
-def split_views(lines):
+def split_views(lines: Sequence[str]) -> list[tuple[Sequence[str], Shown]]:
     """Each reply of an observed script, with what is shown after it."""
-    found = []
+    found: list[tuple[Sequence[str], Shown]] = []
     starts = [k for k, text in enumerate(lines) if WHERE.fullmatch(text)]
     if not starts or len(lines) - starts[-1] < 3:
         raise Broken("a script is not answered to its end")
@@ -306,7 +320,7 @@ def split_views(lines):
 
 
 class Case:
-    def __init__(self, program, folder, rng, pickles):
+    def __init__(self, program: str, folder: pathlib.Path, rng: Random, pickles: Sequence[bytes]) -> None:
         self.program = program
         self.folder = folder
         self.file = folder / "case.pickle"
@@ -317,33 +331,33 @@ class Case:
         self.pickled = make_several(rng, pickles) if self.options else make_pickle(rng, pickles)
         self.file.write_bytes(self.pickled)
 
-    def answers(self, words, script=""):
+    def answers(self, words: Sequence[str], script: str = "") -> tuple[str, int]:
         self.runs += 1
         done = subprocess.run([self.program, *words, *self.options], input=script.encode(), capture_output=True, timeout=100)
         if done.returncode not in (0, 1) or done.stderr:
-            raise Broken(f"status {done.returncode}, errors {done.stderr[:200]}, words {words}, script {script!r}")
+            raise Broken(f"status {done.returncode}, errors {done.stderr[:200]!r}, words {words}, script {script!r}")
         return done.stdout.decode(), done.returncode
 
-    def items_of(self, listing):
+    def items_of(self, listing: str) -> list[str]:
         return [text for text in listing.splitlines() if text.lstrip()[:1].isdigit()]
 
-    def debug(self, script, *options, file=None):
+    def debug(self, script: str, *options: str, file: Optional[pathlib.Path] = None) -> str:
         answer, status = self.answers(["debug", str(file or self.file), *options], script)
         if status != any(text.startswith("refused: ") for text in answer.splitlines()):
             raise Broken(f"status {status} of {script!r}")
         return answer
 
-    def debug_and_save(self, script, *options):
+    def debug_and_save(self, script: str, *options: str) -> tuple[str, bytes]:
         answer = self.debug(script, "--save", str(self.saved), *options)
         return answer, self.saved.read_bytes()
 
-    def listing(self, file):
+    def listing(self, file: pathlib.Path) -> str:
         text, status = self.answers(["list", str(file)])
         if status != bool(re.search(r"^(refused|fault): ", text, re.M)):
             raise Broken(f"status {status} of a listing")
         return text
 
-    def check_listing(self):
+    def check_listing(self) -> str:
         text = self.listing(self.file)
         whole = self.items_of(text)
         size = self.rng.randrange(len(self.pickled) + 1)
@@ -358,10 +372,10 @@ class Case:
             raise Broken(f"a beginning of {size} bytes ends in {fault[0]}")
         return text
 
-    def check_objects(self, listing):
+    def check_objects(self, listing: str) -> int:
         report, status = self.answers(["objects", str(self.file)])
         shown = self.debug("run\nobjects\nwhere\n").splitlines()
-        where = WHERE.fullmatch(shown[-1])
+        where = position(shown[-1])
         refused = re.search(r"^refused: (.*)$", listing, re.M)
         closing = [f"result {result}" for result in where[5].split() if result != "none"]
         if refused:
@@ -375,7 +389,7 @@ class Case:
         self.check_calls(report, status)
         return int(where[1])
 
-    def check_calls(self, report, wanted):
+    def check_calls(self, report: str, wanted: int) -> None:
         # (`calls` reads all pickles by itself, and `objects` only with --many)
         first = [] if self.options else ["--first"]
         told, status = self.answers(["calls", *first, str(self.file)])
@@ -393,7 +407,7 @@ class Case:
         if ended != status or len(lines) != len(whole) or any(line != other for line, other in zip(lines, whole) if "+" not in line):
             raise Broken("calls --full has other lines where nothing is cut")
 
-    def check_ways(self, far):
+    def check_ways(self, far: int) -> None:
         """What is shown at the places that can be reached, going there, coming back, and from elsewhere."""
         far = min(far, 40)
         there = split_views(self.debug(VIEW + f"step\n{VIEW}" * far + f"back\n{VIEW}" * far).splitlines())
@@ -401,13 +415,13 @@ class Case:
         if shown[: far + 1] != shown[far:][::-1]:
             raise Broken("what is shown on the way back is not what was shown on the way there")
         places = [self.rng.randrange(far + 1) for _ in range(5)]
-        window = self.rng.choice([[], ["--window", str(self.rng.choice(WINDOWS))]])
+        window: list[str] = self.rng.choice([[], ["--window", str(self.rng.choice(WINDOWS))]])
         asked = [f"goto @{there[place][1].offset()}" if self.rng.random() < 0.5 else f"goto {place}" for place in places]
         again = split_views(self.debug("".join(f"{text}\n{VIEW}" for text in asked), *window).splitlines())
         if [(reply, view.all()) for reply, view in again] != [([f"at {place}"], shown[place]) for place in places]:
             raise Broken(f"something else is shown after {asked}")
 
-    def follow(self, lines, views):
+    def follow(self, lines: Sequence[str], views: Sequence[tuple[Sequence[str], Shown]]) -> tuple[int, int]:
         """What each reply says of the views before it and after it."""
         documents, known = [views[0][1].document()], 0
         for text, (reply, view), (_, before) in zip(lines, views[1:], views):
@@ -432,7 +446,7 @@ class Case:
                 raise Broken(f"{text!r} changes more than a breakpoint")
         return known, len(documents) - 1
 
-    def check_script(self, items):
+    def check_script(self, items: int) -> tuple[int, int]:
         lines = make_lines(self.rng, items)
         (self.folder / "script").write_text("\n".join(lines) + "\n")
         answer, saved = self.debug_and_save(VIEW + "".join(f"{text}\n{VIEW}" for text in lines))
@@ -451,7 +465,7 @@ class Case:
         self.check_windows(with_queries(self.rng, lines, items))
         return len(lines), most
 
-    def check_saved(self, saved, view):
+    def check_saved(self, saved: bytes, view: Shown) -> None:
         """What is shown after a script is what the saved bytes show at that place."""
         fresh = self.folder / "fresh.pickle"
         fresh.write_bytes(saved)
@@ -462,11 +476,11 @@ class Case:
         if [text[6:].split(None, 2)[:2] for text in view.document()][: len(listed)] != listed:
             raise Broken("the saved bytes are listed otherwise")
 
-    def listed(self, text):
+    def listed(self, text: str) -> list[str]:
         offset, rest = text.split(":", 1)
         return [f"{offset.strip()}:", rest[6:].split(None, 1)[0]]
 
-    def check_windows(self, lines):
+    def check_windows(self, lines: Sequence[str]) -> None:
         script = "".join(f"{text}\n" for text in lines)
         plain = self.debug_and_save(script)
         for window in self.rng.sample(WINDOWS, 2):
@@ -474,7 +488,7 @@ class Case:
             if self.debug_and_save(script + behind, "--window", str(window)) != plain:
                 raise Broken(f"another answer with a window of {window} to {script + behind!r}")
 
-    def check(self):
+    def check(self) -> tuple[int, int]:
         answer, saved = self.debug_and_save("")
         if answer or saved != self.pickled:
             raise Broken("other bytes are saved than were opened")
@@ -484,7 +498,7 @@ class Case:
         return self.check_script(min(len(self.items_of(listing)), 60))
 
 
-def main():
+def main() -> int:
     parser = argparse.ArgumentParser(description="asks laws of the program with random pickles and scripts")
     parser.add_argument("program")
     parser.add_argument("folder", type=pathlib.Path)

@@ -19,6 +19,11 @@ ODD_KEYS = [b" %d", b"%d ", b"+%d", b"%d\r", b"\t%d", b"0%d", b"%d\0", b"%d\0x",
 ODD_NUMBERS = [b"I0x10\n", b"I1_0\n", b"L5\n", b"I 7\n", b"F1_0.5\n", b"Fnan\n", b"I01\n", b"I\n", b"Fx\n", b"S'a\n", b"S\"b\"\n", b"Sa\n"]
 NO_TUPLES = [b"X\x02\0\0\0ab", b"C\x01a", b"]", b"}", b"\x8f", b"(\x91", b"N", b"K\x07", b"\x96\0\0\0\0\0\0\0\0"]
 FILLS = [b"(e", b"(\x90", b"(u", b"(NNe", b"Na", b"NNs", b"(NNu", b"(NN\x90", b"(NNNu", b"\x98", b"\x98Na", b"\x98(e"]
+EIGHT = b"\x02" + b"\0" * 7
+PLAIN = [
+    *[b"N"] * 6, b"\x88", b"\x89", b"K\x05", b"M\x07\x01", b"J\xff\xff\xff\xff", b"I7\n", b"I-12\n", b"L8L\n", b"F1.5\n", b"F-0.0\n", b"G@\x09!\xfbTD-\x18",
+    b"\x8a\x01\x09", b"\x8a\0", b"\x8b\x02\0\0\0\xff\x7f", b"B\x02\0\0\0yz", b"\x8e" + EIGHT + b"yz", b"\x8d" + EIGHT + b"yz", b"T\x02\0\0\0yz",
+]
 MOST_BYTES = 3000
 
 
@@ -67,7 +72,7 @@ class Maker:
         if self.is_odd():
             self.put(self.chance.choice(ODD_NUMBERS), makes="p")
         else:
-            self.put(self.chance.choice([b"N", b"\x88", b"\x89", b"K\x05", b"J\xff\xff\xff\xff", b"I7\n", b"L8L\n", b"F1.5\n", b"\x8a\x01\x09"]), makes="p")
+            self.put(self.chance.choice(PLAIN), makes="p")
 
     def container(self) -> None:
         opcode, kind = self.chance.choice([(b"]", "l"), (b"}", "d"), (b")", "t"), (b"\x8f", "e"), (b"C\x02ab", "b"), (b"\x96\x01" + b"\0" * 7 + b"a", "a")])
@@ -78,11 +83,15 @@ class Maker:
         if how < 5:
             self.put(b"c" + self.text_of(MODULES) + b"\n" + self.text_of(MEMBERS) + b"\n", makes="o")
         elif how < 8:
-            self.text(MODULES)
+            if how == 7:
+                self.put(b"Ptext\n", makes="s")
+            else:
+                self.text(MODULES)
             self.text(MEMBERS)
             self.put(b"\x93", 2, "o")
         elif how == 8:
-            self.put(self.chance.choice([b"\x82\x01", b"\x82\x02", b"\x83\x00\x01", b"\x84\xff\xff\xff\x7f", b"\x82\x01"]), makes="o")
+            codes = [b"\x82\x01", b"\x82\x02", b"\x83\x00\x01", b"\x84\xff\xff\xff\x7f", b"\x82\x01"]
+            self.put(self.chance.choice(codes if not self.is_odd() else [b"\x82\0", b"\x84\xff\xff\xff\xff"]), makes="o")
         elif how == 9:
             self.put(b"P" + self.chance.choice([b"17", b"text", b"\xff" if self.is_odd() else b"a"]) + b"\n", makes="o")
         elif how == 10:
@@ -172,7 +181,7 @@ class Maker:
 
     def handle(self) -> None:
         if self.top:
-            self.put(*self.chance.choice([(b"2", 0, self.top[-1]), (b"0", 1, "")]))
+            self.put(*self.chance.choice([(b"2", 0, self.top[-1]), (b"0", 1, ""), (b"(0", 0, ""), (b"(N1", 0, "")]))
 
     def protocol(self) -> None:
         self.put(b"\x80" + bytes([self.chance.choice([2, 3, 4, 5] if not self.is_odd() else [1, 6, 200])]))

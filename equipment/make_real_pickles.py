@@ -14,6 +14,9 @@ and removes what it wrote before under other names. Nothing of this project is r
 answers are those of Python's pickletools, and where this project differs, those of the rules in real_pickles/answers.py.
 The same versions of the packages write the same bytes.
 """
+
+from __future__ import annotations
+
 import os
 import pickletools
 import sys
@@ -23,6 +26,7 @@ if os.environ.get('PYTHONHASHSEED') != '0':
     os.execve(sys.executable, [sys.executable, *sys.argv], {**os.environ, 'PYTHONHASHSEED': '0', 'LC_ALL': 'C.UTF-8'})
 
 from pathlib import Path
+from typing import Any
 
 sys.dont_write_bytecode = True
 ROOT = Path(__file__).resolve().parent.parent
@@ -35,7 +39,7 @@ import written_by_libraries
 import written_by_python
 from answers import Answer
 
-KINDS = [
+KINDS: list[tuple[str, Any]] = [
     ('Written by Python', written_by_python),
     ('Written by libraries', written_by_libraries),
     ("From CPython's own tests", from_cpython_tests),
@@ -43,19 +47,22 @@ KINDS = [
 ]
 
 
-def emptied(folder, ending):
+def emptied(folder: Path, ending: str) -> Path:
     folder.mkdir(parents=True, exist_ok=True)
     for old in folder.glob('*' + ending):
         old.unlink()
     return folder
 
 
-def main():
+def main() -> None:
     data = emptied(ROOT / 'crates' / 'real_pickles' / 'data', '.pickle')
     listings = emptied(ROOT / 'equipment' / 'listings', '.txt')
-    names, expected, refusals, sections = [], [], [], []
+    names: list[str] = []
+    expected: list[str] = []
+    refusals: list[str] = []
+    sections: list[explain.Section] = []
     for kind, module in KINDS:
-        rows = []
+        rows: list[tuple[str, bytes, str, Answer]] = []
         for name, content, what in module.pickles():
             assert name not in names, name
             names.append(name)
@@ -72,10 +79,10 @@ def main():
     (ROOT / 'equipment' / 'python_refusals.txt').write_text(''.join(line + '\n' for line in refusals), encoding='ascii')
     (program / 'stdout').write_text(''.join(line + '\n' for line in expected), encoding='ascii')
     (ROOT / 'equipment' / 'real_pickles' / 'TABLE.md').write_text(explain.page(sections), encoding='ascii')
-    listed = {read.name for _, rows in sections for row in rows for read in row[3].items}
+    listed = {read.name for _, written in sections for row in written for read in row[3].items}
     assert len(listed) == len(pickletools.opcodes), 'an opcode that no pickle has'
-    for kind, rows in sections:
-        print('%s: %d pickles, %d bytes' % (kind, len(rows), sum(len(row[1]) for row in rows)))
+    for kind, written in sections:
+        print('%s: %d pickles, %d bytes' % (kind, len(written), sum(len(row[1]) for row in written)))
 
 
 main()

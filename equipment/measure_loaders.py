@@ -4,33 +4,38 @@
 Nothing is imported: every global is the one class below, which takes any call. What loads is printed with its value, since the C
 unpickler may make another of a file, which it reads ahead of, than of a BytesIO.
 """
+
+from __future__ import annotations
+
 import io
 import pickle
 import tempfile
+from collections.abc import Callable
+from typing import Any
 
 
 class Anything:
     """Stands for every global; makes and takes whatever is asked."""
 
-    def __new__(cls, *positional, **named):
+    def __new__(cls, *positional: Any, **named: Any) -> Anything:
         return object.__new__(cls)
 
-    def __init__(self, *positional, **named):
+    def __init__(self, *positional: Any, **named: Any) -> None:
         pass
 
-    def __setstate__(self, state):
+    def __setstate__(self, state: Any) -> None:
         pass
 
-    def __repr__(self):
+    def __repr__(self) -> str:
         return "made"
 
 
-def loader(base):
-    class Loader(base):
-        def find_class(self, module, name):
+def loader(base: Any) -> Any:
+    class Loader(base):  # type: ignore[misc]
+        def find_class(self, module: str, name: str) -> Any:
             return Anything
 
-        def persistent_load(self, key):
+        def persistent_load(self, key: Any) -> Any:
             return Anything()
 
     return Loader
@@ -115,18 +120,18 @@ ROWS = [
 ]
 
 
-def answered(load):
+def answered(load: Callable[[], Any]) -> str:
     try:
         return f"loads {load()!r}"
     except Exception as error:
         return type(error).__name__
 
 
-def tried(kind, pickled, encoding):
+def tried(kind: Any, pickled: bytes, encoding: str) -> str:
     return answered(kind(io.BytesIO(pickled), encoding=encoding, buffers=None).load)
 
 
-def read_from_file(pickled):
+def read_from_file(pickled: bytes) -> str:
     with tempfile.TemporaryFile() as file:
         file.write(pickled)
         file.seek(0)
@@ -136,14 +141,14 @@ def read_from_file(pickled):
 IMPORTING = b"ci\x93\x82\x83\x84"
 
 
-def loaded(pickled):
+def loaded(pickled: bytes) -> str:
     """The C unpickler over bytes takes no find_class, so it gets only what names no global."""
     if any(byte in pickled for byte in IMPORTING):
         return "not tried"
     return answered(lambda: pickle.loads(pickled))
 
 
-def main():
+def main() -> None:
     print(f"{'':44}" + "".join(f"{a:19}" for a in ("C", "Python", "C, bytes", "Python, bytes", "C, pickle.loads", "C, file")))
     for rule, what, digits in ROWS:
         pickled = bytes.fromhex(digits)

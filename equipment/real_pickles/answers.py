@@ -3,10 +3,15 @@
 Offsets, names, indentation and notes are always those of `pickletools.genops` and `pickletools.dis`. A rule says where one of
 them goes on and the other does not; RULES has them all.
 """
+
+from __future__ import annotations
+
 import contextlib
 import io
 import pickletools
 import re
+from collections.abc import Callable, Iterator, Sequence
+from typing import Any, Optional
 
 # the words of each rule are in equipment/real_pickles/TABLE.md
 RULES = {
@@ -57,7 +62,7 @@ READING_ERRORS = [
     ('quote', 'F5 bad argument'),
     ('invalid literal for int()', 'F5 bad argument'),
 ]
-MACHINE_ERRORS = [
+MACHINE_ERRORS: list[tuple[str, Optional[str]]] = [
     ('no MARK exists on stack', 'S1 no mark'),
     ('tries to pop', 'S2 stack underflow'),
     ("stack is empty -- can't store", 'S2 stack underflow'),
@@ -70,26 +75,27 @@ MOST_KEY = 18446744073709551615
 LAST_PROTOCOL = 5
 
 
-def our_words(errors, message):
+def our_words(errors: Sequence[tuple[str, Optional[str]]], message: str) -> str:
     """Our words for an error of Python."""
     found = [ours for theirs, ours in errors if theirs in message]
-    assert found, message
+    assert found and found[0] is not None, message
     return found[0]
 
 
 class Read:
     """An opcode as genops reads it, and where it ends."""
 
-    def __init__(self, opcode, arg, start, end):
+    def __init__(self, opcode: pickletools.OpcodeInfo, arg: Any, start: int, end: int) -> None:
         self.name, self.protocol = opcode.name, opcode.proto
         self.arg, self.start, self.end = arg, start, end
 
 
-def genops(data):
+def genops(data: bytes) -> tuple[list[Read], int, Optional[Exception]]:
     """What genops reads, the offset after it, and the error that it ends with, or None."""
-    reads, behind = [], 0
+    reads: list[Read] = []
+    behind = 0
     try:
-        for opcode, arg, start, end in pickletools._genops(data, yield_end_pos=True):
+        for opcode, arg, start, end in pickletools._genops(data, yield_end_pos=True):  # type: ignore[attr-defined]
             reads.append(Read(opcode, arg, start, end))
             behind = end
     except Exception as error:
@@ -97,9 +103,10 @@ def genops(data):
     return reads, behind, None
 
 
-def dis(data, memo=None):
+def dis(data: bytes, memo: Optional[dict[int, Any]] = None) -> tuple[list[str], Optional[Exception]]:
     """The lines that dis prints, and the error that it ends with, or None."""
-    output, error = io.StringIO(), None
+    output = io.StringIO()
+    error: Optional[Exception] = None
     try:
         pickletools.dis(data, output, memo)
     except Exception as raised:
@@ -109,19 +116,19 @@ def dis(data, memo=None):
 
 # --- Python with one of its checks left out ---
 
-def line_of(file):
+def line_of(file: Any) -> Any:
     return pickletools.read_stringnl(file, decode=False, stripquotes=False)
 
 
-def quoted_line_of(file):
+def quoted_line_of(file: Any) -> Any:
     return pickletools.read_stringnl(file, decode=False)
 
 
-def pair_of(file):
+def pair_of(file: Any) -> Any:
     return line_of(file), line_of(file)
 
 
-def plain_reader(opcode):
+def plain_reader(opcode: pickletools.OpcodeInfo) -> Optional[Callable[[Any], Any]]:
     """How Python would read the argument if it did not interpret it; None where it does not."""
     if opcode.name in ('INT', 'LONG', 'FLOAT', 'UNICODE', 'PERSID'):
         return line_of
@@ -134,12 +141,12 @@ def plain_reader(opcode):
 
 
 @contextlib.contextmanager
-def without_interpretation():
+def without_interpretation() -> Iterator[None]:
     """pickletools as if it did not interpret the payloads of lines and texts."""
     old = {opcode: opcode.arg for opcode in pickletools.opcodes}
     for opcode, arg in old.items():
         reader = plain_reader(opcode)
-        if reader is not None:
+        if reader is not None and arg is not None:
             opcode.arg = pickletools.ArgumentDescriptor(arg.name, arg.n, reader, arg.doc)
     try:
         yield
@@ -148,22 +155,22 @@ def without_interpretation():
             opcode.arg = arg
 
 
-class Overwritten(dict):
+class Overwritten(dict[int, Any]):
     """A memo for dis that has an entry only where an opcode gets it: so dis stores entries again."""
 
-    def __init__(self, reads):
+    def __init__(self, reads: Sequence[Read]) -> None:
         super().__init__()
         # for each opcode of the memo, whether it gets: dis asks once for each of them
         memo_names = [read.name for read in reads if 'GET' in read.name or 'PUT' in read.name or read.name == 'MEMOIZE']
         self.gets = iter(['GET' in name for name in memo_names])
 
-    def __contains__(self, key):
+    def __contains__(self, key: object) -> bool:
         return next(self.gets) and super().__contains__(key)
 
 
 # --- where this project stops before Python does ---
 
-def frame_fault(reads, size):
+def frame_fault(reads: Sequence[Read], size: int) -> Optional[tuple[int, str]]:
     """The first opcode at which the rule of frames is broken, and our words for it."""
     frame_end = 0
     for read in reads:
@@ -178,7 +185,7 @@ def frame_fault(reads, size):
     return None
 
 
-def argument_fault(reads, data):
+def argument_fault(reads: Sequence[Read], data: bytes) -> Optional[tuple[int, str, str]]:
     """The first key or quoted line that this project does not take, its rule, and our words for it."""
     for read in reads:
         line = data[read.start + 1:read.end - 1]
@@ -189,7 +196,7 @@ def argument_fault(reads, data):
     return None
 
 
-def own_refusal(name, reads):
+def own_refusal(name: str, reads: Sequence[Read]) -> Optional[tuple[int, str, str]]:
     """The first opcode that this project refuses by a rule of its own, the rule, and our words for it."""
     if name in OWN_REFUSALS:
         opcode, rule, words = OWN_REFUSALS[name]
@@ -207,9 +214,9 @@ def own_refusal(name, reads):
 class Answer:
     """What is expected of this project about a pickle, from what Python answers."""
 
-    def __init__(self, name, data):
-        self.rules = []
-        self.python = None
+    def __init__(self, name: str, data: bytes) -> None:
+        self.rules: list[str] = []
+        self.python: Optional[tuple[int, str]] = None
         reads, behind, error = genops(data)
         lines, dis_error = dis(data)
         if dis_error is not None:
@@ -227,9 +234,10 @@ class Answer:
         self.set_document(data, reads, behind, error)
         self.set_listing(name, data, reads, behind, lines, dis_error)
 
-    def set_document(self, data, reads, behind, error):
+    def set_document(self, data: bytes, reads: list[Read], behind: int, error: Optional[Exception]) -> None:
         """The items, and how reading ended: None by STOP, or an offset and our words."""
-        self.items, self.fault = reads, None
+        self.items = reads
+        self.fault: Optional[tuple[int, str]] = None
         if error is not None:
             words = our_words(READING_ERRORS, str(error))
             if words.startswith('F2'):
@@ -243,13 +251,15 @@ class Answer:
             self.rules.append(bad[1])
             self.fault = bad[0], bad[2]
         if self.fault is not None:
-            self.items = [read for read in reads if read.start < self.fault[0]]
+            end = self.fault[0]
+            self.items = [read for read in reads if read.start < end]
 
-    def set_listing(self, name, data, reads, behind, lines, error):
+    def set_listing(self, name: str, data: bytes, reads: list[Read], behind: int, lines: list[str], error: Optional[Exception]) -> None:
         """The lines of the listing without the texts of arguments."""
-        listed, refused = self.items, None
+        listed = self.items
+        refused: Optional[tuple[int, str]] = None
         outlines = [outline(line, read) for line, read in zip(lines, reads)]
-        if machine_stops(error):
+        if error is not None and machine_stops(error):
             read = reads[len(outlines) - 1]
             refused = read.start, our_words(MACHINE_ERRORS, str(error))
             if refused[1].startswith('S3'):
@@ -259,7 +269,8 @@ class Answer:
             self.rules.append(own[1])
             refused = own[0], own[2]
         if refused is not None and listed and refused[0] <= listed[-1].start:
-            listed = [read for read in listed if read.start <= refused[0]]
+            last = refused[0]
+            listed = [read for read in listed if read.start <= last]
             outlines = outlines[:len(listed)]
             outlines[-1] = without_note(outlines[-1])
             closing = ['refused: ' + refused[1]]
@@ -277,23 +288,25 @@ class Answer:
             # (listed at least as far as Python)
             assert self.python[0] <= (listed[-1].end if listed else 0), name
 
-    def earlier(self):
+    def earlier(self) -> list[str]:
         """The rules by which the listing may stop before Python does."""
         return [rule for rule in self.rules if rule in EARLIER]
 
-    def closing_of_stopped(self, data, behind, error):
+    def closing_of_stopped(self, data: bytes, behind: int, error: Optional[Exception]) -> list[str]:
         """The closing lines where STOP was read: what it leaves on the stack, and after it in the file."""
-        closing = []
+        closing: list[str] = []
         if error is not None:
             self.rules.append('left')
-            left = re.fullmatch(r'stack not empty after STOP: \[(.*)\]', str(error)).group(1).split(', ')
+            found = re.fullmatch(r'stack not empty after STOP: \[(.*)\]', str(error))
+            assert found is not None, error
+            left = found[1].split(', ')
             marks = left.count('mark')
             closing.append('left: %d objects, %d marks' % (len(left) - marks, marks))
         if behind < len(data):
             closing.append('kept: %d bytes after STOP' % (len(data) - behind))
         return closing
 
-    def document_lines(self):
+    def document_lines(self) -> list[str]:
         """What the program real_pickles prints of the document."""
         lines = ['%d %s' % (read.start, read.name) for read in self.items]
         if self.fault is None:
@@ -301,7 +314,7 @@ class Answer:
         return lines + ['not stopped: %s at %d' % (self.fault[1].split()[0], self.fault[0])]
 
 
-def is_of_payload(error, rest):
+def is_of_payload(error: Optional[Exception], rest: bytes) -> bool:
     """Whether genops fails because it interprets the payload at the front of the rest."""
     if error is None:
         return False
@@ -309,16 +322,16 @@ def is_of_payload(error, rest):
     return a_number or not any(theirs in str(error) for theirs, _ in READING_ERRORS)
 
 
-def machine_stops(error):
+def machine_stops(error: Optional[Exception]) -> bool:
     """Whether dis refuses an opcode that it has read and printed."""
     return error is not None and any(theirs in str(error) for theirs, _ in MACHINE_ERRORS)
 
 
-def without_note(line):
+def without_note(line: str) -> str:
     return re.sub(r' \((MARK at|as) \d+\)$', '', line)
 
 
-def outline(line, read):
+def outline(line: str, read: Read) -> str:
     """A line of dis without the text of the argument."""
     note = re.search(r' \((MARK at|as) \d+\)$', line)
     name_at = len('%5d: %-4s ' % (read.start, 'code'))

@@ -1,7 +1,14 @@
 """The page equipment/real_pickles/TABLE.md."""
-import textwrap
 
-from answers import RULES
+from __future__ import annotations
+
+import textwrap
+from collections.abc import Sequence
+
+from answers import RULES, Answer
+
+# Pickles of one kind: the name, the bytes, what it holds, and what is expected of each.
+Section = tuple[str, Sequence[tuple[str, bytes, str, Answer]]]
 
 HEAD = """# Real pickles
 
@@ -39,11 +46,11 @@ answer of Python shows.
 OWN_LINES = ('refused', 'fault', 'left', 'kept')
 
 
-def code(text):
+def code(text: str) -> str:
     return '`%s`' % text.replace('|', '\\|')
 
 
-def differences(sections):
+def differences(sections: Sequence[Section]) -> list[str]:
     rows = ['| File | Rule | Python | Here |', '|---|---|---|---|']
     for _, pickles in sections:
         for name, _, _, answer in pickles:
@@ -55,7 +62,7 @@ def differences(sections):
     return rows
 
 
-def of_python(answer):
+def of_python(answer: Answer) -> str:
     """Where and with which words Python refuses, or nothing."""
     if answer.python is None:
         return ''
@@ -64,7 +71,7 @@ def of_python(answer):
     return 'at %d: %s' % (offset, code(words if len(words) <= 90 else words[:87] + '...'))
 
 
-def page(sections):
+def page(sections: Sequence[Section]) -> str:
     lines = [textwrap.fill('- **%s**: %s' % (rule, words), 100, subsequent_indent='  ') for rule, words in RULES.items()]
     lines += ['', *differences(sections), '']
     lines += ['Where Python refuses and no rule is named, this project refuses at the same offset for the same', 'reason.', '']

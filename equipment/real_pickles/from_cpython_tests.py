@@ -1,7 +1,11 @@
 """Pickles from CPython's own tests; Python 2 wrote many of them. They are copied and not loaded."""
+
+from __future__ import annotations
+
 import ast
 import os.path
 import test.pickletester as tester
+from collections.abc import Iterator
 
 # constants of test/pickletester.py: its name there, our name, what it is
 CONSTANTS = [
@@ -46,18 +50,19 @@ METHODS = [
 ]
 
 
-def bytes_of(method, tree):
+def bytes_of(method: str, tree: ast.AST) -> bytes:
     """The first bytes that are in a method."""
     for node in ast.walk(tree):
         if isinstance(node, ast.FunctionDef) and node.name == method:
             # by its place in the text, since a walk does not keep the order
             found = [n for n in ast.walk(node) if isinstance(n, ast.Constant) and isinstance(n.value, bytes)]
             found.sort(key=lambda n: (n.lineno, n.col_offset))
-            return found[0].value
+            first: bytes = found[0].value
+            return first
     raise KeyError(method)
 
 
-def pickles():
+def pickles() -> Iterator[tuple[str, bytes, str]]:
     """Each pickle's name, bytes, and what it holds."""
     for constant, name, what in CONSTANTS:
         yield name, getattr(tester, constant), what

@@ -1,20 +1,25 @@
 """Hostile and broken pickles, in the manner of known attacks. They are written as bytes here and are never loaded; what they
 would call is harmless ('echo picklestep')."""
+
+from __future__ import annotations
+
 import struct
+from collections.abc import Iterator
+from typing import Optional
 
 PAYLOAD = b'echo picklestep'
 SYSTEM = b'cos\nsystem\n'
 
 
-def text(words):
+def text(words: bytes) -> bytes:
     return b'X' + struct.pack('<I', len(words)) + words
 
 
-def short(words):
+def short(words: bytes) -> bytes:
     return b'\x8c' + bytes([len(words)]) + words
 
 
-def frame(inside, number=None):
+def frame(inside: bytes, number: Optional[int] = None) -> bytes:
     """A frame of these bytes; the number says how long it claims to be."""
     return b'\x95' + struct.pack('<Q', len(inside) if number is None else number) + inside
 
@@ -137,7 +142,7 @@ NO_PICKLES = [
 ]
 
 
-def pickles():
+def pickles() -> Iterator[tuple[str, bytes, str]]:
     """Each pickle's name, bytes, and what it holds."""
     for rows in (ATTACKS, BROKEN_FRAMES, OTHER_READINGS, REFUSED, OLD, NO_PICKLES):
         yield from rows

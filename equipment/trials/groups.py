@@ -20,6 +20,7 @@ import pages
 import releases
 import saves
 import several
+import try_definition
 import wheels
 
 from . import examples, large, listings, memory, options, program
@@ -59,6 +60,10 @@ def random_trials(room: Room) -> list[Trial]:
     return [Trial("random pickles and scripts", functools.partial(random_cases, room))]
 
 
+def loader_trials(loaded: loads.Loads, room: Room) -> list[Trial]:
+    return [*loads.trials(loaded, room.pickles), *try_definition.trials(room.pickles)]
+
+
 def of_program(room: Room) -> list[AnyGroup]:
     """What the program does by itself."""
     return [
@@ -96,7 +101,7 @@ def of_surroundings(room: Room) -> list[AnyGroup]:
     linked = libraries.Libraries(room.root, room.program, room.folder / "libraries", room.pickles)
     loaded = loads.Loads(str(room.program), room.folder / "loads")
     return [
-        Group("loaders", functools.partial(loads.trials, loaded, room.pickles), loaded.closing, aside=lambda: None),
+        Group("loaders", functools.partial(loader_trials, loaded, room), loaded.closing, aside=lambda: None),
         Group("hostile", functools.partial(hostile.trials, cut), cut.closing, aside=hostile.limit_stack),
         packages.Package(str(room.program), room.folder / "python"),
         Group("devices", functools.partial(devices.trials, broken), broken.closing),

@@ -1,0 +1,144 @@
+#!/usr/bin/env python3
+"""Runs the definition of the unpickler and CPython's own on the same pickles in the same environment, and compares each act with its operands.
+
+    try_definition.py [--crates FOLDER] [--odd] SEED COUNT [PICKLE..]
+
+The unpickler in Python is compared with `load_bytes` of crates/pickle_loader/specs, and one load of it with `load_way`, frames ignored; those
+in C with `c_load_way`, frames ignored and buffered. COUNT pickles are made by load_cases.py from the seed and from the real pickles. The pickles
+that are given come before them, and with --odd the rows of oddities.txt. With --crates the definition is that of another folder of crates.
+What is printed is JSON: what was tried, and what differs.
+"""
+
+from __future__ import annotations
+
+import argparse
+import collections
+import functools
+import json
+import pathlib
+import resource
+import subprocess
+import sys
+import threading
+from collections.abc import Iterator, Sequence
+from dataclasses import dataclass, field
+
+import load_cases
+import loads
+from definition import ROOT, Definition, Run
+from likeness import verdict
+from load_worker import MOST_MEMORY
+from recorded import Plan, Record, load, register_extensions
+from trials.trial import Noted, Trial
+
+SEED = 1
+EACH = 500
+MOST_SHOWN = 3
+STACK = 256 << 20
+MOST_BYTES = 3000
+ENCODINGS = ("latin-1", "latin-1", "ASCII", "bytes")
+# The unpicklers in C, and how they read frames.
+READERS = {"C from bytes": "Ignored", "C from BytesIO": "Buffered", "C from a buffered file": "Ignored"}
+
+
+@dataclass
+class Tally:
+    """How much was tried: `same` loads did all that the definition does, `cut` ones went on behind a key at which it is left, and the others
+    raised before it, as `early` says."""
+
+    cases: int = 0
+    loads: int = 0
+    acts: int = 0
+    stops: int = 0
+    same: int = 0
+    cut: int = 0
+    early: collections.Counter[str] = field(default_factory=collections.Counter)
+    different: list[str] = field(default_factory=list)
+
+    def add(self, what: str, case: bytes, run: Run, record: Record, encoding: str) -> None:
+        self.loads += 1
+        self.acts += len(record.acts)
+        self.stops += len(record.stops)
+        found = verdict(run, record, encoding, what.startswith("Python"))
+        if found.why:
+            self.different.append(f"{what}, {encoding}, {record.plan}: {found.why}: {case.hex()}")
+        elif found.is_all:
+            self.same += 1
+        elif run.is_cut:
+            self.cut += 1
+        else:
+            self.early[record.end] += 1
+
+
+def cases(seed: int, count: int, real: Sequence[bytes]) -> Iterator[tuple[bytes, str]]:
+    """Pickles, each with what it is for: several in a row, and several without frames for one unpickler that keeps its memo."""
+    singles, rows = load_cases.singles(seed, count, real), load_cases.rows(seed, count)
+    kept = load_cases.rows(seed, count, frames=False)
+    for number in range(count):
+        yield (next(rows), "rows") if number % 5 == 3 else (next(kept), "kept") if number % 5 == 4 else (next(singles), "singles")
+
+
+def try_case(definition: Definition, tally: Tally, case: bytes, kind: str, plan: Plan, encoding: str) -> None:
+    tally.cases += 1
+    pickles = "OneMemo" if kind == "kept" else "All"
+    if kind != "kept":
+        tally.add("Python", case, definition.python(case, plan, encoding), load("Python", case, plan, encoding), encoding)
+        first = definition.way(case, plan, encoding, "First", "Ignored")
+        tally.add("Python, one load", case, first, load("Python", case, plan, encoding, "First"), encoding)
+    runs = {frames: definition.in_c(case, plan, encoding, pickles, frames) for frames in ("Ignored", "Buffered")}
+    for name, frames in READERS.items():
+        tally.add(name, case, runs[frames], load(name, case, plan, encoding, pickles), encoding)
+
+
+def try_all(definition: Definition, seed: int, count: int, given: Sequence[bytes]) -> Tally:
+    tally = Tally()
+    for number, (case, kind) in enumerate([*((case, "singles") for case in given), *cases(seed, count, given)]):
+        try_case(definition, tally, case, kind, Plan(f"{seed}.{number}", number % 3 > 0), ENCODINGS[number % len(ENCODINGS)])
+    return tally
+
+
+def _trial(number: int, pickles: Sequence[pathlib.Path]) -> Noted:
+    """Runs this script in a process of its own, whose memory is limited."""
+    words = [sys.executable, "-W", "ignore", "-B", __file__, *(["--odd"] if number == 0 else []), str(SEED + number), str(EACH)]
+    words += map(str, pickles if number == 0 else [])
+    done = subprocess.run(words, capture_output=True, text=True, check=False, timeout=600)
+    if done.returncode != 0:
+        return Noted(f"it ended with status {done.returncode}: {done.stderr.strip()[-300:]}", "")
+    found = json.loads(done.stdout)
+    different = found["different"]
+    why = f"{len(different)} differences, first {'; '.join(different[:MOST_SHOWN])}" if different else ""
+    return Noted(why, f": {found['cases']} pickles, {found['loads']} loads, {found['same']} the same to the end, {found['acts']} acts")
+
+
+def trials(pickles: pathlib.Path) -> list[Trial]:
+    real = sorted(pickles.glob("*.pickle"))
+    return [Trial(f"the definition of the unpickler beside CPython's {number}", functools.partial(_trial, number, real)) for number in range(4)]
+
+
+def main() -> None:
+    parser = argparse.ArgumentParser()
+    parser.add_argument("--crates", type=pathlib.Path, default=ROOT / "crates")
+    parser.add_argument("--odd", action="store_true")
+    parser.add_argument("seed", type=int)
+    parser.add_argument("count", type=int)
+    parser.add_argument("pickles", type=pathlib.Path, nargs="*")
+    words = parser.parse_args()
+    given = [data for data in (path.read_bytes() for path in words.pickles) if 0 < len(data) <= MOST_BYTES]
+    if words.odd:
+        given += [row.data for row in loads.oddities()]
+    resource.setrlimit(resource.RLIMIT_AS, (MOST_MEMORY, MOST_MEMORY))
+    register_extensions()
+    found: list[Tally] = []
+    # (definitions call themselves once for each byte of a line)
+    sys.setrecursionlimit(1_000_000)
+    threading.stack_size(STACK)
+    thread = threading.Thread(target=lambda: found.append(try_all(Definition(words.crates), words.seed, words.count, given)))
+    thread.start()
+    thread.join()
+    if not found:
+        sys.exit(1)
+    print(json.dumps({**vars(found[0]), "different": sorted(found[0].different, key=len)}))
+
+
+if __name__ == "__main__":
+    main()
