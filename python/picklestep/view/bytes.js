@@ -2,6 +2,7 @@
 // Bytes and hexadecimal.
 
 const hexOf = (bytes) => Array.from(bytes, (byte) => byte.toString(16).padStart(2, '0')).join('');
+const latin = (text) => Uint8Array.from(text, (sign) => sign.charCodeAt(0)); // (of signs below 256)
 const bytesOfHex = (hex) => Uint8Array.from(hex.match(/../g) || [], (pair) => parseInt(pair, 16));
 
 // The bytes of parts, one after another.

@@ -13,6 +13,7 @@ from typing import Any, Callable, Dict, List, NamedTuple, Optional, Set, Tuple
 from ..answers import Calls
 from ..errors import Refused
 from ..program import run_program
+from ..python_source import source
 from ..session import Session
 from ..sources import Input, Source
 from .lines import Lines, add_items, lines_of, makers_of, read_listing, read_objects, silent
@@ -31,6 +32,9 @@ _MOST_ENTRIES = 500
 _MOST_HOLDERS = 20
 _MOST_RESULTS = 5
 _MOST_ARGUMENT = 1 << 16
+# Of up to so many opcodes the Python source is written, of which so many lines are shown.
+_MOST_SOURCE = 1_000_000
+_MOST_SOURCE_LINES = 1000
 _IMPORTS = ('import', 'inst')
 _CALLS = ('inst', 'call', 'new', 'state', 'append', 'set', 'add')
 _PLACES = {'replace': 0, 'insert': 1, 'delete': -1, 'frame': 1, 'unframe': -1}
@@ -281,6 +285,13 @@ class Document:
             if not is_in_text and holder not in found:
                 found.append(holder)
         return found
+
+    def source(self) -> Fields:
+        """The pickle as Python source, as much of it as is shown, and how many lines more there are."""
+        if len(self.lines) > _MOST_SOURCE:
+            return {'source': [], 'more': 0, 'isLong': True}
+        lines = list(source(self.content(), full=False, many=bool(self._options)))
+        return {'source': lines[:_MOST_SOURCE_LINES], 'more': max(0, len(lines) - _MOST_SOURCE_LINES), 'isLong': False}
 
     # --- For reports: the objects as they are at the end ---
 

@@ -10,15 +10,17 @@ const MOST_ENTRIES = 500;
 const MOST_HOLDERS = 20;
 const MOST_RESULTS = 5;
 const MOST_ARGUMENT = 1 << 16;
+const MOST_SOURCE = 1000000; // opcodes of a pickle that is written as Python source,
+const MOST_SOURCE_LINES = 1000; // of which so many lines are shown
 const SHIFTS = { replace: 0, insert: 1, delete: -1, frame: 1, unframe: -1 };
 const HOW = { '+': 'append', '&': 'add', '!': 'state', '[': 'key', '=': 'value' };
 
 let versions = 0; // (of all documents, so that the page never shows the lines of one in another)
 
 class Document {
-  static async open(module, opcodes, file, name, many, isLive, progress) {
+  static async open({ module, opcodes, facts, isLive }, file, name, many, progress) {
     const document = new Document();
-    Object.assign(document, { module, opcodes, name, file, progress, options: many ? ['--many'] : [], breaks: new Set(), edits: [], undone: [], version: 0, place: 0 });
+    Object.assign(document, { module, opcodes, facts, name, file, progress, options: many ? ['--many'] : [], breaks: new Set(), edits: [], undone: [], version: 0, place: 0 });
     progress('opening');
     document.session = await Session.open(module, file, many, isLive);
     await document.read();
@@ -31,7 +33,8 @@ class Document {
     this.content = this.session.bytes();
     const { places, place } = await this.session.where();
     this.lines = readListing((words, into) => this.run(words, into), this.options);
-    if (this.lines.length < places) await this.readItems();
+    this.listed = this.lines.length;
+    if (this.listed < places) await this.readItems();
     this.final = readObjects((words, into) => this.run(words, into), this.options);
     const calls = new Lines(Infinity);
     this.run(['calls', ...(this.options.length ? [] : ['--first'])], calls);
@@ -203,6 +206,16 @@ class Document {
       rows.push([this.lines.placeOf(offset), offset, this.reaches.kindAt(offset), this.reaches.text(at)]);
     }
     return rows;
+  }
+
+  // The pickle as Python source, as much of it as is shown, and how many lines more there are.
+  source() {
+    if (this.lines.length > MOST_SOURCE) return { source: [], more: 0, isLong: true };
+    const offsets = new Numbers();
+    for (let place = 0; place < this.listed; place += 1) offsets.add(this.lines.offset(place));
+    const { opcodes, facts } = this, saidAt = (offset) => this.reaches.textAt(offset);
+    const lines = sourceOf(this.content, offsets, this.lines.closing, { opcodes, facts, saidAt }).split('\n').slice(0, -1);
+    return { source: lines.slice(0, MOST_SOURCE_LINES), more: Math.max(0, lines.length - MOST_SOURCE_LINES), isLong: false };
   }
 
   // --- Moving ---

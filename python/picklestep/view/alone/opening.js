@@ -43,7 +43,8 @@ const host = {
     view.opcodes = JSON.parse(by('opcodes').textContent);
     const module = Uint8Array.from(atob(by('module').textContent.trim()), (sign) => sign.charCodeAt(0));
     by('module').remove();
-    const started = await host.ask('start', { module, opcodes: view.opcodes, isLive: 'Suspending' in WebAssembly }, [module.buffer]);
+    const facts = JSON.parse(by('source-facts').textContent);
+    const started = await host.ask('start', { module, opcodes: view.opcodes, facts, isLive: 'Suspending' in WebAssembly }, [module.buffer]);
     if (started.failed) { say(started.said, true); return; }
     by('where').textContent = '';
     say('Open a pickle, or choose an example.');

@@ -3,13 +3,13 @@
 
 const MOST_MEMBERS = 2000;
 
-const page = { module: null, opcodes: null, isLive: false, document: null, archive: null };
+const page = { program: null, document: null, archive: null };
 
 const after = async (said) => ({ said, ...await page.document.state() });
 
 const ANSWERS = {
-  start: async ({ module, opcodes, isLive }) => {
-    Object.assign(page, { module: await WebAssembly.compile(module), opcodes, isLive });
+  start: async ({ module, opcodes, facts, isLive }) => {
+    page.program = { module: await WebAssembly.compile(module), opcodes, facts, isLive };
     return {};
   },
   load: ({ bytes, name, isPickle }) => load(bytes, name, isPickle),
@@ -28,6 +28,7 @@ const ANSWERS = {
   reached: ({ start, count }) => ({ reached: page.document.reached(start, count) }),
   holds: ({ number }) => page.document.holds(number),
   about: ({ number }) => page.document.about(number),
+  source: () => page.document.source(),
   argument: ({ place }) => page.document.argument(place),
   find: ({ text, after: from }) => ({ place: page.document.find(text, from) }),
   move: async ({ what, place }) => after(await page.document.move(what, place)),
@@ -39,7 +40,7 @@ const ANSWERS = {
 };
 
 async function open(bytes, name, many) {
-  page.document = await Document.open(page.module, page.opcodes, bytes, name, many, page.isLive, progress);
+  page.document = await Document.open(page.program, bytes, name, many, progress);
   return after('open');
 }
 
