@@ -81,6 +81,7 @@ function showHeader(state) {
   by('reached').textContent = `imports ${state.imports[0]} of ${state.imports[1]}, calls ${state.calls[0]} of ${state.calls[1]}`;
   by('closing').textContent = state.closing.join('; ');
   by('read-on').hidden = !state.closing.some((line) => line.startsWith('kept: '));
+  by('edit').disabled = by('save').disabled = Boolean(state.part);
   for (const word of ['undo', 'redo']) {
     by(word).disabled = !state[word];
     by(word).title = state[word] ? `${word === 'undo' ? 'Take back' : 'Make again'}: ${state[word]} (${word[0]})` : `Nothing to ${word} (${word[0]})`;

@@ -21,6 +21,20 @@ async function things() {
   showObjects(made.objects);
   tree(by('result'), state.results.map((number) => node('', number, described(named.briefs[number]), [])),
     state.results_before ? `after ${state.results_before} others` : state.results.length ? '' : 'none so far: a STOP takes it');
+  await showSource();
+}
+
+// The pickle as Python source, which is asked for where it is looked at, and only once as long as nothing is edited.
+async function showSource() {
+  const state = view.state;
+  if (!state || by('pane-result').hidden || view.sourceShown === state.version) return;
+  by('source').textContent = '# writing ..';
+  const answer = await ask('source');
+  if (!view.state || view.state.version !== state.version) return;
+  view.sourceShown = state.version;
+  const more = answer.isLong ? '# Too long for this page: picklestep source FILE writes it.' :
+    answer.more ? `# ${answer.more} more lines: picklestep source FILE writes them.` : '';
+  by('source').textContent = [...(answer.source || []).map(shownSource), more].join('\n');
 }
 
 // What is imported and called: asked for again only where it may be other than before. What is before the cursor is done.
@@ -183,6 +197,7 @@ function showPane(name) {
     tab.setAttribute('aria-selected', String(isShown));
     tab.tabIndex = isShown ? 0 : -1;
   }
+  showSource();
 }
 
 function wirePanes() {

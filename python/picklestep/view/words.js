@@ -68,7 +68,7 @@ function unquoted(quotedText) {
 
 const strict = new TextDecoder('utf-8', { fatal: true, ignoreBOM: true });
 const HALF = /(\xed[\xa0-\xbf][\x80-\xbf])/;
-const MOST_HALVED = 10000; // bytes
+const MOST_HALVED = 65536; // bytes
 
 // The text of bytes in UTF-8, or null. Halves of pairs may stand alone, as Python's unpickler lets them.
 function utf8(bytes) {
@@ -90,7 +90,7 @@ function signsOf(bytes) {
 
 function withHalves(bytes) {
   try {
-    return String.fromCharCode(...bytes).split(HALF).flatMap((part, at) => {
+    return binary(bytes).split(HALF).flatMap((part, at) => {
       const [, second, third] = part;
       if (at % 2) return [String.fromCharCode(0xd000 | (second.charCodeAt(0) & 63) << 6 | third.charCodeAt(0) & 63)];
       return [...strict.decode(latin(part))];
@@ -154,7 +154,7 @@ function shownArgument(argument, form) {
 // --- What an opcode imports or calls ---
 
 const NAME = `(?:raw )?${QUOTED}`;
-const REACH = new RegExp(`^(import|call|new|inst) (?:(${NAME}) (${NAME})|ext ([0-9]+)|(#[0-9]+))(?: (.*?))??(?: for (${NAME}) (${NAME}))?(?: as #[0-9]+)?$`);
+const REACH = new RegExp(`^(import|call|new|inst) (?:(${NAME}) (${NAME})|ext ([0-9]+)|(#[0-9]+))(?: for (${NAME}) (${NAME}))?(?: (.*?))??(?: as #[0-9]+)?$`);
 
 const DOTTED = /^[\p{L}\p{Nl}_][\p{L}\p{Nl}\p{M}\p{Nd}\p{Pc}]*(\.[\p{L}\p{Nl}_][\p{L}\p{Nl}\p{M}\p{Nd}\p{Pc}]*)*$/u;
 
@@ -180,7 +180,7 @@ function pythonGiven(line) {
 function shownReach(line) {
   const match = REACH.exec(line);
   if (!match) return '';
-  const [, what, module, name, extension, number, given, oldModule, oldName] = match;
+  const [, what, module, name, extension, number, oldModule, oldName, given] = match;
   const called = module ? `${shownName(module)}.${shownName(name)}` : extension ? `extension ${extension}` : number;
   const old = oldModule ? ` (for ${shownName(oldModule)}.${shownName(oldName)})` : '';
   if (what === 'import') return called + old;

@@ -12,27 +12,58 @@ const MOST_RESULTS = 5;
 const MOST_ARGUMENT = 1 << 16;
 const MOST_SOURCE = 1000000; // opcodes of a pickle that is written as Python source,
 const MOST_SOURCE_LINES = 1000; // of which so many lines are shown
+const MOST_FIRST = 300000; // opcodes that are shown while the rest is read
 const SHIFTS = { replace: 0, insert: 1, delete: -1, frame: 1, unframe: -1 };
 const HOW = { '+': 'append', '&': 'add', '!': 'state', '[': 'key', '=': 'value' };
 
 let versions = 0; // (of all documents, so that the page never shows the lines of one in another)
 
+// That a listing has as many lines as are wanted. `offset` is that of the next opcode.
+class Enough extends Error {
+  constructor(lines, most) {
+    super('enough lines');
+    let at = most;
+    while (at > 0 && !/^ *\d+: /.test(lines.raw(at))) at -= 1; // (what a STOP left has a line too)
+    this.offset = lines.offset(at);
+  }
+}
+
 class Document {
-  static async open({ module, opcodes, facts, isLive }, file, name, many, progress) {
+  // Opens a pickle. Where it has more than `most` opcodes, only these are opened, and the document is a part.
+  static async open({ module, opcodes, facts, isLive }, file, name, many, most, progress) {
     const document = new Document();
-    Object.assign(document, { module, opcodes, facts, name, file, progress, options: many ? ['--many'] : [], breaks: new Set(), edits: [], undone: [], version: 0, place: 0 });
+    const options = many ? ['--many'] : [];
+    Object.assign(document, { module, opcodes, facts, name, options, progress, breaks: new Set(), edits: [], undone: [], version: 0, place: 0 });
     progress('opening');
-    document.session = await Session.open(module, file, many, isLive);
+    document.content = file;
+    document.lines = document.list(most);
+    document.isPart = document.content.length < file.length;
+    document.session = await Session.open(module, document.content, many, isLive);
     await document.read();
+    document.pickle = document.version; // (its edits have others)
+    if (document.isPart) document.lines.closing = [`the first ${most.toLocaleString('en')} opcodes: the rest is not read`];
     return document;
+  }
+
+  // The listing. Where it has more than `most` lines, what is behind them is taken off the bytes.
+  list(most = Infinity) {
+    try {
+      return readListing((words, into) => this.run(words, into, most), this.options);
+    } catch (error) {
+      if (!(error instanceof Enough)) throw error;
+      this.content = this.content.slice(0, error.offset);
+      return this.list();
+    }
   }
 
   // --- The pickle as it is ---
 
   async read() {
-    this.content = this.session.bytes();
+    if (this.session.edits.length || this.version) {
+      this.content = this.session.bytes();
+      this.lines = this.list();
+    }
     const { places, place } = await this.session.where();
-    this.lines = readListing((words, into) => this.run(words, into), this.options);
     this.listed = this.lines.length;
     if (this.listed < places) await this.readItems();
     this.final = readObjects((words, into) => this.run(words, into), this.options);
@@ -49,10 +80,11 @@ class Document {
   }
 
   // Runs a task over the pickle as it is, and says how far it is.
-  run(words, into) {
+  run(words, into, most = Infinity) {
     let told = 0;
     runTask(this.module, [words[0], 'file', ...words.slice(1)], this.content, (bytes) => {
       into.feed(bytes);
+      if (into.length > most) throw new Enough(into, most);
       if (into.length - told < 200000) return;
       told = into.length;
       this.progress(`${words[0]}: ${told.toLocaleString('en')} lines`);
@@ -119,7 +151,7 @@ class Document {
       version: this.version, name: this.name, place: where.place, places: where.places, offset: where.offset,
       results: where.results.slice(-MOST_RESULTS), results_before: Math.max(0, where.results.length - MOST_RESULTS), end: where.end,
       imports: [imports, this.reaches.counts[0]], calls: [calls, this.reaches.counts[1]], reaches: this.reaches.length, stack: lastWords(stack),
-      memo: lastWords(memo), made: this.made(), exact: this.isExact(), edits: this.edits.length, undone: this.undone.length,
+      memo: lastWords(memo), pickle: this.pickle, part: this.isPart, made: this.made(), exact: this.isExact(), edits: this.edits.length, undone: this.undone.length,
       undo: describeEdit(this.edits.at(-1)), redo: describeEdit(this.undone.at(-1)), breaks: this.breaks.size, closing: this.lines.closing };
   }
 
@@ -256,6 +288,7 @@ class Document {
   }
 
   async edit(what, place, name, raw, count) {
+    if (this.isPart) throw new Error('edits wait until the rest is read');
     if (!(what in SHIFTS)) throw new Error('this is no edit');
     const puts = what === 'replace' || what === 'insert';
     const done = await this.session.edit(what, place, ...(puts ? [name, raw] : what === 'frame' ? [String(count)] : []));

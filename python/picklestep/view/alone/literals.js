@@ -4,7 +4,7 @@
 
 const MOST_DECIMAL_BITS = 14000; // larger whole numbers are in hexadecimal
 const MOST_DIGITS = 4300; // longer decimal numbers are read by no Python
-const MOST_WHOLE = 4096; // bytes; a longer text is put into the source with its beginning alone
+const MOST_WHOLE = 65536; // bytes; a longer text is put into the source with its beginning alone
 const MOST_LETTERS = 64; // of a text in the source
 
 // A text of the source that is cut already.
@@ -17,13 +17,6 @@ class Shortened {
 // An argument of which a loader makes no value.
 class Unreadable extends Error {}
 
-// The bytes as signs from 0 to 255.
-function binary(bytes) {
-  let text = '';
-  for (let at = 0; at < bytes.length; at += 8192) text += String.fromCharCode(...bytes.subarray(at, at + 8192));
-  return text;
-}
-
 // --- Texts and bytes ---
 
 const PLAIN = /^[ -&(-[\]-~]*$/; // what is the same in quotes
@@ -31,6 +24,8 @@ const PLAIN = /^[ -&(-[\]-~]*$/; // what is the same in quotes
 // A text of UTF-8.
 function textSource(bytes) {
   if (bytes.length > MOST_WHOLE) return longText(bytes);
+  const text = binary(bytes);
+  if (PLAIN.test(text)) return `'${text}'`;
   const signs = signsOf(bytes);
   return signs === null ? `${bytesSource(bytes)}.decode('utf-8', 'surrogatepass')` : signsSource(signs);
 }
