@@ -12,7 +12,8 @@ const MOST_RESULTS = 5;
 const MOST_ARGUMENT = 1 << 16;
 const MOST_SOURCE = 1000000; // opcodes of a pickle that is written as Python source,
 const MOST_SOURCE_LINES = 1000; // of which so many lines are shown
-const MOST_FIRST = 300000; // opcodes that are shown while the rest is read
+const MOST_FIRST = 300000; // opcodes that are shown while the rest is read,
+const MOST_READ = 8000000; // where these are not more
 const SHIFTS = { replace: 0, insert: 1, delete: -1, frame: 1, unframe: -1 };
 const HOW = { '+': 'append', '&': 'add', '!': 'state', '[': 'key', '=': 'value' };
 
@@ -21,7 +22,7 @@ let versions = 0; // (of all documents, so that the page never shows the lines o
 // That a listing has as many lines as are wanted. `offset` is that of the next opcode.
 class Enough extends Error {
   constructor(lines, most) {
-    super('enough lines');
+    super(`more than ${most.toLocaleString('en')} opcodes are not read here (picklestep view shows them)`);
     let at = most;
     while (at > 0 && !/^ *\d+: /.test(lines.raw(at))) at -= 1; // (what a STOP left has a line too)
     this.offset = lines.offset(at);
@@ -29,26 +30,31 @@ class Enough extends Error {
 }
 
 class Document {
-  // Opens a pickle. Where it has more than `most` opcodes, only these are opened, and the document is a part.
-  static async open({ module, opcodes, facts, isLive }, file, name, many, most, progress) {
+  // Opens a pickle. Where it has many opcodes, only the first of them are opened unless it is `isWhole`, and the document is a part.
+  static async open({ module, opcodes, facts, isLive }, file, name, many, isWhole, progress) {
     const document = new Document();
     const options = many ? ['--many'] : [];
     Object.assign(document, { module, opcodes, facts, name, options, progress, breaks: new Set(), edits: [], undone: [], version: 0, place: 0 });
     progress('opening');
     document.content = file;
-    document.lines = document.list(most);
+    document.lines = isWhole ? document.list(MOST_READ) : document.listFirst();
     document.isPart = document.content.length < file.length;
+    progress('debug: reading the opcodes');
     document.session = await Session.open(module, document.content, many, isLive);
     await document.read();
     document.pickle = document.version; // (its edits have others)
-    if (document.isPart) document.lines.closing = [`the first ${most.toLocaleString('en')} opcodes: the rest is not read`];
+    if (document.isPart) document.lines.closing = [`the first ${MOST_FIRST.toLocaleString('en')} opcodes: the rest is not read`];
     return document;
   }
 
-  // The listing. Where it has more than `most` lines, what is behind them is taken off the bytes.
   list(most = Infinity) {
+    return readListing((words, into) => this.run(words, into, most), this.options);
+  }
+
+  // The listing. Where it has more lines than are shown first, what is behind these is taken off the bytes.
+  listFirst() {
     try {
-      return readListing((words, into) => this.run(words, into, most), this.options);
+      return this.list(MOST_FIRST);
     } catch (error) {
       if (!(error instanceof Enough)) throw error;
       this.content = this.content.slice(0, error.offset);
@@ -149,7 +155,7 @@ class Document {
     if (this.isExact()) await this.readHeap();
     return {
       version: this.version, name: this.name, place: where.place, places: where.places, offset: where.offset,
-      results: where.results.slice(-MOST_RESULTS), results_before: Math.max(0, where.results.length - MOST_RESULTS), end: where.end,
+      results: where.results.slice(-MOST_RESULTS), results_before: Math.max(0, where.results.length - MOST_RESULTS), end: this.isPart ? 'not read yet' : where.end,
       imports: [imports, this.reaches.counts[0]], calls: [calls, this.reaches.counts[1]], reaches: this.reaches.length, stack: lastWords(stack),
       memo: lastWords(memo), pickle: this.pickle, part: this.isPart, made: this.made(), exact: this.isExact(), edits: this.edits.length, undone: this.undone.length,
       undo: describeEdit(this.edits.at(-1)), redo: describeEdit(this.undone.at(-1)), breaks: this.breaks.size, closing: this.lines.closing };

@@ -18,7 +18,7 @@ const ANSWERS = {
   // What is shown in part: its bytes, and where the page is in it. Another worker reads it whole, and goes there.
   whole: () => page.whole,
   marks: () => ({ place: page.document.place, breaks: [...page.document.breaks] }),
-  rest: ({ bytes, name, many }) => open(bytes, name, many, Infinity),
+  rest: ({ bytes, name, many }) => open(bytes, name, many, true),
   go: async ({ place, breaks }) => {
     for (const each of breaks) await page.document.toggleBreak(each);
     return after(await page.document.move('goto', place));
@@ -49,8 +49,8 @@ const ANSWERS = {
   },
 };
 
-async function open(bytes, name, many, most = MOST_FIRST) {
-  page.document = await Document.open(page.program, bytes, name, many, most, progress);
+async function open(bytes, name, many, isWhole = false) {
+  page.document = await Document.open(page.program, bytes, name, many, isWhole, progress);
   page.whole = page.document.isPart ? { bytes, name, many } : null;
   return after('open');
 }
