@@ -24,7 +24,7 @@ def opcode_table() -> Dict[str, Dict[str, Any]]:
     ('item, item', '\\\\x94')
     """
     return {opcode.name: {'code': shown_code(opcode.code), 'form': opcode.arg.name if opcode.arg else '',
-                          'makes': opcode.name.encode('ascii') not in MAKE_NONE, 'says': EXPLAINED[opcode.name],
+                          'makes': opcode.name not in MAKE_NONE, 'says': EXPLAINED[opcode.name],
                           'takes': EFFECTS[opcode.name][0], 'leaves': EFFECTS[opcode.name][1]} for opcode in pickletools.opcodes}
 
 
