@@ -18,9 +18,10 @@ import time
 import unittest
 import zipfile
 from pathlib import Path
-from typing import Any, Dict, List
+from typing import Any, Dict, List, Union
 
-from chromium import CONTRASTS, PROGRAM, Browser
+import firefox
+from chromium import ACCESSIBILITY, CONTRASTS, PROGRAM, Browser
 from pickles import REAL, ROOT, known_opcodes, real_pickles
 from picklestep.view.document import Document
 from picklestep.view.server import Viewer
@@ -43,25 +44,18 @@ SEEN = '''(() => {
     return { rows: Object.fromEntries([...document.querySelectorAll('.row:not([hidden])')].map((row) =>
             [row.dataset.place, [row.className, row.getAttribute('aria-label'), row.textContent]])),
         title: document.title, ...Object.fromEntries(['#name', '#where', '#reached', '#closing', '#said', '#stack li', '#memo li', '#objects .thing',
-            '#objects-shown', '#reaches li', '#reaches-shown', '#result .thing', '#result .note', '#opcode', '#about', '#undo', '#redo']
+            '#objects-shown', '#reaches li', '#reaches-shown', '#result .thing', '#result .note', '#source', '#opcode', '#about', '#undo', '#redo']
             .map((selector) => [selector, texts(selector)])), titles: ['undo', 'redo'].map((id) => document.getElementById(id).title),
         readOn: document.querySelector('#read-on').hidden }; })()'''
 # The same keys for both pages. What begins with a sharp is clicked.
-KEYS = ['n', 'ArrowRight', 'p', 'ArrowDown', 'b', ' ', 'End', '#objects .thing', '#result .thing', 'Home', 'Delete', 'u', 'r',
+KEYS = ['n', '#tab-result', 'ArrowRight', 'p', 'ArrowDown', 'b', ' ', 'End', '#objects .thing', '#result .thing', 'Home', 'Delete', 'u', 'r',
         '#read-on:not([hidden])']
 
 
-@unittest.skipIf(PROGRAM is None, 'there is no chromium')
-class Alone(unittest.TestCase):
-    """The page from a file, in a browser that all tests use one after another."""
+class Driven(unittest.TestCase):
+    """The page from a file, in a browser that all tests of a class use one after another."""
 
-    browser: Browser
-
-    @classmethod
-    def setUpClass(cls) -> None:
-        cls.browser = Browser(1200, 800)
-        cls.browser.call('Network.enable')
-        cls.addClassCleanup(cls.browser.close)
+    browser: Union[Browser, firefox.Firefox]
 
     def setUp(self) -> None:
         held = tempfile.TemporaryDirectory()
@@ -77,12 +71,11 @@ class Alone(unittest.TestCase):
 
     def choose(self, path: Path) -> None:
         """Chooses a file, as the button does."""
-        field = self.browser.call('Runtime.evaluate', expression="document.querySelector('#file')")['result']['objectId']
-        self.browser.call('DOM.setFileInputFiles', files=[str(path)], objectId=field)
+        self.browser.choose('#file', path)
 
     def give(self, path: Path) -> None:
         """Chooses a file, and waits until it is shown."""
-        self.browser.js('void (view.state = null)')
+        self.browser.js("void (showPane('objects'), view.state = null)")
         self.choose(path)
         self.browser.wait('view.state !== null')
         self.browser.js(SETTLED)
@@ -101,8 +94,7 @@ class Alone(unittest.TestCase):
 
     def requests(self) -> List[str]:
         """What the browser asked for: the page itself and its worker are not counted."""
-        asked = [told['params']['request']['url'] for told in self.browser.told if told.get('method') == 'Network.requestWillBeSent']
-        return [url for url in asked if url != PAGE.as_uri() and not url.startswith(('blob:null/', 'data:image/svg+xml;base64,'))]
+        return [url for url in self.browser.requested() if url != PAGE.as_uri() and not url.startswith(('blob:null/', 'data:image/svg+xml;base64,'))]
 
     # --- The same in both pages ---
 
@@ -115,8 +107,7 @@ class Alone(unittest.TestCase):
             else:
                 self.browser.js("document.querySelector('#listing').focus()")
                 self.browser.key(key)
-            self.browser.js(SETTLED)
-            seen.append(self.browser.js(SEEN))
+            seen.append(self.browser.js(f'{SETTLED}.then(() => {SEEN})'))
         return seen
 
     def with_server(self, path: Path) -> List[Dict[str, Any]]:
@@ -159,6 +150,32 @@ class Alone(unittest.TestCase):
         for part, shown in there.items():
             self.assertEqual(here[part], shown, f'{what}: {part}')
 
+
+@unittest.skipIf(firefox.PROGRAM is None, "there is no Firefox: Debian's firefox-esr has it")
+class InFirefox(Driven):
+    """Some of the real pickles in another browser."""
+
+    @classmethod
+    def setUpClass(cls) -> None:
+        cls.browser = firefox.Firefox(1200, 800)
+        cls.addClassCleanup(cls.browser.close)
+
+    def test_real_pickles_show_the_same(self) -> None:
+        self.compare(SHOWN[::4])
+
+
+@unittest.skipIf(PROGRAM is None, "there is no Chromium: Debian's chromium has it")
+class Alone(Driven):
+    """What is opened, shown, taught, edited and saved."""
+
+    browser: Browser
+
+    @classmethod
+    def setUpClass(cls) -> None:
+        cls.browser = Browser(1200, 800)
+        cls.browser.call('Network.enable')
+        cls.addClassCleanup(cls.browser.close)
+
     def test_twenty_real_pickles_show_the_same(self) -> None:
         self.assertEqual(len(SHOWN), 20)
         self.compare(SHOWN)
@@ -168,7 +185,6 @@ class Alone(unittest.TestCase):
         self.addCleanup(self.browser.call, 'Page.removeScriptToEvaluateOnNewDocument', identifier=script)
         self.compare([*SHOWN[1:20:5], self.file('two.pickle', b'NN(N.' + SYSTEM), self.file('views.pickle', b'C\x01a\x98\x97\x98\x98N\x87.')])
         self.assertEqual(self.browser.js("'Suspending' in WebAssembly"), False)
-
 
     # --- What is opened ---
 

@@ -58,6 +58,7 @@ async function show(state) {
   if (old === null) {
     view.pointed = null;
     by('about').textContent = 'Point at an object, or choose one.';
+    by('source').textContent = '';
   }
   showHeader(state);
   by('bar').max = state.places;
@@ -247,5 +248,5 @@ async function begin() {
   wire();
   await host.begin();
   by('names').replaceChildren(...Object.keys(view.opcodes).map((name) => { const made = element('option'); made.value = name; return made; }));
-  by('listing').focus();
+  by('listing').focus({ preventScroll: true });
 }

@@ -127,7 +127,7 @@ async function loaded(load, story) {
   if (answer.members) showMembers(answer);
   if (answer.members || answer.failed) return;
   by('save-name').value = '';
-  by('listing').focus();
+  by('listing').focus({ preventScroll: true });
 }
 
 function showMembers({ members, more, said }) {
