@@ -27,7 +27,7 @@ _CASES = 10_500
 _TOGETHER = 500  # pickles in one input
 
 
-def _dumped(value: Any, seed: int) -> bytes:
+def dumped(value: Any, seed: int) -> bytes:
     """A pickle of a value, of one of the protocols, by one of the picklers."""
     protocol = seed % 6
     how = random.Random(seed).randrange(4)
@@ -49,7 +49,7 @@ class Equality(unittest.TestCase):
             seeds = []
             for seed in range(first, first + _TOGETHER):
                 with contextlib.suppress(RecursionError):  # (no pickler can write an object that is an argument of its own call)
-                    pickles.append(_dumped(Maker(seed).value(), seed))
+                    pickles.append(dumped(Maker(seed).value(), seed))
                     seeds.append(seed)
             answer = source(b''.join(pickles), many=True)
             self.assertTrue(answer.end.is_stopped)

@@ -41,7 +41,7 @@ class Document {
     document.isPart = document.content.length < file.length;
     progress('debug: reading the opcodes');
     document.session = await Session.open(module, document.content, many, isLive);
-    await document.read();
+    await document.read().catch((error) => { document.session.close(); throw error; });
     document.pickle = document.version; // (its edits have others)
     if (document.isPart) document.lines.closing = [`the first ${MOST_FIRST.toLocaleString('en')} opcodes: the rest is not read`];
     return document;

@@ -50,7 +50,9 @@ const ANSWERS = {
 };
 
 async function open(bytes, name, many, isWhole = false) {
+  const before = page.document;
   page.document = await Document.open(page.program, bytes, name, many, isWhole, progress);
+  before?.session.close();
   page.whole = page.document.isPart ? { bytes, name, many } : null;
   return after('open');
 }
