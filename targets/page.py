@@ -20,14 +20,15 @@ ROOT = Path(__file__).resolve().parent.parent
 sys.path.insert(0, str(ROOT / 'python'))
 sys.dont_write_bytecode = True
 
-from picklestep.view.opcodes import opcode_table  # noqa: E402
+from picklestep.view.opcodes import opcode_table, source_facts  # noqa: E402
 
 VIEW = ROOT / 'python/picklestep/view'
 NAME = 'picklestep.html'
 MOST = 3_000_000
 # The scripts of the worker; those of the page are what page.html names, with these in the place of the server.
-WORKER = ('bytes.js', 'alone/wasi.js', 'alone/session.js', 'alone/lines.js', 'alone/reaches.js', 'alone/document.js', 'alone/containers.js',
-          'alone/worker.js')
+WORKER = ('bytes.js', 'words.js', *(f'alone/{name}.js' for name in (
+    'wasi', 'session', 'lines', 'reaches', 'literals', 'source_nodes', 'source_names', 'source_builder', 'source', 'document', 'containers',
+    'worker')))
 ALONE = ('alone/examples.js', 'alone/opening.js')
 # What the page may do: its own script and style, the module, a worker and a download of its own; no request to anywhere.
 POLICY = ("default-src 'none'; script-src 'sha256-{script}' 'wasm-unsafe-eval'; style-src 'sha256-{style}'; worker-src blob:; img-src data:; "
@@ -59,7 +60,8 @@ def make(module: bytes) -> bytes:
     policy = POLICY.format(script=digest(script), style=digest(style))
     page = re.sub(r'<script src="[a-z]+\.js" defer></script>\n', '', page)
     data = [element('script', read(*WORKER), ' type="text/plain" id="worker-code"'),
-            element('script', json.dumps(opcode_table(), separators=(',', ':')), ' type="application/json" id="opcodes"'),
+            *(element('script', json.dumps(facts, separators=(',', ':')), f' type="application/json" id="{name}"')
+              for name, facts in (('opcodes', opcode_table()), ('source-facts', source_facts()))),
             element('script', base64.b64encode(module).decode('ascii'), ' type="text/plain" id="module"')]
     for old, new in (('<meta charset="utf-8">', f'<meta charset="utf-8">\n<meta http-equiv="Content-Security-Policy" content="{policy}">'),
                      ('href="icon.svg"', f'href="data:image/svg+xml;base64,{icon}"'),
@@ -78,14 +80,20 @@ def make(module: bytes) -> bytes:
 def put(folder: Path, made: bytes) -> None:
     """Puts the page into its place, whole or not at all, and its sum among the others."""
     sums = folder / 'SHA256SUMS'
-    others = [line for line in sums.read_text().splitlines(keepends=True) if not line.endswith(f'  {NAME}\n')] if sums.exists() else []
-    wanted = ''.join([*others, f'{hashlib.sha256(made).hexdigest()}  {NAME}\n'])
+    wanted = with_sum(sums.read_text() if sums.exists() else '', made)
     for file, content in ((folder / NAME, made), (sums, wanted.encode('ascii'))):
         if not file.exists() or file.read_bytes() != content:
             new = file.with_name(f'{file.name}.new')
             new.write_bytes(content)
             new.chmod(0o644)
             new.replace(file)
+
+
+def with_sum(sums: str, made: bytes) -> str:
+    """The lines of sums with that of the page, in the place of the one that was there, or else as the last."""
+    line = f'{hashlib.sha256(made).hexdigest()}  {NAME}\n'
+    lines = [line if other.endswith(f'  {NAME}\n') else other for other in sums.splitlines(keepends=True)]
+    return ''.join(lines if line in lines else [*lines, line])
 
 
 def main() -> int:

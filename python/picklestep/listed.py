@@ -7,7 +7,7 @@ lines whose offsets have as many digits begin their codes in the same column, so
 from __future__ import annotations
 
 import re
-from typing import Dict, Iterator, List, Optional, Tuple
+from typing import AnyStr, Dict, Iterator, List, Optional, Tuple
 
 from .errors import ProgramError
 from .program import Process
@@ -15,7 +15,7 @@ from .records import End
 from .sources import Input
 from .texts import end_of
 
-__all__ = ['Listed', 'offset_of']
+__all__ = ['Listed', 'in_columns', 'offset_of']
 
 _CLOSING = re.compile('\n[a-z]')  # (a line of an opcode begins with a blank or a digit)
 
@@ -71,19 +71,8 @@ class Listed:
         return found
 
     def _in_columns(self, lines: List[str]) -> Iterator[Tuple[int, List[str]]]:
-        """Lines in batches of one column each. Columns only grow."""
         self.places += len(lines)
-        while lines:
-            column = lines[0].index(':') + 2
-            if lines[-1].index(':') + 2 == column:
-                yield column, lines
-                return
-            low, high = 0, len(lines) - 1
-            while low < high:
-                middle = (low + high) // 2
-                low, high = (middle + 1, high) if lines[middle].index(':') + 2 == column else (low, middle)
-            yield column, lines[:low]
-            lines = lines[low:]
+        return in_columns(lines, ':')
 
     @property
     def end(self) -> End:
@@ -97,6 +86,25 @@ class Listed:
     def kept(self) -> int:
         """How many bytes are after STOP."""
         return int(self._closing.get('kept', '0').partition(' ')[0])
+
+
+def in_columns(lines: List[AnyStr], colon: AnyStr) -> Iterator[Tuple[int, List[AnyStr]]]:
+    """Lines in batches, each with the column in which its codes begin. Columns only grow.
+
+    >>> list(in_columns(['99999: N    NONE', '100000: .    STOP'], ':'))
+    [(7, ['99999: N    NONE']), (8, ['100000: .    STOP'])]
+    """
+    while lines:
+        column = lines[0].find(colon) + 2
+        if lines[-1].find(colon) + 2 == column:
+            yield column, lines
+            return
+        low, high = 0, len(lines) - 1
+        while low < high:
+            middle = (low + high) // 2
+            low, high = (middle + 1, high) if lines[middle].find(colon) + 2 == column else (low, middle)
+        yield column, lines[:low]
+        lines = lines[low:]
 
 
 def offset_of(line: str) -> int:

@@ -8,8 +8,8 @@ from typing import Callable, Dict, List, Optional, Sequence, Tuple, Union
 
 from .records import (Argument, Brief, Briefs, Change, End, Extension, Global, Item, Mark, Name, Object, Opcode, Reach, Ref, Value, Where)
 
-__all__ = ['COUNTS', 'HEADING', 'ITEM', 'LEFT', 'LinesError', 'OBJECT', 'OFFSET', 'OPCODE', 'QUOTED', 'QUOTED_OR_NUMBER', 'REACHED',
-           'RESULT', 'SHOWN', 'closing_of', 'container_in', 'memo_of', 'object_of', 'opcode_of', 'reach_of', 'stack_of', 'unquoted',
+__all__ = ['BROKEN', 'COUNTS', 'HEADING', 'HELD', 'ITEM', 'LEFT', 'LinesError', 'MADE', 'OBJECT', 'OFFSET', 'OPCODE', 'QUOTED',
+           'QUOTED_OR_NUMBER', 'REACHED', 'READONLY', 'RESULT', 'SHOWN', 'closing_of', 'container_in', 'memo_of', 'object_of', 'opcode_of', 'reach_of', 'stack_of', 'unquoted',
            'where_of']
 
 QUOTED = r"'[^'\\]*(?:\\.[^'\\]*)*'"
@@ -34,6 +34,12 @@ ITEM = re.compile(r'^([> ])([* ]) *([0-9]+) +([0-9]+): ([A-Z][A-Z0-9_]*)(?: (.*)
 SHOWN = re.compile(r'^([0-9]+) (#[0-9]+)( .*)?$', re.MULTILINE)
 LEFT = re.compile(r'^left: ([0-9]+) objects, ([0-9]+) marks$', re.MULTILINE)
 RESULT = re.compile(r'^result #([0-9]+)$', re.MULTILINE)
+# The place of an item that has a breakpoint; the object that a line of `calls` makes.
+BROKEN = re.compile(r'^[> ]\* *([0-9]+) ', re.MULTILINE)
+MADE = re.compile(' as #([0-9]+)$')
+# In lines of `objects`, as bytes: what an object holds (in parentheses what it was made of, then what was put in), and the beginning of a view.
+HELD = re.compile(rb'([ (+&!=]|\[)#([0-9]+)')
+READONLY = re.compile(rb'^#[0-9]+ readonly ', re.MULTILINE)
 _CONTAINER = re.compile(r'^begins like an? (.*): picklestep scan looks into it$', re.MULTILINE)
 _CLOSING = re.compile(r'(?:it (?=ends: ))?(refused|fault|unsure|left|kept|ends): (.*)|(highest protocol among opcodes) = (.*)|result #.*|'
                       r'[0-9]+ imports, .*|begins like .*')

@@ -28,6 +28,8 @@ for end, wanted in zip(ends, (3, 4)):
 os.execv(sys.argv[3], sys.argv[3:])'''
 KEYS = {'ArrowRight': 39, 'ArrowLeft': 37, 'ArrowDown': 40, 'ArrowUp': 38, 'Home': 36, 'End': 35, 'Enter': 13, ' ': 32, 'Tab': 9, 'Escape': 27}
 
+# A script whose value are the faults that some people could not use the page for.
+ACCESSIBILITY = (Path(__file__).parent / 'accessibility.js').read_text(encoding='utf-8')
 # How much each text that is seen stands out from what is behind it, by the formula of the Web Content Accessibility Guidelines.
 CONTRASTS = '''(() => {
     const parts = (colour) => colour.match(/[0-9.]+/g).map(Number);
@@ -160,9 +162,18 @@ class Browser:
         """Moves the pointer."""
         self.call('Input.dispatchMouseEvent', type='mouseMoved', x=x, y=y)
 
+    def choose(self, selector: str, path: Path) -> None:
+        """Chooses a file."""
+        field = self.call('Runtime.evaluate', expression=f'document.querySelector({json.dumps(selector)})')['result']['objectId']
+        self.call('DOM.setFileInputFiles', files=[str(path)], objectId=field)
+
     def screenshot(self, path: Path) -> None:
         """Writes what the page looks like."""
         path.write_bytes(base64.b64decode(self.call('Page.captureScreenshot', format='png')['data']))
+
+    def requested(self) -> List[str]:
+        """What the browser asked for, where the domain Network is enabled."""
+        return [told['params']['request']['url'] for told in self.told if told.get('method') == 'Network.requestWillBeSent']
 
     def errors(self) -> List[str]:
         """What the page's script or its policy complained of."""

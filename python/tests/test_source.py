@@ -3,6 +3,7 @@
 from __future__ import annotations
 
 import ast
+import builtins
 import collections
 import contextlib
 import copyreg
@@ -21,13 +22,14 @@ from typing import Any, List, Tuple
 import picklestep
 from harmless import Maker, canonical, executed, opcodes_at_random
 from picklestep.python_source import main, source
+from picklestep.python_source.names import TAKEN
 from pickles import HOSTILE, real_pickles
 
 _CASES = 10_500
 _TOGETHER = 500  # pickles in one input
 
 
-def _dumped(value: Any, seed: int) -> bytes:
+def dumped(value: Any, seed: int) -> bytes:
     """A pickle of a value, of one of the protocols, by one of the picklers."""
     protocol = seed % 6
     how = random.Random(seed).randrange(4)
@@ -49,7 +51,7 @@ class Equality(unittest.TestCase):
             seeds = []
             for seed in range(first, first + _TOGETHER):
                 with contextlib.suppress(RecursionError):  # (no pickler can write an object that is an argument of its own call)
-                    pickles.append(_dumped(Maker(seed).value(), seed))
+                    pickles.append(dumped(Maker(seed).value(), seed))
                     seeds.append(seed)
             answer = source(b''.join(pickles), many=True)
             self.assertTrue(answer.end.is_stopped)
@@ -173,6 +175,13 @@ class Shown(unittest.TestCase):
             'from a import set as set_0', 'from b import set as set_1', 'from b import set as set_2', 'from a import _3 as _3_3',
             "_4 = getattr(import_module('\\x01'), 'x y')", "_5 = getattr(import_module('cl'), 'class')",
             "_6 = getattr(import_module('__future__'), 'division')"])
+
+    def test_a_long_name_that_is_called_without_arguments(self) -> None:
+        name = 'n' * 500
+        self.assertIn(f'_2 = {name}()  # 506', source(f'cos\n{name}\n)R.'.encode('ascii')).text)
+
+    def test_the_names_of_this_python_are_taken(self) -> None:
+        self.assertLessEqual({*dir(builtins)} - {'_'}, {name for name, (module, _) in TAKEN.items() if module == 'builtins'})
 
     def test_cut(self) -> None:
         data = pickle.dumps(['x' * 1000, list(range(100)), {n: n for n in range(20)}, b'y' * 70, 1 << 20000])

@@ -75,10 +75,10 @@ class Documents(unittest.TestCase):
         seen = set()
         for name, data in real_pickles().items():
             listing = picklestep.listing(data)
-            names = [opcode.name.encode('ascii') for opcode in listing][:listing.end.item]
+            names = [opcode.name for opcode in listing][:listing.end.item]
             seen |= {*names}
             self.assertEqual(sum(name not in lines.MAKE_NONE for name in names), len(picklestep.objects(data)), name)
-        self.assertEqual(seen, {*map(str.encode, opcode_table())})
+        self.assertEqual(seen, {*opcode_table()})
 
     def test_views_of_what_is_only_read(self) -> None:
         """READONLY_BUFFER makes no object where its own can only be read already."""

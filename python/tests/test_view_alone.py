@@ -18,9 +18,10 @@ import time
 import unittest
 import zipfile
 from pathlib import Path
-from typing import Any, Dict, List
+from typing import Any, Dict, List, Union
 
-from chromium import CONTRASTS, PROGRAM, Browser
+import firefox
+from chromium import ACCESSIBILITY, CONTRASTS, PROGRAM, Browser
 from pickles import REAL, ROOT, known_opcodes, real_pickles
 from picklestep.view.document import Document
 from picklestep.view.server import Viewer
@@ -43,25 +44,18 @@ SEEN = '''(() => {
     return { rows: Object.fromEntries([...document.querySelectorAll('.row:not([hidden])')].map((row) =>
             [row.dataset.place, [row.className, row.getAttribute('aria-label'), row.textContent]])),
         title: document.title, ...Object.fromEntries(['#name', '#where', '#reached', '#closing', '#said', '#stack li', '#memo li', '#objects .thing',
-            '#objects-shown', '#reaches li', '#reaches-shown', '#result .thing', '#result .note', '#opcode', '#about', '#undo', '#redo']
+            '#objects-shown', '#reaches li', '#reaches-shown', '#result .thing', '#result .note', '#source', '#opcode', '#about', '#undo', '#redo']
             .map((selector) => [selector, texts(selector)])), titles: ['undo', 'redo'].map((id) => document.getElementById(id).title),
         readOn: document.querySelector('#read-on').hidden }; })()'''
 # The same keys for both pages. What begins with a sharp is clicked.
-KEYS = ['n', 'ArrowRight', 'p', 'ArrowDown', 'b', ' ', 'End', '#objects .thing', '#result .thing', 'Home', 'Delete', 'u', 'r',
+KEYS = ['n', '#tab-result', 'ArrowRight', 'p', 'ArrowDown', 'b', ' ', 'End', '#objects .thing', '#result .thing', 'Home', 'Delete', 'u', 'r',
         '#read-on:not([hidden])']
 
 
-@unittest.skipIf(PROGRAM is None, 'there is no chromium')
-class Alone(unittest.TestCase):
-    """The page from a file, in a browser that all tests use one after another."""
+class Driven(unittest.TestCase):
+    """The page from a file, in a browser that all tests of a class use one after another."""
 
-    browser: Browser
-
-    @classmethod
-    def setUpClass(cls) -> None:
-        cls.browser = Browser(1200, 800)
-        cls.browser.call('Network.enable')
-        cls.addClassCleanup(cls.browser.close)
+    browser: Union[Browser, firefox.Firefox]
 
     def setUp(self) -> None:
         held = tempfile.TemporaryDirectory()
@@ -77,12 +71,11 @@ class Alone(unittest.TestCase):
 
     def choose(self, path: Path) -> None:
         """Chooses a file, as the button does."""
-        field = self.browser.call('Runtime.evaluate', expression="document.querySelector('#file')")['result']['objectId']
-        self.browser.call('DOM.setFileInputFiles', files=[str(path)], objectId=field)
+        self.browser.choose('#file', path)
 
     def give(self, path: Path) -> None:
         """Chooses a file, and waits until it is shown."""
-        self.browser.js('void (view.state = null)')
+        self.browser.js("void (showPane('objects'), view.state = null)")
         self.choose(path)
         self.browser.wait('view.state !== null')
         self.browser.js(SETTLED)
@@ -101,8 +94,7 @@ class Alone(unittest.TestCase):
 
     def requests(self) -> List[str]:
         """What the browser asked for: the page itself and its worker are not counted."""
-        asked = [told['params']['request']['url'] for told in self.browser.told if told.get('method') == 'Network.requestWillBeSent']
-        return [url for url in asked if url != PAGE.as_uri() and not url.startswith(('blob:null/', 'data:image/svg+xml;base64,'))]
+        return [url for url in self.browser.requested() if url != PAGE.as_uri() and not url.startswith(('blob:null/', 'data:image/svg+xml;base64,'))]
 
     # --- The same in both pages ---
 
@@ -115,8 +107,7 @@ class Alone(unittest.TestCase):
             else:
                 self.browser.js("document.querySelector('#listing').focus()")
                 self.browser.key(key)
-            self.browser.js(SETTLED)
-            seen.append(self.browser.js(SEEN))
+            seen.append(self.browser.js(f'{SETTLED}.then(() => {SEEN})'))
         return seen
 
     def with_server(self, path: Path) -> List[Dict[str, Any]]:
@@ -159,6 +150,32 @@ class Alone(unittest.TestCase):
         for part, shown in there.items():
             self.assertEqual(here[part], shown, f'{what}: {part}')
 
+
+@unittest.skipIf(firefox.PROGRAM is None, "there is no Firefox: Debian's firefox-esr has it")
+class InFirefox(Driven):
+    """Some of the real pickles in another browser."""
+
+    @classmethod
+    def setUpClass(cls) -> None:
+        cls.browser = firefox.Firefox(1200, 800)
+        cls.addClassCleanup(cls.browser.close)
+
+    def test_real_pickles_show_the_same(self) -> None:
+        self.compare(SHOWN[::4])
+
+
+@unittest.skipIf(PROGRAM is None, "there is no Chromium: Debian's chromium has it")
+class Alone(Driven):
+    """What is opened, shown, taught, edited and saved."""
+
+    browser: Browser
+
+    @classmethod
+    def setUpClass(cls) -> None:
+        cls.browser = Browser(1200, 800)
+        cls.browser.call('Network.enable')
+        cls.addClassCleanup(cls.browser.close)
+
     def test_twenty_real_pickles_show_the_same(self) -> None:
         self.assertEqual(len(SHOWN), 20)
         self.compare(SHOWN)
@@ -168,7 +185,6 @@ class Alone(unittest.TestCase):
         self.addCleanup(self.browser.call, 'Page.removeScriptToEvaluateOnNewDocument', identifier=script)
         self.compare([*SHOWN[1:20:5], self.file('two.pickle', b'NN(N.' + SYSTEM), self.file('views.pickle', b'C\x01a\x98\x97\x98\x98N\x87.')])
         self.assertEqual(self.browser.js("'Suspending' in WebAssembly"), False)
-
 
     # --- What is opened ---
 
@@ -351,19 +367,23 @@ class Alone(unittest.TestCase):
         for opened in (False, True):
             if opened:
                 self.give(MODELS / 'sklearn_tree.pkl')
-                self.browser.key('n')
+                self.browser.key('End')
                 self.browser.js(SETTLED)
+                self.browser.js("document.querySelector('#result .thing').click()")
             for scheme in ('light', 'dark'):
                 self.browser.scheme(scheme)
                 for pane in ('objects', 'reached', 'result'):
                     self.browser.js(f"showPane('{pane}')")
                     self.assertEqual([each for each in self.browser.js(CONTRASTS) if each[1] < 4.5], [])
-            unnamed = self.browser.js('''[...document.querySelectorAll('button, input, select, textarea')].filter((each) =>
-                !each.textContent.trim() && !each.labels?.length && !each.ariaLabel).map((each) => each.id)''')
-            self.assertEqual(unnamed, [])
+                    self.assertEqual(self.browser.js(ACCESSIBILITY), [])
+            for dialog in ('paste', 'edit', 'save', 'help'):
+                self.browser.js(f"document.querySelector('#{dialog}-dialog').showModal()")
+                self.assertEqual(self.browser.js(ACCESSIBILITY), [])
+                self.browser.js(f"document.querySelector('#{dialog}-dialog').close()")
             for width in (1200, 600, 320):
                 self.browser.size(width, 800)
                 self.assertLessEqual(self.browser.js('document.documentElement.scrollWidth'), width)
+                self.assertEqual((self.browser.js(ACCESSIBILITY), self.browser.js('scrollY')), ([], 0))
             self.browser.size(1200, 800)
 
     def test_slow_steps(self) -> None:
@@ -397,8 +417,12 @@ class Alone(unittest.TestCase):
         objects = self.texts('#objects .thing')
         for text in shown:
             self.assertTrue(any(each.endswith(f'text {text}') for each in objects), text)
+        self.browser.js("showPane('result')")
+        self.browser.js(SETTLED)
+        for text in shown[1:]:
+            self.assertIn(text, self.texts('#source')[0])
         self.browser.click('#tab-reached')
-        everything = self.browser.js('document.body.innerText + document.title + '
+        everything = self.browser.js('document.body.innerText + document.title + document.querySelector("#source").textContent + '
                                      '[...document.querySelectorAll("[title], [aria-label]")].map((each) => each.title + each.ariaLabel)')
         self.assertNotRegex(everything, '[\u0590-\u08ff\u200b-\u200f\u202a-\u202e\u2028\u2066-\u2069\ufeff\x1b\0]')
         self.assertEqual(self.browser.js("document.querySelectorAll('img, b, i').length"), 0)
@@ -415,18 +439,38 @@ class Alone(unittest.TestCase):
             self.assertRegex(str(self.browser.js(f'({attempt}).then(() => "done", (error) => "refused: " + error.message)')), '^refused: ')
         self.assertEqual(self.browser.js('window.ran'), None)
 
-    def test_many_bytes(self) -> None:
-        """A list of 5 MB is there within seconds, and the page answers meanwhile."""
+    def test_many_opcodes(self) -> None:
+        """Of a list of 5 MB the first opcodes are there at once, to step through. When all are read, the page is where it was."""
         self.load()
-        path = self.file('large.pickle', b'\x80\x04](' + b'K\x01' * 2_500_000 + b'e.')
-        self.browser.js("""{ window.said = []; const said = document.querySelector('#said');
-            new MutationObserver(() => window.said.push(said.textContent)).observe(said, { childList: true }); }""")
-        self.choose(path)
-        self.browser.wait("document.querySelector('#where').textContent.startsWith('at 0 of 2500005,')")
-        self.assertTrue(any(text.startswith('list: ') for text in self.browser.js('window.said')))
-        self.browser.js("document.querySelector('#listing').focus()")
+        self.browser.js("""{ window.said = []; const rest = document.querySelector('#rest');
+            new MutationObserver(() => window.said.push(rest.textContent)).observe(rest, { childList: true }); }""")
+        self.choose(self.file('large.pickle', b'\x80\x04](' + b'K\x01' * 2_500_000 + b'e.'))
+        self.browser.wait("document.querySelector('#where').textContent === 'at 0 of 300000, offset 0, end not read yet'")
+        self.assertEqual(self.texts('#closing'), ['the first 300,000 opcodes: the rest is not read'])
+        self.browser.key('ArrowRight')
+        self.browser.wait("document.querySelector('#where').textContent.startsWith('at 1 of 300000,')")
+        self.browser.js("toggle(7)")
+        self.browser.key('Delete')
+        self.said('not done: edits wait until the rest is read')
+        self.assertEqual(self.browser.js("['edit', 'save'].map((id) => document.getElementById(id).disabled)"), [True, True])
+        self.browser.wait("document.querySelector('#where').textContent.startsWith('at 1 of 2500005,')")
+        self.assertTrue(any(text.startswith('The rest is being read: list: ') for text in self.browser.js('window.said')))
+        self.assertEqual((self.texts('#rest'), self.texts('#said')), ([''], ['all is read']))
+        self.browser.key(' ')
+        self.browser.wait("document.querySelector('#where').textContent.startsWith('at 7 of 2500005,')")
         self.browser.key('End')
         self.browser.wait("document.querySelector('#where').textContent.startsWith('at 2500005 of 2500005,')")
+        self.assertEqual((self.requests(), self.browser.errors()), ([], []))
+
+    def test_more_opcodes_than_are_read(self) -> None:
+        """It says what it shows, and another pickle opens as before."""
+        self.load()
+        self.give(self.file('larger.pickle', b'(' + b'N' * 8_100_000 + b'1N.'))
+        self.browser.wait("document.querySelector('#rest').textContent === 'The first part is shown alone: more than 8,000,000 opcodes are not "
+                          "read here (picklestep view shows them)'")
+        self.assertTrue(self.texts('#where')[0].startswith('at 0 of 300000,'))
+        self.give(self.file('a.pickle', SYSTEM))
+        self.assertEqual((self.texts('#rest'), self.texts('#where')), ([''], ['at 0 of 6, offset 0, end stopped']))
 
 
 class Made(unittest.TestCase):
@@ -445,6 +489,15 @@ class Made(unittest.TestCase):
             self.assertIn(f'{digest}  picklestep.html\n', (PAGE.parent / 'SHA256SUMS').read_text())
             (folder / 'picklestep.wasm').write_bytes(b'other')
             self.assertEqual(subprocess.run([*command, '--check', name], capture_output=True, check=False).returncode, 1)
+
+    def test_its_sum_stays_where_it_is(self) -> None:
+        """Among other sums it has the same place, whether the page is made alone or with all that is released."""
+        with tempfile.TemporaryDirectory() as name:
+            folder, sums = Path(name), 'aa  picklestep.wasm\nbb  picklestep.html\ncc  libpicklestep.wasm\n'
+            (folder / 'picklestep.wasm').write_bytes((PAGE.parent / 'picklestep.wasm').read_bytes())
+            (folder / 'SHA256SUMS').write_text(sums)
+            subprocess.run([sys.executable, '-I', '-B', str(ROOT / 'targets' / 'page.py'), name], check=True)
+            self.assertEqual((folder / 'SHA256SUMS').read_text(), sums.replace('bb', hashlib.sha256(PAGE.read_bytes()).hexdigest()))
 
     def test_it_is_small_and_names_no_other_place(self) -> None:
         text = PAGE.read_text(encoding='utf-8')

@@ -18,7 +18,7 @@ from .literals import of_bytes, of_float, of_integer, of_line, of_text
 from .names import Names, python3_name
 from .nodes import Arguments, Called, Entry, Event, Filled, Node, Paired, Statement, is_pure
 
-__all__ = ['Builder']
+__all__ = ['Builder', 'KINDS', 'taken_count']
 
 # The most letters of a plain value that is written wherever it is used.
 _SHORT = 80
@@ -65,8 +65,8 @@ class Builder:
         if own is not None:
             return own
         form = opcode.arg.name if opcode.arg else ''
-        if opcode.name in _KINDS:
-            return self._maker(_KINDS[opcode.name], opcode)
+        if opcode.name in KINDS:
+            return self._maker(KINDS[opcode.name], opcode)
         if opcode.name.startswith('EXT'):
             return self._on_extension
         if opcode.name.endswith('PUT') or opcode.name.endswith('GET'):
@@ -187,9 +187,9 @@ class Builder:
 
     def _maker(self, kind: str, opcode: pickletools.OpcodeInfo) -> _Handler:
         """A handler for an opcode that makes a container: empty, of what is above the mark, or of the objects on top."""
-        if pickletools.markobject in opcode.stack_before:
+        count = taken_count(opcode)
+        if count is None:
             return lambda line: self._push_container(kind, self._cut())
-        count = len(opcode.stack_before)
         return lambda line: self._push_container(kind, self._last(count)) if count else self._push(Node(kind, self._made, []))
 
     def _last(self, count: int) -> List[Entry]:
@@ -368,9 +368,15 @@ class Builder:
         return self.stack
 
 
-_KINDS = {
+# The opcodes that make a container, and its kind.
+KINDS = {
     'EMPTY_LIST': 'list', 'LIST': 'list', 'EMPTY_DICT': 'dict', 'DICT': 'dict', 'EMPTY_SET': 'set', 'FROZENSET': 'frozenset', 'TUPLE': 'tuple',
     'TUPLE1': 'tuple', 'TUPLE2': 'tuple', 'TUPLE3': 'tuple'}
+
+
+def taken_count(opcode: pickletools.OpcodeInfo) -> Optional[int]:
+    """How many objects an opcode takes from the stack. None where it takes all that is above the mark."""
+    return None if pickletools.markobject in opcode.stack_before else len(opcode.stack_before)
 
 
 def _names_of(line: str) -> Tuple[int, Tuple[str, str]]:

@@ -16,9 +16,9 @@ from .helpers import HELPERS
 from .nodes import Event, Statement
 from .writer import Writer
 
-__all__ = ['PythonSource', 'source']
+__all__ = ['HEAD', 'PythonSource', 'source']
 
-_HEAD = '# What loading the pickle would do. Running this does the same.\n'
+HEAD = '# What loading the pickle would do. Running this does the same.\n'
 
 
 class PythonSource(Answer[str]):
@@ -83,7 +83,7 @@ def _written(builder: Builder, listed: Listed, full: bool) -> PythonSource:
     if listed.kept:
         writer.lines.append(f'# {listed.kept} bytes after STOP are not read')
     head = ''.join(text for need, text in HELPERS.items() if need in builder.needs)
-    return PythonSource(_HEAD + head + '\n'.join(writer.lines) + '\n', listed.end, listed.kept)
+    return PythonSource(HEAD + head + '\n'.join(writer.lines) + '\n', listed.end, listed.kept)
 
 
 @contextlib.contextmanager

@@ -2,17 +2,38 @@
 
 from __future__ import annotations
 
-import builtins
 import keyword
 import re
 from typing import Dict, Tuple
 
 from _compat_pickle import IMPORT_MAPPING, NAME_MAPPING
 
-__all__ = ['Names', 'is_identifier', 'python3_name']
+__all__ = ['Names', 'TAKEN', 'is_identifier', 'python3_name']
 
 _IDENTIFIER = re.compile(r'[A-Za-z_][A-Za-z0-9_]*', re.ASCII)
 _OWN = re.compile(r'_[0-9]+')
+
+# What Python 3.9 to 3.14 have without an import. One list, so that a source is the same whichever of them writes it.
+_BUILTINS = '''
+    ArithmeticError AssertionError AttributeError BaseException BaseExceptionGroup BlockingIOError BrokenPipeError BufferError BytesWarning
+    ChildProcessError ConnectionAbortedError ConnectionError ConnectionRefusedError ConnectionResetError DeprecationWarning EOFError Ellipsis
+    EncodingWarning EnvironmentError Exception ExceptionGroup False FileExistsError FileNotFoundError FloatingPointError FutureWarning
+    GeneratorExit IOError ImportError ImportWarning IndentationError IndexError InterruptedError IsADirectoryError KeyError KeyboardInterrupt
+    LookupError MemoryError ModuleNotFoundError NameError None NotADirectoryError NotImplemented NotImplementedError OSError OverflowError
+    PendingDeprecationWarning PermissionError ProcessLookupError PythonFinalizationError RecursionError ReferenceError ResourceWarning
+    RuntimeError RuntimeWarning StopAsyncIteration StopIteration SyntaxError SyntaxWarning SystemError SystemExit TabError TimeoutError True
+    TypeError UnboundLocalError UnicodeDecodeError UnicodeEncodeError UnicodeError UnicodeTranslateError UnicodeWarning UserWarning ValueError
+    Warning WindowsError ZeroDivisionError _IncompleteInputError __build_class__ __debug__ __doc__ __import__ __loader__ __name__ __package__
+    __spec__ abs aiter all anext any ascii bin bool breakpoint bytearray bytes callable chr classmethod compile complex copyright credits
+    delattr dict dir divmod enumerate eval exec exit filter float format frozenset getattr globals hasattr hash help hex id input int isinstance
+    issubclass iter len license list locals map max memoryview min next object oct open ord pow print property quit range repr reversed round
+    set setattr slice sorted staticmethod str sum super tuple type vars zip
+'''.split()
+
+# The names that a source has from the start, with the module and the name of each thing.
+TAKEN: Dict[str, Tuple[str, str]] = {
+    **{name: ('builtins', name) for name in _BUILTINS}, 'import_module': ('importlib', 'import_module'),
+    **{name: ('', name) for name in ('buffers', 'cut', 'extend', 'extension', 'instantiate', 'persistent_load', 'result', 'set_state', 'stack')}}
 
 
 def is_identifier(text: str) -> bool:
@@ -34,10 +55,7 @@ class Names:
     """The names of a source, each for one thing."""
 
     def __init__(self) -> None:
-        self._taken: Dict[str, Tuple[str, str]] = {name: ('builtins', name) for name in dir(builtins)}
-        self._taken['import_module'] = ('importlib', 'import_module')
-        for name in ('buffers', 'cut', 'extend', 'extension', 'instantiate', 'persistent_load', 'result', 'set_state', 'stack'):
-            self._taken[name] = ('', name)
+        self._taken = dict(TAKEN)
 
     def bind(self, module: str, name: str, number: int, is_dotted: bool) -> Tuple[str, str]:
         """The statement that imports a name, and how the thing is called then. `number` is that of the object."""

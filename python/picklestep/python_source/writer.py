@@ -127,6 +127,8 @@ class Writer:
 def _bracketed(start: str, end: str, texts: List[str], is_tuple: bool) -> str:
     """Texts in brackets: in one line where that is short."""
     inner = ', '.join(texts)
+    if not texts:
+        return start + end
     if len(inner) + len(start) < _COLUMNS and '\n' not in inner:
         return f'{start}{inner},{end}' if is_tuple and len(texts) == 1 else start + inner + end
     longest = max(map(len, texts))

@@ -12,10 +12,11 @@ from typing import Any, Callable, Dict, List, NamedTuple, Optional, Set, Tuple
 
 from ..answers import Calls
 from ..errors import Refused
-from ..program import run_program
+from ..python_source import source
 from ..session import Session
 from ..sources import Input, Source
-from .lines import Lines, add_items, lines_of, makers_of, read_listing, read_objects, silent
+from ..texts import BROKEN, HELD, MADE
+from .lines import Lines, add_items, lines_of, read_all, silent
 
 __all__ = ['Document', 'Done', 'Fields']
 
@@ -31,6 +32,9 @@ _MOST_ENTRIES = 500
 _MOST_HOLDERS = 20
 _MOST_RESULTS = 5
 _MOST_ARGUMENT = 1 << 16
+# Of up to so many opcodes the Python source is written, of which so many lines are shown.
+_MOST_SOURCE = 1_000_000
+_MOST_SOURCE_LINES = 1000
 _IMPORTS = ('import', 'inst')
 _CALLS = ('inst', 'call', 'new', 'state', 'append', 'set', 'add')
 _PLACES = {'replace': 0, 'insert': 1, 'delete': -1, 'frame': 1, 'unframe': -1}
@@ -47,7 +51,7 @@ class Reaches:
         self._makers = array('Q')
         self._places = array('Q')
         for match in answer.matches():
-            made = _MADE.search(match[2])
+            made = MADE.search(match[2])
             if made is not None:
                 self._made.append(int(made[1]))
                 self._makers.append(len(self.kinds))
@@ -102,7 +106,6 @@ class Reaches:
         return None
 
 
-_MADE = re.compile(' as #([0-9]+)$')
 _IMPORTS_COUNT = _IMPORTS.__contains__
 _CALLS_COUNT = _CALLS.__contains__
 
@@ -158,18 +161,16 @@ class Document:
         self._heap: Optional[Lines] = None
         self.edited = _edited(self._edits)
         if self._has_breaks:
-            self.breaks = {int(match[1]) for match in _BROKEN.finditer(self.session.items().text)}
+            self.breaks = {int(match[1]) for match in BROKEN.finditer(self.session.items().text)}
 
     def _read_from(self, given: Input) -> None:
-        self.lines = read_listing(given, self._options, self._told)
+        self.lines, self._final, calls = read_all(given, self._options, self._told)
         if len(self.lines) < self.session.where().places:
             add_items(self.lines, given, self._options)
-        self._final = read_objects(given, self._options, self._told)
-        first = [] if self._options else ['--first']
-        self.reaches = Reaches(Calls(run_program(['calls', given.path, *first], given.files).decode('ascii')))
+        self.reaches = Reaches(Calls(calls))
         self.lines.closing += self.reaches.behind
         here = self.session.where().place
-        self._makers = makers_of(self.lines, self._final, self._makes_object)
+        self._makers = self.lines.makers.of(self._final, self._makes_object)
         self.session.goto(here)
 
     def _makes_object(self, place: int, number: int) -> bool:
@@ -257,7 +258,7 @@ class Document:
             return {'parts': [], 'more': 0}
         start, end = heap.starts[number], heap.starts[number + 1] - 1
         after = max(heap.text.rfind(b"'", start, end), start)
-        held = islice(_HELD.finditer(heap.text, after + 1, end), _MOST_PARTS)
+        held = islice(HELD.finditer(heap.text, after + 1, end), _MOST_PARTS)
         shown = [[_HOW.get(match[1][-1:], ''), int(match[2]), *self.thing(int(match[2]))] for match in held]
         return {'parts': shown, 'more': heap.text.count(b'#', after + 1, end) - len(shown)}
 
@@ -281,6 +282,13 @@ class Document:
             if not is_in_text and holder not in found:
                 found.append(holder)
         return found
+
+    def source(self) -> Fields:
+        """The pickle as Python source, as much of it as is shown, and how many lines more there are."""
+        if len(self.lines) > _MOST_SOURCE:
+            return {'source': [], 'more': 0, 'isLong': True}
+        lines = list(source(self.content(), full=False, many=bool(self._options)))
+        return {'source': lines[:_MOST_SOURCE_LINES], 'more': max(0, len(lines) - _MOST_SOURCE_LINES), 'isLong': False}
 
     # --- For reports: the objects as they are at the end ---
 
@@ -428,10 +436,7 @@ def _last(answer: str) -> Fields:
     return {'words': shown, 'more': first.count(' ')}
 
 
-# What an object holds: in parentheses what it was made of, then what was put in.
-_HELD = re.compile(rb'([ (+&!=]|\[)#([0-9]+)')
 _HOW = {b'+': 'append', b'&': 'add', b'!': 'state', b'[': 'key', b'=': 'value'}
-_BROKEN = re.compile(r'^[> ]\* *([0-9]+) ', re.MULTILINE)
 
 
 def _edited(edits: List[Done]) -> Set[int]:

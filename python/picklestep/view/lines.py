@@ -2,28 +2,28 @@
 
 from __future__ import annotations
 
+import contextlib
 import os
 import pickletools
-import re
 from array import array
 from bisect import bisect_right
 from dataclasses import dataclass
-from itertools import accumulate, compress
-from typing import Callable, Dict, List, Optional, Sequence
+from itertools import accumulate, compress, count, islice
+from typing import Callable, Dict, List, Optional, Sequence, Tuple
 
 from ..errors import ProgramError
+from ..listed import in_columns
 from ..program import Process
 from ..sources import Input
+from ..texts import ITEM, OFFSET, OPCODE, READONLY
 
-__all__ = ['CUT', 'Line', 'Lines', 'OpcodeLines', 'add_items', 'makers_of', 'read_listing', 'read_objects', 'shown_code', 'silent']
+__all__ = ['CUT', 'Line', 'Lines', 'OpcodeLines', 'add_items', 'read_all', 'shown_code', 'silent']
 
 # The most bytes that are kept of a text.
 CUT = 500
 _BLOCK = 1 << 20
-_LISTED = re.compile(r' *([0-9]+): (\S+)( +)([A-Z][A-Z0-9_]*)(?: +(.*))?')
-_NAME = re.compile(rb'[ 0-9]*: \S+ +(\S+).*\n')  # (each match ends where the next begins, so that none is searched for)
-_LISTED_BEGIN = re.compile(rb' *[0-9]+: ')
-_ITEM = re.compile(rb'[> ][* ] *[0-9]+ +([0-9]+): ([A-Z][A-Z0-9_]*)(.*)')
+# An input of at most so many bytes is read by three runs of the program at once.
+_MOST_AT_ONCE = 1 << 26
 
 
 @dataclass(frozen=True)
@@ -49,11 +49,9 @@ class Lines:
         return len(self.starts) - 1
 
     def add(self, lines: List[bytes]) -> None:
-        """Adds lines without their newlines."""
-        self.starts.extend(accumulate((len(line) + 1 for line in lines), initial=len(self.text)))
-        del self.starts[-len(lines) - 1]
-        self.text += b'\n'.join(lines)
-        self.text += b'\n'
+        """Adds lines, each with its newline."""
+        self.starts.extend(islice(accumulate(map(len, lines), initial=len(self.text)), 1, None))
+        self.text += b''.join(lines)
 
     def drop_last(self) -> str:
         """Takes the last line out, and answers it."""
@@ -79,18 +77,24 @@ class Lines:
 
 
 class OpcodeLines(Lines):
-    """The lines of opcodes, by their places. `closing` has the lines after them."""
+    """The lines of opcodes, by their places. `closing` has the lines after them, and `makers` the places of opcodes that make objects."""
 
     def __init__(self) -> None:
         super().__init__()
         self.closing: List[str] = []
+        self.makers = Makers()
+
+    def add(self, lines: List[bytes]) -> None:
+        """Adds lines, each with its newline."""
+        super().add(lines)
+        self.makers.take(lines)
 
     def at(self, place: int) -> Line:
         """The opcode at a place."""
-        match = _LISTED.fullmatch(self.raw(place))
+        match = OPCODE.match(self.raw(place))
         assert match is not None
-        offset, code, blanks, name, argument = match.groups()
-        return Line(int(offset), code, name, argument or '', max(0, (len(code) + len(blanks) - 5) >> 2))
+        offset, code, name, number, argument = match.groups()
+        return Line(int(offset), code, name, number or argument or '', max(0, (match.start(3) - match.end(1) - 7) >> 2))
 
     def offset(self, place: int) -> int:
         """The offset of the opcode at a place."""
@@ -125,16 +129,17 @@ class _Cutter:
     def feed(self, block: bytes) -> None:
         """Takes a block."""
         self._into.whole += len(block)
-        first, *others = block.split(b'\n')
+        first, newline, others = block.partition(b'\n')
         self._grow(first)
-        if not others:
+        if not newline:
             return
-        last = others.pop()
-        if max(map(len, others), default=0) > CUT:
-            others = [_cut(line) for line in others]
-        self._into.add([_cut(bytes(self._head), self._length - len(self._head)), *others])
+        end = others.rfind(b'\n') + 1
+        lines = others[:end].splitlines(keepends=True)
+        if max(map(len, lines), default=0) > CUT:
+            lines = [_cut(line[:-1]) + b'\n' for line in lines]
+        self._into.add([_cut(bytes(self._head), self._length - len(self._head)) + b'\n', *lines])
         self._head, self._length = bytearray(), 0
-        self._grow(last)
+        self._grow(others[end:])
 
     def _grow(self, part: bytes) -> None:
         """Goes on with a line. Of a long text only its beginning and what may come after it is kept."""
@@ -162,31 +167,42 @@ def silent(text: str) -> None:
     """Says nothing of how far it is."""
 
 
-def _read(into: Lines, words: Sequence[str], given: Input, script: bytes = b'', told: Callable[[str], None] = silent) -> None:
-    """Reads all that the program answers about an input, and says to `told` how far it is."""
-    process = Process([*words, given.path], given.files, stdin=bool(script))
+def _read(into: Lines, process: Process, told: Callable[[str], None] = silent, word: str = '') -> None:
+    """Reads all that the program answers, and says to `told` how far it is."""
     cutter = _Cutter(into)
-    try:
-        if script:
-            os.write(process.stdin, script)
-        for block in process.blocks():
-            cutter.feed(block)
-            told(f'{words[0]}: {len(into):,} lines')
-    finally:
-        process.close()
+    for block in process.blocks():
+        cutter.feed(block)
+        told(f'{word}: {len(into):,} lines')
 
 
-def read_listing(given: Input, options: Sequence[str] = (), told: Callable[[str], None] = silent) -> OpcodeLines:
-    """The lines of `list`."""
+def read_all(given: Input, options: Sequence[str] = (), told: Callable[[str], None] = silent) -> 'Tuple[OpcodeLines, Lines, str]':
+    """The lines of `list`, those of `objects` without its closing lines, and the text of `calls`. The program works on all of them at once
+    where the input is not large."""
+    tasks = [['list', *options], ['objects', *options], ['calls', *([] if options else ['--first'])]]
+    with contextlib.ExitStack() as running:
+        def start(words: List[str]) -> Process:
+            process = Process([*words, given.path], given.files)
+            running.callback(process.close)
+            return process
+        started = map(start, tasks)  # (it starts each where it is asked for)
+        processes = iter(list(started)) if os.stat(given.path).st_size <= _MOST_AT_ONCE else started
+        listing = _read_listing(next(processes), told)
+        objects = _read_objects(next(processes), told)
+        told('calls ..')
+        calls = b''.join(next(processes).blocks()).decode('ascii')
+    return listing, objects, calls
+
+
+def _read_listing(process: Process, told: Callable[[str], None]) -> OpcodeLines:
     listing = OpcodeLines()
-    _read(listing, ['list', *options], given, told=told)
-    while len(listing) and not _LISTED_BEGIN.match(listing.text, listing.starts[-2]):
+    _read(listing, process, told, 'list')
+    while len(listing) and not OFFSET.match(listing.raw(len(listing) - 1)):
         listing.closing.insert(0, listing.drop_last())
     if not listing.closing:
         raise ProgramError('the program gave no whole listing')
     if b'\nleft: ' in listing.text:  # (what a STOP left comes after it, also where another pickle follows)
         whole = OpcodeLines()
-        whole.add([line for line in listing.text.split(b'\n')[:-1] if not line.startswith(b'left: ')])
+        whole.add([line for line in bytes(listing.text).splitlines(keepends=True) if not line.startswith(b'left: ')])
         whole.whole, whole.closing = listing.whole, listing.closing
         return whole
     return listing
@@ -195,20 +211,20 @@ def read_listing(given: Input, options: Sequence[str] = (), told: Callable[[str]
 def add_items(listing: OpcodeLines, given: Input, options: Sequence[str] = ()) -> None:
     """Adds the opcodes that a listing has not, since it ends where an opcode is refused."""
     items = Lines()
-    _read(items, ['debug', *options], given, b'items\nquit\n')
+    with contextlib.closing(Process(['debug', *options, given.path], given.files, stdin=True)) as process:
+        os.write(process.stdin, b'items\nquit\n')
+        _read(items, process)
     added = []
     for place in range(len(listing), len(items)):
-        match = _ITEM.fullmatch(items.text, items.starts[place], items.starts[place + 1] - 1)
+        match = ITEM.match(items.raw(place))
         if match is not None:
-            added.append(b'%5s: %-4s %s%s' % (match[1], _CODES[match[2]], match[2], match[3]))
-    if added:
-        listing.add(added)
+            added.append(f'{match[4]:>5}: {_CODES[match[5]]:4} {match[5]}{" " + match[6] if match[6] else ""}\n'.encode('ascii'))
+    listing.add(added)
 
 
-def read_objects(given: Input, options: Sequence[str] = (), told: Callable[[str], None] = silent) -> Lines:
-    """The lines of `objects`, without its closing lines."""
+def _read_objects(process: Process, told: Callable[[str], None]) -> Lines:
     objects = Lines()
-    _read(objects, ['objects', *options], given, told=told)
+    _read(objects, process, told, 'objects')
     while len(objects) and objects.text[objects.starts[-2]] != ord('#'):
         objects.drop_last()
     return objects
@@ -227,30 +243,54 @@ def shown_code(code: str) -> str:
     return code if '!' <= code <= '~' else f'\\x{ord(code):02x}'
 
 
-_CODES: Dict[bytes, bytes] = {opcode.name.encode('ascii'): shown_code(opcode.code).encode('ascii') for opcode in pickletools.opcodes}
+_CODES: Dict[str, str] = {opcode.name: shown_code(opcode.code) for opcode in pickletools.opcodes}
 
 # Opcodes that make no object. READONLY_BUFFER makes one or none.
 MAKE_NONE = frozenset(
-    b'PROTO FRAME STOP MARK POP POP_MARK DUP PUT BINPUT LONG_BINPUT MEMOIZE GET BINGET LONG_BINGET APPEND APPENDS SETITEM SETITEMS '
-    b'ADDITEMS BUILD'.split())
+    'PROTO FRAME STOP MARK POP POP_MARK DUP PUT BINPUT LONG_BINPUT MEMOIZE GET BINGET LONG_BINGET APPEND APPENDS SETITEM SETITEMS '
+    'ADDITEMS BUILD'.split())
+
+# By the code as it stands in a line, with the blanks behind it.
+_MAKES: Dict[bytes, bool] = {f'{code:4}'.encode('ascii'): name not in MAKE_NONE for name, code in _CODES.items()}
+_VIEW = f'{_CODES["READONLY_BUFFER"]:4}'.encode('ascii')
 
 
-_MAKES: Dict[bytes, bool] = {name: name not in MAKE_NONE for name in _CODES}
-_VIEW = b'READONLY_BUFFER'
-_VIEW_MADE = re.compile(rb'^#[0-9]+ readonly ', re.MULTILINE)
+class Makers:
+    """The places of the opcodes that make objects, of a listing whose lines come in batches."""
+
+    def __init__(self) -> None:
+        self._places = array('Q')
+        self._views: List[int] = []
+        self._taken = 0
+
+    def take(self, lines: List[bytes]) -> None:
+        """Takes the next lines of a listing. Those that show no opcode have no place."""
+        codes = _codes_of(lines)
+        try:
+            makes = [_MAKES[code] for code in codes]
+        except KeyError:
+            codes = _codes_of([line for line in lines if not line[:1].isalpha()])
+            makes = [_MAKES[code] for code in codes]
+        self._places.extend(compress(count(self._taken), makes))
+        if _VIEW in codes:
+            self._views += [self._taken + at for at, code in enumerate(codes) if code == _VIEW]
+        self._taken += len(codes)
+
+    def of(self, objects: Lines, makes_view: Callable[[int, int], bool]) -> 'array[int]':
+        """The places of the opcodes that make the objects, in the order of these.
+
+        READONLY_BUFFER makes none where its object can only be read already. Where some do not, `makes_view` is given the place of each and
+        the number that an object would have there, and answers whether it makes one.
+        """
+        if not self._views or len(self._views) == len(READONLY.findall(objects.text)):
+            return self._places
+        views, makers = set(self._views), array('Q')
+        for place in self._places:
+            if place not in views or makes_view(place, len(makers)):
+                makers.append(place)
+        return makers
 
 
-def makers_of(listing: OpcodeLines, objects: Lines, makes_view: Callable[[int, int], bool]) -> 'array[int]':
-    """The places of the opcodes that make the objects, in the order of these.
-
-    READONLY_BUFFER makes none where its object can only be read already. Where some do not, `makes_view` is given the place of each and the
-    number that an object would have there, and answers whether it makes one.
-    """
-    names: List[bytes] = _NAME.findall(listing.text)
-    if names.count(_VIEW) == len(_VIEW_MADE.findall(objects.text)):
-        return array('Q', compress(range(len(names)), map(_MAKES.__getitem__, names)))
-    makers = array('Q')
-    for place, name in enumerate(names):
-        if _MAKES[name] and (name != _VIEW or makes_view(place, len(makers))):
-            makers.append(place)
-    return makers
+def _codes_of(lines: List[bytes]) -> List[bytes]:
+    """The codes in lines of a listing, each with the blanks behind it. Of another line it is none."""
+    return [line[column:column + 4] for column, batch in in_columns(lines, b':') for line in batch]

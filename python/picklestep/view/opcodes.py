@@ -1,14 +1,19 @@
-"""What the page knows of opcodes."""
+"""What the page knows of opcodes and of Python source."""
 
 from __future__ import annotations
 
+import keyword
 import pickletools
 from typing import Any, Dict
 
+from ..python_source.builder import KINDS, taken_count
+from ..python_source.code import HEAD
+from ..python_source.helpers import HELPERS
+from ..python_source.names import TAKEN
 from ..shell.explain import EFFECTS, EXPLAINED
 from .lines import MAKE_NONE, shown_code
 
-__all__ = ['opcode_table']
+__all__ = ['opcode_table', 'source_facts']
 
 
 def opcode_table() -> Dict[str, Dict[str, Any]]:
@@ -19,5 +24,18 @@ def opcode_table() -> Dict[str, Dict[str, Any]]:
     ('item, item', '\\\\x94')
     """
     return {opcode.name: {'code': shown_code(opcode.code), 'form': opcode.arg.name if opcode.arg else '',
-                          'makes': opcode.name.encode('ascii') not in MAKE_NONE, 'says': EXPLAINED[opcode.name],
+                          'makes': opcode.name not in MAKE_NONE, 'says': EXPLAINED[opcode.name],
                           'takes': EFFECTS[opcode.name][0], 'leaves': EFFECTS[opcode.name][1]} for opcode in pickletools.opcodes}
+
+
+def source_facts() -> Dict[str, Any]:
+    """What the page without a server writes into the source of a pickle as `picklestep source` does: the line at its head, the functions that
+    it may define, the names that are taken, with what they are, and the opcodes that make containers, with the kind of each and how many
+    objects it takes (none where it takes those above the mark).
+
+    >>> source_facts()['kinds']['TUPLE2'], source_facts()['taken']['len']
+    (['tuple', 2], 'builtins len')
+    """
+    kinds = {opcode.name: [KINDS[opcode.name], taken_count(opcode)] for opcode in pickletools.opcodes if opcode.name in KINDS}
+    return {'head': HEAD, 'helpers': HELPERS, 'taken': {name: ' '.join(thing) for name, thing in TAKEN.items()},
+            'keywords': [word for word in keyword.kwlist if word[0] != '_'], 'kinds': kinds}

@@ -58,6 +58,7 @@ async function show(state) {
   if (old === null) {
     view.pointed = null;
     by('about').textContent = 'Point at an object, or choose one.';
+    by('source').textContent = '';
   }
   showHeader(state);
   by('bar').max = state.places;
@@ -81,6 +82,7 @@ function showHeader(state) {
   by('reached').textContent = `imports ${state.imports[0]} of ${state.imports[1]}, calls ${state.calls[0]} of ${state.calls[1]}`;
   by('closing').textContent = state.closing.join('; ');
   by('read-on').hidden = !state.closing.some((line) => line.startsWith('kept: '));
+  by('edit').disabled = by('save').disabled = Boolean(state.part);
   for (const word of ['undo', 'redo']) {
     by(word).disabled = !state[word];
     by(word).title = state[word] ? `${word === 'undo' ? 'Take back' : 'Make again'}: ${state[word]} (${word[0]})` : `Nothing to ${word} (${word[0]})`;
@@ -246,5 +248,5 @@ async function begin() {
   wire();
   await host.begin();
   by('names').replaceChildren(...Object.keys(view.opcodes).map((name) => { const made = element('option'); made.value = name; return made; }));
-  by('listing').focus();
+  by('listing').focus({ preventScroll: true });
 }

@@ -245,6 +245,7 @@ _ANSWERS: Dict[str, Callable[[Document, Fields], Fields]] = {
     'holds': lambda document, asked: document.holds(_number(asked, 'number')),
     'about': lambda document, asked: document.about(_number(asked, 'number')),
     'reached': lambda document, asked: {'reached': document.reached(_number(asked, 'start'), _number(asked, 'count'))},
+    'source': lambda document, asked: document.source(),
     'argument': lambda document, asked: document.argument(_number(asked, 'place')),
     'again': lambda document, asked: _after(document.read_on(), document),
     'break': lambda document, asked: _after(document.toggle_break(_number(asked, 'place')), document),

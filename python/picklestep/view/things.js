@@ -21,6 +21,21 @@ async function things() {
   showObjects(made.objects);
   tree(by('result'), state.results.map((number) => node('', number, described(named.briefs[number]), [])),
     state.results_before ? `after ${state.results_before} others` : state.results.length ? '' : 'none so far: a STOP takes it');
+  await showSource();
+}
+
+// The pickle as Python source, which is asked for where it is looked at, and only once as long as nothing is edited. The functions that it
+// defines end in an empty line; what comes after them is seen first.
+async function showSource() {
+  const state = view.state, into = by('source');
+  if (!state || by('pane-result').hidden || view.sourceShown === state.version) return;
+  into.textContent = '# writing ..';
+  const { source: lines = [], more, isLong } = await ask('source');
+  if (!view.state || view.state.version !== state.version) return;
+  view.sourceShown = state.version;
+  const note = isLong ? '# Too long for this page: picklestep source FILE writes it.' : more ? `# ${more} more lines: picklestep source FILE writes them.` : '';
+  into.textContent = [...lines.map(shownSource), note].join('\n');
+  into.scrollTop = into.scrollHeight * (lines.lastIndexOf('') + 1) / (lines.length + 1);
 }
 
 // What is imported and called: asked for again only where it may be other than before. What is before the cursor is done.
@@ -71,9 +86,16 @@ function list(into, entries, more) {
 
 // Puts nodes into a tree, of which one can be reached by Tab.
 function tree(into, nodes, note, isLast) {
-  into.replaceChildren(...nodes, ...(note ? [element('p', 'note', note)] : []));
+  into.replaceChildren(...nodes, ...(note ? [treeNote(note)] : []));
   const all = into.querySelectorAll('.thing');
   if (all.length) all[isLast ? all.length - 1 : 0].tabIndex = 0;
+}
+
+// A line of a tree that is no object.
+function treeNote(text) {
+  const made = element('p', 'note', text);
+  made.setAttribute('role', 'treeitem');
+  return made;
 }
 
 function mark(place) {
@@ -122,8 +144,8 @@ async function open(made, number, above) {
   const answer = await ask('holds', { number });
   if (!answer.parts) return;
   group.append(...answer.parts.map(([how, part, ...shown]) => node(how ? how + ' ' : '', part, described(shown), [...above, number])));
-  if (answer.more) group.append(element('p', 'note', `${answer.more} more`));
-  if (!answer.parts.length) group.append(element('p', 'note', 'holds no object'));
+  if (answer.more) group.append(treeNote(`${answer.more} more`));
+  if (!answer.parts.length) group.append(treeNote('holds no object'));
 }
 
 async function reveal(number) {
@@ -183,6 +205,7 @@ function showPane(name) {
     tab.setAttribute('aria-selected', String(isShown));
     tab.tabIndex = isShown ? 0 : -1;
   }
+  showSource();
 }
 
 function wirePanes() {

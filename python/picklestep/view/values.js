@@ -32,7 +32,7 @@ function literalAt(text) {
   const inner = unescaped(match[2].slice(1, -1), Boolean(match[1]));
   if (!match[1]) return [inner, text.slice(match[0].length)];
   if (/[^\0-\xff]/.test(inner)) throw new ValueError('bytes hold signs of ASCII and escapes alone');
-  return [Uint8Array.from(inner, (sign) => sign.charCodeAt(0)), text.slice(match[0].length)];
+  return [latin(inner), text.slice(match[0].length)];
 }
 
 // The value that a text says: a BigInt, a number for a float, a string, a Uint8Array, true, false, null, or an array of two texts.
@@ -58,7 +58,6 @@ const asLine = (bytes) => {
   if (bytes.includes(10)) throw new ValueError('a line cannot hold a newline');
   return Uint8Array.of(...bytes, 10);
 };
-const latin = (text) => Uint8Array.from(text, (sign) => sign.charCodeAt(0));
 
 function wholeIn(value, low, high) {
   if (typeof value !== 'bigint' || value < low || value > high) throw new ValueError(`a whole number from ${low} to ${high} is wanted`);

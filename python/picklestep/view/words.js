@@ -1,15 +1,17 @@
 'use strict';
 // What the program prints of a pickle, as people and Python write it. Nothing here is markup: all that comes out of it is put in as text.
 
-// Signs that are shown as escapes: those that Python's repr escapes, and all that are written from right to left, since these would
-// move what stands beside them.
-const HIDDEN = /[\p{C}\p{Z}\u0590-\u08ff\ufb1d-\ufdff\ufe70-\ufeff\u{10800}-\u{10fff}\u{1e800}-\u{1efff}]/u;
+// Signs that Python's repr shows as escapes. Here all that are written from right to left are too, since these would move what stands
+// beside them.
+const UNPRINTED = /[\p{C}\p{Z}]/u;
+const LEFTWARDS = '\\u0590-\\u08ff\\ufb1d-\\ufdff\\ufe70-\\ufeff\\u{10800}-\\u{10fff}\\u{1e800}-\\u{1efff}';
+const HIDDEN = new RegExp(`[\\p{C}\\p{Z}${LEFTWARDS}]`, 'u');
 
 const SHORT = { '\\': '\\\\', '\n': '\\n', '\r': '\\r', '\t': '\\t' };
 
-function escapedSign(sign) {
+function escapedSign(sign, hidden = HIDDEN) {
   if (SHORT[sign]) return SHORT[sign];
-  if (sign === ' ' || !HIDDEN.test(sign)) return sign;
+  if (sign === ' ' || !hidden.test(sign)) return sign;
   const code = sign.codePointAt(0).toString(16);
   return code.length <= 2 ? '\\x' + code.padStart(2, '0') : code.length <= 4 ? '\\u' + code.padStart(4, '0') : '\\U' + code.padStart(8, '0');
 }
@@ -17,15 +19,19 @@ function escapedSign(sign) {
 // A text from outside, on one line.
 const plain = (text) => [...text].map((sign) => (sign === '\\' ? sign : escapedSign(sign))).join('');
 
+// Python source, in which no sign is written from right to left: in its texts an escape is the same.
+const shownSource = (source) => source.replace(new RegExp(`[${LEFTWARDS}]`, 'gu'), (sign) => escapedSign(sign));
+
 // A text as Python writes it.
-function pythonText(text) {
-  const quote = text.includes("'") && !text.includes('"') ? '"' : "'";
-  return quote + [...text].map((sign) => (sign === quote ? '\\' + sign : escapedSign(sign))).join('') + quote;
+const pythonText = (text) => quotedSigns([...text], HIDDEN);
+
+function quotedSigns(signs, hidden) {
+  const quote = signs.includes("'") && !signs.includes('"') ? '"' : "'";
+  return quote + signs.map((sign) => (sign === quote ? '\\' + sign : escapedSign(sign, hidden))).join('') + quote;
 }
 
-function pythonBytes(bytes) {
+function pythonBytes(bytes, quote = bytes.includes(39) && !bytes.includes(34) ? '"' : "'") {
   const text = Array.from(bytes, (byte) => String.fromCharCode(byte)).join('');
-  const quote = text.includes("'") && !text.includes('"') ? '"' : "'";
   return 'b' + quote + [...text].map((sign) => {
     if (sign === quote) return '\\' + sign;
     const code = sign.charCodeAt(0);
@@ -62,24 +68,33 @@ function unquoted(quotedText) {
 
 const strict = new TextDecoder('utf-8', { fatal: true, ignoreBOM: true });
 const HALF = /(\xed[\xa0-\xbf][\x80-\xbf])/;
-const MOST_HALVED = 10000; // bytes
+const MOST_HALVED = 65536; // bytes
 
 // The text of bytes in UTF-8, or null. Halves of pairs may stand alone, as Python's unpickler lets them.
 function utf8(bytes) {
   try {
     return strict.decode(bytes);
   } catch (error) {
-    return bytes.length < MOST_HALVED ? withHalves(bytes) : null;
+    return bytes.length < MOST_HALVED ? withHalves(bytes) && withHalves(bytes).join('') : null;
+  }
+}
+
+// The same as signs. Two halves that stand alone one after another are two.
+function signsOf(bytes) {
+  try {
+    return [...strict.decode(bytes)];
+  } catch (error) {
+    return withHalves(bytes);
   }
 }
 
 function withHalves(bytes) {
   try {
-    return String.fromCharCode(...bytes).split(HALF).map((part, at) => {
+    return binary(bytes).split(HALF).flatMap((part, at) => {
       const [, second, third] = part;
-      if (at % 2) return String.fromCharCode(0xd000 | (second.charCodeAt(0) & 63) << 6 | third.charCodeAt(0) & 63);
-      return strict.decode(Uint8Array.from(part, (sign) => sign.charCodeAt(0)));
-    }).join('');
+      if (at % 2) return [String.fromCharCode(0xd000 | (second.charCodeAt(0) & 63) << 6 | third.charCodeAt(0) & 63)];
+      return [...strict.decode(latin(part))];
+    });
   } catch (error) {
     return null;
   }
@@ -139,7 +154,7 @@ function shownArgument(argument, form) {
 // --- What an opcode imports or calls ---
 
 const NAME = `(?:raw )?${QUOTED}`;
-const REACH = new RegExp(`^(import|call|new|inst) (?:(${NAME}) (${NAME})|ext ([0-9]+)|(#[0-9]+))(?: (.*?))??(?: for (${NAME}) (${NAME}))?(?: as #[0-9]+)?$`);
+const REACH = new RegExp(`^(import|call|new|inst) (?:(${NAME}) (${NAME})|ext ([0-9]+)|(#[0-9]+))(?: for (${NAME}) (${NAME}))?(?: (.*?))??(?: as #[0-9]+)?$`);
 
 const DOTTED = /^[\p{L}\p{Nl}_][\p{L}\p{Nl}\p{M}\p{Nd}\p{Pc}]*(\.[\p{L}\p{Nl}_][\p{L}\p{Nl}\p{M}\p{Nd}\p{Pc}]*)*$/u;
 
@@ -165,7 +180,7 @@ function pythonGiven(line) {
 function shownReach(line) {
   const match = REACH.exec(line);
   if (!match) return '';
-  const [, what, module, name, extension, number, given, oldModule, oldName] = match;
+  const [, what, module, name, extension, number, oldModule, oldName, given] = match;
   const called = module ? `${shownName(module)}.${shownName(name)}` : extension ? `extension ${extension}` : number;
   const old = oldModule ? ` (for ${shownName(oldModule)}.${shownName(oldName)})` : '';
   if (what === 'import') return called + old;

@@ -10,28 +10,68 @@ const MOST_ENTRIES = 500;
 const MOST_HOLDERS = 20;
 const MOST_RESULTS = 5;
 const MOST_ARGUMENT = 1 << 16;
+const MOST_SOURCE = 1000000; // opcodes of a pickle that is written as Python source,
+const MOST_SOURCE_LINES = 1000; // of which so many lines are shown
+const MOST_FIRST = 300000; // opcodes that are shown while the rest is read,
+const MOST_READ = 8000000; // where these are not more
 const SHIFTS = { replace: 0, insert: 1, delete: -1, frame: 1, unframe: -1 };
 const HOW = { '+': 'append', '&': 'add', '!': 'state', '[': 'key', '=': 'value' };
 
 let versions = 0; // (of all documents, so that the page never shows the lines of one in another)
 
+// That a listing has as many lines as are wanted. `offset` is that of the next opcode.
+class Enough extends Error {
+  constructor(lines, most) {
+    super(`more than ${most.toLocaleString('en')} opcodes are not read here (picklestep view shows them)`);
+    let at = most;
+    while (at > 0 && !/^ *\d+: /.test(lines.raw(at))) at -= 1; // (what a STOP left has a line too)
+    this.offset = lines.offset(at);
+  }
+}
+
 class Document {
-  static async open(module, opcodes, file, name, many, isLive, progress) {
+  // Opens a pickle. Where it has many opcodes, only the first of them are opened unless it is `isWhole`, and the document is a part.
+  static async open({ module, opcodes, facts, isLive }, file, name, many, isWhole, progress) {
     const document = new Document();
-    Object.assign(document, { module, opcodes, name, file, progress, options: many ? ['--many'] : [], breaks: new Set(), edits: [], undone: [], version: 0, place: 0 });
+    const options = many ? ['--many'] : [];
+    Object.assign(document, { module, opcodes, facts, name, options, progress, breaks: new Set(), edits: [], undone: [], version: 0, place: 0 });
     progress('opening');
-    document.session = await Session.open(module, file, many, isLive);
-    await document.read();
+    document.content = file;
+    document.lines = isWhole ? document.list(MOST_READ) : document.listFirst();
+    document.isPart = document.content.length < file.length;
+    progress('debug: reading the opcodes');
+    document.session = await Session.open(module, document.content, many, isLive);
+    await document.read().catch((error) => { document.session.close(); throw error; });
+    document.pickle = document.version; // (its edits have others)
+    if (document.isPart) document.lines.closing = [`the first ${MOST_FIRST.toLocaleString('en')} opcodes: the rest is not read`];
     return document;
+  }
+
+  list(most = Infinity) {
+    return readListing((words, into) => this.run(words, into, most), this.options);
+  }
+
+  // The listing. Where it has more lines than are shown first, what is behind these is taken off the bytes.
+  listFirst() {
+    try {
+      return this.list(MOST_FIRST);
+    } catch (error) {
+      if (!(error instanceof Enough)) throw error;
+      this.content = this.content.slice(0, error.offset);
+      return this.list();
+    }
   }
 
   // --- The pickle as it is ---
 
   async read() {
-    this.content = this.session.bytes();
+    if (this.session.edits.length || this.version) {
+      this.content = this.session.bytes();
+      this.lines = this.list();
+    }
     const { places, place } = await this.session.where();
-    this.lines = readListing((words, into) => this.run(words, into), this.options);
-    if (this.lines.length < places) await this.readItems();
+    this.listed = this.lines.length;
+    if (this.listed < places) await this.readItems();
     this.final = readObjects((words, into) => this.run(words, into), this.options);
     const calls = new Lines(Infinity);
     this.run(['calls', ...(this.options.length ? [] : ['--first'])], calls);
@@ -46,10 +86,11 @@ class Document {
   }
 
   // Runs a task over the pickle as it is, and says how far it is.
-  run(words, into) {
+  run(words, into, most = Infinity) {
     let told = 0;
     runTask(this.module, [words[0], 'file', ...words.slice(1)], this.content, (bytes) => {
       into.feed(bytes);
+      if (into.length > most) throw new Enough(into, most);
       if (into.length - told < 200000) return;
       told = into.length;
       this.progress(`${words[0]}: ${told.toLocaleString('en')} lines`);
@@ -114,9 +155,9 @@ class Document {
     if (this.isExact()) await this.readHeap();
     return {
       version: this.version, name: this.name, place: where.place, places: where.places, offset: where.offset,
-      results: where.results.slice(-MOST_RESULTS), results_before: Math.max(0, where.results.length - MOST_RESULTS), end: where.end,
+      results: where.results.slice(-MOST_RESULTS), results_before: Math.max(0, where.results.length - MOST_RESULTS), end: this.isPart ? 'not read yet' : where.end,
       imports: [imports, this.reaches.counts[0]], calls: [calls, this.reaches.counts[1]], reaches: this.reaches.length, stack: lastWords(stack),
-      memo: lastWords(memo), made: this.made(), exact: this.isExact(), edits: this.edits.length, undone: this.undone.length,
+      memo: lastWords(memo), pickle: this.pickle, part: this.isPart, made: this.made(), exact: this.isExact(), edits: this.edits.length, undone: this.undone.length,
       undo: describeEdit(this.edits.at(-1)), redo: describeEdit(this.undone.at(-1)), breaks: this.breaks.size, closing: this.lines.closing };
   }
 
@@ -205,6 +246,16 @@ class Document {
     return rows;
   }
 
+  // The pickle as Python source, as much of it as is shown, and how many lines more there are.
+  source() {
+    if (this.lines.length > MOST_SOURCE) return { source: [], more: 0, isLong: true };
+    const offsets = new Numbers();
+    for (let place = 0; place < this.listed; place += 1) offsets.add(this.lines.offset(place));
+    const { opcodes, facts } = this, saidAt = (offset) => this.reaches.textAt(offset);
+    const lines = sourceOf(this.content, offsets, this.lines.closing, { opcodes, facts, saidAt }).split('\n').slice(0, -1);
+    return { source: lines.slice(0, MOST_SOURCE_LINES), more: Math.max(0, lines.length - MOST_SOURCE_LINES), isLong: false };
+  }
+
   // --- Moving ---
 
   async move(what, place) {
@@ -243,6 +294,7 @@ class Document {
   }
 
   async edit(what, place, name, raw, count) {
+    if (this.isPart) throw new Error('edits wait until the rest is read');
     if (!(what in SHIFTS)) throw new Error('this is no edit');
     const puts = what === 'replace' || what === 'insert';
     const done = await this.session.edit(what, place, ...(puts ? [name, raw] : what === 'frame' ? [String(count)] : []));

@@ -3,16 +3,12 @@
 
 const MOST_SIZE = 1073741824; // the program refuses more
 
-const worker = { asked: new Map(), next: 0, file: null };
+const worker = { asked: new Map(), next: 0, file: null, thread: null, shown: null, reader: null };
 
 const host = {
   saves: 'The browser puts it among your downloads.',
 
-  ask(word, asked, moved) {
-    const id = worker.next += 1;
-    worker.thread.postMessage({ id, word, asked: asked || {} }, moved || []);
-    return new Promise((answer) => worker.asked.set(id, answer));
-  },
+  ask: (word, asked) => askThread(worker.thread, word, asked),
 
   // Gives the pickle to the browser as a download.
   async save(name) {
@@ -32,29 +28,76 @@ const host = {
     by('opening-note').hidden = true;
     if (!view.story) by('example').value = '';
     showStory();
+    if (worker.shown === view.state.pickle) return;
+    worker.shown = view.state.pickle;
+    endReader();
+    if (view.state.part) readRest();
   },
 
   async begin() {
     wireOpening();
-    const code = new Blob([by('worker-code').textContent], { type: 'text/javascript' });
-    worker.thread = new Worker(URL.createObjectURL(code));
-    worker.thread.onmessage = (event) => heard(event.data);
-    worker.thread.onerror = (event) => say(`the worker has ended: ${event.message}`, true);
+    worker.code = URL.createObjectURL(new Blob([by('worker-code').textContent], { type: 'text/javascript' }));
     view.opcodes = JSON.parse(by('opcodes').textContent);
     const module = Uint8Array.from(atob(by('module').textContent.trim()), (sign) => sign.charCodeAt(0));
     by('module').remove();
-    const started = await host.ask('start', { module, opcodes: view.opcodes, isLive: 'Suspending' in WebAssembly }, [module.buffer]);
-    if (started.failed) { say(started.said, true); return; }
+    worker.program = { opcodes: view.opcodes, facts: JSON.parse(by('source-facts').textContent), isLive: 'Suspending' in WebAssembly };
+    try {
+      worker.program.module = await WebAssembly.compile(module);
+    } catch (error) {
+      say(`the module does not start: ${error.message}`, true);
+      return;
+    }
+    worker.thread = newThread(say, (text) => say(`the worker has ended: ${text}`, true));
     by('where').textContent = '';
     say('Open a pickle, or choose an example.');
     by('opening').dataset.ready = 'yes';
   },
 };
 
-function heard({ id, answer, progress }) {
-  if (progress !== undefined) { say(progress); return; }
-  worker.asked.get(id)(answer);
-  worker.asked.delete(id);
+// A worker with the program in it. `progress` is told how far it is, and `ended` why it ended.
+function newThread(progress, ended) {
+  const thread = new Worker(worker.code);
+  thread.onmessage = ({ data }) => {
+    if (data.progress !== undefined) { progress(data.progress); return; }
+    worker.asked.get(data.id)(data.answer);
+    worker.asked.delete(data.id);
+  };
+  thread.onerror = (event) => ended(event.message);
+  askThread(thread, 'start', { ...worker.program, from: worker.next });
+  return thread;
+}
+
+function askThread(thread, word, asked, moved) {
+  const id = worker.next += 1;
+  thread.postMessage({ id, word, asked: asked || {} }, moved || []);
+  return new Promise((answer) => worker.asked.set(id, answer));
+}
+
+// --- What is shown in part ---
+
+// Reads the whole of a pickle of which the first part is shown, in a worker of its own, and shows it where the page is in that.
+async function readRest() {
+  const only = (text) => { if (worker.reader === reader) by('rest').textContent = `The first part is shown alone: ${text}`; };
+  const reader = worker.reader = newThread((text) => { if (worker.reader === reader) by('rest').textContent = `The rest is being read: ${text}`; }, only);
+  const { bytes, name, many } = await host.ask('whole');
+  const answer = await askThread(reader, 'rest', { bytes, name, many }, [bytes.buffer]);
+  if (answer.failed) { only(answer.said.replace('not done: ', '')); return; }
+  view.busy = view.busy.then(async () => {
+    if (worker.reader !== reader) return;
+    const state = await askThread(reader, 'go', await host.ask('marks'));
+    if (state.failed) { only(state.said); return; }
+    worker.thread.terminate();
+    [worker.thread, worker.reader, worker.shown] = [reader, null, state.pickle];
+    by('rest').textContent = '';
+    say('all is read');
+    await show(state);
+  });
+}
+
+function endReader() {
+  worker.reader?.terminate();
+  worker.reader = null;
+  by('rest').textContent = '';
 }
 
 // --- Opening ---
@@ -82,7 +125,9 @@ async function loaded(load, story) {
   const answer = await load();
   if (answer.members || answer.failed) [view.state, view.story] = before;
   if (answer.members) showMembers(answer);
-  else if (!answer.failed) { by('save-name').value = ''; by('listing').focus(); }
+  if (answer.members || answer.failed) return;
+  by('save-name').value = '';
+  by('listing').focus({ preventScroll: true });
 }
 
 function showMembers({ members, more, said }) {

@@ -58,6 +58,11 @@ class Live {
     await asks;
     return this.heard.taken();
   }
+
+  // Ends the program, which would wait for a line and keep its memory for ever.
+  close() {
+    if (!this.ended) this.give(NONE);
+  }
 }
 
 // A conversation where no run can wait for a line: each line is answered by a new run, which gets what came before. Moves without an
@@ -81,6 +86,9 @@ class Replayed {
     return answer;
   }
 
+  // No program waits.
+  close() {}
+
   keep(line, answer) {
     const word = line.split(' ')[0];
     const moved = /^at ([0-9]+)/.exec(answer);
@@ -100,6 +108,10 @@ class Session {
     Object.assign(session, { module, file, words: ['picklestep', 'debug', 'file', ...(many ? ['--many'] : [])], edits: [], undone: [] });
     session.talk = await (isLive ? Live : Replayed).start(module, session.words, file);
     return session;
+  }
+
+  close() {
+    this.talk.close();
   }
 
   async ask(line) {

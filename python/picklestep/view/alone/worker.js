@@ -3,24 +3,31 @@
 
 const MOST_MEMBERS = 2000;
 
-const page = { module: null, opcodes: null, isLive: false, document: null, archive: null };
+const page = { program: null, document: null, archive: null, whole: null };
 
 const after = async (said) => ({ said, ...await page.document.state() });
 
 const ANSWERS = {
-  start: async ({ module, opcodes, isLive }) => {
-    Object.assign(page, { module: await WebAssembly.compile(module), opcodes, isLive });
+  // Versions go on `from` those of the worker before, so that no two documents of the page have the same.
+  start: ({ from, ...program }) => {
+    page.program = program;
+    versions = from;
     return {};
   },
   load: ({ bytes, name, isPickle }) => load(bytes, name, isPickle),
+  // What is shown in part: its bytes, and where the page is in it. Another worker reads it whole, and goes there.
+  whole: () => page.whole,
+  marks: () => ({ place: page.document.place, breaks: [...page.document.breaks] }),
+  rest: ({ bytes, name, many }) => open(bytes, name, many, true),
+  go: async ({ place, breaks }) => {
+    for (const each of breaks) await page.document.toggleBreak(each);
+    return after(await page.document.move('goto', place));
+  },
   member: async ({ number }) => {
     const { bytes, members } = page.archive;
     return load(await memberBytes(bytes, members[number]), members[number].name, false);
   },
-  again: async ({ many }) => {
-    const { content, name } = page.document;
-    return open(content, name, many);
-  },
+  again: async ({ many }) => open(page.document.content, page.document.name, many),
   open: () => after('open'),
   lines: ({ start, count }) => ({ version: page.document.version, lines: page.document.slice(start, count) }),
   objects: ({ start, count }) => ({ objects: page.document.objects(start, count) }),
@@ -28,6 +35,7 @@ const ANSWERS = {
   reached: ({ start, count }) => ({ reached: page.document.reached(start, count) }),
   holds: ({ number }) => page.document.holds(number),
   about: ({ number }) => page.document.about(number),
+  source: () => page.document.source(),
   argument: ({ place }) => page.document.argument(place),
   find: ({ text, after: from }) => ({ place: page.document.find(text, from) }),
   move: async ({ what, place }) => after(await page.document.move(what, place)),
@@ -35,11 +43,17 @@ const ANSWERS = {
   edit: async ({ what, place, name, raw, count }) => after(await page.document.edit(what, place, name, raw, count)),
   undo: async () => after(await page.document.undo()),
   redo: async () => after(await page.document.redo()),
-  bytes: () => ({ bytes: page.document.content }),
+  bytes: () => {
+    if (page.document.isPart) throw new Error('saving waits until the rest is read');
+    return { bytes: page.document.content };
+  },
 };
 
-async function open(bytes, name, many) {
-  page.document = await Document.open(page.module, page.opcodes, bytes, name, many, page.isLive, progress);
+async function open(bytes, name, many, isWhole = false) {
+  const before = page.document;
+  page.document = await Document.open(page.program, bytes, name, many, isWhole, progress);
+  before?.session.close();
+  page.whole = page.document.isPart ? { bytes, name, many } : null;
   return after('open');
 }
 

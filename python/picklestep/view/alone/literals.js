@@ -1,0 +1,202 @@
+'use strict';
+// Plain values as Python source: what a loader makes of the bytes that an opcode holds, as Python's `repr` shows it. What no loader takes
+// fails in the source as it would there.
+
+const MOST_DECIMAL_BITS = 14000; // larger whole numbers are in hexadecimal
+const MOST_DIGITS = 4300; // longer decimal numbers are read by no Python
+const MOST_WHOLE = 65536; // bytes; a longer text is put into the source with its beginning alone
+const MOST_LETTERS = 64; // of a text in the source
+
+// A text of the source that is cut already.
+class Shortened {
+  constructor(text) {
+    this.text = text;
+  }
+}
+
+// An argument of which a loader makes no value.
+class Unreadable extends Error {}
+
+// --- Texts and bytes ---
+
+const PLAIN = /^[ -&(-[\]-~]*$/; // what is the same in quotes
+
+// A text of UTF-8.
+function textSource(bytes) {
+  if (bytes.length > MOST_WHOLE) return longText(bytes);
+  const text = binary(bytes);
+  if (PLAIN.test(text)) return `'${text}'`;
+  const signs = signsOf(bytes);
+  return signs === null ? `${bytesSource(bytes)}.decode('utf-8', 'surrogatepass')` : signsSource(signs);
+}
+
+function signsSource(signs) {
+  const text = signs.join('');
+  return PLAIN.test(text) ? `'${text}'` : quotedSigns(signs, UNPRINTED);
+}
+
+function longText(bytes) {
+  if (!isUtf8(bytes)) return cutSource(beginningOf(bytes), sizeOfSource(bytes) + ".decode('utf-8', 'surrogatepass')".length);
+  let letters = 0, end = 0;
+  for (let at = 0; at < bytes.length; at += 1) {
+    if ((bytes[at] & 0xc0) === 0x80) continue;
+    if (letters === MOST_LETTERS) end = at;
+    letters += 1;
+  }
+  return new Shortened(`${signsSource(signsOf(bytes.subarray(0, end)))} + cut(${letters - MOST_LETTERS})`);
+}
+
+// Whether bytes are UTF-8, in which halves of pairs may stand alone.
+function isUtf8(bytes) {
+  const masked = bytes.slice();
+  for (let at = masked.indexOf(0xed); at >= 0; at = masked.indexOf(0xed, at + 1))
+    if ((masked[at + 1] & 0xe0) === 0xa0 && (masked[at + 2] & 0xc0) === 0x80) masked.fill(32, at, at + 3);
+  try {
+    strict.decode(masked);
+    return true;
+  } catch (error) {
+    return false;
+  }
+}
+
+function bytesSource(bytes) {
+  return bytes.length > MOST_WHOLE ? new Shortened(`${pythonBytes(bytes.subarray(0, MOST_LETTERS))} + cut(${bytes.length - MOST_LETTERS})`) : pythonBytes(bytes);
+}
+
+function bytearraySource(bytes) {
+  if (bytes.length > MOST_WHOLE) return cutSource(`bytearray(${beginningOf(bytes)}`, sizeOfSource(bytes) + 'bytearray()'.length);
+  return `bytearray(${pythonBytes(bytes)})`;
+}
+
+// The beginning of bytes in the source, in the quotes that all of them get.
+const beginningOf = (bytes) => pythonBytes(bytes.subarray(0, MOST_LETTERS), bytes.includes(39) && !bytes.includes(34) ? '"' : "'");
+
+// How many letters bytes have in the source.
+function sizeOfSource(bytes) {
+  const widths = Array.from({ length: 256 }, (_, byte) => pythonBytes(Uint8Array.of(byte)).length - 3);
+  let size = 3, single = 0, double = 0;
+  for (const byte of bytes) {
+    size += widths[byte];
+    single += Number(byte === 39);
+    double += Number(byte === 34);
+  }
+  return single && double ? size + single : size;
+}
+
+// A source of which only the beginning is shown, with how many letters are behind it.
+function cutSource(beginning, size) {
+  return new Shortened(`cut(${signsSource([...beginning.slice(0, MOST_LETTERS)])}, ${size - MOST_LETTERS})`);
+}
+
+// --- Numbers ---
+
+function wholeSource(value) {
+  const hex = (value < 0n ? -value : value).toString(16);
+  const bits = 4 * hex.length - Math.clz32(parseInt(hex[0], 16)) + 28;
+  return bits > MOST_DECIMAL_BITS ? `${value < 0n ? '-' : ''}0x${hex}` : String(value);
+}
+
+function floatSource(value, isNegative) {
+  if (Number.isNaN(value)) return isNegative ? "-float('nan')" : "float('nan')";
+  return Number.isFinite(value) ? pythonFloat(value) : `float('${pythonFloat(value)}')`;
+}
+
+// --- Lines of older protocols ---
+
+const C_NUMBER = /^[ \t\v\f\r]*([+-]?)(0x[0-9a-f]+|0[0-7]*|[1-9][0-9]*)$/i;
+const PYTHON_NUMBER = /^[ \t\n\v\f\r]*([+-]?)(0x(?:_?[0-9a-f])+|0o(?:_?[0-7])+|0b(?:_?[01])+|[1-9](?:_?[0-9])*|0(?:_?0)*)[ \t\n\v\f\r]*$/i;
+const PYTHON_FLOAT = /^[ \t\n\v\f\r]*([+-]?)((?:[0-9](?:_?[0-9])*\.?(?:[0-9](?:_?[0-9])*)?|\.[0-9](?:_?[0-9])*)(?:e[+-]?[0-9](?:_?[0-9])*)?|inf(?:inity)?|nan)[ \t\n\v\f\r]*$/i;
+
+const upToNul = (line) => line.split('\0', 1)[0];
+
+function signed(sign, digits) {
+  if (/^[0-9]/.test(digits) && !/^0[xob]/i.test(digits) && digits.length > MOST_DIGITS) throw new Unreadable('too many digits');
+  return sign === '-' ? -BigInt(digits) : BigInt(digits);
+}
+
+// A number as Python's `int` reads it where it may name its base.
+function pythonWhole(line) {
+  const match = PYTHON_NUMBER.exec(line);
+  if (!match) throw new Unreadable('no number');
+  return signed(match[1], match[2].replaceAll('_', ''));
+}
+
+// A number as C's `strtol` reads it: one that begins with 0 is octal. None where it does not read the whole line.
+function cWhole(line) {
+  const match = C_NUMBER.exec(line);
+  if (!match) return null;
+  const digits = /^0[0-7]/.test(match[2]) ? `0o${match[2].slice(1)}` : match[2];
+  const value = signed(match[1], digits);
+  return BigInt.asIntN(64, value) === value ? value : null;
+}
+
+function intLine(line) {
+  const read = upToNul(line), number = read || !line ? cWhole(read) : 0n;
+  if (number === null) return wholeSource(pythonWhole(read));
+  return line.length === 2 && (number === 0n || number === 1n) ? (number ? 'True' : 'False') : wholeSource(number);
+}
+
+function floatLine(line) {
+  const match = PYTHON_FLOAT.exec(upToNul(line));
+  if (!match) throw new Unreadable('no number');
+  const isNegative = match[1] === '-', digits = match[2].toLowerCase().replaceAll('_', '');
+  const size = digits.startsWith('inf') ? Infinity : Number(digits); // (of 'nan' that is none)
+  return floatSource(isNegative ? -size : size, isNegative);
+}
+
+const ESCAPED = { b: '\b', f: '\f', t: '\t', n: '\n', r: '\r', v: '\v', a: '\x07', '\\': '\\', "'": "'", '"': '"', '\n': '' };
+
+// The bytes that are between the quotes of a line of STRING.
+function unescapedLine(line) {
+  return line.slice(1, -1).replace(/\\(?:([0-7]{1,3})|x([0-9a-fA-F]{2})|([^])|$)/g, (all, octal, hex, sign) => {
+    if (octal) return String.fromCharCode(parseInt(octal, 8) & 255);
+    if (hex) return String.fromCharCode(parseInt(hex, 16));
+    if (sign === undefined || sign === 'x') throw new Unreadable('an escape is not whole');
+    return sign in ESCAPED ? ESCAPED[sign] : all;
+  });
+}
+
+function asciiText(line) {
+  if (/[^\0-\x7f]/.test(line)) throw new Unreadable('no ASCII');
+  return signsSource([...line]);
+}
+
+// A line of UNICODE. Halves of pairs that are written as two escapes stay two signs.
+function unicodeLine(line) {
+  const signs = [];
+  for (const [all, four, eight, wrong] of line.matchAll(/\\(?:u([0-9a-fA-F]{4})|U([0-9a-fA-F]{8})|([uU])|[^])|[^]/g)) {
+    const code = parseInt(four || eight, 16);
+    if (wrong || code > 0x10ffff) throw new Unreadable('an escape is not whole');
+    if (four || eight) signs.push(String.fromCodePoint(code));
+    else signs.push(...all);
+  }
+  return signsSource(signs);
+}
+
+const LINES = {
+  INT: [intLine, (bytes) => `int(${pythonBytes(bytes)}, 0)`],
+  LONG: [(line) => wholeSource(pythonWhole(upToNul(line.replace(/L$/, '')))), (bytes) => `int(${pythonBytes(bytes)}, 0)`],
+  FLOAT: [floatLine, (bytes) => `float(${pythonBytes(bytes)})`],
+  STRING: [(line) => asciiText(unescapedLine(line)), failingString],
+  UNICODE: [unicodeLine, (bytes) => `${pythonBytes(bytes)}.decode('raw-unicode-escape')`],
+};
+const ASCII_LINE = [asciiText, (bytes) => `${pythonBytes(bytes)}.decode('ascii')`];
+
+function failingString(bytes) {
+  try {
+    return `${pythonBytes(latin(unescapedLine(binary(bytes))))}.decode('ascii')`;
+  } catch (error) {
+    return `${pythonBytes(bytes)}.decode('unicode_escape')`;
+  }
+}
+
+// The value of an opcode whose argument is a line, or a text of ASCII.
+function lineSource(name, bytes) {
+  const [read, failing] = LINES[name] || ASCII_LINE;
+  try {
+    return read(binary(bytes));
+  } catch (error) {
+    if (error instanceof Unreadable) return failing(bytes);
+    throw error;
+  }
+}
