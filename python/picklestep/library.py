@@ -1,4 +1,5 @@
-"""The library in this process: it answers about a few bytes in microseconds, where the start of the program takes a millisecond.
+"""The library in this process: it answers about a few bytes in microseconds, where the start of the program takes a millisecond. Where it is
+a module, one process of Node answers for all.
 
 It has the same proofs as the program (`picklestep.h` says what they are about), and no limit of time. So what is asked here is small, and its
 memory has a limit: then its time has one, too. Whatever it does not answer, the program is asked.
@@ -10,11 +11,12 @@ import ctypes
 import os
 import threading
 from functools import lru_cache
-from typing import Any, Callable, Dict, Optional, Sequence, Tuple
+from typing import Any, Callable, Dict, Optional, Sequence, Tuple, Union
 
 from . import place
 from .errors import ProgramError
-from .place import find_library, find_program
+from .in_node import InNode
+from .place import find_library, find_program, is_module
 
 __all__ = ['MOST_BYTES', 'WORDS', 'answer']
 
@@ -66,15 +68,15 @@ class _Library:
         self._limit: Callable[[int], None] = library.picklestep_limit_memory
         library.picklestep_limit_memory.argtypes = [ctypes.c_size_t]
         library.picklestep_limit_memory.restype = None
-        self._functions = {words: (getattr(library, name), first) for words, (name, first) in WORDS.items()}
-        for function, first in self._functions.values():
-            function.argtypes = [*[ctypes.c_bool for _ in first], ctypes.c_char_p, ctypes.c_size_t, ctypes.c_void_p, ctypes.c_size_t,
-                                 ctypes.POINTER(_Written)]
-            function.restype = ctypes.c_uint8
+        self._functions = {name: getattr(library, name) for name, _ in WORDS.values()}
+        for name, first in WORDS.values():
+            self._functions[name].argtypes = [*[ctypes.c_bool for _ in first], ctypes.c_char_p, ctypes.c_size_t, ctypes.c_void_p, ctypes.c_size_t,
+                                              ctypes.POINTER(_Written)]
+            self._functions[name].restype = ctypes.c_uint8
 
-    def answer(self, words: Sequence[str], content: bytes, memory: int) -> Optional[bytes]:
+    def answer(self, name: str, first: Tuple[bool, ...], content: bytes, memory: int) -> Optional[bytes]:
         """The text, where it can be had in so much memory."""
-        function, first = self._functions[tuple(words)]
+        function = self._functions[name]
         out: Any = _room.out
         written = _room.written
         self._limit(memory)
@@ -86,11 +88,14 @@ class _Library:
 
 
 @lru_cache(maxsize=None)
-def _library(program: Optional[str], package: str) -> Optional[_Library]:
+def _library(program: Optional[str], package: str) -> Union[None, _Library, InNode]:
     """The library that belongs to the program that would be started, which depends on what PICKLESTEP_PROGRAM says and where the package is."""
     try:
-        path = find_library(find_program())
-        return None if path is None else _Library(path)
+        found = find_program()
+        path = find_library(found)
+        if path is None:
+            return None
+        return InNode(path, _MOST_MEMORY) if is_module(found) else _Library(path)
     except (ProgramError, OSError, AttributeError):
         return None
 
@@ -109,6 +114,7 @@ def answer(words: Sequence[str], content: bytes, memory: Optional[int] = None) -
     if most <= 0 or tuple(words) not in WORDS:
         return None
     library = _library(os.environ.get('PICKLESTEP_PROGRAM'), place._HERE)
-    return None if library is None else library.answer(words, content, most)
+    function, first = WORDS[tuple(words)]
+    return None if library is None else library.answer(function, first, content, most)
 
 

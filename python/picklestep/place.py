@@ -10,6 +10,7 @@ _FOLDERS = {('Linux', 'x86_64'): ('linux-x86_64', 'linux-x86_64-static'), ('Linu
 # What runs on any machine where there is Node: it starts the module beside it.
 _MODULE = 'picklestep.mjs'
 _LIBRARY = 'libpicklestep.so'
+_MODULE_OF_LIBRARY = 'libpicklestep.wasm'
 
 
 def find_program() -> str:
@@ -35,7 +36,7 @@ def find_program() -> str:
     system = ' '.join(machine)
     for path in (os.path.join(_HERE, 'bin', _MODULE), os.path.join(dist, _MODULE)):
         if os.path.isfile(path):
-            if _node():
+            if node_path():
                 return path
             raise ProgramError(f'there is no program for this machine ({system}): with Node 20 or later on the path its module runs '
                                '(https://nodejs.org)')
@@ -44,7 +45,7 @@ def find_program() -> str:
 
 def program_words(program: str) -> 'list[str]':
     """The words that start a program: Node comes first where it is the module."""
-    return [_node() or 'node', program] if is_module(program) else [program]
+    return [node_path() or 'node', program] if is_module(program) else [program]
 
 
 def is_module(program: str) -> bool:
@@ -55,6 +56,9 @@ def is_module(program: str) -> bool:
 def find_library(program: str) -> 'str | None':
     """The path of the library that was made with a program: beside it in the package, in a folder of its own among the released ones."""
     folder = os.path.dirname(os.path.realpath(program))
+    if is_module(program):
+        path = os.path.join(folder, _MODULE_OF_LIBRARY)
+        return path if os.path.isfile(path) else None
     machine = os.path.basename(folder).replace('-static', '')
     for path in (os.path.join(folder, _LIBRARY), os.path.join(os.path.dirname(folder), f'{machine}-library', 'lib', _LIBRARY)):
         if os.path.isfile(path):
@@ -87,7 +91,7 @@ def _numbers(version: str) -> 'list[int]':
     return [int(part) for part in version.strip().split('.')]
 
 
-def _node() -> 'str | None':
+def node_path() -> 'str | None':
     """Where Node is, if it is on the path."""
     name = 'node.exe' if os.name == 'nt' else 'node'
     for folder in os.environ.get('PATH', os.defpath).split(os.pathsep):

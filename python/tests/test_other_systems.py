@@ -62,10 +62,10 @@ class WhichProgram(unittest.TestCase):
         self.assertEqual(self.found('Linux', 'aarch64'), 'linux-aarch64/picklestep')
 
     def test_elsewhere_it_is_the_module_if_node_is_there(self) -> None:
-        with mock.patch('picklestep.place._node', return_value='/bin/node'):
+        with mock.patch('picklestep.place.node_path', return_value='/bin/node'):
             self.assertEqual(self.found('Darwin', 'arm64'), 'picklestep.mjs')
             self.assertEqual(place.program_words('picklestep.mjs'), ['/bin/node', 'picklestep.mjs'])
-        with mock.patch('picklestep.place._node', return_value=None), self.assertRaises(ProgramError) as caught:
+        with mock.patch('picklestep.place.node_path', return_value=None), self.assertRaises(ProgramError) as caught:
             self.found('Windows', 'AMD64')
         self.assertIn('no program for this machine (Windows AMD64): with Node 20', str(caught.exception))
 
