@@ -1,8 +1,7 @@
 // Asks the library. Each line of standard input has a task (list, list --many, objects, objects --many, calls, calls --first,
 // calls --memo kept, debug, debug --many; or of what the script leaves: edited list, edited list --many and the like), a limit of memory in
-// bytes (0: none), the file that is asked about and the file that the text is put in, with tabs between them. For each, a line of standard
-// output has the answer and the status. Status 1 where a file cannot be read or written. The word of the command line is the file of the script
-// of conversations.
+// bytes (0: none), the file that is asked about, the file that the text is put in, and the file of the script of a conversation, with tabs
+// between them. For each, a line of standard output has the answer and the status. Status 1 where a file cannot be read or written.
 #include <picklestep.h>
 #include <stdio.h>
 #include <stdlib.h>
@@ -37,7 +36,7 @@ static memory content_of(const char *path) {
     return m;
 }
 
-// What is asked in each conversation.
+// What is asked in a conversation.
 static memory script;
 
 typedef uint8_t of_script(bool, const uint8_t *, size_t, const uint8_t *, size_t, uint8_t *, size_t, picklestep_written *);
@@ -84,8 +83,9 @@ static uint8_t ask(const char *task, memory given, memory out, picklestep_writte
     return ask_of_script(task, given, out, written);
 }
 
-static void answer(const char *task, size_t most, const char *from, const char *to) {
+static void answer(const char *task, size_t most, const char *from, const char *to, const char *lines) {
     memory given = content_of(from), out = room_for(200);
+    script = content_of(lines);
     picklestep_written written = {0, 0};
     picklestep_limit_memory(most ? most : SIZE_MAX);
     uint8_t found = ask(task, given, out, &written);
@@ -108,17 +108,17 @@ static void answer(const char *task, size_t most, const char *from, const char *
     printf("%d %d\n", found, written.status);
     free(given.bytes);
     free(out.bytes);
+    free(script.bytes);
 }
 
-int main(int count, char **words) {
-    if (count > 1)
-        script = content_of(words[1]);
-    char line[3 * 4096];
+int main(void) {
+    char line[4 * 4096];
     while (fgets(line, sizeof line, stdin)) {
-        const char *task = strtok(line, "\t"), *most = strtok(NULL, "\t"), *from = strtok(NULL, "\t"), *to = strtok(NULL, "\n");
-        if (!to)
+        const char *task = strtok(line, "\t"), *most = strtok(NULL, "\t"), *from = strtok(NULL, "\t"), *to = strtok(NULL, "\t");
+        const char *lines = strtok(NULL, "\n");
+        if (!lines)
             return 1;
-        answer(task, (size_t)strtoull(most, NULL, 10), from, to);
+        answer(task, (size_t)strtoull(most, NULL, 10), from, to, lines);
     }
     return 0;
 }

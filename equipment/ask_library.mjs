@@ -1,4 +1,4 @@
-// node ask_library.mjs MODULE SCRIPT: as ask_library.c, with the module; an instance for each line. It has no limit of memory of its own.
+// node ask_library.mjs MODULE: as ask_library.c, with the module; an instance for each line. It has no limit of memory of its own.
 import { readFileSync, writeFileSync } from 'node:fs';
 
 const TASKS = {
@@ -19,11 +19,10 @@ const TASKS = {
     'edited calls --first': ['picklestep_edited_calls_first', 0],
     'edited calls --memo kept': ['picklestep_edited_calls_one_memo', 0],
 };
-const script = readFileSync(process.argv[3]);
 const module = new WebAssembly.Module(readFileSync(process.argv[2]));
 if (WebAssembly.Module.imports(module).length) throw new Error('it has imports');
 
-function ask(task, content) {
+function ask(task, content, script) {
     const [name, ...first] = TASKS[task];
     const library = new WebAssembly.Instance(module, {}).exports;
     const given = library.take(BigInt(content.length + 1)), written = library.take(16n), lines = library.take(BigInt(script.length + 1));
@@ -48,8 +47,8 @@ function ask(task, content) {
 }
 
 const said = readFileSync(0, 'utf8').split('\n').slice(0, -1).map((line) => {
-    const [task, , from, to] = line.split('\t');
-    const { answer, status, text } = ask(task, readFileSync(from));
+    const [task, , from, to, lines] = line.split('\t');
+    const { answer, status, text } = ask(task, readFileSync(from), readFileSync(lines));
     writeFileSync(to, text);
     return `${answer} ${status}\n`;
 });

@@ -74,6 +74,16 @@ def blocks_of(page: str) -> Iterator[Block]:
         yield block
 
 
+def runs_of(block: Block) -> Iterator[tuple[list[str], bytes]]:
+    """What is run of a conversation: words without those of the files, and the script. Its pickle is also asked as one of several."""
+    for mode in [block.options] if block.options else [[], ["--many"]]:
+        for command in block.written:
+            yield [*command.split(), *([] if "--" in command else mode)], b""
+        if block.script or block.saved is not None:
+            script = "".join(line + "\n" for line in block.script).encode()
+            yield from ((["debug", *mode, *options], script) for options in WINDOWS)
+
+
 def run(program: str, words: list[str], script: bytes) -> tuple[Done, str]:
     done = subprocess.run([program, *words], input=script, capture_output=True, timeout=120)
     if done.stderr:

@@ -3,14 +3,16 @@
 from __future__ import annotations
 
 import functools
+import os
 import re
 import subprocess
+import sys
 from collections.abc import Iterator
-from dataclasses import dataclass
+from dataclasses import dataclass, replace
 from pathlib import Path
 from typing import Callable
 
-from machines import SCRIPT, Answer, Asked, Machines, large
+from machines import KINDS, SEED, Answer, Asked, Machines, large
 from trials.room import beginning
 from trials.trial import Noted, Skip, Trial
 
@@ -31,6 +33,7 @@ MUSL, MUSL_HEADERS = Path("/usr/lib/x86_64-linux-musl"), Path("/usr/include/x86_
 EDITS = b"insert 0 GLOBAL 6f730a6765746377640a\ngoto 1\nstep\ninsert 2 NONE\nundo\nnonsense\ndelete 3\nframe 2 2\nrun\n"
 WARNINGS = ("-Wall", "-Wextra", "-Werror")
 OF_STOPS = {1: b"picklestep: out of memory\n", 2: b"picklestep: too large\n"}
+CASES_OF_LAWS = 100
 LIMITS = (1, 1 << 16, 1 << 20, 8 << 20, 32 << 20)
 EXAMPLE = b"    0: import 'posix' 'system' as #0\n   23: call 'posix' 'system' ('id') as #3\n1 imports, 1 calls\n"
 
@@ -59,17 +62,23 @@ class Libraries(Machines):
             self.call(self.tool(compiler, "a compiler"), "-O1", *WARNINGS, "-o", made, self.root / "equipment/ask_library.c", *words)
         return made
 
-    def asked(self, command: list["str | Path"], runs: list[Asked], most: int = 0, lines: bytes = SCRIPT) -> Iterator[Answer]:
-        """What the library answers, in one process that holds at most so many bytes for each of them. These are the lines of conversations."""
+    def asked(self, command: list["str | Path"], runs: list[Asked], most: int = 0) -> Iterator[Answer]:
+        """What the library answers, in one process that holds at most so many bytes for each of them."""
         folder = self.folder / "answers"
         folder.mkdir(parents=True, exist_ok=True)
-        lines = [f"{' '.join(run.words)}\t{most}\t{run.file}\t{folder / str(number)}\n" for number, run in enumerate(runs)]
-        script = self.folder / "script"
-        script.write_bytes(lines)
-        said = self.call(*command, script, given="".join(lines).encode()).decode().splitlines()
+        lines = []
+        for number, run in enumerate(runs):
+            (folder / f"{number}.script").write_bytes(run.script)
+            lines.append(f"{' '.join(run.words)}\t{most}\t{run.file}\t{folder / str(number)}\t{folder / str(number)}.script\n")
+        said = self.call(*command, given="".join(lines).encode()).decode().splitlines()
         for number, line in enumerate(said):
             answer, status = map(int, line.split())
             yield Answer(2, b"", OF_STOPS[answer]) if answer else Answer(status, (folder / str(number)).read_bytes(), b"")
+
+    @functools.cached_property
+    def conversations(self) -> list[Asked]:
+        """The rows of conversations.txt that the library has a function for."""
+        return [replace(asked, saves=False) for asked in self.rows() if asked.words in TASKS]
 
     # --- The ways to link it ---
 
@@ -156,8 +165,8 @@ def of_edits(libraries: Libraries, way: str) -> Noted:
             subprocess.run([libraries.program, "debug", file, *many, "--save", out], input=EDITS, capture_output=True, timeout=300, check=False)
             words = [("list", *many), ("objects", *many)] if many else [task for task in TASKS if "debug" not in task and "--many" not in task]
             saved += [Asked(task, out) for task in words]
-            runs += [Asked(("edited", *task), file) for task in words]
-    return libraries.compare_answers(saved, libraries.asked(getattr(libraries, way)(), runs, lines=EDITS))
+            runs += [Asked(("edited", *task), file, EDITS) for task in words]
+    return libraries.compare_answers(saved, libraries.asked(getattr(libraries, way)(), runs))
 
 
 def limits(libraries: Libraries) -> str:
@@ -168,6 +177,19 @@ def limits(libraries: Libraries) -> str:
             if found != Answer(2, b"", OF_STOPS[1]):
                 return f"{limit} bytes, {' '.join(run.words)}: status {found.status}"
     return libraries.compare_answers(runs, libraries.asked(libraries.static(), runs)).why
+
+
+def fuzzed(libraries: Libraries) -> Noted:
+    """The laws of fuzz.py, of a program that answers by the library. The seed is always the same."""
+    at = libraries.dist / X86
+    made = libraries.folder / "as_program"
+    words = ("-O1", *WARNINGS, f"-I{at / 'include'}", "-o", made, libraries.root / "equipment/library_as_program.c", at / "lib/libpicklestep.a")
+    libraries.call(libraries.tool("cc", "a compiler of C"), *words)
+    fuzz = (sys.executable, "-B", libraries.root / "equipment/fuzz.py", made, libraries.folder / "fuzz")
+    limits = ("--seed", str(SEED), "--cases", str(CASES_OF_LAWS), "--pickles", libraries.pickles)
+    done = subprocess.run([*fuzz, *limits], env={**os.environ, "PICKLESTEP": str(libraries.program)}, capture_output=True, text=True, check=False)
+    said = done.stdout.splitlines()[-1:] or ["it says nothing"]
+    return Noted("" if done.returncode == 0 else said[0], f": {said[0]}")
 
 
 def too_large(libraries: Libraries) -> str:
@@ -218,9 +240,9 @@ WAYS = {"static": "x86-64, static", "shared": "x86-64, shared", "musl": "x86-64,
 ROWS: list[tuple[str, Callable[[Libraries], "str | Noted"]]] = [
     ("the library: its functions", functions_of),
     ("the library: the header in C++", in_cxx),
-    *((f"the library, {name}: all real pickles", functools.partial(compared, way=way, kind="real")) for way, name in WAYS.items()),
-    *((f"the library, {name}: random cases", functools.partial(compared, way=way, kind="random")) for way, name in WAYS.items()),
+    *((f"the library, {name}: {told}", functools.partial(compared, way=way, kind=kind)) for kind, told in KINDS.items() for way, name in WAYS.items()),
     *((f"the library, {WAYS[way]}: what edits leave", functools.partial(of_edits, way=way)) for way in ("static", "module")),
+    ("the library: random pickles and scripts", fuzzed),
     ("the library: out of memory is an answer", limits),
     ("the library: too large is an answer", too_large),
     *(

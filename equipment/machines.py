@@ -14,6 +14,7 @@ from dataclasses import dataclass, field
 from pathlib import Path
 from typing import Callable, NamedTuple
 
+from conversations import blocks_of, runs_of
 from trials.room import beginning, text_difference
 from trials.samples import HOSTILE
 from trials.trial import Noted, Skip, Trial
@@ -36,24 +37,39 @@ class Answer(NamedTuple):
     status: int
     output: bytes
     errors: bytes
+    saved: bytes = b""
 
 
 @dataclass(frozen=True)
 class Asked:
-    """A run that is compared: the words before the file, and the file."""
+    """A run that is compared: the words before the file, the file, and the script of a conversation, which may save."""
 
     words: tuple[str, ...]
     file: Path
+    script: bytes = SCRIPT
+    saves: bool = False
 
     @property
     def given(self) -> bytes:
-        return SCRIPT if self.words[0] == "debug" else b""
+        return self.script if self.words[0] == "debug" else b""
+
+    def command(self, saved: Path) -> list[str]:
+        """All words, with the file that is saved to."""
+        return [*self.words, str(self.file), *(["--save", str(saved)] if self.saves else [])]
 
 
-def ask(program: list[str], asked: Asked, memory: str = "unlimited") -> Answer:
-    command = ["sh", "-c", 'ulimit -v "$1"; shift; exec "$@"', "sh", memory, *program, *asked.words, str(asked.file)]
-    done = subprocess.run(command, input=asked.given, capture_output=True, timeout=300, check=False)
-    return Answer(done.returncode, done.stdout, done.stderr)
+def taken(file: Path) -> bytes:
+    """The content of a file that is there no more, or nothing."""
+    content = file.read_bytes() if file.exists() else b""
+    file.unlink(missing_ok=True)
+    return content
+
+
+def ask(program: list[str], asked: Asked, memory: str | None = None) -> Answer:
+    saved = asked.file.with_suffix(".saved") if asked.saves else Path()
+    limited = [] if memory is None else ["sh", "-c", 'ulimit -v "$1"; shift; exec "$@"', "sh", memory]
+    done = subprocess.run([*limited, *program, *asked.command(saved)], input=asked.given, capture_output=True, timeout=300, check=False)
+    return Answer(done.returncode, done.stdout, done.stderr, taken(saved) if asked.saves else b"")
 
 
 @dataclass
@@ -96,6 +112,21 @@ class Machines:
             made.append(Asked(chance.choice(self.tasks), file))
         return made
 
+    @functools.cached_property
+    def conversations(self) -> list[Asked]:
+        return self.rows()
+
+    def rows(self) -> list[Asked]:
+        """The rows of conversations.txt, in all windows."""
+        folder = self.folder / "conversations"
+        folder.mkdir(parents=True, exist_ok=True)
+        made = []
+        for number, block in enumerate(blocks_of((self.root / "equipment/conversations.txt").read_text("utf-8"))):
+            file = folder / f"{number}.pickle"
+            file.write_bytes(block.pickle)
+            made += [Asked(tuple(words), file, script, saves=words[0] == "debug") for words, script in runs_of(block)]
+        return made
+
     def wanted(self, asked: Asked) -> Answer:
         if asked not in self.answers:
             self.answers[asked] = ask([str(self.program)], asked)
@@ -107,7 +138,8 @@ class Machines:
         wanted = self.wanted(asked)
         if found == wanted:
             return ""
-        why = text_difference(found.output, wanted.output) or text_difference(found.errors, wanted.errors) or f"status {found.status}"
+        pairs = zip(found[1:], wanted[1:])
+        why = next(filter(None, (text_difference(*pair) for pair in pairs)), f"status {found.status}")
         return f"{' '.join(asked.words)} {asked.file.name}: {why}, with errors that begin: {beginning(found.errors)}"
 
     def compare_all(self, program: list[str], runs: list[Asked]) -> Noted:
@@ -137,13 +169,13 @@ class Machines:
         lines = []
         for number, asked in enumerate(runs):
             (folder / f"{number}.in").write_bytes(asked.given)
-            lines.append({"words": ["picklestep", *asked.words, str(asked.file)], "at": str(folder / str(number))})
+            lines.append({"words": ["picklestep", *asked.command(folder / f"{number}.saved")], "at": str(folder / str(number))})
         (folder / "runs.json").write_text(json.dumps({"module": str(self.dist / MODULE), "pages": pages, "runs": lines}))
         done = subprocess.run([node, str(self.root / "equipment/run_module.mjs"), str(folder / "runs.json")], capture_output=True, timeout=900)
         if done.returncode != 0:
             raise OSError(f"node: status {done.returncode}, {beginning(done.stderr)}")
         for number, status in enumerate(json.loads(done.stdout)):
-            yield Answer(status, (folder / f"{number}.out").read_bytes(), (folder / f"{number}.err").read_bytes())
+            yield Answer(status, *(taken(folder / f"{number}.{kind}") for kind in ("out", "err", "saved")))
 
     def tool(self, name: str, what: str) -> str:
         found = shutil.which(name)
@@ -262,21 +294,34 @@ def heap(machines: Machines) -> str:
     return "" if done.returncode == 0 else f"status {done.returncode}: {beginning(done.stdout)}"
 
 
-ROWS: list[tuple[str, Callable[[Machines], str | Noted]]] = [
+def compared(machines: Machines, way: str, kind: str) -> Noted:
+    """All answers of one kind of a program."""
+    runs: list[Asked] = getattr(machines, kind)
+    if way == "module":
+        return machines.compare_module(runs)
+    return machines.compare_all(machines.arm() if way == "arm" else [str(machines.dist / STATIC)], runs)
+
+
+Row = tuple[str, Callable[[Machines], "str | Noted"]]
+KINDS = {"real": "all real pickles", "random": "random cases", "conversations": "conversations"}
+
+
+def comparisons(way: str, name: str) -> list[Row]:
+    return [(f"{name}: {told}", functools.partial(compared, way=way, kind=kind)) for kind, told in KINDS.items()]
+
+
+ROWS: list[Row] = [
     ("further machines: made again, each is the released one", made_again),
     ("further machines: the heap in C", heap),
     ("further machines: dist is under 8 MB", size_of_all),
     ("x86-64, static: needs no other file", lambda machines: alone(machines, STATIC)),
     ("x86-64, static: in an empty root", in_empty_root),
-    ("x86-64, static: all real pickles", lambda machines: machines.compare_all([str(machines.dist / STATIC)], machines.real)),
-    ("x86-64, static: random cases", lambda machines: machines.compare_all([str(machines.dist / STATIC)], machines.random)),
+    *comparisons("static", "x86-64, static"),
     ("x86-64, static: out of memory is an answer", memory_of_static),
     ("ARM: needs no other file", lambda machines: alone(machines, ARM)),
-    ("ARM, under an emulator: all real pickles", lambda machines: machines.compare_all(machines.arm(), machines.real)),
-    ("ARM, under an emulator: random cases", lambda machines: machines.compare_all(machines.arm(), machines.random)),
+    *comparisons("arm", "ARM, under an emulator"),
     ("the module in Node: as it is started", started_in_node),
-    ("the module in Node: all real pickles", lambda machines: machines.compare_module(machines.real)),
-    ("the module in Node: random cases", lambda machines: machines.compare_module(machines.random)),
+    *comparisons("module", "the module in Node"),
     ("the module in Node: out of memory is an answer", memory_of_module),
 ]
 

@@ -5,7 +5,8 @@ setuptools and wheel are not there, the tests run from the source tree. They run
 
     packages.py --names             writes the names of the tests
     packages.py --run LINES NAME..  runs these tests (a name may be that of a class), or all where none is named; LINES gets for each its
-                                    name, a tab, a note, a tab, and what is wrong or nothing
+                                    name, a tab, a note, a tab, and what is wrong or nothing. Before the names, --skip FILE has the
+                                    beginnings of names of tests that are skipped, each with a tab and the reason
 """
 
 from __future__ import annotations
@@ -83,14 +84,26 @@ def tests_in(suite: Iterable[Any]) -> Iterator[unittest.TestCase]:
             yield test
 
 
-def run_tests(lines: str, names: List[str]) -> None:
-    """Runs tests of the package in this interpreter: all of them where none is named."""
+def run_tests(lines: str, names: List[str], skipped: Optional[Dict[str, str]] = None) -> None:
+    """Runs tests of the package in this interpreter: all of them where none is named, without those whose names begin as the skipped ones."""
     suite = unittest.defaultTestLoader.discover(str(SOURCES / 'tests'))
     if names:
         wanted = tuple(f'{name}.' for name in names)
         suite = unittest.TestSuite(test for test in tests_in(suite) if f'python {test.id()}.'.startswith(wanted))
     with open(lines, 'w', encoding='utf-8', errors='backslashreplace') as out, contextlib.redirect_stdout(sys.stderr):
-        suite.run(Lines(out))
+        result = Lines(out)
+        if skipped:
+            suite = unittest.TestSuite(test for test in tests_in(suite) if not _is_skipped(test, skipped, result))
+        suite.run(result)
+
+
+def _is_skipped(test: unittest.TestCase, skipped: Dict[str, str], result: Lines) -> bool:
+    """Whether a test is skipped, which is written then."""
+    reason = next((reason for name, reason in skipped.items() if f'{test.id()}.'.startswith(f'{name}.')), None)
+    if reason is not None:
+        result.addSkip(test, reason)
+        result.stopTest(test)
+    return reason is not None
 
 
 def print_names() -> None:
@@ -213,5 +226,8 @@ class Package:
 if __name__ == '__main__':
     if sys.argv[1] == '--names':
         print_names()
+    elif sys.argv[3:4] == ['--skip']:
+        rows = Path(sys.argv[4]).read_text(encoding='utf-8').splitlines()
+        run_tests(sys.argv[2], sys.argv[5:], dict((name, reason) for name, _, reason in (row.partition('\t') for row in rows)))
     else:
         run_tests(sys.argv[2], sys.argv[3:])

@@ -4,7 +4,6 @@ asked. The tests of the package run over the module in Node, with all hidden tha
 from __future__ import annotations
 
 import functools
-import os
 import shutil
 import subprocess
 import zipfile
@@ -12,6 +11,7 @@ from dataclasses import dataclass
 from pathlib import Path
 from typing import Callable
 
+from over_node import prepare, run_classes
 from packages import NO_BUILDER, builder, own_environment
 from trials.room import beginning
 from trials.trial import Noted, Skip, Trial
@@ -102,6 +102,13 @@ class Wheels:
         pip = ("-m", "pip", "--disable-pip-version-check", "-q", "--python", interpreter, "install", "--no-index", "--no-deps")
         self.call(self.python, *pip, *words, **environment)
 
+    def lesser(self) -> str:
+        """The interpreter of an environment with the wheel for any machine, which hides what another system has not."""
+        interpreter = self.environment("env-node")
+        self.install(interpreter, self.wheel("any", self.sources))
+        prepare(Path(interpreter))
+        return interpreter
+
     __hash__ = object.__hash__
 
 
@@ -163,22 +170,16 @@ def over_node(wheels: Wheels) -> Noted:
     """The tests of the package, with the wheel for any machine, and without what other systems have not."""
     if shutil.which("node") is None:
         raise Skip("there is no Node")
-    interpreter = wheels.environment("env-node")
-    wheels.install(interpreter, wheels.wheel("any", wheels.sources))
-    tests = wheels.root / "python/tests"
-    lines = wheels.folder / "lines"
-    names = [f"python {name}" for name in OVER_NODE]
-    wheels.call(interpreter, wheels.root / "equipment/packages.py", "--run", lines, *names, PYTHONPATH=f"{tests / 'lesser'}{os.pathsep}{tests}")
-    told = [line.split("\t", 2) for line in lines.read_text(encoding="utf-8").splitlines()]
-    faults = [f"{name}: {fault}" for name, _, fault in told if fault]
-    return Noted(beginning("; ".join(faults).encode()) if told else "nothing was tried", f": {len(told)} tests")
+    told = list(run_classes(Path(wheels.lesser()), "windows", list(OVER_NODE), wheels.folder))
+    faults = [fault for one in told for fault in one.faults]
+    return Noted(beginning("; ".join(faults).encode()), f": {sum(one.passed for one in told)} tests of {len(told)} classes")
 
 
 ROWS: list[tuple[str, Callable[[Wheels], "str | Noted"]]] = [
     ("wheels: from the repository and from the source distribution", same_wheels),
     ("wheels: for x86-64, installed", functools.partial(installed, machine="linux-x86_64", in_process=True, program="picklestep")),
     ("wheels: for ARM, under an emulator", on_arm),
-    ("wheels: for any machine, installed", functools.partial(installed, machine="any", in_process=False, program="picklestep.mjs")),
+    ("wheels: for any machine, installed", functools.partial(installed, machine="any", in_process=True, program="picklestep.mjs")),
     ("wheels: the source distribution, installed", from_sources),
     ("wheels: the tests of the package over the module in Node", over_node),
 ]

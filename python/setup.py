@@ -40,7 +40,7 @@ def linux(machine: str, program: str) -> Machine:
 MACHINES = {
     'linux-x86_64': linux('x86_64', 'linux-x86_64-static/picklestep'),
     'linux-aarch64': linux('aarch64', 'linux-aarch64/picklestep'),
-    'any': Machine('any', {'picklestep.mjs': 'picklestep.mjs', 'picklestep.wasm': 'picklestep.wasm', 'TOOLCHAIN': TOOLCHAIN}),
+    'any': Machine('any', {**{name: name for name in ('picklestep.mjs', 'picklestep.wasm', 'libpicklestep.wasm')}, 'TOOLCHAIN': TOOLCHAIN}),
 }
 
 
@@ -90,7 +90,7 @@ class BuildWithProgram(build_py):
         folder.mkdir(parents=True)
         for name, path in carried().items():
             shutil.copyfile(path, folder / name)
-            (folder / name).chmod(0o755 if name.startswith('picklestep') and not name.endswith('.wasm') else 0o644)
+            (folder / name).chmod(0o755 if name in ('picklestep', 'picklestep.mjs') else 0o644)
 
 
 class DistributionWithProgram(Distribution):

@@ -66,15 +66,19 @@ def _hand_over(words: 'list[str]') -> int:
     from .place import find_program, program_words
     try:
         program = find_program()
-        command = [*program_words(program), *words]
-        if os.name == 'nt':  # (there execv would come back to the shell at once)
-            import subprocess
-            return subprocess.call(command)
-        os.execv(command[0], command)
+        return _become([*program_words(program), *words])
     except OSError as error:
         return _complain(f'cannot start {program}: {error.strerror}')
     except Exception as error:  # (to name ProgramError takes the time of its module)
         return _complain(str(error))
+
+
+def _become(command: 'list[str]') -> int:
+    """Lets a command take the place of this process. On Windows execv would come back to the shell at once: there its status is answered."""
+    if os.name == 'nt':
+        import subprocess
+        return subprocess.call(command)
+    os.execv(command[0], command)
 
 
 def _print_version() -> int:
@@ -97,7 +101,7 @@ def _do_apart(words: 'list[str]') -> int:
     """Does a word of this package. Where this interpreter may find modules in the current folder, another one takes its place."""
     if not sys.flags.isolated and sys.executable:
         options = ['-I', '-B'] if sys.dont_write_bytecode else ['-I']
-        os.execv(sys.executable, [sys.executable, *options, os.path.join(_HERE, 'entrance.py'), *words])
+        return _become([sys.executable, *options, os.path.join(_HERE, 'entrance.py'), *words])
     from importlib import import_module
     status: int = import_module(f'picklestep.{_OWN[words[0]]}').main(words[1:])
     return status

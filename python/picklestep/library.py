@@ -1,4 +1,5 @@
-"""The library in this process: it answers about a few bytes in microseconds, where the start of the program takes a millisecond.
+"""The library in this process: it answers about a few bytes in microseconds, where the start of the program takes a millisecond. Where it is
+a module, one process of Node answers for all.
 
 It has the same proofs as the program (`picklestep.h` says what they are about), and no limit of time. So what is asked here is small, and its
 memory has a limit: then its time has one, too. Whatever it does not answer, the program is asked.
@@ -10,11 +11,12 @@ import ctypes
 import os
 import threading
 from functools import lru_cache
-from typing import Any, Callable, Dict, Optional, Sequence, Tuple
+from typing import Any, Callable, Dict, Optional, Sequence, Tuple, Union
 
 from . import place
 from .errors import ProgramError
-from .place import find_library, find_program
+from .in_node import InNode
+from .place import find_library, find_program, is_module
 
 __all__ = ['EDITED', 'MOST_BYTES', 'WORDS', 'answer', 'edited']
 
@@ -75,19 +77,13 @@ class _Library:
         self._limit: Callable[[int], None] = library.picklestep_limit_memory
         library.picklestep_limit_memory.argtypes = [ctypes.c_size_t]
         library.picklestep_limit_memory.restype = None
-        self._functions = {words: (_declared(library, name, len(first), 1), first) for words, (name, first) in WORDS.items()}
-        self._edited = {words: _declared(library, name, 1, 2) for words, name in EDITED.items()}
+        names = [(name, len(first), 1) for name, first in WORDS.values()] + [(name, 1, 2) for name in EDITED.values()]
+        self._functions = {name: _declared(library, name, modes, inputs) for name, modes, inputs in names}
 
-    def answer(self, words: Sequence[str], content: bytes, memory: int) -> Optional[bytes]:
+    def ask(self, name: str, modes: Tuple[bool, ...], inputs: Tuple[bytes, ...], memory: int) -> Optional[bytes]:
         """The text, where it can be had in so much memory."""
-        function, first = self._functions[tuple(words)]
-        return self._text(function, (*first, content, len(content)), memory)
-
-    def edited(self, words: Sequence[str], many: bool, content: bytes, script: bytes, memory: int) -> Optional[bytes]:
-        """The text of what the lines of a script leave, where it can be had in so much memory."""
-        return self._text(self._edited[tuple(words)], (many, content, len(content), script, len(script)), memory)
-
-    def _text(self, function: Callable[..., int], given: Tuple[object, ...], memory: int) -> Optional[bytes]:
+        function = self._functions[name]
+        given = (*modes, *(part for content in inputs for part in (content, len(content))))
         out: Any = _room.out
         written = _room.written
         self._limit(memory)
@@ -108,11 +104,14 @@ def _declared(library: ctypes.CDLL, name: str, modes: int, inputs: int) -> Calla
 
 
 @lru_cache(maxsize=None)
-def _library(program: Optional[str], package: str) -> Optional[_Library]:
+def _library(program: Optional[str], package: str) -> Union[None, _Library, InNode]:
     """The library that belongs to the program that would be started, which depends on what PICKLESTEP_PROGRAM says and where the package is."""
     try:
-        path = find_library(find_program())
-        return None if path is None else _Library(path)
+        found = find_program()
+        path = find_library(found)
+        if path is None:
+            return None
+        return InNode(path, _MOST_MEMORY) if is_module(found) else _Library(path)
     except (ProgramError, OSError, AttributeError):
         return None
 
@@ -125,8 +124,10 @@ def answer(words: Sequence[str], content: bytes, memory: Optional[int] = None) -
     >>> answer(['calls'], b'N' * 100_000) is None
     True
     """
-    library, most = _for(content, memory)
-    return None if library is None or tuple(words) not in WORDS else library.answer(words, content, most)
+    if tuple(words) not in WORDS:
+        return None
+    function, modes = WORDS[tuple(words)]
+    return _ask(function, modes, (content,), memory)
 
 
 def edited(words: Sequence[str], many: bool, content: bytes, script: bytes, memory: Optional[int] = None) -> Optional[bytes]:
@@ -136,17 +137,15 @@ def edited(words: Sequence[str], many: bool, content: bytes, script: bytes, memo
     >>> edited(['calls'], False, b'N' * 100_000, b'') is None
     True
     """
-    library, most = _for(content, memory)
     name = tuple(word for word in words if word != '--many')
     is_read_so = words[0] == 'calls' or many == ('--many' in words)  # (a listing is read as the conversation is)
-    return library.edited(name, many, content, script, most) if library is not None and is_read_so and name in EDITED else None
+    return _ask(EDITED[name], (many,), (content, script), memory) if is_read_so and name in EDITED else None
 
 
-def _for(content: bytes, memory: Optional[int]) -> Tuple[Optional[_Library], int]:
-    """The library, if it is to be asked about these bytes, and how much memory it may take."""
+def _ask(function: str, modes: Tuple[bool, ...], inputs: Tuple[bytes, ...], memory: Optional[int]) -> Optional[bytes]:
+    """What the library answers, if there is one and it is to be asked about so many bytes in so much memory."""
     most = _MOST_MEMORY if memory is None else min(_MOST_MEMORY, memory - _OF_PROGRAM)
-    if len(content) > MOST_BYTES or most <= 0:
-        return None, 0
-    return _library(os.environ.get('PICKLESTEP_PROGRAM'), place._HERE), most
-
-
+    if most <= 0 or len(inputs[0]) > MOST_BYTES:
+        return None
+    library = _library(os.environ.get('PICKLESTEP_PROGRAM'), place._HERE)
+    return None if library is None else library.ask(function, modes, inputs, most)

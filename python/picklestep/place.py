@@ -1,22 +1,25 @@
 """Where the proved program is. This imports only what an interpreter has loaded when it starts, since the entrance uses it."""
 
 import os
+import sys
 
-__all__ = ['find_library', 'find_program', 'is_module', 'program_words', 'toolchain_of']
+__all__ = ['find_library', 'find_program', 'is_module', 'node_path', 'program_words', 'toolchain_of']
 
 _HERE = os.path.dirname(os.path.realpath(__file__))
 # The released programs, by the system and the machine that each is for, in the order in which they are tried.
 _FOLDERS = {('Linux', 'x86_64'): ('linux-x86_64', 'linux-x86_64-static'), ('Linux', 'aarch64'): ('linux-aarch64',)}
-# What runs on any machine where there is Node: it starts the module beside it.
+# What runs on any machine where there is Node: it starts the module beside it. The package `wasmtime` starts the module itself.
 _MODULE = 'picklestep.mjs'
+_FOR_WASMTIME = 'picklestep.wasm'
 _LIBRARY = 'libpicklestep.so'
+_MODULE_OF_LIBRARY = 'libpicklestep.wasm'
 
 
 def find_program() -> str:
     """The path of the program: PICKLESTEP_PROGRAM, else the package's own copy, else that of the source tree.
 
     There it is the newer one of the program that was built and of the released one for this machine. Where there is none it is the start of
-    the module, if Node is there to run it. Raises ProgramError where nothing runs on this machine.
+    the module, if Node or the package wasmtime is there to run it. Raises ProgramError where nothing runs on this machine.
     """
     named = os.environ.get('PICKLESTEP_PROGRAM')
     if named:
@@ -35,26 +38,34 @@ def find_program() -> str:
     system = ' '.join(machine)
     for path in (os.path.join(_HERE, 'bin', _MODULE), os.path.join(dist, _MODULE)):
         if os.path.isfile(path):
-            if _node():
+            if node_path() or _wasmtime_folder():
                 return path
-            raise ProgramError(f'there is no program for this machine ({system}): with Node 20 or later on the path its module runs '
-                               '(https://nodejs.org)')
+            raise ProgramError(f'there is no program for this machine ({system}): its module runs with Node 20 or later on the path '
+                               '(https://nodejs.org) or with the Python package wasmtime')
     raise ProgramError(f'there is no program for this machine ({system}): build it by ./build in a clone, or set PICKLESTEP_PROGRAM to its path')
 
 
 def program_words(program: str) -> 'list[str]':
-    """The words that start a program: Node comes first where it is the module."""
-    return [_node() or 'node', program] if is_module(program) else [program]
+    """The words that start a program: where it is the module, Node or else the package wasmtime starts it."""
+    if not is_module(program):
+        return [program]
+    node, folder = node_path(), _wasmtime_folder()
+    if node is None and folder is not None:
+        return [sys.executable, '-I', os.path.join(_HERE, 'in_wasmtime.py'), folder, os.path.join(os.path.dirname(program), _FOR_WASMTIME)]
+    return [node or 'node', program]
 
 
 def is_module(program: str) -> bool:
-    """Whether a program is the module, which Node starts."""
+    """Whether a program is the module, which Node or wasmtime starts."""
     return program.endswith('.mjs')
 
 
 def find_library(program: str) -> 'str | None':
     """The path of the library that was made with a program: beside it in the package, in a folder of its own among the released ones."""
     folder = os.path.dirname(os.path.realpath(program))
+    if is_module(program):
+        path = os.path.join(folder, _MODULE_OF_LIBRARY)
+        return path if os.path.isfile(path) else None
     machine = os.path.basename(folder).replace('-static', '')
     for path in (os.path.join(folder, _LIBRARY), os.path.join(os.path.dirname(folder), f'{machine}-library', 'lib', _LIBRARY)):
         if os.path.isfile(path):
@@ -87,13 +98,21 @@ def _numbers(version: str) -> 'list[int]':
     return [int(part) for part in version.strip().split('.')]
 
 
-def _node() -> 'str | None':
+def node_path() -> 'str | None':
     """Where Node is, if it is on the path."""
     name = 'node.exe' if os.name == 'nt' else 'node'
     for folder in os.environ.get('PATH', os.defpath).split(os.pathsep):
         path = os.path.join(folder, name)
         if os.path.isabs(path) and os.access(path, os.X_OK):
             return path
+    return None
+
+
+def _wasmtime_folder() -> 'str | None':
+    """Where the package wasmtime is, if this interpreter has it. (The current folder does not count: it may be from elsewhere.)"""
+    for folder in sys.path:
+        if os.path.isabs(folder) and os.path.isfile(os.path.join(folder, 'wasmtime', '__init__.py')) and not os.path.samefile(folder, '.'):
+            return folder
     return None
 
 

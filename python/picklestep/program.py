@@ -58,8 +58,10 @@ _OUT_OF_MEMORY = ('failed to map segment', 'annot allocate memory', 'annot creat
 class Process:
     """A running program, whose standard streams are pipes. It ends when the interpreter does."""
 
-    def __init__(self, words: Sequence[str], files: Sequence[int] = (), memory: Optional[int] = None, stdin: bool = False) -> None:
-        command, environment = _command(words, memory)
+    def __init__(self, words: Sequence[str], files: Sequence[int] = (), memory: Optional[int] = None, stdin: bool = False,
+                 command: Optional[List[str]] = None) -> None:
+        """`command` starts something else than the program on these words."""
+        command, environment = _command(words, memory) if command is None else (command, None)
         self._is_open = False
         self._timed_out = False
         near, self._lifeline = os.pipe() if _HAS_LIFELINES else (-1, -1)

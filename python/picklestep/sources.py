@@ -10,7 +10,7 @@ from typing import Any, Optional, Protocol, Sequence, Union
 from .errors import ProgramError
 from .place import find_program, is_module
 
-__all__ = ['LIMIT', 'Input', 'OwnFile', 'Source', 'is_word', 'small_content']
+__all__ = ['LIMIT', 'Input', 'OwnFile', 'Source', 'is_word', 'opens_descriptors', 'small_content']
 
 class Readable(Protocol):
     """A binary file object, as far as it is needed."""
@@ -133,7 +133,7 @@ class OwnFile:
 
     def __init__(self) -> None:
         self._name = ''
-        if _opens_descriptors():
+        if opens_descriptors():
             self.descriptor = _nameless_file()
             self.path, self.files = f'/dev/fd/{self.descriptor}', [self.descriptor]
         else:
@@ -158,7 +158,7 @@ class OwnFile:
         self.close()
 
 
-def _opens_descriptors() -> bool:
+def opens_descriptors() -> bool:
     """Whether the program can be given an open file."""
     try:
         return os.path.isdir('/dev/fd') and not is_module(find_program())

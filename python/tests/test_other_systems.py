@@ -1,6 +1,8 @@
 """The package where the system has less than Linux: it can be imported, and asks the program."""
 
+import importlib.util
 import os
+import shutil
 import subprocess
 import sys
 import tempfile
@@ -11,27 +13,60 @@ from unittest import mock
 from picklestep import place
 from picklestep.errors import ProgramError
 
-# Hides what Windows, or Windows and macOS, do not have.
-HIDDEN = """\
-import os, select, signal, sys
-for name in ('fcntl', 'resource', 'termios', 'pwd', 'grp'):
-    sys.modules[name] = None
-for module, names in ((os, ('memfd_create', 'MFD_CLOEXEC')), (select, ('poll',)), (signal, ('pthread_sigmask', 'SIGHUP'))):
-    for name in names:
-        if hasattr(module, name):
-            delattr(module, name)
-import picklestep
-print(picklestep.calls(b'cposix\\nsystem\\n.').imports, picklestep.objects(b'N.'), sep='|', end='')
+TESTS = Path(__file__).resolve().parent
+PACKAGE = Path(place.__file__).resolve().parent.parent
+MODULE = next((path for path in (PACKAGE / 'picklestep/bin/picklestep.mjs', TESTS.parents[1] / 'dist/picklestep.mjs') if path.is_file()), None)
+HOSTILE = b'cposix\nsystem\n(X\x02\0\0\0idtR.'
+ASK = """\
+import picklestep, sys
+from picklestep import place
+hostile = b'cposix\\nsystem\\n(X\\x02\\0\\0\\0idtR.'
+print(picklestep.calls(hostile, timeout=60).calls, picklestep.objects(b'N.'), picklestep.listing(hostile)[0].argument, sep='|')
+with picklestep.Session(b'N.') as session:
+    session.insert(0, 'NONE')
+    print(session.bytes(), session.run().why)
+try:
+    picklestep.calls(b'N' * 100_000 + b'.', memory=1 << 20)
+except picklestep.OutOfMemory as error:
+    print(error)
+"""
+SAID = """\
+1|<Objects: 1 objects, stopped>|(b'posix', b'system')
+b'NN.' end
+out of memory
 """
 
 
+def asked(*words: str, **environment: str) -> str:
+    """What an interpreter says that has nothing of this one's environment."""
+    done = subprocess.run([sys.executable, *words], capture_output=True, text=True, check=False, timeout=120, cwd='/', stdin=subprocess.DEVNULL,
+                          env={'PYTHONPATH': str(PACKAGE), 'PYTHONDONTWRITEBYTECODE': '1', **environment})
+    return done.stdout + done.stderr
+
+
+@unittest.skipUnless(MODULE and shutil.which('node'), 'the module or Node is not there')
 class OtherSystems(unittest.TestCase):
-    def test_nothing_of_linux_is_needed_at_import(self) -> None:
-        package = str(Path(place.__file__).resolve().parent.parent)
-        done = subprocess.run([sys.executable, '-c', HIDDEN], capture_output=True, text=True, check=False,
-                              env={**os.environ, 'PYTHONPATH': package})
-        self.assertEqual((done.returncode, done.stderr), (0, ''))
-        self.assertEqual(done.stdout, '1|<Objects: 1 objects, stopped>')
+    def lesser(self, system: str) -> str:
+        """What the package says over the module, in an interpreter that hides what another system has not."""
+        with tempfile.TemporaryDirectory() as folder:
+            Path(folder, 'node.exe').symlink_to(str(shutil.which('node')))
+            path = f'{folder}{os.pathsep}{os.path.dirname(str(shutil.which("node")))}'
+            return asked('-c', f'import sys; sys.path.insert(0, {str(TESTS / "lesser")!r}); import lesser_system\n{ASK}', PATH=path,
+                         PICKLESTEP_LESSER=system, PICKLESTEP_PROGRAM=str(MODULE))
+
+    def test_windows_has_less(self) -> None:
+        self.assertEqual(self.lesser('windows'), SAID)
+
+    def test_macos_has_less(self) -> None:
+        self.assertEqual(self.lesser('macos'), SAID)
+
+    def test_wasmtime_runs_the_module(self) -> None:
+        """By the package itself where it is installed, else by what stands in for its interface."""
+        has = importlib.util.find_spec('wasmtime')
+        folder = str(TESTS / 'lesser/stand_in') if has is None or has.origin is None else str(Path(has.origin).parent.parent)
+        found = asked('-c', ASK, PYTHONPATH=f'{PACKAGE}{os.pathsep}{folder}', PATH='/nowhere', PICKLESTEP_PROGRAM=str(MODULE),
+                      WASMTIME_STAND_IN=str(shutil.which('node')))
+        self.assertEqual(found, SAID)
 
 
 class WhichProgram(unittest.TestCase):
@@ -62,12 +97,26 @@ class WhichProgram(unittest.TestCase):
         self.assertEqual(self.found('Linux', 'aarch64'), 'linux-aarch64/picklestep')
 
     def test_elsewhere_it_is_the_module_if_node_is_there(self) -> None:
-        with mock.patch('picklestep.place._node', return_value='/bin/node'):
+        with mock.patch('picklestep.place.node_path', return_value='/bin/node'):
             self.assertEqual(self.found('Darwin', 'arm64'), 'picklestep.mjs')
             self.assertEqual(place.program_words('picklestep.mjs'), ['/bin/node', 'picklestep.mjs'])
-        with mock.patch('picklestep.place._node', return_value=None), self.assertRaises(ProgramError) as caught:
+        with mock.patch('picklestep.place.node_path', return_value=None), self.assertRaises(ProgramError) as caught:
             self.found('Windows', 'AMD64')
-        self.assertIn('no program for this machine (Windows AMD64): with Node 20', str(caught.exception))
+        self.assertEqual(str(caught.exception), 'there is no program for this machine (Windows AMD64): its module runs with Node 20 or later on '
+                         'the path (https://nodejs.org) or with the Python package wasmtime')
+
+    def test_a_package_of_that_name_in_the_current_folder_is_not_taken(self) -> None:
+        with tempfile.TemporaryDirectory() as folder:
+            Path(folder, 'wasmtime').mkdir()
+            Path(folder, 'wasmtime/__init__.py').touch()
+            with mock.patch('picklestep.place.node_path', return_value=None), mock.patch.object(sys, 'path', [folder]):
+                words = place.program_words('/a/picklestep.mjs')
+                self.assertEqual((words[0], words[-2:]), (sys.executable, [folder, '/a/picklestep.wasm']))
+                here = os.getcwd()
+                self.addCleanup(os.chdir, here)
+                os.chdir(folder)
+                self.assertEqual(place.program_words('/a/picklestep.mjs'), ['node', '/a/picklestep.mjs'])
+                os.chdir(here)
 
 
 if __name__ == '__main__':

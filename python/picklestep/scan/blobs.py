@@ -5,15 +5,18 @@ from __future__ import annotations
 import mmap
 import os
 import tempfile
+import threading
 import time
 from bisect import bisect_right
 from contextlib import contextmanager
 from copy import copy
 from dataclasses import dataclass
-from typing import BinaryIO, Iterable, Iterator, List, Sequence, Tuple, cast
+from typing import BinaryIO, Iterable, Iterator, List, Optional, Sequence, Tuple, cast
+
+from ..sources import opens_descriptors
 
 __all__ = ['CHUNK', 'Blob', 'Budget', 'BytesBlob', 'FileBlob', 'JoinedBlob', 'LimitMet', 'Limits', 'OpenedBlob', 'Part',
-           'PartMet', 'STEPS', 'STEPS_OF_A_MEMBER', 'spooled']
+           'PartMet', 'STEPS', 'STEPS_OF_A_MEMBER', 'Spooled', 'spooled']
 
 CHUNK = 1 << 18
 
@@ -202,18 +205,32 @@ class Blob:
         return all(not piece.strip(b'\0') for piece in self.part(start, end - start).chunks())
 
 
+_turn = threading.Lock()
+
+
+def _read_at(descriptor: int, count: int, offset: int) -> bytes:
+    """At most this many bytes of an open file from an offset on."""
+    if hasattr(os, 'pread'):
+        return os.pread(descriptor, count, offset)
+    with _turn:  # (Windows has no pread)
+        os.lseek(descriptor, offset, os.SEEK_SET)
+        return os.read(descriptor, count)
+
+
 class FileBlob(Blob):
     """An open file that has a descriptor."""
 
-    def __init__(self, file: BinaryIO, size: int) -> None:
+    def __init__(self, file: BinaryIO, size: int, name: Optional[str] = None) -> None:
+        """`name` is the path that it was opened by, if there is one."""
         self.file = file
         self.size = size
+        self.name = name
 
     def read(self, offset: int, count: int) -> bytes:
         pieces = []
         count = min(count, self.size - offset) if offset >= 0 else 0
         while count > 0:
-            piece = os.pread(self.file.fileno(), count, offset)
+            piece = _read_at(self.file.fileno(), count, offset)
             if not piece:
                 break  # the file became shorter
             pieces.append(piece)
@@ -221,9 +238,28 @@ class FileBlob(Blob):
             count -= len(piece)
         return b''.join(pieces)
 
+    def path(self) -> Optional[str]:
+        """A path by which the program opens this very file again, whatever its name stands for by then. There is none where it opens only
+        files with a name."""
+        return f'/proc/{os.getpid()}/fd/{self.file.fileno()}' if opens_descriptors() else None
+
+    def opened_name(self) -> Optional[str]:
+        """The path of this file, where it is still its own."""
+        try:
+            name = os.readlink(f'/proc/{os.getpid()}/fd/{self.file.fileno()}')
+        except OSError:  # (only Linux has such a path)
+            name = self.name
+        try:
+            return name if name is not None and os.path.samestat(os.stat(name), os.fstat(self.file.fileno())) else None
+        except OSError:
+            return None
+
+
+class Spooled(FileBlob):
+    """A file of our own, which goes when it is closed."""
+
     def path(self) -> str:
-        """A path that opens this very file again, whatever its name stands for by then."""
-        return f'/proc/{os.getpid()}/fd/{self.file.fileno()}'
+        return super().path() or self.file.name
 
 
 class BytesBlob(Blob):
@@ -307,14 +343,17 @@ class JoinedBlob(Blob):
 
 
 def nameless_file() -> BinaryIO:
-    """A file without a name: in memory where the system has such, else in the folder for temporary files."""
+    """A file without a name: in memory where the system has such, else in the folder for temporary files. Where the program opens only files
+    with a name it has one there, as long as it is open."""
+    if not opens_descriptors():
+        return cast(BinaryIO, tempfile.NamedTemporaryFile(prefix='picklestep-scan-', buffering=0))
     if hasattr(os, 'memfd_create'):
         return cast(BinaryIO, os.fdopen(os.memfd_create('picklestep-scan', os.MFD_CLOEXEC), 'w+b', buffering=0))
     return cast(BinaryIO, tempfile.TemporaryFile(buffering=0))
 
 
-def spooled(pieces: Iterable[bytes]) -> FileBlob:
-    """The pieces as a file without a name. Whoever asks for it closes `.file`."""
+def spooled(pieces: Iterable[bytes]) -> Spooled:
+    """The pieces as a file of our own. Whoever asks for it closes `.file`."""
     file = nameless_file()
     try:
         size = 0
@@ -323,7 +362,7 @@ def spooled(pieces: Iterable[bytes]) -> FileBlob:
             while view:
                 view = view[file.write(view):]
             size += len(piece)
-        return FileBlob(file, size)
+        return Spooled(file, size)
     except BaseException:
         file.close()
         raise

@@ -7,7 +7,6 @@ import io
 import json
 import os
 import re
-import signal
 import sys
 from contextlib import closing
 from itertools import chain
@@ -33,6 +32,8 @@ from .stores.server import NoServer, Task, Wanted, tasks, total_of
 
 __all__ = ['main']
 
+# The status of a program that SIGPIPE ended, as a shell tells it.
+_OF_NO_READER = 128 + 13
 _UNITS = {'': 1, 'K': 1 << 10, 'M': 1 << 20, 'G': 1 << 30}
 
 
@@ -113,7 +114,9 @@ def _earlier(log: Optional[str]) -> Dict[str, Result]:
 def _end_cut_line(log: str, out: TextIO) -> None:
     """Ends the log's last line where it is cut and the output goes on in that file, so that the next line is one of its own."""
     with open(log, 'rb') as file:
-        is_cut = file.seek(0, os.SEEK_END) > 0 and os.pread(file.fileno(), 1, file.tell() - 1) != b'\n'
+        size = file.seek(0, os.SEEK_END)
+        file.seek(max(0, size - 1))
+        is_cut = file.read() not in (b'', b'\n')
         try:
             other = os.fstat(out.fileno())
         except OSError:  # an output that is no file, such as one in memory
@@ -268,7 +271,7 @@ def main(words: Optional[List[str]] = None) -> int:
         return _follow(parsed) if parsed.follow else _scan(parsed)
     except BrokenPipeError:
         _leave()
-        return 128 + signal.SIGPIPE
+        return _OF_NO_READER
     except OSError as error:
         words_of = f'cannot open {shown(str(error.filename))}: {error.strerror}' if error.filename is not None else str(error)
         print(f'picklestep: {words_of}', file=sys.stderr)

@@ -13,8 +13,9 @@ import struct
 import zlib
 from collections import Counter
 from dataclasses import dataclass, replace
-from functools import partial
+from functools import partial, reduce
 from importlib import import_module
+from operator import or_
 from typing import BinaryIO, Callable, Iterator, List, Optional, Set, Tuple
 
 from ..sources import LIMIT
@@ -669,10 +670,13 @@ def _state(file: BinaryIO) -> Tuple[int, int, int]:
     return state.st_size, state.st_mtime_ns, state.st_ctime_ns
 
 
+# (Windows has only the last of these; a FIFO is no file there.)
+_FLAGS = os.O_RDONLY | reduce(or_, (getattr(os, flag, 0) for flag in ('O_NONBLOCK', 'O_CLOEXEC', 'O_NOCTTY', 'O_BINARY')))
+
+
 def _opened(path: str) -> BinaryIO:
     """A file that is open for reading. A FIFO does not make it wait."""
-    descriptor = os.open(path, os.O_RDONLY | os.O_NONBLOCK | os.O_CLOEXEC | os.O_NOCTTY)
-    return os.fdopen(descriptor, 'rb', buffering=0)
+    return os.fdopen(os.open(path, _FLAGS), 'rb', buffering=0)
 
 
 def _look_at_file(looker: Looker, path: str) -> Result:
@@ -681,7 +685,7 @@ def _look_at_file(looker: Looker, path: str) -> Result:
         if not stat.S_ISREG(mode):
             return Result(path, left=left_out(mode))
         size, modified, changed = _state(file)
-        result = _gone_through(looker, FileBlob(file, size), Result(path, size, modified, changed=changed))
+        result = _gone_through(looker, FileBlob(file, size, path), Result(path, size, modified, changed=changed))
         if _state(file) == (size, modified, changed):
             return result
         return replace(result, notes=result.notes + (Note((), 'it changed while it was looked at', True),))

@@ -11,10 +11,11 @@ import signal
 import subprocess
 import sys
 from collections import deque
+from contextlib import suppress
 from itertools import islice
 from multiprocessing.connection import Connection, Pipe, wait
 from pathlib import Path
-from typing import Deque, Dict, Generator, Iterable, Optional, Tuple, Union
+from typing import Any, Deque, Dict, Generator, Iterable, List, Optional, Tuple, Union
 
 from .looking import Options
 from .results import Result
@@ -42,13 +43,24 @@ _WORKER = Path(__file__).resolve().parent / 'worker.py'
 def work(link: Connection) -> None:
     """What a worker does: it gets the options, and looks at each path that it is given, until there is none."""
     # A group of its own: Ctrl-C goes to the parent alone, which ends this process and all that it started.
-    os.setpgid(0, 0)
+    if hasattr(os, 'setpgid'):
+        os.setpgid(0, 0)
     try:
         options = link.recv()
         while True:
             link.send(work_on(link.recv(), options))
     except (EOFError, OSError):
         pass  # the parent is gone or has no more
+
+
+def _start(command: List[str], link: int) -> 'subprocess.Popen[bytes]':
+    """Starts a process that inherits one end of a link. Windows has it as a handle, and groups of its own for Ctrl-C."""
+    if os.name != 'nt':
+        return subprocess.Popen(command, stdin=subprocess.DEVNULL, pass_fds=[link])
+    windows: Any = subprocess  # (elsewhere it has not these names)
+    os.set_handle_inheritable(link, True)
+    return subprocess.Popen(command, stdin=subprocess.DEVNULL, creationflags=windows.CREATE_NEW_PROCESS_GROUP,
+                            startupinfo=windows.STARTUPINFO(lpAttributeList={'handle_list': [link]}))
 
 
 class _Worker:
@@ -59,8 +71,7 @@ class _Worker:
         places = [path for path in sys.path if path]
         flags = ['-I', '-B'] if sys.dont_write_bytecode else ['-I']
         with far:
-            self.process = subprocess.Popen([sys.executable, *flags, str(_WORKER), str(far.fileno()), *places], stdin=subprocess.DEVNULL,
-                                            pass_fds=[far.fileno()])
+            self.process = _start([sys.executable, *flags, str(_WORKER), str(far.fileno()), *places], far.fileno())
         self.task: Optional[_Task] = None
         try:
             self.link.send(options)
@@ -79,11 +90,10 @@ class _Worker:
         """Ends the process and the programs that it started."""
         self.link.close()
         if self.process.poll() is None:
-            for ends in (os.killpg, os.kill):
-                try:
-                    ends(self.process.pid, signal.SIGKILL)
-                except OSError:
-                    pass
+            if hasattr(os, 'killpg'):
+                with suppress(OSError):
+                    os.killpg(self.process.pid, signal.SIGKILL)
+            self.process.kill()
         self.process.wait()
 
 

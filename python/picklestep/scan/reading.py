@@ -17,7 +17,7 @@ from ..records import End, Extension, Global, Name, Ref
 from ..session import Session
 from ..texts import HEADING, REACHED, reach_of
 from .begins import is_dotted
-from .blobs import CHUNK, Blob, Budget, FileBlob, spooled
+from .blobs import CHUNK, Blob, Budget, FileBlob, Spooled, spooled
 from .results import Call, Import, Pickle, Place
 
 __all__ = ['Asked', 'Enough', 'Summary', 'WAITING', 'calls_words', 'shown_name', 'why_unread']
@@ -241,6 +241,10 @@ def calls_words(full: bool) -> List[str]:
     return ['calls', '--full'] if full else ['calls']
 
 
+# The signals by which a system ends a program at its limit of time. (Windows has no such limit.)
+_ENDED = [getattr(signal, name) for name in ('SIGXCPU', 'SIGKILL') if hasattr(signal, name)]
+
+
 class Asked:
     """Bytes that are asked about: a few of them in this process, others as a file that the program opens, from when that is needed.
 
@@ -251,7 +255,7 @@ class Asked:
     def __init__(self, blob: Blob) -> None:
         self._blob = blob
         self._content = blob.read(0, blob.size) if blob.size <= library.MOST_BYTES else None
-        self._copy: Optional[FileBlob] = None
+        self._copy: Optional[Spooled] = None
 
     def __enter__(self) -> Asked:
         return self
@@ -297,9 +301,10 @@ class Asked:
         return library.answer(words, self._content, budget.memory())
 
     def _path(self) -> str:
-        """The path under which the program can open these bytes: an open file, not a name."""
-        if isinstance(self._blob, FileBlob):
-            return self._blob.path()
+        """The path under which the program can open these bytes: an open file, or a copy of our own."""
+        path = self._blob.path() if isinstance(self._blob, FileBlob) else None
+        if path is not None:
+            return path
         if self._copy is None:
             self._copy = spooled(self._blob.chunks())
         return self._copy.path()
@@ -319,7 +324,7 @@ class Asked:
             summary.trouble = f'the program took more than {seconds:g} seconds: the rest of it is not looked at'
         except ProgramError as error:
             summary.trouble = f'the program did not read all of it: {error.words}'
-            if error.signal in (signal.SIGXCPU, signal.SIGKILL) and budget.seconds <= 1:
+            if error.signal in _ENDED and budget.seconds <= 1:
                 summary.trouble = f'the program took more than {seconds:g} seconds: the rest of it is not looked at'
 
 

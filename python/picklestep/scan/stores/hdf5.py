@@ -83,8 +83,12 @@ def _bounded(most: int) -> Iterator[None]:
         yield
         return
     soft, hard = resource.getrlimit(resource.RLIMIT_DATA)
-    with open('/proc/self/statm', encoding='ascii') as sizes:
-        used = int(sizes.read().split()[5]) * resource.getpagesize()
+    try:
+        with open('/proc/self/statm', encoding='ascii') as sizes:
+            used = int(sizes.read().split()[5]) * resource.getpagesize()
+    except OSError:  # (only Linux has it, and limits this)
+        yield
+        return
     limits = [limit for limit in (used + most, soft, hard) if limit != resource.RLIM_INFINITY]
     resource.setrlimit(resource.RLIMIT_DATA, (min(limits), hard))
     try:

@@ -116,18 +116,13 @@ def _forget(connection: sqlite3.Connection, folder: str) -> None:
     with suppress(sqlite3.Error):
         connection.execute('SELECT 1 FROM sqlite_master').fetchall()
     for name in os.listdir(folder):
-        os.unlink(os.path.join(folder, name))
+        with suppress(OSError):  # (Windows keeps the name of an open file)
+            os.unlink(os.path.join(folder, name))
 
 
 def _path(blob: Blob) -> Optional[str]:
     """The path of a file that is still the one that is open, since SQLite opens files by their names."""
-    if not isinstance(blob, FileBlob):
-        return None
-    with suppress(OSError):
-        path = os.readlink(blob.path())
-        if os.path.samestat(os.stat(path), os.fstat(blob.file.fileno())):
-            return path
-    return None
+    return blob.opened_name() if isinstance(blob, FileBlob) else None
 
 
 def _connected(path: str, how: str) -> sqlite3.Connection:

@@ -1,0 +1,117 @@
+"""Runs the tests of the package over the module in Node, in interpreters that hide what another system has not (python/tests/lesser).
+
+    python3 -B equipment/over_node.py [--system windows | macos] [CLASS..]
+
+Without classes all of them. Each class is an interpreter of its own, four of them at once; each prints how many of its tests passed, were
+skipped and failed. What cannot run there is in `NOT_THERE`, with its reason. Status 1 where a test failed.
+"""
+
+from __future__ import annotations
+
+import argparse
+import os
+import shutil
+import subprocess
+import sys
+import tempfile
+from collections.abc import Iterator
+from concurrent.futures import ThreadPoolExecutor
+from dataclasses import dataclass
+from pathlib import Path
+
+from packages import ROOT, own_environment
+
+# Beginnings of names of tests.
+NOT_THERE = {
+    "test_library.InProcess.test_a_small_pickle_takes_microseconds": "the speed is that of the native library",
+    "test_other_systems": "it starts such interpreters itself",
+    "test_runs.Errors.test_the_newer_program_of_a_source_tree": "the program is that of Linux",
+    "test_runs.Errors.test_a_program_that_ends_by_a_signal": "Windows ends no program by a signal",
+    "test_runs.NothingLeft.test_a_thousand_runs": "a thousand starts of Node",
+    "test_runs.Sources.test_without_files_in_memory": "no file is in memory there",
+    "test_stores_changes": "servers of Linux are started and stopped by signals",
+    "test_stores_servers": "servers of Linux are started",
+    "test_stores_tls": "servers of Linux are started",
+    "test_stores_vanish": "servers of Linux are started",
+    "test_view_alone": "the page is a browser's, and asks no program",
+    "test_view_browser": "the page is a browser's; what it asks is tried by test_view",
+}
+AT_ONCE = 4
+SECONDS = 1800
+
+
+@dataclass(frozen=True)
+class Told:
+    """What became of the tests of a class."""
+
+    name: str
+    passed: int
+    skipped: int
+    faults: tuple[str, ...]
+
+    def __str__(self) -> str:
+        return f"{self.name}: {self.passed} passed, {self.skipped} skipped, {len(self.faults)} failed"
+
+
+def prepare(interpreter: Path) -> None:
+    """Lets the interpreter of an environment hide what another system has not, and has Node there by the name that Windows gives it."""
+    (packages,) = interpreter.parent.parent.glob("lib/python*/site-packages")
+    shutil.copy(ROOT / "python/tests/lesser/lesser_system.py", packages)
+    (packages / "lesser_system.pth").write_text("import lesser_system\n")
+    (interpreter.parent / "node.exe").symlink_to(str(shutil.which("node")))
+
+
+def classes(interpreter: Path) -> list[str]:
+    """All classes of tests."""
+    words = [str(interpreter), "-B", str(ROOT / "equipment/packages.py"), "--names"]
+    done = subprocess.run(words, env=environment(interpreter, "windows"), stdin=subprocess.DEVNULL, capture_output=True, text=True, check=True)
+    return sorted({".".join(line.split()[1].split(".")[:2]) for line in done.stdout.splitlines()})
+
+
+def environment(interpreter: Path, system: str) -> dict[str, str]:
+    path = f"{interpreter.parent}{os.pathsep}{os.environ.get('PATH', os.defpath)}"
+    return {**own_environment(), "PYTHONDONTWRITEBYTECODE": "1", "PYTHONPATH": str(ROOT / "python/tests"), "PATH": path, "PICKLESTEP_LESSER": system}
+
+
+def run_class(interpreter: Path, system: str, name: str, folder: Path) -> Told:
+    lines, log, skipped = (folder / f"{name}.{kind}" for kind in ("lines", "log", "skipped"))
+    skipped.write_text("".join(f"{test}\t{reason}\n" for test, reason in NOT_THERE.items()))
+    words = [str(interpreter), str(ROOT / "equipment/packages.py"), "--run", str(lines), "--skip", str(skipped), f"python {name}"]
+    with open(log, "wb") as out:
+        try:
+            status: object = subprocess.run(words, env=environment(interpreter, system), cwd=folder, stdin=subprocess.DEVNULL, stdout=out, stderr=out,
+                                            timeout=SECONDS, check=False).returncode
+        except subprocess.TimeoutExpired:
+            status = f"not within {SECONDS} s"
+    told = [line.split("\t", 2) for line in lines.read_text("utf-8").splitlines()] if lines.exists() else []
+    faults = [f"{test}: {fault}" for test, _, fault in told if fault]
+    if status != 0 or not told:
+        faults.append(f"{name}: its run ended: {status}")
+    skips = sum(note.startswith(" (skipped") for _, note, _ in told)
+    return Told(name, len(told) - skips - sum(bool(fault) for *_, fault in told), skips, tuple(faults))
+
+
+def run_classes(interpreter: Path, system: str, names: list[str], folder: Path) -> Iterator[Told]:
+    """What became of each, as they end."""
+    with ThreadPoolExecutor(AT_ONCE) as pool:
+        yield from pool.map(lambda name: run_class(interpreter, system, name, folder), names)
+
+
+def main() -> int:
+    import wheels
+    parser = argparse.ArgumentParser(description="runs the tests of the package over the module in Node")
+    parser.add_argument("--system", choices=("windows", "macos"), default="windows")
+    parser.add_argument("names", nargs="*", metavar="CLASS")
+    words = parser.parse_args()
+    with tempfile.TemporaryDirectory() as name:
+        folder = Path(name)
+        interpreter = Path(wheels.Wheels(ROOT, folder).lesser())
+        failed = 0
+        for told in run_classes(interpreter, words.system, words.names or classes(interpreter), folder):
+            print(told, *told.faults, sep="\n    ", flush=True)
+            failed += len(told.faults)
+    return 1 if failed else 0
+
+
+if __name__ == "__main__":
+    sys.exit(main())
