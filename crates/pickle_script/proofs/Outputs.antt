@@ -1,6 +1,6 @@
 -- What is answered where there are too many bytes.
-use Rattle.std.proofs.Common.{ℕ, ◌<◌, Bool, List, true, false, length, Err, refl}
-use Rattle.pickle_io.specs.Device.{Told}
+use Rattle.std.proofs.Common.{◌≡◌, ℕ, ◌<◌, Bool, List, true, false, length, Some, Err, refl}
+use Rattle.pickle_io.specs.Device.{Told, Wrote, Broke}
 use Rattle.pickle_io.proofs.Devices.{WroteAllBut-none}
 use Rattle.pickle_doc.specs.Document.{Contents, AreBytes, size_limit}
 use Rattle.pickle_doc.proofs.Existence.{some_document}
@@ -15,7 +15,9 @@ use Rattle.pickle_show.specs.declared.stop.TextStop.TheVariants as cut
 use Rattle.pickle_script.specs.declared.stop.Stop.TheVariants as stop
 use Rattle.pickle_script.specs.declared.texts.Text.{Text}
 use Rattle.pickle_script.specs.declared.texts.Text.TheVariants as text
-use Rattle.pickle_script.specs.Output.{StopsText, AnswersText}
+use Rattle.pickle_holes.specs.declared.hole.Hole.{Hole}
+use Rattle.pickle_holes.specs.Holes.{first_outside}
+use Rattle.pickle_script.specs.Output.{StopsText, AnswersText, outside_line, IsCallsOfFile, CompletesFile, CutsFile, AnswersCalls}
 
 -- nothing is a beginning of any text
 nothing_written : (output : Contents → Output) (many : Bool) (bytes : List ℕ) (a : Told) → AreBytes bytes → Begins output many bytes a a
@@ -49,3 +51,23 @@ refused_large told t many bytes sink small large = record {
   too_large = ((λ _. large), (λ _. refl));
   untouched = λ _. refl;
 }
+
+-- ---- of a file with holes
+
+outside : Hole → List ℕ → Output
+outside h bytes = record { text = outside_line h (length bytes); status = 1 }
+
+outside_is : (how : Manner) (p : Pickles) (bytes : List ℕ) (h : Hole) → first_outside (length bytes) how.holes ≡ Some h → IsCallsOfFile how p bytes (outside h bytes)
+outside_is how p bytes h e = rw e refl
+
+pub outside_broke : (how : Manner) (p : Pickles) (bytes : List ℕ) (h : Hole) (a b : Told) → first_outside (length bytes) how.holes ≡ Some h → Broke a b (outside_line h (length bytes))
+    → CutsFile how p bytes a b cut.Failed
+outside_broke how p bytes h a b e q = (outside h bytes, outside_is how p bytes h e, q)
+
+pub outside_wrote : (how : Manner) (p : Pickles) (bytes : List ℕ) (h : Hole) (a b : Told) → first_outside (length bytes) how.holes ≡ Some h → Wrote a b (outside_line h (length bytes))
+    → CompletesFile how p bytes a b 1
+outside_wrote how p bytes h a b e q = (outside h bytes, outside_is how p bytes h e, q, refl)
+
+pub file_too_large : {S : Type 0} (told : S → Told) (how : Manner) (p : Pickles) (bytes : List ℕ) (sink : S) → size_limit < length bytes
+    → AnswersCalls how p bytes told sink sink (Err stop.TooLarge)
+file_too_large told how p bytes sink large = record { whole = tt; stopped = refl; too_large = ((λ _. large), (λ _. refl)); untouched = λ _. refl }

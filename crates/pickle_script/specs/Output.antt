@@ -70,9 +70,15 @@ pub record AnswersText (text : Text) (many : Bool) (bytes : List ℕ) {S : Type 
 
 -- ---- of what is left of a file without its holes
 
+unfoldable pub hole_text : Hole → List ℕ
+hole_text h = codes "hole " ⧺ decimal h.offset ⧺ codes ":" ⧺ decimal h.size
+
+unfoldable pub outside_words : List ℕ
+outside_words = codes " ends behind the last of "
+
 -- the line of a hole that does not lie within the file
 unfoldable pub outside_line : Hole → ℕ → List ℕ
-outside_line h size = codes "refused: hole " ⧺ decimal h.offset ⧺ codes ":" ⧺ decimal h.size ⧺ codes " ends behind the last of " ⧺ decimal size ⧺ codes " bytes" ⧺ newline
+outside_line h size = codes "refused: " ⧺ hole_text h ⧺ outside_words ⧺ decimal size ⧺ codes " bytes" ⧺ newline
 
 -- the text and the status: those of what is left, with the offsets of the file; or the line of a hole
 abbrev pub IsCallsLeft : Manner → Pickles → List ℕ → Option Hole → Output → Type 0
@@ -92,7 +98,7 @@ CutsFile how pickles bytes old new e = (o : Output) × IsCallsOfFile how pickles
 abbrev pub StopsFile : Manner → Pickles → List ℕ → Told → Told → Stop → Type 0
 StopsFile how pickles bytes old new stop.Read = ⊥
 StopsFile how pickles bytes old new stop.Write = CutsFile how pickles bytes old new cut.Failed
-StopsFile how pickles bytes old new stop.TooLarge = CutsFile how pickles bytes old new cut.Memory
+StopsFile how pickles bytes old new stop.TooLarge = new ≡ old
 StopsFile how pickles bytes old new stop.Memory = CutsFile how pickles bytes old new cut.Memory
 
 -- what is answered where the text of what is imported and called by a file was to be written to a sink

@@ -5,7 +5,7 @@ ghost use Rattle.pickle_io.specs.Device.{Writes};
 ghost use Rattle.pickle_doc.specs.Document.{size_limit};
 ghost use Rattle.pickle_holes.specs.Holes.{first_outside};
 ghost use Rattle.pickle_show.specs.Manner.{manner};
-ghost use Rattle.pickle_script.specs.Output.{outside_line, CompletesFile, StopsFile, AnswersCalls};
+ghost use Rattle.pickle_script.specs.Output.{hole_text, outside_words, outside_line, CompletesFile, StopsFile, AnswersCalls};
 
 use crate::stop::Stop;
 use pickle_doc::LIMIT;
@@ -15,16 +15,33 @@ use pickle_ops::{Failed, Page, write_all, write_decimal};
 use pickle_show::Detail;
 use std::alloc::Global;
 
+/// Writes a hole.
+#[tactic(auto, using(pickle_io::proofs::Devices::text_steps), unfolding(crate::specs::Output::hole_text))]
+fn write_hole<S: Page>(hole: Hole, sink: &mut S) -> Result<(), Failed>
+    ensures { Writes (S.told sink.old) (S.told sink.new) result (hole_text hole) }
+{
+    write_all(sink, b"hole ")?;
+    write_decimal(hole.offset, sink)?;
+    write_all(sink, b":")?;
+    write_decimal(hole.size, sink)
+}
+
+/// Words of a line.
+#[tactic(auto, unfolding(crate::specs::Output::outside_words))]
+fn outside_words() -> &'static str
+    ensures { result.now ≡ outside_words }
+{
+    " ends behind the last of "
+}
+
 /// Writes the line of a hole that does not lie within so many bytes.
 #[tactic(auto, using(pickle_io::proofs::Devices::text_steps), unfolding(crate::specs::Output::outside_line))]
 fn write_outside<S: Page>(hole: Hole, size: usize, sink: &mut S) -> Result<(), Failed>
     ensures { Writes (S.told sink.old) (S.told sink.new) result (outside_line hole size) }
 {
-    write_all(sink, b"refused: hole ")?;
-    write_decimal(hole.offset, sink)?;
-    write_all(sink, b":")?;
-    write_decimal(hole.size, sink)?;
-    write_all(sink, b" ends behind the last of ")?;
+    write_all(sink, b"refused: ")?;
+    write_hole(hole, sink)?;
+    write_all(sink, outside_words().as_bytes())?;
     write_decimal(size as u64, sink)?;
     write_all(sink, b" bytes")?;
     write_all(sink, b"\n")
