@@ -81,17 +81,17 @@ abbrev pub refilled : ℕ → Taken → Taken
 refilled left t = record { op = t.op; row = t.row; size = t.size + t.left; left = left; lost = t.lost || nat_lt 0 t.left }
 
 -- after FRAME of this number
-abbrev pub framed : List ℕ → Taken → ℕ → Result Taken FrontFault
+abbrev pub framed : List ℕ → Taken → ℕ → Taken
 framed bytes t number =
-    if nat_le number t.left then Ok t
-    else if nat_le number (length bytes - (t.size + t.left)) then Ok (refilled number t)
-    else Ok (refilled (length bytes - (t.size + t.left)) t)
+    if nat_le number t.left then t
+    else if nat_le number (length bytes - (t.size + t.left)) then refilled number t
+    else refilled (length bytes - (t.size + t.left)) t
 
-abbrev pub settled : List ℕ → Taken → Result Taken FrontFault
+abbrev pub settled : List ℕ → Taken → Taken
 settled bytes t =
-    if is_stop t.op.opcode then Ok (refilled 0 t)
+    if is_stop t.op.opcode then refilled 0 t
     else if is_frame t.op.opcode then framed bytes t (frame_number t.op)
-    else Ok t
+    else t
 
 -- ---- what is taken
 
@@ -105,12 +105,12 @@ plain (Err f) = Err f
 
 -- it is in the buffer, which has so many bytes
 abbrev pub within : List ℕ → ℕ → Result Lenient FrontFault → Result Taken FrontFault
-within bytes size (Ok l) = settled bytes (taken_as 0 (size - l.size) l)
+within bytes size (Ok l) = Ok (settled bytes (taken_as 0 (size - l.size) l))
 within bytes size (Err f) = Err f
 
 -- it goes on behind the buffer, of which this many bytes are lost
 abbrev pub across : List ℕ → ℕ → Result Lenient FrontFault → Result Taken FrontFault
-across bytes gap (Ok l) = settled bytes (taken_as gap 0 l)
+across bytes gap (Ok l) = Ok (settled bytes (taken_as gap 0 l))
 across bytes gap (Err f) = Err f
 
 abbrev pub buffered : ℕ → List ℕ → Result Taken FrontFault

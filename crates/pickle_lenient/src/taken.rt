@@ -67,40 +67,40 @@ fn refilled(taken: Taken, left: u64) -> Taken
 }
 
 /// After FRAME of this number. At the end of the file the buffer is what there is.
-fn framed(bytes: &[u8], taken: Taken, number: u64) -> Result<Taken, NotTaken>
+fn framed(bytes: &[u8], taken: Taken, number: u64) -> Taken
     requires small { length bytes.now < 2 ^ 62 }
-    requires some { 0 < taken.size }
     requires within { taken.size + taken.left ≤ length bytes.now }
-    ensures ok { IfOk result (IsAnswer bytes.now (framed bytes.now taken number)) }
-    ensures err { IfErr result (IsNoAnswer (framed bytes.now taken number)) }
+    ensures is { result ≡ framed bytes.now taken number }
+    ensures some { taken.size ≤ result.size }
+    ensures within { result.size + result.left ≤ length bytes.now }
 {
     if number <= taken.left {
-        return Ok(taken);
+        return taken;
     }
     let behind = bytes.len() - (taken.size + taken.left as usize);
     if number <= behind as u64 {
-        return Ok(refilled(taken, number));
+        return refilled(taken, number);
     }
-    Ok(refilled(taken, behind as u64))
+    refilled(taken, behind as u64)
 }
 
 /// What an opcode does to the buffer.
-fn settled(bytes: &[u8], taken: Taken) -> Result<Taken, NotTaken>
+fn settled(bytes: &[u8], taken: Taken) -> Taken
     requires small { length bytes.now < 2 ^ 62 }
-    requires some { 0 < taken.size }
     requires within { taken.size + taken.left ≤ length bytes.now }
-    ensures ok { IfOk result (IsAnswer bytes.now (settled bytes.now taken)) }
-    ensures err { IfErr result (IsNoAnswer (settled bytes.now taken)) }
+    ensures is { result ≡ settled bytes.now taken }
+    ensures some { taken.size ≤ result.size }
+    ensures within { result.size + result.left ≤ length bytes.now }
 {
     let opcode = taken.op.opcode();
     if is_stop(opcode) {
-        return Ok(refilled(taken, 0));
+        return refilled(taken, 0);
     }
     if is_frame(opcode) {
         let number = frame_number(&taken.op);
         return framed(bytes, taken, number);
     }
-    Ok(taken)
+    taken
 }
 
 /// What is taken where frames are ignored.
@@ -131,16 +131,14 @@ fn take_within(alloc: Global, bytes: &[u8], buffer: &[u8]) -> Result<Taken, NotT
     match read_lenient(alloc, buffer) {
         Ok(found) => {
             let left = buffer.len() - found.size;
-            settled(
-                bytes,
-                Taken {
-                    op: found.op,
-                    row: found.row,
-                    size: found.size,
-                    left: left as u64,
-                    lost: false,
-                },
-            )
+            let taken = Taken {
+                op: found.op,
+                row: found.row,
+                size: found.size,
+                left: left as u64,
+                lost: false,
+            };
+            Ok(settled(bytes, taken))
         }
         Err(stop) => Err(stop),
     }
@@ -157,16 +155,16 @@ fn take_across(alloc: Global, bytes: &[u8], buffer: &[u8], behind: &[u8]) -> Res
     let read = first_read(buffer);
     let gap = buffer.len() - read;
     match read_across(alloc, bytes, buffer, behind, read) {
-        Ok(found) => settled(
-            bytes,
-            Taken {
+        Ok(found) => {
+            let taken = Taken {
                 op: found.op,
                 row: found.row,
                 size: found.size + gap,
                 left: 0,
                 lost: 0 < gap,
-            },
-        ),
+            };
+            Ok(settled(bytes, taken))
+        }
         Err(stop) => Err(stop),
     }
 }

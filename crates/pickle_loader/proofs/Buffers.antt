@@ -1,5 +1,5 @@
 -- A reading that keeps frames in a buffer is, up to the first bytes that it loses, the reading that ignores frames.
-use Rattle.std.proofs.Common.{◌≡◌, ℕ, zero, suc, ◌+◌, ◌-◌, Bool, true, false, List, ◌++◌, length, take, drop, Option, Some, None, Ok, Err, refl, sym, ap, ◌∙◌, arith, take_all}
+use Rattle.std.proofs.Common.{◌≡◌, ℕ, zero, suc, ◌+◌, ◌-◌, Bool, true, false, List, ◌++◌, length, take, drop, Option, Some, None, Ok, Err, refl, sym, ap, subst, ◌∙◌, arith, take_all}
 use Rattle.std.specs.Prelude.{◌||◌, nat_lt, nat_le, is_some, if◌then◌else◌, Result}
 use Rattle.std.proofs.lemmas.Bool.{ltb-false}
 use Rattle.std.proofs.lemmas.List.{take-append-drop}
@@ -15,7 +15,7 @@ use Rattle.pickle_lenient.specs.declared.taken.Frames.TheVariants as frames
 use Rattle.pickle_lenient.specs.declared.taken.Taken.{Taken}
 use Rattle.pickle_lenient.specs.Lenient.{Lenient, lenient}
 use Rattle.pickle_lenient.proofs.Behind.{lenient_more}
-use Rattle.pickle_lenient.specs.Stream.{first_read, joined, ends_in, refilled, framed, taken_as, plain, within, across, taken}
+use Rattle.pickle_lenient.specs.Stream.{first_read, joined, ends_in, refilled, framed, settled, taken_as, plain, within, across, taken}
 use Rattle.pickle_show.specs.declared.report.Closing.{Closing}
 use Rattle.pickle_show.specs.declared.naming.Detail.TheVariants as detail
 use Rattle.pickle_further.specs.declared.way.Pickles.{Pickles}
@@ -44,41 +44,41 @@ ok_taken : (a b : Taken) (x : Result Taken FrontFault) → x ≡ Ok a → x ≡ 
 ok_taken a b (Ok x) e f = let one : x ≡ a = cc in let two : x ≡ b = cc in sym one ∙ two
 ok_taken a b (Err g) e f = absurd cc
 
--- the type of what is taken is known
-abbrev took : Taken → Result Taken FrontFault
-took t = Ok t
+keeps_all : (t : Taken) → t.lost ≡ false → Keeps t t
+keeps_all t lost = record { same = refl; lost = lost }
 
-keeps_all : (t item : Taken) → took t ≡ Ok item → item.lost ≡ false → Keeps t item
-keeps_all t item e lost =
-    let same : t ≡ item = ok_taken t item (Ok t) refl e in
-    record { same = ap plain_item same; lost = ap (λ (x : Taken). x.lost) same ∙ lost }
-
-keeps_filled : (n : ℕ) (t item : Taken) → took (refilled n t) ≡ Ok item → item.lost ≡ false → Keeps t item
-keeps_filled n t item e lost =
-    let same : refilled n t ≡ item = ok_taken (refilled n t) item (Ok (refilled n t)) refl e in
-    let both = none_of t.lost (nat_lt 0 t.left) (ap (λ (x : Taken). x.lost) same ∙ lost) in
+keeps_filled : (n : ℕ) (t : Taken) → (refilled n t).lost ≡ false → Keeps t (refilled n t)
+keeps_filled n t lost =
+    let both = none_of t.lost (nat_lt 0 t.left) lost in
     let size : t.size ≡ t.size + t.left = omega (arith, ltb-false 0 t.left both.1) in
-    record { same = ap (λ (m : ℕ). record { op = t.op; row = t.row; size = m; left = 0; lost = false }) size ∙ ap plain_item same; lost = both.0 }
+    record { same = ap (λ (m : ℕ). record { op = t.op; row = t.row; size = m; left = 0; lost = false }) size; lost = both.0 }
 
-keeps_framed : (b c : Bool) (n m : ℕ) (t item : Taken) → (if b then took t else (if c then took (refilled n t) else took (refilled m t))) ≡ Ok item → item.lost ≡ false → Keeps t item
-keeps_framed true c n m t item e lost = keeps_all t item e lost
-keeps_framed false true n m t item e lost = keeps_filled n t item e lost
-keeps_framed false false n m t item e lost = keeps_filled m t item e lost
+keeps_framed : (b c : Bool) (n m : ℕ) (t : Taken) → (if b then t else (if c then refilled n t else refilled m t)).lost ≡ false → Keeps t (if b then t else (if c then refilled n t else refilled m t))
+keeps_framed true c n m t lost = keeps_all t lost
+keeps_framed false true n m t lost = keeps_filled n t lost
+keeps_framed false false n m t lost = keeps_filled m t lost
 
-keeps_settled : (b c : Bool) (bytes : List ℕ) (t item : Taken) → (if b then Ok (refilled 0 t) else (if c then framed bytes t (frame_number t.op) else Ok t)) ≡ Ok item → item.lost ≡ false → Keeps t item
-keeps_settled true c bytes t item e lost = keeps_filled 0 t item e lost
-keeps_settled false true bytes t item e lost =
-    keeps_framed (nat_le (frame_number t.op) t.left) (nat_le (frame_number t.op) (length bytes - (t.size + t.left))) (frame_number t.op) (length bytes - (t.size + t.left)) t item e lost
-keeps_settled false false bytes t item e lost = keeps_all t item e lost
+keeps_settled : (b c : Bool) (bytes : List ℕ) (t : Taken) → (if b then refilled 0 t else (if c then framed bytes t (frame_number t.op) else t)).lost ≡ false
+    → Keeps t (if b then refilled 0 t else (if c then framed bytes t (frame_number t.op) else t))
+keeps_settled true c bytes t lost = keeps_filled 0 t lost
+keeps_settled false true bytes t lost =
+    keeps_framed (nat_le (frame_number t.op) t.left) (nat_le (frame_number t.op) (length bytes - (t.size + t.left))) (frame_number t.op) (length bytes - (t.size + t.left)) t lost
+keeps_settled false false bytes t lost = keeps_all t lost
+
+-- of what is taken
+keeps_taken : (bytes : List ℕ) (t item : Taken) → Ok (settled bytes t) ≡ Ok item → item.lost ≡ false → Keeps t item
+keeps_taken bytes t item e lost =
+    let same : settled bytes t ≡ item = ok_taken (settled bytes t) item (Ok (settled bytes t)) refl e in
+    subst (λ (x : Taken). Keeps t x) same (keeps_settled (is_stop t.op.opcode) (is_frame t.op.opcode) bytes t (ap (λ (x : Taken). x.lost) same ∙ lost))
 
 within_same : (bytes : List ℕ) (size : ℕ) (x : Result Lenient FrontFault) (item : Taken) → within bytes size x ≡ Ok item → item.lost ≡ false → plain x ≡ Ok (plain_item item)
-within_same bytes size (Ok l) item e lost = let t : Taken = taken_as 0 (size - l.size) l in ap Ok (keeps_settled (is_stop t.op.opcode) (is_frame t.op.opcode) bytes t item e lost).same
+within_same bytes size (Ok l) item e lost = let t : Taken = taken_as 0 (size - l.size) l in ap Ok (keeps_taken bytes t item e lost).same
 within_same bytes size (Err f) item e lost = absurd cc
 
 across_same : (bytes : List ℕ) (gap : ℕ) (x : Result Lenient FrontFault) (item : Taken) → across bytes gap x ≡ Ok item → item.lost ≡ false → (gap ≡ 0) × (plain x ≡ Ok (plain_item item))
 across_same bytes gap (Ok l) item e lost =
     let t : Taken = taken_as gap 0 l in
-    let keeps = keeps_settled (is_stop t.op.opcode) (is_frame t.op.opcode) bytes t item e lost in
+    let keeps = keeps_taken bytes t item e lost in
     let none : gap ≡ 0 = omega (arith, ltb-false 0 gap keeps.lost) in
     (none, ap (λ (n : ℕ). Ok (record { op = l.op; row = l.row; size = l.size + n; left = 0; lost = false })) (sym none) ∙ ap Ok keeps.same)
 across_same bytes gap (Err f) item e lost = absurd cc

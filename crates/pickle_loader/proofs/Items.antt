@@ -28,7 +28,7 @@ use Rattle.pickle_lenient.specs.declared.taken.Frames.TheVariants as frames
 use Rattle.pickle_lenient.specs.declared.taken.Taken.{Taken}
 use Rattle.pickle_lenient.specs.Key.{key_of}
 use Rattle.pickle_lenient.specs.Lenient.{Lenient, mended, tells_line, sized, keyed_by, odd_to, odd_so, odd, taken_so, mended_so, cut_line, cut, faulty, lenient_at, lenient}
-use Rattle.pickle_lenient.specs.Stream.{first_read, joined, ends_in, refilled, framed, taken_as, plain, within, across, taken}
+use Rattle.pickle_lenient.specs.Stream.{first_read, joined, ends_in, refilled, framed, settled, taken_as, plain, within, across, taken}
 use Rattle.pickle_further.specs.Going.{used_op, then_as, moved_so}
 use Rattle.pickle_loader.specs.Environment.{Value, Method, Unpickler, World}
 use Rattle.pickle_loader.specs.Unpickler.{Step, Raised, load_get, load_put, tell}
@@ -121,37 +121,40 @@ all_lenient bytes = at_lenient bytes (front_of bytes) (front_fault (front_of byt
 ok_item : (t : Taken) → IsItem t.op t.row × (0 < t.size) → AreItems (Ok t)
 ok_item t is k e = subst (λ (x : Taken). IsItem x.op x.row × (0 < x.size)) (ok_same t k (Ok t) refl e) is
 
--- with more bytes lost, or others in the buffer
-ok_refilled : (n : ℕ) (t : Taken) → IsItem t.op t.row × (0 < t.size) → AreItems (Ok (refilled n t))
-ok_refilled n t is = ok_item (refilled n t) (is.0, omega (arith, is.1))
-
 taken_some : (gap : ℕ) (l : Lenient) → IsItem l.op l.row × (0 < l.size) → IsItem l.op l.row × (0 < l.size + gap)
 taken_some gap l is = (is.0, omega (arith, is.1))
 
 ok_taken : (gap left : ℕ) (l : Lenient) → IsItem l.op l.row × (0 < l.size) → AreItems (Ok (taken_as gap left l))
 ok_taken gap left l is = ok_item (taken_as gap left l) (taken_some gap l is)
 
-framed_items : (b c : Bool) (bytes : List ℕ) (t : Taken) (n m : ℕ) → IsItem t.op t.row × (0 < t.size) → AreItems (if b then Ok t else (if c then Ok (refilled n t) else Ok (refilled m t)))
-framed_items true c bytes t n m is = ok_item t is
-framed_items false true bytes t n m is = ok_refilled n t is
-framed_items false false bytes t n m is = ok_refilled m t is
+-- what an opcode does to the buffer leaves the item
+abbrev IsGood : Taken → Type 0
+IsGood t = IsItem t.op t.row × (0 < t.size)
 
-settled_items : (b c : Bool) (bytes : List ℕ) (t : Taken) → IsItem t.op t.row × (0 < t.size) → AreItems (if b then Ok (refilled 0 t) else (if c then framed bytes t (frame_number t.op) else Ok t))
-settled_items true c bytes t is = ok_refilled 0 t is
-settled_items false true bytes t is =
-    framed_items (nat_le (frame_number t.op) t.left) (nat_le (frame_number t.op) (length bytes - (t.size + t.left))) bytes t (frame_number t.op) (length bytes - (t.size + t.left)) is
-settled_items false false bytes t is = ok_item t is
+good_refilled : (n : ℕ) (t : Taken) → IsGood t → IsGood (refilled n t)
+good_refilled n t is = (is.0, omega (arith, is.1))
+
+good_framed : (b c : Bool) (t : Taken) (n m : ℕ) → IsGood t → IsGood (if b then t else (if c then refilled n t else refilled m t))
+good_framed true c t n m is = is
+good_framed false true t n m is = good_refilled n t is
+good_framed false false t n m is = good_refilled m t is
+
+good_settled : (b c : Bool) (bytes : List ℕ) (t : Taken) → IsGood t → IsGood (if b then refilled 0 t else (if c then framed bytes t (frame_number t.op) else t))
+good_settled true c bytes t is = good_refilled 0 t is
+good_settled false true bytes t is =
+    good_framed (nat_le (frame_number t.op) t.left) (nat_le (frame_number t.op) (length bytes - (t.size + t.left))) t (frame_number t.op) (length bytes - (t.size + t.left)) is
+good_settled false false bytes t is = is
 
 plain_items : (x : Result Lenient FrontFault) → AreLenient x → AreItems (plain x)
 plain_items (Ok l) all = ok_taken 0 0 l (all l refl)
 plain_items (Err f) all = λ t e. absurd cc
 
 within_items : (bytes : List ℕ) (size : ℕ) (x : Result Lenient FrontFault) → AreLenient x → AreItems (within bytes size x)
-within_items bytes size (Ok l) all = let t : Taken = taken_as 0 (size - l.size) l in settled_items (is_stop t.op.opcode) (is_frame t.op.opcode) bytes t (taken_some 0 l (all l refl))
+within_items bytes size (Ok l) all = let t : Taken = taken_as 0 (size - l.size) l in ok_item (settled bytes t) (good_settled (is_stop t.op.opcode) (is_frame t.op.opcode) bytes t (taken_some 0 l (all l refl)))
 within_items bytes size (Err f) all = λ t e. absurd cc
 
 across_items : (bytes : List ℕ) (gap : ℕ) (x : Result Lenient FrontFault) → AreLenient x → AreItems (across bytes gap x)
-across_items bytes gap (Ok l) all = let t : Taken = taken_as gap 0 l in settled_items (is_stop t.op.opcode) (is_frame t.op.opcode) bytes t (taken_some gap l (all l refl))
+across_items bytes gap (Ok l) all = let t : Taken = taken_as gap 0 l in ok_item (settled bytes t) (good_settled (is_stop t.op.opcode) (is_frame t.op.opcode) bytes t (taken_some gap l (all l refl)))
 across_items bytes gap (Err f) all = λ t e. absurd cc
 
 buffered_items : (b : Bool) (left : ℕ) (bytes : List ℕ)
