@@ -248,7 +248,7 @@ class Likeness:
         for want, one in held:
             self.match(want, one)
         for want, one in held:
-            self.match_content(want, one, len(last["acts"]))
+            self.match_content(want, found.contents.get(id(one)), len(last["acts"]))
 
 
 def _told(value: Made) -> str:

@@ -16,12 +16,13 @@ from typing import Any
 
 from load_worker import EXTENSIONS, LOADERS, has_more
 
-# Of 1000 answers so many are of a kind: with things almost alone pickles go far, with all kinds they meet more cases.
-CALM = [("raises", 4), ("buffer", 10), ("thing", 986)]
 # Codes of extensions, those too that only the unpickler in Python takes.
 CODES = (*EXTENSIONS, 0, -1)
+# Of 1000 answers so many are of a kind: with things almost alone pickles go far, with all kinds they meet more cases.
+CALM = [("raises", 4), ("buffer", 10), ("thing", 986)]
 MIXED = [("raises", 20), ("str", 120), ("tuple", 40), ("dict", 40), ("buffer", 60), ("array", 60), ("thing", 660)]
 TAKING = ("thing", "buffer", "array")
+CONTAINERS = (list, dict, set, tuple, frozenset)
 
 
 class Planned(Exception):
@@ -63,13 +64,21 @@ class Act:
 
 @dataclass
 class Stop:
-    """What a load answered, and what the unpickler held then; whether it shows its stack, which the one in C does not."""
+    """What a load answered, and what the unpickler held then; whether it shows its stack, which the one in C does not.
+
+    `contents` has what was in the value and in what the memo holds, by their id: a later load may put more in.
+    """
 
     value: Any
     memo: dict[int, Any]
     is_shown: bool = False
     stack: Sequence[Any] = ()
     metastack: Sequence[Sequence[Any]] = ()
+    contents: dict[int, Any] = field(default_factory=dict)
+
+    def __post_init__(self) -> None:
+        held = (thing for thing in (self.value, *self.memo.values()) if type(thing) in CONTAINERS)
+        self.contents = {id(thing): type(thing)(thing) for thing in held}
 
 
 @dataclass
