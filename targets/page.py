@@ -62,7 +62,8 @@ def make(module: bytes) -> bytes:
     data = [element('script', read(*WORKER), ' type="text/plain" id="worker-code"'),
             *(element('script', json.dumps(facts, separators=(',', ':')), f' type="application/json" id="{name}"')
               for name, facts in (('opcodes', opcode_table()), ('source-facts', source_facts()))),
-            element('script', base64.b64encode(module).decode('ascii'), ' type="text/plain" id="module"')]
+            # (as a text of that length in a script, it would take most of the time in which the page starts)
+            element('template', base64.b64encode(module).decode('ascii'), ' id="module"')]
     for old, new in (('<meta charset="utf-8">', f'<meta charset="utf-8">\n<meta http-equiv="Content-Security-Policy" content="{policy}">'),
                      ('href="icon.svg"', f'href="data:image/svg+xml;base64,{icon}"'),
                      ('<link rel="stylesheet" href="style.css">', element('style', style)),

@@ -64,8 +64,8 @@ class Documents(unittest.TestCase):
         """Each object is made by the opcode that the page names: the session has one object more behind it."""
         for path in sorted(DATA.glob('sklearn_tree.pkl')):
             with opened(path) as document, Session(path) as session:
-                for number, place in enumerate(document._makers):
-                    session.goto(place)
+                for number in range(len(document._makers)):
+                    session.goto(document._makers.place(number))
                     self.assertEqual(len(session.objects()), number)
                     session.step()
                     self.assertEqual(len(session.objects()), number + 1)

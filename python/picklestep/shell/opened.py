@@ -38,7 +38,7 @@ class Opened(Document):
 
     def maker(self, number: int) -> Optional[int]:
         """The place of the opcode that makes an object, if there is such an object."""
-        return self._makers[number] if 0 <= number < len(self._final) else None
+        return self._makers.place(number) if 0 <= number < len(self._final) else None
 
     def changers(self, number: int) -> List[int]:
         """The places of the opcodes that change an object."""
@@ -48,7 +48,7 @@ class Opened(Document):
         if self._history[0] != self.version:
             end = self.reaches.answer.end
             until = end.item if end.item is not None else len(self.lines)
-            self._history = self.version, History(self.lines, self._makers[:len(self._final)], until).changes
+            self._history = self.version, History(self.lines, self._makers.places()[:len(self._final)], until).changes
         return self._history[1].get(number, [])
 
     def reaches_at(self, offset: int) -> List[str]:
@@ -136,8 +136,8 @@ class Opened(Document):
 
     def makes(self, place: int) -> Optional[int]:
         """The number of the object that the opcode at a place makes, if it makes one."""
-        at = bisect_left(self._makers, place)
-        return at if at < len(self._final) and self._makers[at] == place else None
+        number = self._makers.before(place)
+        return number if number < min(len(self._final), self._makers.before(place + 1)) else None
 
     def final_object(self, number: int) -> Optional[Object]:
         """An object as it is at the end, unless its line is long."""

@@ -170,7 +170,8 @@ class Document:
         self.reaches = Reaches(Calls(calls))
         self.lines.closing += self.reaches.behind
         here = self.session.where().place
-        self._makers = self.lines.makers.of(self._final, self._makes_object)
+        self._makers = self.lines.makers
+        self._makers.finish(self._final, self._makes_object)
         self.session.goto(here)
 
     def _makes_object(self, place: int, number: int) -> bool:
@@ -264,7 +265,7 @@ class Document:
 
     def about(self, number: int) -> Fields:
         """The opcode that made an object, and where the object is: on the stack, in the memo, in other objects."""
-        maker = self._makers[number] if 0 <= number < self._made() else None
+        maker = self._makers.place(number) if 0 <= number < self._made() else None
         stack = [at for at, word in enumerate(self.session.ask('stack').split()[1:]) if word == f'#{number}']
         memo = [key for key, other in self.session.memo().items() if other == number]
         return {'maker': maker, 'line': None if maker is None else self.lines.raw(maker).strip(), 'stack': stack[:_MOST_HOLDERS],
@@ -294,11 +295,11 @@ class Document:
 
     def made_before(self, place: int) -> Tuple[int, int]:
         """How many objects were made before a place, and how many at all."""
-        return min(bisect_left(self._makers, place), len(self._final)), len(self._final)
+        return min(self._makers.before(place), len(self._final)), len(self._final)
 
     def offset_of_maker(self, number: int) -> Optional[int]:
         """The offset of the opcode that made an object."""
-        return self.lines.offset(self._makers[number]) if number < len(self._makers) else None
+        return self.lines.offset(self._makers.place(number)) if number < len(self._makers) else None
 
     def final_brief(self, number: int) -> str:
         """An object as it is at the end, in a line."""

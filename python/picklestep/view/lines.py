@@ -8,8 +8,8 @@ import pickletools
 from array import array
 from bisect import bisect_right
 from dataclasses import dataclass
-from itertools import accumulate, compress, count, islice
-from typing import Callable, Dict, List, Optional, Sequence, Tuple
+from itertools import accumulate, compress, islice
+from typing import Callable, Dict, Iterator, List, Optional, Sequence, Tuple
 
 from ..errors import ProgramError
 from ..listed import in_columns
@@ -77,7 +77,7 @@ class Lines:
 
 
 class OpcodeLines(Lines):
-    """The lines of opcodes, by their places. `closing` has the lines after them, and `makers` the places of opcodes that make objects."""
+    """The lines of opcodes, by their places. `closing` has the lines after them, and `makers` which opcodes make objects."""
 
     def __init__(self) -> None:
         super().__init__()
@@ -250,45 +250,66 @@ MAKE_NONE = frozenset(
     'PROTO FRAME STOP MARK POP POP_MARK DUP PUT BINPUT LONG_BINPUT MEMOIZE GET BINGET LONG_BINGET APPEND APPENDS SETITEM SETITEMS '
     'ADDITEMS BUILD'.split())
 
-# By the code as it stands in a line, with the blanks behind it.
-_MAKES: Dict[bytes, bool] = {f'{code:4}'.encode('ascii'): name not in MAKE_NONE for name, code in _CODES.items()}
-_VIEW = f'{_CODES["READONLY_BUFFER"]:4}'.encode('ascii')
+# What an opcode makes, by its code as it stands in a line with the blanks behind it: none, an object, or perhaps one.
+_NONE, _ONE, _PERHAPS = range(3)
+_MAKES: Dict[bytes, int] = {f'{code:4}'.encode('ascii'): _NONE if name in MAKE_NONE else _PERHAPS if name == 'READONLY_BUFFER' else _ONE
+                            for name, code in _CODES.items()}
+_STEP = 256  # places, of which it is known how many are before them
 
 
 class Makers:
-    """The places of the opcodes that make objects, of a listing whose lines come in batches."""
+    """Which opcodes make objects, of a listing whose lines come in batches. The objects have their numbers in the order of these."""
 
     def __init__(self) -> None:
-        self._places = array('Q')
-        self._views: List[int] = []
-        self._taken = 0
+        self._makes = bytearray()  # by the places
+        self._sums: List[int] = []
 
     def take(self, lines: List[bytes]) -> None:
         """Takes the next lines of a listing. Those that show no opcode have no place."""
-        codes = _codes_of(lines)
         try:
-            makes = [_MAKES[code] for code in codes]
+            self._makes += bytes(map(_MAKES.__getitem__, _codes_of(lines)))
         except KeyError:
-            codes = _codes_of([line for line in lines if not line[:1].isalpha()])
-            makes = [_MAKES[code] for code in codes]
-        self._places.extend(compress(count(self._taken), makes))
-        if _VIEW in codes:
-            self._views += [self._taken + at for at, code in enumerate(codes) if code == _VIEW]
-        self._taken += len(codes)
+            self._makes += bytes(map(_MAKES.__getitem__, _codes_of([line for line in lines if not line[:1].isalpha()])))
 
-    def of(self, objects: Lines, makes_view: Callable[[int, int], bool]) -> 'array[int]':
-        """The places of the opcodes that make the objects, in the order of these.
+    def finish(self, objects: Lines, makes_view: Callable[[int, int], bool]) -> None:
+        """Settles what is open when all lines were taken.
 
-        READONLY_BUFFER makes none where its object can only be read already. Where some do not, `makes_view` is given the place of each and
-        the number that an object would have there, and answers whether it makes one.
+        READONLY_BUFFER makes no object where its own can only be read already. Where some do not, `makes_view` is given the place of each
+        and the number that an object would have there, and answers whether it makes one.
         """
-        if not self._views or len(self._views) == len(READONLY.findall(objects.text)):
-            return self._places
-        views, makers = set(self._views), array('Q')
-        for place in self._places:
-            if place not in views or makes_view(place, len(makers)):
-                makers.append(place)
-        return makers
+        are_all = self._makes.count(_PERHAPS) == len(READONLY.findall(objects.text))
+        number = begin = 0
+        for place in _found(self._makes, _PERHAPS):
+            number += self._makes.count(_ONE, begin, place)
+            self._makes[place] = _ONE if are_all or makes_view(place, number) else _NONE
+            begin = place
+        self._sums = list(accumulate(self._makes.count(_ONE, at, at + _STEP) for at in range(0, len(self._makes), _STEP)))
+
+    def __len__(self) -> int:
+        return self._sums[-1] if self._sums else 0
+
+    def before(self, place: int) -> int:
+        """How many objects are made before a place."""
+        step = min(place, len(self._makes)) // _STEP
+        return (self._sums[step - 1] if step else 0) + self._makes.count(_ONE, step * _STEP, place)
+
+    def place(self, number: int) -> int:
+        """The place of the opcode that makes the object of a number."""
+        step = bisect_right(self._sums, number)
+        left = number - (self._sums[step - 1] if step else 0)
+        return next(islice(_found(self._makes, _ONE, step * _STEP), left, None))
+
+    def places(self) -> 'array[int]':
+        """The places of all of them."""
+        return array('Q', compress(range(len(self._makes)), self._makes))
+
+
+def _found(data: bytearray, byte: int, begin: int = 0) -> Iterator[int]:
+    """Where a byte is, from a place on."""
+    at = data.find(byte, begin)
+    while at >= 0:
+        yield at
+        at = data.find(byte, at + 1)
 
 
 def _codes_of(lines: List[bytes]) -> List[bytes]:

@@ -63,7 +63,7 @@ function wholeOfHex(hex) {
 // The bytes that a quoted text of the program stands for.
 function unquoted(quotedText) {
   const inner = quotedText.slice(1, -1).replace(/\\(?:x([0-9a-f]{2})|(.))/g, (_, hex, sign) => (hex ? String.fromCharCode(parseInt(hex, 16)) : sign));
-  return Uint8Array.from(inner, (sign) => sign.charCodeAt(0));
+  return latin(inner);
 }
 
 const strict = new TextDecoder('utf-8', { fatal: true, ignoreBOM: true });

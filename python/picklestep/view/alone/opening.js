@@ -38,7 +38,7 @@ const host = {
     wireOpening();
     worker.code = URL.createObjectURL(new Blob([by('worker-code').textContent], { type: 'text/javascript' }));
     view.opcodes = JSON.parse(by('opcodes').textContent);
-    const module = Uint8Array.from(atob(by('module').textContent.trim()), (sign) => sign.charCodeAt(0));
+    const module = latin(atob(by('module').content.textContent));
     by('module').remove();
     worker.program = { opcodes: view.opcodes, facts: JSON.parse(by('source-facts').textContent), isLive: 'Suspending' in WebAssembly };
     try {
@@ -150,7 +150,7 @@ function pastedBytes(text) {
   const packed = text.replace(/\s+/g, '').replace(/^data:[^,]*,/, '').replace(/-/g, '+').replace(/_/g, '/');
   if (!packed || !/^[0-9a-z+/]+={0,2}$/i.test(packed)) throw new Error('this is neither hexadecimal nor base64');
   try {
-    return Uint8Array.from(atob(packed), (sign) => sign.charCodeAt(0));
+    return latin(atob(packed));
   } catch (error) {
     throw new Error('this is neither hexadecimal nor base64');
   }
