@@ -1,12 +1,16 @@
-"""Bytes that are written as text (base64, hexadecimal, also as strings of JSON), and pickles behind a few other bytes."""
+"""Bytes that are written as text (base64, hexadecimal, also as strings of JSON), and pickles behind a few other bytes.
+
+A text may have millions of short runs, such as names and checksums, which stand for nothing. All of one length are asked at once.
+"""
 
 from __future__ import annotations
 
 import binascii
 import re
-from typing import Iterator, List, Tuple
+from itertools import islice
+from typing import Dict, Iterator, List, Sequence, Set, Tuple
 
-from ..begins import may_be_container
+from ..begins import MAY_BE_KNOWN, kind_of, may_be_container, unread_kind_of
 from .framed import may_be_framed
 
 __all__ = ['decoded', 'prefixes']
@@ -16,6 +20,10 @@ _LEAST_RUN = 12
 _RUN = re.compile(rb'[A-Za-z0-9+/_-]{%d,}(?:\r?\n[A-Za-z0-9+/_-]+)*' % _LEAST_RUN)
 # All other signs are blanks.
 _WORDS = bytes(each if chr(each).isalnum() and each < 128 or each in b'+/_-' else 32 for each in range(256))
+# So many runs are asked at once, where they are short and at least a few have the same length.
+_MOST_RUNS = 4096
+_SHORT_RUN = 512
+_FEW = 4
 # Where base64 that begins inside a run gives PROTO, or the beginning of zlib and gzip.
 _INSIDE = re.compile(rb'gA[I-X]|eJ[wxyz0-3]|eNo|eN[p-r]|eA[EF]|H4sI')
 _ESCAPE = re.compile(rb'\\(?:u00([0-7][0-9a-fA-F])|([/"\\nrt]))')
@@ -29,6 +37,11 @@ _NOT_TELLING = bytes(set(range(256)) - set(_TELLING))
 _NAMES = re.compile(rb'\x80[\x02-\x05]|\n[A-Za-z_\x80-\xff][^\n]*\n|[\x8cXUTVS\x8d](?s:.*?)\x93')
 _LEAST = 8
 _NOT_SEARCHED = 512
+# Where one of these may be, or base64 once more. (A match takes no byte that another may begin with.)
+_MAY_TELL = re.compile(rb'\x80(?=[\x02-\x05])|\n(?=[A-Za-z_\x80-\xff])|\x93|[A-Za-z0-9+/_-]{%d,}' % _LEAST_RUN)
+_STOPS = re.compile(rb'\.')
+_ZEROS = re.compile(rb'\0')
+_HIGHEST = re.compile(rb'\xff')
 # (inside a run: PostgreSQL writes bytes as \x8004.., others as 0x8004.., and keys stand before some)
 _HEXADECIMAL = re.compile(rb'[0-9a-fA-F]{%d,}' % (2 * _LEAST))
 
@@ -51,14 +64,74 @@ def decoded(content: bytes) -> Iterator[Tuple[int, str, bytes]]:
         return
     if b'\\' in content:
         content = _ESCAPE.sub(_unescaped, content)
-    for at, text in _runs(content):
-        for digits in _HEXADECIMAL.finditer(text):
-            inner = binascii.unhexlify(digits[0][:len(digits[0]) // 2 * 2])
-            if _may_hold(inner):
-                yield at + digits.start(), 'hexadecimal', inner
-        for start, inner in _base64(text):
-            if _may_hold(inner):
-                yield at + start, 'base64', inner
+    runs = _runs(content)
+    while True:
+        some = list(islice(runs, _MOST_RUNS))
+        if not some:
+            return
+        for at, text in _telling(some):
+            yield from _decoded_run(at, text)
+
+
+def _decoded_run(at: int, text: bytes) -> Iterator[Tuple[int, str, bytes]]:
+    """What one run stands for."""
+    for digits in _HEXADECIMAL.finditer(text):
+        inner = binascii.unhexlify(digits[0][:len(digits[0]) // 2 * 2])
+        if _may_hold(inner):
+            yield at + digits.start(), 'hexadecimal', inner
+    for start, inner in _base64(text):
+        if _may_hold(inner):
+            yield at + start, 'base64', inner
+
+
+def _telling(runs: Sequence[Tuple[int, bytes]]) -> List[Tuple[int, bytes]]:
+    """The runs in which something may be, in their order."""
+    found: List[int] = []
+    alike: Dict[int, List[int]] = {}
+    for number, (_, text) in enumerate(runs):
+        if len(text) > _SHORT_RUN or b'\n' in text:
+            found.append(number)
+        else:
+            alike.setdefault(len(text), []).append(number)
+    for numbers in alike.values():
+        if len(numbers) < _FEW:
+            found.extend(numbers)
+        else:
+            found.extend(numbers[each] for each in _telling_alike([runs[number][1] for number in numbers]))
+    return [runs[number] for number in sorted(found)]
+
+
+def _telling_alike(texts: Sequence[bytes]) -> Set[int]:
+    """The numbers of those among runs of one length in which something may be."""
+    length = len(texts[0])
+    spaced = b' '.join(texts)
+    wholes: List[int] = []
+    found: Set[int] = {match.start() // (length + 1) for match in _INSIDE.finditer(spaced.translate(_STANDARD))}
+    for match in _HEXADECIMAL.finditer(spaced):
+        number = match.start() // (length + 1)
+        if match.end() - match.start() == length:
+            wholes.append(number)
+        else:
+            found.add(number)
+    if wholes:
+        size = length // 2
+        joined = binascii.unhexlify(b''.join([texts[number][:2 * size] for number in wholes]))
+        found.update(wholes[number] for number in _holding(joined, size, size))
+    used = length - (length % 4 == 1)
+    fill = b'A' * (-used % 4)
+    joined = binascii.a2b_base64(b''.join([text[:used] + fill for text in texts]).translate(_STANDARD))
+    return found | _holding(joined, (used + len(fill)) // 4 * 3, used * 3 // 4)
+
+
+def _holding(joined: bytes, stride: int, size: int) -> Set[int]:
+    """The numbers of those among bytes of one size in which something may be. They are joined, one at each `stride`."""
+    numbers = {match.start() // stride for match in _MAY_TELL.finditer(joined)}
+    numbers.update((match.end() - 1) // stride for match in _MAY_TELL.finditer(joined))
+    for signs, at in ((_STOPS, size - 1), (_ZEROS, 0), (_ZEROS, 3), (_HIGHEST, 0)):
+        numbers.update(match.start() for match in signs.finditer(joined[at::stride]))
+    known = MAY_BE_KNOWN.match
+    numbers.update(number for number, at in enumerate(range(0, len(joined), stride)) if known(joined, at))
+    return {number for number in numbers if _may_hold(joined[number * stride:number * stride + size])}
 
 
 def _runs(content: bytes) -> Iterator[Tuple[int, bytes]]:
@@ -80,7 +153,9 @@ def _may_hold(inner: bytes) -> bool:
     checksums, stand for none of these."""
     if len(inner) < _LEAST:
         return False
-    if len(inner) > _NOT_SEARCHED or inner[-1] == 0x2e or may_be_framed(inner) or may_be_container(inner):
+    if len(inner) > _NOT_SEARCHED or inner[-1] == 0x2e or may_be_framed(inner):
+        return True
+    if may_be_container(inner) and (kind_of(inner) or unread_kind_of(inner)) is not None:
         return True
     if inner.translate(None, _NOT_TELLING) and _NAMES.search(inner):
         return True

@@ -28,9 +28,6 @@ __all__ = ['SMALL', 'Values', 'key_name']
 # Values up to this size, packed or not, are looked at in memory; larger ones as files are.
 SMALL = 8 << 20
 
-# Pickles up to this size are asked about together with others.
-_TOGETHER = 64 << 10
-
 # All values together may be unpacked to so many times their size.
 _MOST_TIMES = 100
 
@@ -180,6 +177,7 @@ class Values:
         if self.looker.budget is not self._outer:
             self._unpacked += self.looker.budget.unpacked
             self._outer.lines = min(self._outer.lines, self.looker.budget.lines)
+            self._outer.answered = max(self._outer.answered, self.looker.budget.answered)
         self.looker.budget = self._outer
         self.looker.at = where
         self._spend(_STEPS_OF_A_VALUE)
