@@ -132,7 +132,7 @@ class RedisServers(StoreCase):
                                      preexec_fn=lambda: signal.signal(signal.SIGINT, signal.default_int_handler) and None)
         assert following.stdout is not None
         # (Where an event is lost it would wait for ever.)
-        ended = threading.Timer(300, following.kill)
+        ended = threading.Timer(100, following.kill)
         ended.start()
         self.addCleanup(ended.cancel)
         self.addCleanup(following.kill)
