@@ -309,6 +309,7 @@ def mysql_server(path: str, count: str) -> None:
         cursor.execute(words, ())
     sql(cursor, lambda cursor, words, rows: cursor.executemany(f'{words} (%s, %s, %s)', rows), count, 'LONGBLOB')
     connection.commit()
+    cursor.execute('ANALYZE TABLE jobs')  # (by which the server reckons how large it is)
     connection.close()
 
 

@@ -113,14 +113,17 @@ class StoreCase(ScanCase):
         return name
 
     def wait_for_port(self, port: int) -> None:
-        """Waits until a server answers, two minutes at most."""
+        """Waits until the server answers, two minutes at most, and no longer than it runs."""
         end = time.monotonic() + 120
         while True:
+            has_ended = self.server.poll() is not None
             try:
                 socket.create_connection(('127.0.0.1', port), 1).close()
                 return
             except OSError:
-                self.assertLess(time.monotonic(), end, (self.folder / 'server.log').read_text(errors='replace')[-1000:])
+                log = (self.folder / 'server.log').read_text(errors='replace')[-1000:]
+                self.assertFalse(has_ended, f'the server ended: {log}')
+                self.assertLess(time.monotonic(), end, log)
                 time.sleep(0.05)
 
     def certify(self) -> Path:

@@ -18,7 +18,7 @@ import time
 import unittest
 import warnings
 from pathlib import Path
-from typing import Iterator, List, Set
+from typing import Iterator, Set
 from unittest import mock
 
 import picklestep

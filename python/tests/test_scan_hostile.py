@@ -297,6 +297,18 @@ class Bombs(ScanCase):
         self.assertIn('! : the program took more than 0.5 seconds: the rest of it is not looked at', notes_of(result))
         self.assertEqual(names_of(result), ['os.x'])  # (what it said before is reported)
 
+    def test_a_long_name_that_is_called_again_and_again(self) -> None:
+        """Each line of the answer has the name: a megabyte makes 50 GB."""
+        content = b'\x80\x02cposix\n' + b'a' * 500_000 + b'\nq\x00' + b'0h\x00)R' * 100_000 + b'.'
+        with mock.patch('picklestep.scan.reading._MOST_ANSWERED', 8 << 20):
+            result = self.look('a.pkl', content)
+        self.assertIn('the answers about the file have more than 8,388,608 bytes', notes_of(result))
+        begin = time.process_time()
+        result = self.look('b.pkl', content, Options(Limits(seconds=1)))
+        self.assertLess(time.process_time() - begin, 5)
+        self.assertRegex(notes_of(result), '(took more than|it took) 1 seconds')
+        self.assertEqual([len(name) for name in names_of(result)], [len('posix.') + 500_000])
+
     def test_stored_members_that_share_their_bytes(self) -> None:
         data = shared(Made(b'name', HARMLESS * 1000), 100)
         result = self.look('a.zip', data, Options(Limits(unpacked=500_000)))

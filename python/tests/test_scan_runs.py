@@ -14,7 +14,7 @@ import sys
 import time
 import unittest
 from pathlib import Path
-from typing import Callable, Dict, List, Optional
+from typing import Callable, Dict, List
 
 from picklestep.program import find_program
 from picklestep.scan import Options, cluster, look, pool

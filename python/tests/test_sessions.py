@@ -11,7 +11,7 @@ import tempfile
 import threading
 import unittest
 from pathlib import Path
-from typing import Any, Callable, Dict, List, Tuple
+from typing import Callable, Dict, List, Tuple
 
 import picklestep
 from picklestep import Change, End, Item, Mark, Object, Ran, Ref, Refused, Session, Shown, Where

@@ -17,6 +17,8 @@ from stores_support import SECRET, StoreCase, python_with
 
 SCENES = Path(__file__).resolve().parent / 'stores_scenes.py'
 FEW = 1_500
+# A test in which nothing comes ends after so many seconds.
+MOST_SECONDS = 100
 # What a silent server is waited for.
 SECONDS = 2
 
@@ -129,7 +131,7 @@ class Follow(StoreCase):
         following = subprocess.Popen([python, '-m', 'picklestep', 'scan', '--follow', url], env={**environment(), 'REDISCLI_AUTH': SECRET},
                                      stdout=subprocess.PIPE, stderr=subprocess.PIPE, text=True,
                                      preexec_fn=lambda: signal.signal(signal.SIGINT, signal.default_int_handler) and None)
-        ended = threading.Timer(300, following.kill)
+        ended = threading.Timer(MOST_SECONDS, following.kill)
         ended.start()
         for each in (following.wait, following.kill, ended.cancel):
             self.addCleanup(each)
@@ -160,7 +162,7 @@ class Follow(StoreCase):
         self.assertTrue(all(place.endswith(' > data') for place in places_of(found[-1])))
         self.assertEqual(sum(each.plain for each in found), 1_000)
         following.send_signal(signal.SIGINT)
-        following.communicate(timeout=300)
+        following.communicate(timeout=MOST_SECONDS)
         self.assertEqual(following.returncode, 130)
 
     def test_a_list_and_a_stream_that_grow_by_many(self) -> None:

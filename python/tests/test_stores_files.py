@@ -22,6 +22,7 @@ from typing import Any, List
 from unittest import mock
 
 from picklestep.scan import Limits, Options, Result, from_json, look
+from picklestep.scan.stores import encodings
 from scan_support import HARMLESS, HOSTILE, MODELS, ScanCase, environment, names_of, notes_of, places_of
 from stores_support import StoreCase, python_with
 
@@ -252,6 +253,35 @@ class Bytes(ScanCase):
         for name, value in cases.items():
             with self.subTest(name):
                 self.assertIn('posix.system', names_of(self.look_in_value(value)))
+
+    def test_runs_of_one_length_are_read_as_one_alone(self) -> None:
+        """All of one length are asked at once: what is among them is found as if each were asked for itself."""
+        chosen = random.Random(5)
+        held = [HOSTILE, zlib.compress(HOSTILE), b'\x80\x04N.123456', b'\0\0\0\5K\1K\2.', b'\x8c\2os\x8c\6system\x93)R', bytes(12) + b'\x62\x31\x05\0',
+                b'x' * 16 + b'\xde\xc0\xef\xbe', base64.b64encode(HOSTILE), b'PK\3\4abcdefg']
+        words = [made for each in held for made in (each.hex().encode(), base64.b64encode(each).rstrip(b'='), b'x' + each.hex().encode(),
+                                                    b'key-' + base64.urlsafe_b64encode(each).rstrip(b'='))]
+        words += [chosen.randbytes(size).hex().encode() for size in (8, 16, 20, 32) for _ in range(200)]
+        words += [base64.b64encode(chosen.randbytes(size)).rstrip(b'=') for size in range(9, 30) for _ in range(30)]
+        words += [bytes(chosen.choices(b'abcdefghijklmnopqrstuvwxyz_-0', k=size)) for size in range(12, 40) for _ in range(20)]
+        words *= 2  # (so that each has others of its length)
+        chosen.shuffle(words)
+        for between in (b' ', b'\n ', b'", "', b'\r\n\t'):
+            text = between.join(words)
+            alone = []
+            at = 0
+            for word in words:
+                alone += [(at + offset, how, inner) for offset, how, inner in encodings.decoded(word)]
+                at += len(word) + len(between)
+            self.assertEqual(list(encodings.decoded(text)), alone)
+            self.assertGreater(len(alone), 100)
+
+    def test_a_checksum_that_begins_as_a_stream_leaves_no_note(self) -> None:
+        begun = zlib.compress(bytes(range(200)), 0)[:32]
+        result = self.look('a.json', b'{"sum": "' + begun.hex().encode() + b'"}', EVERYWHERE)
+        self.assertEqual((notes_of(result), result.pickles), ('', ()))
+        begun = zlib.compress(HOSTILE + bytes(range(200)), 0)[:60]
+        self.assertIn('are cut short', notes_of(self.look('b.json', b'{"sum": "' + begun.hex().encode() + b'"}', EVERYWHERE)))
 
     def test_depth_is_limited(self) -> None:
         value = HOSTILE

@@ -8,7 +8,7 @@ from typing import Dict, Iterator, Optional, Tuple
 
 from .blobs import Blob, BytesBlob
 
-__all__ = ['HEAD', 'is_dotted', 'is_pickle_name', 'is_storage_name', 'kind_of', 'may_be_container', 'may_be_pickle', 'tar_number',
+__all__ = ['HEAD', 'MAY_BE_KNOWN', 'is_dotted', 'is_pickle_name', 'is_storage_name', 'kind_of', 'may_be_container', 'may_be_pickle', 'tar_number',
            'tar_sum_fits', 'unread_kind_of']
 
 # The first bytes of a member, which show what it is.
@@ -39,7 +39,7 @@ _MAY_BE_UNREAD = re.compile(b'|'.join([rb'[\x50-\x5f]\x2a\x4d\x18|REDIS', *(re.e
                                        *(b'.{%d}%b' % (at, re.escape(begin)) for at, begin in _UNREAD_AT)]), re.DOTALL)
 # The same for containers that are opened, in bytes that are too few for the sum in the header of a tar archive; and for all.
 _MAY_BE_OPENED = re.compile(rb'PK|\x93NUMPY|\x1f\x8b\x08|BZh|\xfd7zXZ\0|\x5d\0|ZF|[\x08\x18(8HXhx]|.{257}ustar', re.DOTALL)
-_MAY_BE_KNOWN = re.compile(_MAY_BE_OPENED.pattern + b'|' + _MAY_BE_UNREAD.pattern, re.DOTALL)
+MAY_BE_KNOWN = re.compile(_MAY_BE_OPENED.pattern + b'|' + _MAY_BE_UNREAD.pattern, re.DOTALL)
 _BLOCK_OF_TAR = 512
 
 _SHAPES: Dict[int, 'pickletools.OpcodeInfo'] = {ord(each.code): each for each in pickletools.opcodes}
@@ -112,7 +112,7 @@ def _is_hexadecimal(text: bytes) -> bool:
 
 def may_be_container(head: bytes) -> bool:
     """Whether `kind_of` or `unread_kind_of` may know what begins so: a quick test, which says yes too often and never no too often."""
-    return len(head) >= _BLOCK_OF_TAR or _MAY_BE_KNOWN.match(head) is not None
+    return len(head) >= _BLOCK_OF_TAR or MAY_BE_KNOWN.match(head) is not None
 
 
 def kind_of(head: bytes) -> Optional[str]:

@@ -68,6 +68,7 @@ class Budget:
         self.read = 0
         self.members = 0
         self.lines = limits.lines
+        self.answered = 0
         self.held = 0
         self._begin = _processor_time()
         self._size = _own_size()

@@ -26,7 +26,7 @@ from .blobs import Blob, Budget, BytesBlob, FileBlob, JoinedBlob, LimitMet, Limi
 from .canonical import Form, Member, NotCanonical, npy, streams, torch
 from .canonical import tars as strict_tars, zips as strict_zips
 from .canonical.forms import WRITERS
-from .canonical.kinds import UNREAD, asked_form, kinds_of, without_ending
+from .canonical.kinds import UNREAD, asked_form, begun_form, kinds_of, without_ending
 from .canonical.layouts import Layout, alone, another_import, layout_of, of_torch_tar
 from .canonical.pickles import read_pickle
 from .canonical.wide import may_lead_on, reach_of
@@ -48,9 +48,6 @@ _GLANCE = HEAD + zips.TAIL
 _FIRST_BYTES = 64 << 20
 # Kinds of streams in which a first part must unpack before they count as such. (Those of lzma were tried, with a small dictionary.)
 _BY_TRIAL = ('zlib', 'zfile')
-
-# More bytes than anything has.
-_ENDLESS = 1 << 62
 
 # What reads the pickles of some bytes strictly.
 _Reads = Callable[[Blob, Budget], Layout]
@@ -127,6 +124,9 @@ class Looker:
             kinds = ['tar']  # an empty one
         if asked is not None and asked not in kinds:
             self.note(where, f'its name says {asked}, and it is not in the form that {WRITERS[asked]}', missed=True)
+        begun = begun_form(head) if not kinds else None
+        if begun is not None and begun != asked:
+            self.note(where, f'it begins like {begun}, and is not in the form that {WRITERS[begun]}', missed=True)
         if len(kinds) > 1:
             self.note(where, f'not in one form: readers take it for {" or ".join(kinds)}: it is looked at as each of them', missed=True)
         return kinds

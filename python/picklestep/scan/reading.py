@@ -39,6 +39,9 @@ _WEAK = ('persistent', 'buffer', 'readonly')
 _MOST_KEPT = 64 << 20
 _CLOSING = 2_000
 
+# Each line has the whole name: one that has half a million bytes and is called again and again makes gigabytes of a small file.
+_MOST_ANSWERED = 1 << 30
+
 # How reading ended where the program did not come to an end.
 _NOT_KNOWN = End('unknown', text='not known')
 
@@ -50,6 +53,9 @@ WAITING = 5
 
 # With less processor time left, in seconds, nothing is asked in this process, which cannot be stopped.
 _LITTLE_TIME = 1
+
+# Each heading has these words, and hardly any other line.
+_IN_HEADINGS = ' may go on:\n'
 
 # The beginning of an opcode's line in a listing.
 _OPCODE = re.compile(rb'^ *([0-9]+): ', re.MULTILINE)
@@ -96,6 +102,7 @@ class Summary:
         rest: List[bytes] = []
         tail = ''
         for piece in pieces:
+            self._check_cost(len(piece))
             whole, newline, begun = piece.rpartition(b'\n')
             if not newline:
                 rest.append(begun)
@@ -105,7 +112,7 @@ class Summary:
             text = b''.join([*rest, whole, newline]).decode('ascii')
             rest, self._begun = [begun], len(begun)
             at = 0
-            for heading in HEADING.finditer(text):
+            for heading in HEADING.finditer(text) if _IN_HEADINGS in text else ():
                 tail = self._take_lines(text, at, heading.start(), tail)
                 self._begin_part(heading[1], tail)
                 at = heading.end()
@@ -188,6 +195,14 @@ class Summary:
     def _keep(self, text: str) -> None:
         self._kept += len(text)
         self._check_kept()
+
+    def _check_cost(self, count: int) -> None:
+        """Counts bytes of the answer, and looks at the time that reading them takes."""
+        self._budget.answered += count
+        if self._budget.answered > _MOST_ANSWERED:
+            raise Enough(f'the answers about the file have more than {_MOST_ANSWERED:,} bytes')
+        if self._budget.seconds <= 0:
+            raise Enough(f'it took {self._budget.limits.seconds:g} seconds of processor time')
 
     def _check_kept(self) -> None:
         """Counts a line that has not ended yet, too: an argument in full may be long."""

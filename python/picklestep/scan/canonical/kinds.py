@@ -12,7 +12,7 @@ from ..tars import BLOCK
 from .streams import also_unpacks
 from .tars import looks_like_header
 
-__all__ = ['UNREAD', 'asked_form', 'kinds_of', 'without_ending']
+__all__ = ['UNREAD', 'asked_form', 'begun_form', 'kinds_of', 'without_ending']
 
 # Before the name of a container that is known and not opened.
 UNREAD = 'unread '
@@ -45,6 +45,15 @@ def kinds_of(blob: Blob, head: bytes, tries: bool = True) -> List[str]:
     if stream is not None:
         kinds.append(stream)
     return kinds
+
+
+def begun_form(head: bytes) -> Optional[str]:
+    """The form that bytes which are of no kind only begin like: no reader goes on from there, and the program names it all the same.
+
+    >>> begun_form(b'\\x1f\\x8b\\0'), begun_form(b'BZh\\0'), begun_form(b'PK')
+    ('gzip', 'bz2', None)
+    """
+    return next((form for begin, form in ((b'\x1f\x8b', 'gzip'), (b'BZh', 'bz2')) if head.startswith(begin)), None)
 
 
 def asked_form(name: str) -> Optional[str]:

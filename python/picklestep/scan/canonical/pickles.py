@@ -86,6 +86,7 @@ _DATA, _FILLED, _MADE, _PERSISTENT = _Opaque(), _Opaque(), _Opaque(), _Opaque()
 
 # joblib reads an array where such an object gets its state, whatever made the object.
 _WRAPPER_NAMES = ('NumpyArrayWrapper', 'NDArrayWrapper', 'ZNDArrayWrapper')
+_LONGEST_WRAPPER = 1 + max(map(len, _WRAPPER_NAMES))
 _WRAPPERS = frozenset(Global(module, name) for module in ('joblib.numpy_pickle', 'joblib.numpy_pickle_compat') for name in _WRAPPER_NAMES)
 # Picklers make one at once: EMPTY_TUPLE and NEWOBJ follow, perhaps behind a key of the memo and the begin of a frame.
 _MADE_AT_ONCE = re.compile(rb'(\x94|q.|r.{4}|p[0-9]{1,10}\n)?(\x95.{8})?\)\x81', re.DOTALL)
@@ -348,7 +349,7 @@ class Reader:
         """
         if type(value) is Made and value.state is None and value.function in _WRAPPERS:
             self.fail("an object of joblib's class of arrays that is used before it has its state")
-        if type(value) is not Global or value.name.rpartition('.')[2] not in _WRAPPER_NAMES:
+        if type(value) is not Global or value.name[-_LONGEST_WRAPPER:].rpartition('.')[2] not in _WRAPPER_NAMES:
             return
         if value not in _WRAPPERS or not _MADE_AT_ONCE.match(self.blob.read(self.at, _LONGEST_MAKING)):
             self.fail("joblib's class of arrays under another name, or used for something else than to make one")

@@ -13,7 +13,7 @@ from ..blobs import Blob, Budget
 from .forms import Member, require, wrong
 from .pickles import Global, PDict, PList, Pickle, read_pickle
 
-__all__ = ['MAGIC', 'TAR_MEMBERS', 'Rows', 'is_small', 'legacy', 'tar_member', 'with_numbers']
+__all__ = ['MAGIC', 'TAR_MEMBERS', 'Rows', 'legacy', 'tar_member', 'with_numbers']
 
 # The number at the beginning of the layout before 1.6, in protocols 2 and later: LONG1 and its bytes.
 MAGIC = b'\x8a\x0al\xfc\x9cF\xf9 j\xa8P\x19'
@@ -28,10 +28,6 @@ _ITEMS = {
     'QUInt8Storage': 1, 'QInt32Storage': 4, 'QUInt4x2Storage': 1, 'QUInt2x4Storage': 1, 'UntypedStorage': 1, '_UntypedStorage': 1,
 }
 _MODULES = re.compile(r'torch(\.cuda|\.storage)?')
-# Small members since 1.6: the layout's version, the order of bytes, and what identifies the file.
-_SMALL = {'version': re.compile(rb'[0-9]{1,4}\n'), 'byteorder': re.compile(rb'little|big'), '.format_version': re.compile(rb'[0-9]{1,4}\n?'),
-          '.storage_alignment': re.compile(rb'[0-9]{1,6}\n?'), '.data/serialization_id': re.compile(rb'[0-9]{1,64}')}
-LONGEST_SMALL = 64
 
 
 class Rows(NamedTuple):
@@ -86,12 +82,6 @@ def with_numbers(pickle: Pickle, members: Sequence[Member], prefix: str) -> List
         told.append(member)
     require(not sizes, f'the numbers of {len(sizes)} tensors are missing, such as {next(iter(sizes), "")!a}')
     return told
-
-
-def is_small(name: str, content: bytes) -> Optional[bool]:
-    """Whether a small member is as torch writes it. None where it is none of those."""
-    form = _SMALL.get(name)
-    return None if form is None else form.fullmatch(content) is not None
 
 
 def _raw(blob: Blob, at: int, item: int) -> int:

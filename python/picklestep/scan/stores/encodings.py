@@ -1,12 +1,15 @@
-"""Bytes that are written as text (base64, hexadecimal, also as strings of JSON), and pickles behind a few other bytes."""
+"""Bytes that are written as text (base64, hexadecimal, also as strings of JSON), and pickles behind a few other bytes.
+
+A text may have millions of short runs, such as names and checksums, which stand for nothing. All of one length are asked at once.
+"""
 
 from __future__ import annotations
 
 import binascii
 import re
-from typing import Iterator, List, Tuple
+from typing import Dict, Iterator, List, Sequence, Set, Tuple
 
-from ..begins import may_be_container
+from ..begins import MAY_BE_KNOWN, kind_of, may_be_container, unread_kind_of
 from .framed import may_be_framed
 
 __all__ = ['decoded', 'prefixes']
@@ -14,8 +17,13 @@ __all__ = ['decoded', 'prefixes']
 # A run of signs that may be base64 (in either alphabet) or hexadecimal, also over several lines.
 _LEAST_RUN = 12
 _RUN = re.compile(rb'[A-Za-z0-9+/_-]{%d,}(?:\r?\n[A-Za-z0-9+/_-]+)*' % _LEAST_RUN)
-# All other signs are blanks.
-_WORDS = bytes(each if chr(each).isalnum() and each < 128 or each in b'+/_-' else 32 for each in range(256))
+# Where runs are: all other signs are blanks, but for the ends of lines.
+_LINE = b'\x01'
+_SIGNS = bytes(each if chr(each).isalnum() and each < 128 or each in b'+/_-' else _LINE[0] if each in b'\r\n' else 32 for each in range(256))
+# So many runs are asked at once, where they are short and at least a few have the same length.
+_MOST_RUNS = 4096
+_SHORT_RUN = 512
+_FEW = 4
 # Where base64 that begins inside a run gives PROTO, or the beginning of zlib and gzip.
 _INSIDE = re.compile(rb'gA[I-X]|eJ[wxyz0-3]|eNo|eN[p-r]|eA[EF]|H4sI')
 _ESCAPE = re.compile(rb'\\(?:u00([0-7][0-9a-fA-F])|([/"\\nrt]))')
@@ -29,8 +37,20 @@ _NOT_TELLING = bytes(set(range(256)) - set(_TELLING))
 _NAMES = re.compile(rb'\x80[\x02-\x05]|\n[A-Za-z_\x80-\xff][^\n]*\n|[\x8cXUTVS\x8d](?s:.*?)\x93')
 _LEAST = 8
 _NOT_SEARCHED = 512
+# The same one by one: each such pattern begins with one byte, which is searched for quickly.
+_IS_PROTO = re.compile(rb'\x80(?=[\x02-\x05])')
+_FIRST_LINE = re.compile(rb'\n(?=[A-Za-z_\x80-\xff])')
+_STACK_GLOBAL = re.compile(rb'\x93')
+_TEXTS = bytes(84 if each in b'\x8cXUTVS\x8d' else 32 for each in range(256))
+# A last or first byte, or the fourth, by which bytes may be a pickle or a record: each with its place.
+_AT_ENDS = ((re.compile(rb'\.'), -1), (re.compile(rb'\0'), 0), (re.compile(rb'\0'), 3), (re.compile(rb'\xff'), 0))
+# A run once more: one sign for all that it has.
+_OF_RUNS = bytes(97 if each not in (32, _LINE[0]) else 32 for each in _SIGNS)
+_ONE_RUN = b'a' * _LEAST_RUN
 # (inside a run: PostgreSQL writes bytes as \x8004.., others as 0x8004.., and keys stand before some)
 _HEXADECIMAL = re.compile(rb'[0-9a-fA-F]{%d,}' % (2 * _LEAST))
+
+_DIGITS = b'0123456789abcdefABCDEF'
 
 # A text has such bytes alone among its first ones.
 _NO_TEXT = re.compile(rb'[^\t\n\r -~]')
@@ -51,28 +71,108 @@ def decoded(content: bytes) -> Iterator[Tuple[int, str, bytes]]:
         return
     if b'\\' in content:
         content = _ESCAPE.sub(_unescaped, content)
-    for at, text in _runs(content):
-        for digits in _HEXADECIMAL.finditer(text):
-            inner = binascii.unhexlify(digits[0][:len(digits[0]) // 2 * 2])
-            if _may_hold(inner):
-                yield at + digits.start(), 'hexadecimal', inner
-        for start, inner in _base64(text):
-            if _may_hold(inner):
-                yield at + start, 'base64', inner
-
-
-def _runs(content: bytes) -> Iterator[Tuple[int, bytes]]:
-    """Where runs begin, and the runs. In one line they are words: to split these is quicker than to search for long ones."""
-    if b'\n' in content:
-        for run in _RUN.finditer(content):
-            yield run.start(), run[0]
-        return
+    signs = content.translate(_SIGNS)
+    if b'\r' not in content:
+        signs = signs.replace(_LINE * 2, b'  ')  # (an empty line is within no run)
+    words = [word for word in signs.split() if len(word) >= _LEAST_RUN]
     at = 0
-    for word in content.translate(_WORDS).split():
-        if len(word) >= _LEAST_RUN:
-            at = content.index(word, at)
-            yield at, word
+    for first in range(0, len(words), _MOST_RUNS):
+        for word in _telling(words[first:first + _MOST_RUNS]):
+            at = _place(signs, word, at)
+            for run in _RUN.finditer(content, at, at + len(word)):
+                yield from _decoded_run(run.start(), run[0])
             at += len(word)
+
+
+def _place(signs: bytes, word: bytes, at: int) -> int:
+    """Where a word stands next that is no part of another."""
+    while True:
+        at = signs.index(word, at)
+        end = at + len(word)
+        if signs[max(0, at - 1):at] in (b'', b' ') and signs[end:end + 1] in (b'', b' '):
+            return at
+        at += 1
+
+
+def _decoded_run(at: int, text: bytes) -> Iterator[Tuple[int, str, bytes]]:
+    """What one run stands for."""
+    for digits in _HEXADECIMAL.finditer(text):
+        inner = binascii.unhexlify(digits[0][:len(digits[0]) // 2 * 2])
+        if _may_hold(inner):
+            yield at + digits.start(), 'hexadecimal', inner
+    for start, inner in _base64(text):
+        if _may_hold(inner):
+            yield at + start, 'base64', inner
+
+
+def _telling(words: Sequence[bytes]) -> List[bytes]:
+    """The words in which something may be, in their order."""
+    found: List[int] = []
+    alike: Dict[int, Tuple[List[int], List[bytes]]] = {}
+    for number, word in enumerate(words):
+        run = word.strip(_LINE) if _LINE in word else word
+        if _LINE in run:
+            if max(map(len, run.split(_LINE))) >= _LEAST_RUN:
+                found.append(number)
+        elif len(run) > _SHORT_RUN:
+            found.append(number)
+        elif len(run) >= _LEAST_RUN:
+            numbers, runs = alike.setdefault(len(run), ([], []))
+            numbers.append(number)
+            runs.append(run)
+    for numbers, runs in alike.values():
+        found.extend(numbers if len(numbers) < _FEW else [numbers[each] for each in _telling_alike(runs)])
+    return [words[number] for number in sorted(found)]
+
+
+def _telling_alike(texts: Sequence[bytes]) -> Set[int]:
+    """The numbers of those among runs of one length in which something may be."""
+    length = len(texts[0])
+    spaced = b' '.join(texts)
+    found = {match.start() // (length + 1) for match in _INSIDE.finditer(spaced.translate(_STANDARD))}
+    wholes: Sequence[int] = range(len(texts))
+    if len(spaced.translate(None, _DIGITS)) >= len(texts):  # (more than the blanks between them)
+        digits = [(match.start() // (length + 1), match.end() - match.start()) for match in _HEXADECIMAL.finditer(spaced)]
+        found.update(number for number, size in digits if size < length)
+        wholes = [number for number, size in digits if size == length]
+    size = length // 2
+    if wholes and size >= _LEAST:
+        joined = binascii.unhexlify(b''.join([texts[number][:2 * size] for number in wholes]))
+        found.update(wholes[number] for number in _holding(joined, size, size))
+    used = length - (length % 4 == 1)
+    fill = b'A' * (-used % 4)
+    whole = b''.join([text[:used] + fill for text in texts] if length % 4 else texts)
+    joined = binascii.a2b_base64(whole.translate(_STANDARD))
+    return found | _holding(joined, (used + len(fill)) // 4 * 3, used * 3 // 4)
+
+
+def _holding(joined: bytes, stride: int, size: int) -> Set[int]:
+    """The numbers of those among bytes of one size in which something may be. They are joined, one at each `stride`."""
+    known = MAY_BE_KNOWN.match
+    likely = {number for number, at in enumerate(range(0, len(joined), stride)) if known(joined, at)}
+    for signs, place in _AT_ENDS:
+        likely.update(match.start() for match in signs.finditer(joined[place % size::stride]))
+    runs = joined.translate(_OF_RUNS)
+    at = runs.find(_ONE_RUN)
+    while at >= 0:
+        likely.update((at // stride, (at + _LEAST_RUN - 1) // stride))
+        at = runs.find(_ONE_RUN, at + 1)
+    return {number for number in likely if _may_hold(joined[number * stride:number * stride + size])} | _naming(joined, stride)
+
+
+def _naming(joined: bytes, stride: int) -> Set[int]:
+    """The numbers of those in which an import or PROTO may be."""
+    found = {match.start() // stride for match in _IS_PROTO.finditer(joined)}
+    for match in _FIRST_LINE.finditer(joined):
+        number = match.start() // stride
+        if joined.find(b'\n', match.end() + 1, (number + 1) * stride) >= 0:
+            found.add(number)
+    texts = joined.translate(_TEXTS)
+    for match in _STACK_GLOBAL.finditer(joined):
+        number = match.start() // stride
+        if texts.find(b'T', number * stride, match.start()) >= 0:
+            found.add(number)
+    return found
 
 
 def _may_hold(inner: bytes) -> bool:
@@ -80,7 +180,9 @@ def _may_hold(inner: bytes) -> bool:
     checksums, stand for none of these."""
     if len(inner) < _LEAST:
         return False
-    if len(inner) > _NOT_SEARCHED or inner[-1] == 0x2e or may_be_framed(inner) or may_be_container(inner):
+    if len(inner) > _NOT_SEARCHED or inner[-1] == 0x2e or may_be_framed(inner):
+        return True
+    if may_be_container(inner) and (kind_of(inner) or unread_kind_of(inner)) is not None:
         return True
     if inner.translate(None, _NOT_TELLING) and _NAMES.search(inner):
         return True

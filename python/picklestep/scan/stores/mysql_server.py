@@ -4,7 +4,8 @@ from __future__ import annotations
 
 import os
 import ssl
-from typing import Any, Dict, List, Tuple, Type
+from dataclasses import dataclass, field
+from typing import Any, Dict, Iterator, List, Tuple, Type
 from urllib.parse import parse_qsl, unquote
 
 from .server import library
@@ -15,12 +16,32 @@ __all__ = ['SERVER', 'MysqlServer']
 _BYTES = ('tinyblob', 'blob', 'mediumblob', 'longblob', 'binary', 'varbinary')
 _TEXTS = ('tinytext', 'text', 'mediumtext', 'longtext', 'char', 'varchar', 'json')
 
+# A primary key of one of these is gone over in ranges. A task has rows of about so many bytes, and a table so many tasks at most.
+_NUMBERS = ('tinyint', 'smallint', 'mediumint', 'int', 'bigint')
+_BYTES_OF_TASK = 16 << 20
+_MOST_TASKS = 10_000
+
 _COLUMNS = """
-    SELECT c.table_schema, c.table_name, c.column_name, c.data_type, c.column_key
+    SELECT c.table_schema, c.table_name, c.column_name, c.data_type, c.column_key, t.data_length
     FROM information_schema.columns c JOIN information_schema.tables t ON t.table_schema = c.table_schema AND t.table_name = c.table_name
     WHERE t.table_type = 'BASE TABLE' AND c.table_schema = COALESCE(DATABASE(), c.table_schema)
       AND c.table_schema NOT IN ('mysql', 'information_schema', 'performance_schema', 'sys')
     ORDER BY 1, 2, c.ordinal_position"""
+
+
+@dataclass
+class _Found:
+    """What is known of a table: how many bytes its rows have, by what the server reckons, and whether its key is one number."""
+
+    size: int
+    columns: List[Column] = field(default_factory=list)
+    keys: List[str] = field(default_factory=list)
+    has_number: bool = False
+
+    def table(self, schema: str, name: str) -> Table:
+        """The table of this name. Without a size its rows are one task."""
+        size = self.size if self.has_number and len(self.keys) == 1 else 0
+        return Table(schema, name, tuple(self.columns), tuple(self.keys), size)
 
 
 class MysqlServer(SqlServer):
@@ -45,15 +66,32 @@ class MysqlServer(SqlServer):
         return (library('pymysql').MySQLError,)
 
     def tables(self) -> List[Table]:
-        found: Dict[Tuple[str, str], Tuple[List[Column], List[str]]] = {}
+        found: Dict[Tuple[str, str], _Found] = {}
         for row in self.all_of(_COLUMNS):
-            schema, name, column, kind, key = (_text(each) for each in row)
-            columns, keys = found.setdefault((schema, name), ([], []))
+            schema, name, column, kind, key = (_text(each) for each in row[:5])
+            each = found.setdefault((schema, name), _Found(int(row[5] or 0)))
             if kind in _BYTES + _TEXTS:
-                columns.append(Column(column, kind in _TEXTS))
+                each.columns.append(Column(column, kind in _TEXTS))
             if key == 'PRI':
-                keys.append(column)
-        return [Table(*name, tuple(columns), tuple(keys), 0) for name, (columns, keys) in found.items() if columns]
+                each.keys.append(column)
+                each.has_number = kind in _NUMBERS
+        return [each.table(*name) for name, each in found.items() if each.columns]
+
+    def rows_of(self, table: Table) -> Iterator[Rows]:
+        """The rows in ranges of their primary key, where that is one number."""
+        count = min(_MOST_TASKS, 1 + table.size // _BYTES_OF_TASK)
+        least = most = None
+        if count > 1:
+            key = _quoted(table.keys[0])
+            with self.named():
+                (least, most), = self.all_of(f'SELECT MIN({key}), MAX({key}) FROM {_place_of(table)}')
+        if least is None or most is None:
+            yield Rows(table)
+            return
+        bounds = sorted({int(least) + (int(most) - int(least)) * number // count for number in range(1, count)})
+        # (the first and the last task have what came meanwhile, too)
+        for begin, end in zip([None, *bounds], [*bounds, None]):
+            yield Rows(table, begin, end)
 
     def query(self, rows: Rows) -> Tuple[str, List[Any]]:
         table = rows.table
@@ -64,7 +102,8 @@ class MysqlServer(SqlServer):
         for column in table.columns:
             value = _quoted(column.name)
             words += [f'CASE WHEN LENGTH({value}) <= {most} THEN {value} END', f'LENGTH({value})']
-        return f'SELECT {", ".join(words)} FROM {_place_of(table)}', []
+        bounds = [f'{_quoted(table.keys[0])} {sign} {bound}' for sign, bound in (('>=', rows.begin), ('<', rows.end)) if bound is not None]
+        return f'SELECT {", ".join(words)} FROM {_place_of(table)}{" WHERE " if bounds else ""}{" AND ".join(bounds)}', []
 
     def part_query(self, table: Table, column: Column) -> str:
         value = f'CAST({_quoted(column.name)} AS BINARY)'
@@ -81,7 +120,7 @@ class MysqlServer(SqlServer):
             with self.second.cursor() as cursor:
                 cursor.execute(query, words)
                 return list(cursor.fetchall())
-        return super().all_of(query, None)
+        return super().all_of(query, words)
 
 
 def _text(value: Any) -> str:

@@ -89,7 +89,7 @@ class PostgresqlServer(SqlServer):
         for column in table.columns:
             value = f'{_quoted(column.name)}::text' if column.is_text else _quoted(column.name)
             words += [f'CASE WHEN octet_length({value}) <= {FIRST} THEN {value} END', f'octet_length({value})']
-        places = f"ctid >= '({rows.begin},0)'" + ('' if rows.end is None else f" AND ctid < '({rows.end},0)'")
+        places = f"ctid >= '({rows.begin or 0},0)'" + ('' if rows.end is None else f" AND ctid < '({rows.end},0)'")
         return f'SELECT {", ".join(words)} FROM {_place_of(table)} WHERE {places}', []
 
     def part_query(self, table: Table, column: Column) -> str:

@@ -50,10 +50,10 @@ class Table:
 
 @dataclass(frozen=True)
 class Rows:
-    """Some rows of a table: from one place to another, or all."""
+    """Some rows of a table: from one place on up to another, or all."""
 
     table: Table
-    begin: int = 0
+    begin: Optional[int] = None
     end: Optional[int] = None
 
 

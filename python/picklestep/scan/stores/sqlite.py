@@ -175,11 +175,13 @@ class _Table:
         for count, row in enumerate(self._rows(), 1):
             number = count if self.number is None else row[0]
             for column, value in zip(self.columns, row[1:]):
+                if value is None:
+                    continue
                 place = where + (f'{self.name}.{column} row {number}',)
                 if isinstance(value, bytes):
                     read += len(value)
                     values.add(value, place, depth + 1)
-                elif value == _LARGE:
+                else:
                     read += self._look_at_large(values, column, number, place, depth)
             read += 1
             if read > 2 * self.size + SMALL:

@@ -28,9 +28,6 @@ __all__ = ['SMALL', 'Values', 'key_name']
 # Values up to this size, packed or not, are looked at in memory; larger ones as files are.
 SMALL = 8 << 20
 
-# Pickles up to this size are asked about together with others.
-_TOGETHER = 64 << 10
-
 # All values together may be unpacked to so many times their size.
 _MOST_TIMES = 100
 
@@ -180,6 +177,7 @@ class Values:
         if self.looker.budget is not self._outer:
             self._unpacked += self.looker.budget.unpacked
             self._outer.lines = min(self._outer.lines, self.looker.budget.lines)
+            self._outer.answered = max(self._outer.answered, self.looker.budget.answered)
         self.looker.budget = self._outer
         self.looker.at = where
         self._spend(_STEPS_OF_A_VALUE)
@@ -243,7 +241,7 @@ class Values:
         if content[0] == _PROTO and stops_at_end(content) and content[_TAR:_TAR + 5] != b'ustar':
             return self._wait(_Waiting(content, where, self.count, guessed))
         head = content[:HEAD]
-        found = self._look_into(head, content, where, depth)
+        found = self._look_into(head, content, where, depth, guessed)
         if stops_at_end(content):
             return self._wait(_Waiting(content, where, self.count, guessed)) or found
         if found:
@@ -278,11 +276,11 @@ class Values:
 
     # --- Containers ---
 
-    def _look_into(self, head: bytes, content: bytes, where: Place, depth: int) -> bool:
+    def _look_into(self, head: bytes, content: bytes, where: Place, depth: int, guessed: bool) -> bool:
         """Looks into a container. False where it is none, or nothing is in it."""
         kind = kind_of(head)
         if kind in _PACKED:
-            return self._unpack(kind, content, where, depth)
+            return self._unpack(kind, content, where, depth, guessed)
         unread = unread_kind_of(head)
         if kind is None and unread is None:
             return False
@@ -293,7 +291,7 @@ class Values:
             self._found.add(self.count)
         return True
 
-    def _unpack(self, kind: str, content: bytes, where: Place, depth: int) -> bool:
+    def _unpack(self, kind: str, content: bytes, where: Place, depth: int, guessed: bool) -> bool:
         limits = self.looker.options.limits
         if depth >= limits.depth:
             self.looker.note(where, f'{kind}: containers are opened to a depth of {limits.depth}: this one is not', missed=True)
@@ -309,8 +307,9 @@ class Values:
         if unpacking.trouble is not None:
             if kind in ('zlib', 'lzma') and not size:
                 return False  # two bytes that happen to be these
+        found = self._look(b''.join(inner), where + (f'({kind})',), depth + 1, guessed and unpacking.trouble is not None)
+        if unpacking.trouble is not None and (found or not guessed):  # (a checksum that happens to begin so leaves no note)
             self.looker.note(where + (f'({kind})',), unpacking.trouble, missed=True)
-        found = self._look(b''.join(inner), where + (f'({kind})',), depth + 1, guessed=False)
         if unpacking.trouble is None and unpacking.end < len(content):
             place = f'(bytes {unpacking.end} to {len(content)})'
             found = self._look(content[unpacking.end:], where + (place,), depth + 1, guessed=True) or found
