@@ -4,7 +4,7 @@ use Rattle.pickle_io.specs.Device.{each}
 use Rattle.pickle_io.proofs.Devices.{WroteAllBut-all, Writes-stop, each-cons, each-nil}
 use Rattle.pickle_show.specs.MemoText.{entry_text}
 use Rattle.pickle_show.proofs.ReportPieces.{WroteAllBut-piece, WroteAllBut-broke}
-use Rattle.pickle_show.proofs.memo.write_entries.Goals as goal
+use Rattle.pickle_show.proofs.memo.write_map.Goals as goal
 
 pub loop-key-preserved : goal.loop-key-preserved
 loop-key-preserved g c =
