@@ -1,9 +1,9 @@
 -- The memo's line: the entries of slots, and then those of a map.
-use Rattle.std.proofs.Common.{◌≡◌, ℕ, ◌+◌, ◌<◌, ◌≤◌, List, [], ◌∷◌, ◌++◌, length, take, drop, get_or, zero, suc, Option, Some, None, refl, sym, ap, ◌∙◌, arith, append_assoc}
+use Rattle.std.proofs.Common.{◌≡◌, ℕ, ◌+◌, ◌<◌, ◌≤◌, List, [], ◌∷◌, ◌++◌, length, take, drop, get_or, zero, suc, Option, Some, None, refl, sym, ap, ◌∙◌, arith, append-nil}
 use Rattle.std.proofs.lemmas.List.{take_more, take_all, take-append-drop, length-take-le}
 use Rattle.pickle_io.specs.Text.{◌⧺◌}
 use Rattle.pickle_io.specs.Device.{Told, Wrote, Broke, each}
-use Rattle.pickle_io.proofs.Devices.{Wrote-none, Wrote-trans, Broke-after, Broke-more, each-append, each-nil, each-one}
+use Rattle.pickle_io.proofs.Devices.{Wrote-none, Wrote-trans, Broke-after, Broke-more, each-append, each-nil, each-cons}
 use Rattle.pickle_machine.specs.Kept.{kept}
 use Rattle.pickle_show.specs.MemoText.{entry_text}
 
@@ -49,7 +49,7 @@ pub slots-all : (a b : Told) (xs : List (Option ℕ)) (i : ℕ) → length xs �
 slots-all a b xs i h p = rw (take_all i xs h) at p
 
 pub slot-one : (key id : ℕ) → entry_text (key, id) ≡ each entry_text ((key, id) ∷ [])
-slot-one key id = sym (each-one entry_text (key, id))
+slot-one key id = sym (each-cons entry_text (key, id) [] ∙ ap (λ (t : List ℕ). entry_text (key, id) ++ t) (each-nil entry_text) ∙ append-nil (entry_text (key, id)))
 
 pub slot-none : (a : Told) → Wrote a a (each entry_text [])
 slot-none a = rw (each-nil entry_text) (Wrote-none a)

@@ -2,6 +2,7 @@
 
 ghost use Rattle.std.specs.Prelude.{[], ◌∷◌};
 ghost use Rattle.pickle_io.specs.Device.{Writes, each};
+ghost use Rattle.pickle_io.specs.Text.{◌⧺◌};
 ghost use Rattle.pickle_machine.specs.Kept.{kept};
 ghost use Rattle.pickle_show.specs.MemoText.{entry_text, memo_text};
 
@@ -54,14 +55,25 @@ fn write_map<S: Page>(memo: &BTreeMap<u64, ObjId>, sink: &mut S) -> Result<(), F
     Ok(())
 }
 
+/// Writes the entries of slots, and then those of a map.
+#[tactic(auto, using(pickle_io::proofs::Devices::text_steps))]
+fn write_parts<S: Page>(
+    slots: &[Option<ObjId>],
+    map: &BTreeMap<u64, ObjId>,
+    sink: &mut S,
+) -> Result<(), Failed>
+    ensures { Writes (S.told sink.old) (S.told sink.new) result (each entry_text (kept 0 slots.now []) ⧺ each entry_text map.now.entries) }
+{
+    write_slots(slots, sink)?;
+    write_map(map, sink)
+}
+
 /// Writes the entries, by rising key.
-#[tactic(auto, using(pickle_io::proofs::Devices::text_steps, crate::proofs::Memos::slots_then_map))]
 fn write_entries<S: Page>(memo: &Entries, sink: &mut S) -> Result<(), Failed>
     ensures { Writes (S.told sink.old) (S.told sink.new) result (each entry_text memo.now) }
 {
     let (slots, map) = memo.parts();
-    write_slots(slots, sink)?;
-    write_map(map, sink)
+    write_parts(slots, map, sink)
 }
 
 /// Writes the memo of a machine: `memo`, and ` key=#n` for each entry, by rising key. It takes no memory. `Failed` where the sink
