@@ -2,3 +2,4 @@
 pub mod Cells
 pub mod Records
 pub mod Memo
+pub mod Slots

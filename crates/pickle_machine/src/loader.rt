@@ -412,6 +412,7 @@ impl Machine {
     }
 
     /// One step forwards as a row that need not be the operation's own: what it makes is of the operation's kind.
+    #[inline(always)]
     pub fn step_as(&mut self, alloc: Global, row: Row, op: &Op, place: usize) -> Result<(), Refusal>
         requires { length self.old.state.heap < 2 ^ 32 - 1 }
         ensures ok { OnOk result (move_as row op.now place self.old.state ≡ Ok self.new.state) }

@@ -30,6 +30,7 @@ pub mod ReportPieces
 pub mod Objects
 pub mod Walks
 pub mod Stacks
+pub mod Memos
 pub mod Runs
 pub mod Reports
 pub mod Stepping

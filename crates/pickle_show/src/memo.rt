@@ -1,10 +1,13 @@
 //! The line of the memo.
 
+ghost use Rattle.std.specs.Prelude.{[], ◌∷◌};
 ghost use Rattle.pickle_io.specs.Device.{Writes, each};
+ghost use Rattle.pickle_io.specs.Text.{◌⧺◌};
+ghost use Rattle.pickle_machine.specs.Kept.{kept};
 ghost use Rattle.pickle_show.specs.MemoText.{entry_text, memo_text};
 
 use crate::words::write_id;
-use pickle_machine::Machine;
+use pickle_machine::{Entries, Machine};
 use pickle_ops::{Failed, ObjId, Page, write_all, write_decimal};
 use std::collections::BTreeMap;
 
@@ -19,8 +22,30 @@ fn write_entry<S: Page>(key: u64, id: ObjId, sink: &mut S) -> Result<(), Failed>
     write_id(u64::from(id), sink)
 }
 
-/// Writes the entries, by rising key.
-fn write_entries<S: Page>(memo: &BTreeMap<u64, ObjId>, sink: &mut S) -> Result<(), Failed>
+/// Writes the entry of a slot, if it has one.
+#[tactic(auto, using(crate::proofs::Memos::slot_steps))]
+fn write_slot<S: Page>(key: u64, slot: Option<ObjId>, sink: &mut S) -> Result<(), Failed>
+    ensures { Writes (S.told sink.old) (S.told sink.new) result (each entry_text (kept key (slot ∷ []) [])) }
+{
+    match slot {
+        Some(id) => write_entry(key, id, sink),
+        None => Ok(()),
+    }
+}
+
+/// Writes the entries of slots, whose keys begin at 0.
+#[tactic(auto, using(crate::proofs::Memos::slot_steps))]
+fn write_slots<S: Page>(slots: &[Option<ObjId>], sink: &mut S) -> Result<(), Failed>
+    ensures { Writes (S.told sink.old) (S.told sink.new) result (each entry_text (kept 0 slots.now [])) }
+{
+    for key in 0..slots.len() {
+        write_slot(key as u64, slots[key], sink)?;
+    }
+    Ok(())
+}
+
+/// Writes the entries of a map, by rising key.
+fn write_map<S: Page>(memo: &BTreeMap<u64, ObjId>, sink: &mut S) -> Result<(), Failed>
     ensures { Writes (S.told sink.old) (S.told sink.new) result (each entry_text memo.now.entries) }
 {
     let mut rest = memo.iter();
@@ -30,6 +55,27 @@ fn write_entries<S: Page>(memo: &BTreeMap<u64, ObjId>, sink: &mut S) -> Result<(
     Ok(())
 }
 
+/// Writes the entries of slots, and then those of a map.
+#[tactic(auto, using(pickle_io::proofs::Devices::text_steps))]
+fn write_parts<S: Page>(
+    slots: &[Option<ObjId>],
+    map: &BTreeMap<u64, ObjId>,
+    sink: &mut S,
+) -> Result<(), Failed>
+    ensures { Writes (S.told sink.old) (S.told sink.new) result (each entry_text (kept 0 slots.now []) ⧺ each entry_text map.now.entries) }
+{
+    write_slots(slots, sink)?;
+    write_map(map, sink)
+}
+
+/// Writes the entries, by rising key.
+fn write_entries<S: Page>(memo: &Entries, sink: &mut S) -> Result<(), Failed>
+    ensures { Writes (S.told sink.old) (S.told sink.new) result (each entry_text memo.now) }
+{
+    let (slots, map) = memo.parts();
+    write_parts(slots, map, sink)
+}
+
 /// Writes the memo of a machine: `memo`, and ` key=#n` for each entry, by rising key. It takes no memory. `Failed` where the sink
 /// fails; a beginning of the line was written then.
 #[tactic(auto, using(pickle_io::proofs::Devices::text_steps), unfolding(crate::specs::MemoText::memo_text))]
@@ -37,6 +83,6 @@ pub fn write_memo<S: Page>(machine: &Machine, sink: &mut S) -> Result<(), Failed
     ensures { Writes (S.told sink.old) (S.told sink.new) result (memo_text machine.now.state.memo) }
 {
     write_all(sink, b"memo")?;
-    write_entries(machine.memo_map(), sink)?;
+    write_entries(machine.memo_entries(), sink)?;
     write_all(sink, b"\n")
 }

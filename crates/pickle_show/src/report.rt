@@ -109,6 +109,7 @@ fn write_report<S: Page>(machine: &Machine, closing: Closing, sink: &mut S) -> R
 
 /// Steps a machine over an item, whose row this is, and keeps no record. Refused, it changes nothing. `Refusal::Memory` comes also where
 /// there is no memory for a copy of the item's argument.
+#[inline(always)]
 pub fn step_over(
     alloc: Global,
     row: Row,

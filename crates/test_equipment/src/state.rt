@@ -177,18 +177,35 @@ fn write_stack<S: Page>(machine: &Machine, sink: &mut S) -> Result<(), Failed> {
     Ok(())
 }
 
+/// Writes a key of the memo and its object.
+fn write_entry<S: Page>(
+    machine: &Machine,
+    key: u64,
+    id: ObjId,
+    sink: &mut S,
+) -> Result<(), Failed> {
+    write_all(sink, b" ")?;
+    write_decimal(key, sink)?;
+    write_id("=#", id, sink)?;
+    if machine.memo(key) != Some(id) {
+        write_all(sink, b" by one reader alone")?;
+    }
+    Ok(())
+}
+
 /// Writes the memo by rising key.
 fn write_memo<S: Page>(machine: &Machine, sink: &mut S) -> Result<(), Failed> {
     if machine.memo_len() > 0 {
         write_all(sink, b"; memo")?;
     }
-    for (key, id) in machine.memo_map() {
-        write_all(sink, b" ")?;
-        write_decimal(*key, sink)?;
-        write_id("=#", *id, sink)?;
-        if machine.memo(*key) != Some(*id) {
-            write_all(sink, b" by one reader alone")?;
+    let (slots, map) = machine.memo_entries().parts();
+    for key in 0..slots.len() {
+        if let Some(id) = slots[key] {
+            write_entry(machine, key as u64, id, sink)?;
         }
+    }
+    for (key, id) in map {
+        write_entry(machine, *key, *id, sink)?;
     }
     Ok(())
 }
@@ -216,7 +233,7 @@ fn ends(machine: &Machine) -> bool {
     machine.object(past).is_none()
         && machine.stack_at(machine.stack_len()).is_none()
         && machine.mark(machine.marks_len()).is_none()
-        && machine.memo_map().len() == machine.memo_len()
+        && machine.memo_entries().len() == machine.memo_len()
         && machine.memo(u64::MAX).is_none()
 }
 

@@ -1,19 +1,10 @@
--- One entry more, or an end.
-use Rattle.std.proofs.Common.{ap, ◌∙◌}
-use Rattle.pickle_io.specs.Device.{each}
-use Rattle.pickle_io.proofs.Devices.{WroteAllBut-all, Writes-stop, each-cons, each-nil}
-use Rattle.pickle_show.specs.MemoText.{entry_text}
-use Rattle.pickle_show.proofs.ReportPieces.{WroteAllBut-piece, WroteAllBut-broke}
+-- The slots and the map are all entries.
+use Rattle.std.proofs.Common.{List, ℕ, subst}
+use Rattle.pickle_io.specs.Device.{Writes}
+use Rattle.pickle_show.proofs.Memos.{slots_then_map}
 use Rattle.pickle_show.proofs.memo.write_entries.Goals as goal
 
-pub loop-key-preserved : goal.loop-key-preserved
-loop-key-preserved g c =
-    WroteAllBut-piece _ _ _ _ _ _ _ c.loop-key.invariant (ap (each entry_text) c.in-Some.ensures.steps ∙ each-cons entry_text (c.in-Some.key.now, c.in-Some.id.now) c.next.new.self) c.in_ok-write_entry.ensures
-
-pub returns-in_err-write_entry : goal.returns-in_err-write_entry
-returns-in_err-write_entry g c =
-    Writes-stop _ _ c.from_residual.result c.from_residual.result _ c.from_residual.ensures.0
-    (WroteAllBut-broke _ _ _ _ _ _ _ c.loop-key.invariant (ap (each entry_text) c.in-Some.ensures.steps ∙ each-cons entry_text (c.in-Some.key.now, c.in-Some.id.now) c.next.new.self) c.in_err-write_entry.ensures)
-
 pub returns : goal.returns
-returns g c = WroteAllBut-all _ _ _ _ c.loop-key.invariant (ap (each entry_text) c.in_default.ensures.steps.0 ∙ each-nil entry_text)
+returns g c =
+    subst (λ (text : List ℕ). Writes (g.S.Sink.told c.args.sink.now) (g.S.Sink.told c.write_parts.new.sink) c.write_parts.result text) (slots_then_map c.parts.result.0.now c.parts.result.1.now.entries _ c.parts.ensures)
+    c.write_parts.ensures

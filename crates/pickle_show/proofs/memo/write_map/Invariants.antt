@@ -2,7 +2,7 @@
 use Rattle.std.proofs.Common.{length}
 use Rattle.pickle_io.specs.Device.{WroteAllBut, each}
 use Rattle.pickle_show.specs.MemoText.{entry_text}
-use Rattle.pickle_show.proofs.memo.write_entries.Given as goal
+use Rattle.pickle_show.proofs.memo.write_map.Given as goal
 
 abbrev pub invariant-loop-key : goal.invariant-loop-key
 invariant-loop-key g l = WroteAllBut (g.S.Sink.told l.initial.sink) (g.S.Sink.told l.sink) (each entry_text l.memo.entries) (each entry_text l.rest)
