@@ -10,7 +10,7 @@ import tty
 from collections.abc import Sequence
 
 from .room import SECONDS, Room, Run, Word, beginning
-from .row import CLOSED, CUT, FULL, SMALL_STACK, UNPRIVILEGED, Row, fails, is_usage, trials_of
+from .row import CLOSED, CUT, FULL, SMALL_STACK, UNPRIVILEGED, Row, fails, is_usage, misused, trials_of
 from .samples import PAIR_LISTING, PAIR_OBJECTS
 from .trial import Trial
 
@@ -102,6 +102,12 @@ OBJECTS = (
     is_usage("objects without a file", "objects"),
 )
 
+NO_HOLES = ("", "1", ":", "1:", ":1", "1:-1", "+1:1", "1:1:1", "1,1", "0x1:1", " 1:1", "1:9223372036854775808", "18446744073709551616:1")
+# A thousand opcodes NONE with three bytes behind each, between an import and its call; and where these bytes are.
+HOLED = '''printf 'NN\\377\\377\\377cm\\nn\\n' >holed.pickle; echo 2:3 >holes.txt
+for ((i = 0; i < 999; i++)); do printf 'N0\\377\\377\\377' >>holed.pickle; echo "$((i * 5 + 12)):3" >>holes.txt; done
+printf ')R.' >>holed.pickle; "$@"'''
+
 CALLS = (
     Row("the calls of a pair", ("calls", "pair.pickle"), output=NO_CALLS),
     Row("the calls of several pickles", ("calls", "--many", "pair.pickle"), output=NO_CALLS),
@@ -124,6 +130,31 @@ CALLS = (
     fails("the calls, on a full device", "cannot write", "calls", "pair.pickle", through=FULL),
     is_usage("calls without a file", "calls"),
     is_usage("a window of calls", "calls", "pair.pickle", "--window", "2"),
+    is_usage("bytes of list that are left out", "list", "pair.pickle", "--skip", "1:1"),
+    *(
+        misused(f"a hole '{hole}'", "calls", "pair.pickle", "--skip", hole, says=f"error: '{hole}' is no OFFSET:LENGTH")
+        for hole in NO_HOLES
+    ),
+    misused(
+        "a hole before another",
+        "calls",
+        "pair.pickle",
+        "--skip",
+        "2:1",
+        "--skip",
+        "1:1",
+        says="error: '1:1' is no OFFSET:LENGTH, or does not stand behind the bytes that are left out before it",
+    ),
+    misused("a hole over another", "calls", "pair.pickle", "--skip", "0:3", "--skip", "2:1", says="error: '2:1' is no"),
+    misused("a hole without bytes or a file", "calls", "pair.pickle", "--skip"),
+    Row(
+        "the calls of what a thousand holes leave",
+        ("calls", "holed.pickle", "--skip", "@holes.txt"),
+        output="    5: import 'm' 'n' as #2\n 5006: call 'm' 'n' () as #1003\n1 imports, 1 calls\n",
+        through=HOLED,
+    ),
+    Row("holes from a file without a line", ("calls", "pair.pickle", "--skip", "@/dev/null"), output=NO_CALLS),
+    fails("holes from no such file", "cannot read", "calls", "pair.pickle", "--skip", "@missing.txt"),
 )
 
 CONVERSATIONS = (
@@ -217,6 +248,7 @@ OPTIONS = {
         ("    --first", "read the first pickle alone, up to its STOP"),
         ("    --memo <kept>", "read FILE as one unpickler does that loads again and again and keeps its memo"),
         ("    --full", "print arguments in full: whole texts, and all parts of a tuple"),
+        ("    --skip <OFFSET:LENGTH>", "leave bytes of FILE out, as raw numbers between opcodes; offsets stay those in FILE"),
     ),
     "debug": (
         ("    --many", MANY_HELP),

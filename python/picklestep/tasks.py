@@ -5,7 +5,7 @@ from __future__ import annotations
 import re
 import time
 from collections import deque
-from typing import Iterable, Iterator, List, Optional, Type, TypeVar
+from typing import Iterable, Iterator, List, Optional, Tuple, Type, TypeVar
 
 from . import library
 from .answers import Calls, Listing, Objects
@@ -45,23 +45,28 @@ def objects(source: Source, *, many: bool = False, timeout: Optional[float] = No
 
 
 def calls(source: Source, *, first: bool = False, memo_kept: bool = False, full: bool = False, many: bool = True,
-          timeout: Optional[float] = None, memory: Optional[int] = None) -> Calls:
+          skip: Iterable[Tuple[int, int]] = (), timeout: Optional[float] = None, memory: Optional[int] = None) -> Calls:
     """What pickles that follow one another import and call. An opcode without a line makes no object from elsewhere or from a call, and changes none.
 
     With `first` only the first pickle is read. With `memo_kept` they are read as by one unpickler that loads again and again, and keeps
     its memo. With `full` arguments are whole: texts of more than 64 characters, tuples of more than 16 parts. `many` changes nothing.
+    `skip` has the offset and the length of bytes that are left out, in order: what is left is read, with the offsets of the source.
 
     >>> for reach in calls(b'cposix\\nsystem\\n(X\\x02\\x00\\x00\\x00idtR.'):
     ...     print(reach.offset, reach.text)
     0 import 'posix' 'system' as #0
     23 call 'posix' 'system' ('id') as #3
+    >>> [reach.offset for reach in calls(b'cposix\\nsystem\\n....(X\\x02\\x00\\x00\\x00idtR.', skip=[(14, 4)])]
+    [0, 27]
     """
     if first and memo_kept:
         raise ValueError('first and memo_kept are two readings')
     options = ['--first'] if first else ['--memo', 'kept'] if memo_kept else []
     options += ['--full'] if full else []
-    # (A listing does not read on as one unpickler does, so where that was refused only the place is known.)
-    return _report(Calls, ['calls', *options], source, None if memo_kept else ['list', *_many(not first)], timeout, memory)
+    holes = [word for offset, size in skip for word in ('--skip', f'{offset}:{size}')]
+    # (A listing does not read on as one unpickler does, and leaves nothing out: where that was refused only the place is known.)
+    listing_words = None if memo_kept or holes else ['list', *_many(not first)]
+    return _report(Calls, ['calls', *options, *holes], source, listing_words, timeout, memory)
 
 
 def _report(kind: Type[_Report], words: List[str], source: Source, listing_words: Optional[List[str]], timeout: Optional[float],

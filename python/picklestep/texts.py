@@ -170,12 +170,16 @@ _AT = {'F': 'fault', 'U': 'unsure'}
 
 
 def end_of_item(text: str, offset: Optional[int] = None) -> End:
-    """The end that a closing line shows which names the item that was refused.
+    """The end that a closing line shows which names the item that was refused, or bytes to leave out that are not there.
 
     >>> end_of_item('item 2: S2 stack underflow')
     End(how='refused', code='S2', text='S2 stack underflow', offset=None, item=2)
+    >>> end_of_item('hole 3:2 ends behind the last of 4 bytes')
+    End(how='refused', code=None, text='hole 3:2 ends behind the last of 4 bytes', offset=None, item=None)
     """
-    place, _, words = text.partition(': ')
+    place, separator, words = text.partition(': ')
+    if not separator:
+        return End('refused', text=text)
     return End('refused', words.partition(' ')[0], words, offset, int(place.rpartition(' ')[2]))
 
 

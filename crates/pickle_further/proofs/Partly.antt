@@ -5,6 +5,8 @@ use Rattle.pickle_io.specs.Text.{◌⧺◌}
 use Rattle.pickle_io.specs.Device.{Told, Wrote, Broke}
 use Rattle.pickle_io.proofs.Devices.{Wrote-none, Wrote-trans, Broke-after, Broke-more}
 use Rattle.pickle_machine.specs.State.{State}
+use Rattle.pickle_holes.specs.declared.hole.Hole.{Hole}
+use Rattle.pickle_show.specs.Manner.{closing_in}
 use Rattle.pickle_show.specs.declared.stop.TextStop.{TextStop}
 use Rattle.pickle_further.specs.declared.way.Way.{Way}
 use Rattle.pickle_further.specs.declared.way.Spot.{Spot}
@@ -21,36 +23,36 @@ use Rattle.pickle_further.specs.Inside.{standing, standing_of, Goes, tale_here, 
 use Rattle.pickle_further.proofs.Pieces.{pieces, cut_before}
 use Rattle.pickle_further.proofs.Tales.{next_tale}
 
-pub tale_cut : (t : Tale) (a b : Told) (x : TextStop) → CutsText a b t.lines.text x → CutsText a b (tale_text t) x
+pub tale_cut : (holes : List Hole) (t : Tale) (a b : Told) (x : TextStop) → CutsText a b t.lines.text x → CutsText a b (tale_text holes t) x
 unfolding tale_text ◌⧺◌
-tale_cut t a b x w = cut_before a b t.lines.text (part_end t.lines.imports t.lines.calls t.closing) x w
+tale_cut holes t a b x w = cut_before a b t.lines.text (part_end t.lines.imports t.lines.calls (closing_in holes t.closing)) x w
 
-tale_is : (t : Tale) (a b : Told) (e : TaleEnd) → IsTold a b t e → tale_text t ≡ t.lines.text ++ part_end e.course.imports e.course.calls e.closing
+tale_is : (holes : List Hole) (t : Tale) (a b : Told) (e : TaleEnd) → IsTold a b t e → tale_text holes t ≡ t.lines.text ++ part_end e.course.imports e.course.calls (closing_in holes e.closing)
 unfolding tale_text ◌⧺◌
-tale_is t a b e w = rw (w.imports, w.calls, w.closing) refl
+tale_is holes t a b e w = rw (w.imports, w.calls, w.closing) refl
 
-pub end_cut : (t : Tale) (a b c : Told) (e : TaleEnd) → IsTold a b t e → Broke b c (part_end e.course.imports e.course.calls e.closing) → Broke a c (tale_text t)
-end_cut t a b c e w q = rw (tale_is t a b e w) (Broke-after a b c t.lines.text (part_end e.course.imports e.course.calls e.closing) w.written q)
+pub end_cut : (holes : List Hole) (t : Tale) (a b c : Told) (e : TaleEnd) → IsTold a b t e → Broke b c (part_end e.course.imports e.course.calls (closing_in holes e.closing)) → Broke a c (tale_text holes t)
+end_cut holes t a b c e w q = rw (tale_is holes t a b e w) (Broke-after a b c t.lines.text (part_end e.course.imports e.course.calls (closing_in holes e.closing)) w.written q)
 
-pub end_done : (t : Tale) (a b c : Told) (e : TaleEnd) → IsTold a b t e → Wrote b c (part_end e.course.imports e.course.calls e.closing) → Wrote a c (tale_text t)
-end_done t a b c e w q = rw (tale_is t a b e w) (Wrote-trans a b c t.lines.text (part_end e.course.imports e.course.calls e.closing) w.written q)
+pub end_done : (holes : List Hole) (t : Tale) (a b c : Told) (e : TaleEnd) → IsTold a b t e → Wrote b c (part_end e.course.imports e.course.calls (closing_in holes e.closing)) → Wrote a c (tale_text holes t)
+end_done holes t a b c e w q = rw (tale_is holes t a b e w) (Wrote-trans a b c t.lines.text (part_end e.course.imports e.course.calls (closing_in holes e.closing)) w.written q)
 
 -- ---- from here on
 
 -- an item that was gone over is told
-told_is : (w : Way) (s t : State) (v : Visited) → Goes (going w (standing_of s v)) v.gone t
-    → told_text w (Some (standing_of s v)) ≡ header w.frames ++ tale_text (tale_here (length v.rest.now) w (standing_of t v) v.gone)
+told_is : (holes : List Hole) (w : Way) (s t : State) (v : Visited) → Goes (going w (standing_of s v)) v.gone t
+    → told_text holes w (Some (standing_of s v)) ≡ header w.frames ++ tale_text holes (tale_here holes (length v.rest.now) w (standing_of t v) v.gone)
 unfolding ◌⧺◌
-told_is w s t v g = ap (λ (x : Tale). header w.frames ++ tale_text x) (next_tale (length v.rest.now) w (standing_of s v) v.gone t g)
+told_is holes w s t v g = ap (λ (x : Tale). header w.frames ++ tale_text holes x) (next_tale holes (length v.rest.now) w (standing_of s v) v.gone t g)
 
-pub header_broken : (w : Way) (s t : State) (v : Visited) (a b : Told) → Goes (going w (standing_of s v)) v.gone t → Broke a b (header w.frames)
-    → Broke a b (told_text w (Some (standing_of s v)))
-header_broken w s t v a b g q = rw (told_is w s t v g) (Broke-more a b (header w.frames) (tale_text (tale_here (length v.rest.now) w (standing_of t v) v.gone)) q)
+pub header_broken : (holes : List Hole) (w : Way) (s t : State) (v : Visited) (a b : Told) → Goes (going w (standing_of s v)) v.gone t → Broke a b (header w.frames)
+    → Broke a b (told_text holes w (Some (standing_of s v)))
+header_broken holes w s t v a b g q = rw (told_is holes w s t v g) (Broke-more a b (header w.frames) (tale_text holes (tale_here holes (length v.rest.now) w (standing_of t v) v.gone)) q)
 
-pub tale_puts : {A : Type 0} (w : Way) (s t : State) (v : Visited) (a b c : Told) (r : Result A TextStop) → Goes (going w (standing_of s v)) v.gone t → Wrote a b (header w.frames)
-    → PutsText b c (tale_text (tale_here (length v.rest.now) w (standing_of t v) v.gone)) r → PutsText a c (told_text w (Some (standing_of s v))) r
-tale_puts w s t v a b c r g q k =
-    rw (told_is w s t v g) (pieces a b c (header w.frames) (tale_text (tale_here (length v.rest.now) w (standing_of t v) v.gone)) r q k)
+pub tale_puts : {A : Type 0} (holes : List Hole) (w : Way) (s t : State) (v : Visited) (a b c : Told) (r : Result A TextStop) → Goes (going w (standing_of s v)) v.gone t → Wrote a b (header w.frames)
+    → PutsText b c (tale_text holes (tale_here holes (length v.rest.now) w (standing_of t v) v.gone)) r → PutsText a c (told_text holes w (Some (standing_of s v))) r
+tale_puts holes w s t v a b c r g q k =
+    rw (told_is holes w s t v g) (pieces a b c (header w.frames) (tale_text holes (tale_here holes (length v.rest.now) w (standing_of t v) v.gone)) r q k)
 
 -- ---- what is looked for
 
@@ -66,24 +68,24 @@ none_puts w text (Some p) t a is f = absurd f
 none_puts w text None t a is f = rw is (Wrote-none a)
 
 -- the first item with an event
-pub event_puts : {A : Type 0} (w : Way) (p : Standing) (v : Visited) (x : Option Visited) (t : State) (a b : Told) (r : Result A TextStop) → x ≡ Some v
-    → Finds w (search_from sought.Event w p) x t → ((s : State) → Goes (going w (standing_of s v)) v.gone t → PutsText a b (told_text w (Some (standing_of s v))) r)
-    → PutsText a b (text_from w p) r
+pub event_puts : {A : Type 0} (holes : List Hole) (w : Way) (p : Standing) (v : Visited) (x : Option Visited) (t : State) (a b : Told) (r : Result A TextStop) → x ≡ Some v
+    → Finds w (search_from sought.Event w p) x t → ((s : State) → Goes (going w (standing_of s v)) v.gone t → PutsText a b (told_text holes w (Some (standing_of s v))) r)
+    → PutsText a b (text_from holes w p) r
 unfolding text_from
-event_puts w p v x t a b r is f puts =
-    found_puts w (told_text w) (search_from sought.Event w p) v t a b r (subst (λ (y : Option Visited). Finds w (search_from sought.Event w p) y t) is f) puts
+event_puts holes w p v x t a b r is f puts =
+    found_puts w (told_text holes w) (search_from sought.Event w p) v t a b r (subst (λ (y : Option Visited). Finds w (search_from sought.Event w p) y t) is f) puts
 
-pub no_event_puts : (w : Way) (p : Standing) (x : Option Visited) (t : State) (a : Told) → x ≡ None → Finds w (search_from sought.Event w p) x t → Wrote a a (text_from w p)
+pub no_event_puts : (holes : List Hole) (w : Way) (p : Standing) (x : Option Visited) (t : State) (a : Told) → x ≡ None → Finds w (search_from sought.Event w p) x t → Wrote a a (text_from holes w p)
 unfolding text_from
-no_event_puts w p x t a is f =
-    none_puts w (told_text w) (search_from sought.Event w p) t a refl (subst (λ (y : Option Visited). Finds w (search_from sought.Event w p) y t) is f)
+no_event_puts holes w p x t a is f =
+    none_puts w (told_text holes w) (search_from sought.Event w p) t a refl (subst (λ (y : Option Visited). Finds w (search_from sought.Event w p) y t) is f)
 
 -- the first item whose reading loses bytes
-pub lost_puts : {A : Type 0} (how : Detail) (w : Way) (s : State) (bytes : List ℕ) (at : Spot) (m : Naming) (v : Visited) (x : Option Visited) (t : State) (a b : Told) (r : Result A TextStop)
+pub lost_puts : {A : Type 0} (holes : List Hole) (how : Detail) (w : Way) (s : State) (bytes : List ℕ) (at : Spot) (m : Naming) (v : Visited) (x : Option Visited) (t : State) (a b : Told) (r : Result A TextStop)
     → m ≡ begin how 0 → x ≡ Some v → Finds w (search_from sought.Lost w (standing s bytes at m)) x t
-    → ((u : State) → Goes (going w (standing_of u v)) v.gone t → PutsText a b (text_from w (standing_of u v)) r)
-    → PutsText a b (found_text w (search_from sought.Lost w (standing s bytes at (begin how 0)))) r
-lost_puts how w s bytes at m v x t a b r same is f puts =
+    → ((u : State) → Goes (going w (standing_of u v)) v.gone t → PutsText a b (text_from holes w (standing_of u v)) r)
+    → PutsText a b (found_text holes w (search_from sought.Lost w (standing s bytes at (begin how 0)))) r
+lost_puts holes how w s bytes at m v x t a b r same is f puts =
     let here : Finds w (search_from sought.Lost w (standing s bytes at (begin how 0))) x t = subst (λ (n : Naming). Finds w (search_from sought.Lost w (standing s bytes at n)) x t) same f in
-    found_puts w (found_text w) (search_from sought.Lost w (standing s bytes at (begin how 0))) v t a b r
+    found_puts w (found_text holes w) (search_from sought.Lost w (standing s bytes at (begin how 0))) v t a b r
     (subst (λ (y : Option Visited). Finds w (search_from sought.Lost w (standing s bytes at (begin how 0))) y t) is here) puts

@@ -5,7 +5,7 @@ use Rattle.pickle_io.specs.Device.{Told, Wrote}
 use Rattle.pickle_io.proofs.Devices.{Wrote-trans, Broke-after, Broke-more, WroteAllBut-none}
 use Rattle.pickle_doc.specs.Document.{AreBytes}
 use Rattle.pickle_doc.proofs.Existence.{some_document}
-use Rattle.pickle_show.specs.declared.naming.Detail.{Detail}
+use Rattle.pickle_show.specs.Manner.{Manner}
 use Rattle.pickle_show.specs.Output.{Output}
 use Rattle.pickle_show.specs.declared.stop.TextStop.{TextStop}
 use Rattle.pickle_show.specs.declared.stop.TextStop.TheVariants as stop
@@ -17,12 +17,12 @@ use Rattle.pickle_further.specs.CallsText.{CutsText, PutsText, IsCallsText, Cuts
 pub nothing_written : (a : Told) (text : List ℕ) → CutsText a a text stop.Memory
 nothing_written a text = (text, WroteAllBut-none a text)
 
-some_text : (how : Detail) (p : Pickles) (bytes : List ℕ) → AreBytes bytes → (o : Output) × IsCallsText how p bytes o
+some_text : (how : Manner) (p : Pickles) (bytes : List ℕ) → AreBytes bytes → (o : Output) × IsCallsText how p bytes o
 some_text how pickles.First bytes are = let d = some_document false bytes are in (document_calls how pickles.First d.0, (d.0, d.1, refl))
 some_text how pickles.All bytes are = let d = some_document true bytes are in (document_calls how pickles.All d.0, (d.0, d.1, refl))
 some_text how pickles.OneMemo bytes are = (kept_calls how bytes, refl)
 
-pub no_text_yet : (how : Detail) (p : Pickles) (bytes : List ℕ) (a : Told) → AreBytes bytes → CutsCallsText how p bytes a a stop.Memory
+pub no_text_yet : (how : Manner) (p : Pickles) (bytes : List ℕ) (a : Told) → AreBytes bytes → CutsCallsText how p bytes a a stop.Memory
 no_text_yet how p bytes a are = let o = some_text how p bytes are in (o.0, o.1, nothing_written a o.0.text)
 
 -- ---- a text of pieces

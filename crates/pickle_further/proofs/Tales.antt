@@ -9,6 +9,8 @@ use Rattle.pickle_io.proofs.Devices.{Wrote-none, Wrote-trans, Broke-after, Broke
 use Rattle.pickle_ops.specs.declared.fault.FrontFault.TheVariants as front
 use Rattle.pickle_doc.specs.declared.fault.TailFault.TheVariants as tail
 use Rattle.pickle_machine.specs.State.{State}
+use Rattle.pickle_holes.specs.declared.hole.Hole.{Hole}
+use Rattle.pickle_holes.specs.Holes.{in_file}
 use Rattle.pickle_show.specs.declared.report.Closing.{Closing}
 use Rattle.pickle_show.specs.declared.report.Closing.TheVariants as closing
 use Rattle.pickle_show.specs.declared.course.Course.{Course}
@@ -83,40 +85,40 @@ no_some : (c : Closing) → None ≡ Some c → ⊥
 no_some c e = cc
 
 -- it ends after this item
-pub ends_here : (n : ℕ) (w : Way) (p : Standing) (gone : Gone) (c : Closing) → ended gone n p.at.offset ≡ Some c
-    → tale_here n w p gone ≡ tale_after (counted_text p.at.offset p.naming p.state.heap gone.event) (tale_over c)
+pub ends_here : (holes : List Hole) (n : ℕ) (w : Way) (p : Standing) (gone : Gone) (c : Closing) → ended gone n p.at.offset ≡ Some c
+    → tale_here holes n w p gone ≡ tale_after (counted_text (in_file holes p.at.offset) p.naming p.state.heap gone.event) (tale_over c)
 unfolding tale
-ends_here n w p gone c e = ap (tale_after (counted_text p.at.offset p.naming p.state.heap gone.event)) (go (n == 0) refl gone.closing e)
+ends_here holes n w p gone c e = ap (tale_after (counted_text (in_file holes p.at.offset) p.naming p.state.heap gone.event)) (go (n == 0) refl gone.closing e)
   where
     go : (b : Bool) → (n == 0) ≡ b → (x : Option Closing) → option_map_or Some x (if b then Some (closing.Fault (tail.Front front.Ended) (p.at.offset + gone.size)) else None) ≡ Some c
-        → option_map_or tale_over x (tale n w (stands_after p (here gone p))) ≡ tale_over c
-    go true is None e = ap (λ (m : ℕ). tale m w (stands_after p (here gone p))) (is_zero n is) ∙ ap tale_over (inside _ c e)
+        → option_map_or tale_over x (tale holes n w (stands_after p (here gone p))) ≡ tale_over c
+    go true is None e = ap (λ (m : ℕ). tale holes m w (stands_after p (here gone p))) (is_zero n is) ∙ ap tale_over (inside _ c e)
     go false is None e = absurd (no_some c e)
     go b is (Some x) e = ap tale_over (inside x c e)
 
 no_none : (c : Closing) → Some c ≡ None → ⊥
 no_none c e = cc
 
-pub record GoesBehind (n : ℕ) (w : Way) (p : Standing) (gone : Gone) : Type 0 where
+pub record GoesBehind (holes : List Hole) (n : ℕ) (w : Way) (p : Standing) (gone : Gone) : Type 0 where
   pub before : ℕ
   pub count : n ≡ suc before
-  pub tale_is : tale_here n w p gone ≡ tale_after (counted_text p.at.offset p.naming p.state.heap gone.event) (tale n w (stands_after p (here gone p)))
+  pub tale_is : tale_here holes n w p gone ≡ tale_after (counted_text (in_file holes p.at.offset) p.naming p.state.heap gone.event) (tale holes n w (stands_after p (here gone p)))
 
 -- it does not
-pub goes_behind : (n : ℕ) (w : Way) (p : Standing) (gone : Gone) → ended gone n p.at.offset ≡ None → GoesBehind n w p gone
-goes_behind n w p gone e = go n gone.closing refl e
+pub goes_behind : (holes : List Hole) (n : ℕ) (w : Way) (p : Standing) (gone : Gone) → ended gone n p.at.offset ≡ None → GoesBehind holes n w p gone
+goes_behind holes n w p gone e = go n gone.closing refl e
   where
     go : (n : ℕ) (x : Option Closing) → gone.closing ≡ x → option_map_or Some x (if n == 0 then Some (closing.Fault (tail.Front front.Ended) (p.at.offset + gone.size)) else None) ≡ None
-        → GoesBehind n w p gone
+        → GoesBehind holes n w p gone
     go zero None is e = absurd (no_none _ e)
     go (suc m) None is e = record { before = m; count = refl; tale_is = rw is refl }
     go n (Some x) is e = absurd (no_none x e)
 
 -- what the next item comes to, by the state after it
-pub next_tale : (n : ℕ) (w : Way) (p : Standing) (gone : Gone) (t : State) → Goes (going w p) gone t
-    → tale (suc n) w p ≡ tale_here n w (standing t p.rest p.at p.naming) gone
+pub next_tale : (holes : List Hole) (n : ℕ) (w : Way) (p : Standing) (gone : Gone) (t : State) → Goes (going w p) gone t
+    → tale holes (suc n) w p ≡ tale_here holes n w (standing t p.rest p.at p.naming) gone
 unfolding tale
-next_tale n w p gone t g = elim g.state [
+next_tale holes n w p gone t g = elim g.state [
   | inl same ↦ rw (same, g.is) refl
   | inr over ↦
       let silent : (going w p).gone.event ≡ None = sym (ap (λ (x : Gone). x.event) g.is) ∙ over.silent in
@@ -126,8 +128,8 @@ next_tale n w p gone t g = elim g.state [
 
 -- ---- the loop
 
-pub record InLoop (w : Way) (whole : Tale) (old now : Told) (s : State) (rest : List ℕ) (at : Spot) (gone : Gone) (course : Course) (left : ℕ) : Type 0 where
-  pub told : InTale whole old now course (tale_here left w (standing s rest at course.naming) gone)
+pub record InLoop (holes : List Hole) (w : Way) (whole : Tale) (old now : Told) (s : State) (rest : List ℕ) (at : Spot) (gone : Gone) (course : Course) (left : ℕ) : Type 0 where
+  pub told : InTale whole old now course (tale_here holes left w (standing s rest at course.naming) gone)
   pub size : gone.size ≤ length rest
   pub few : left ≤ 2 ^ 30
   pub small : length rest ≤ 2 ^ 30
@@ -142,39 +144,39 @@ abbrev pub behind : State → List ℕ → Spot → Gone → Naming → Standing
 behind s rest at gone m = standing s (drop gone.size rest) (spot_after at gone) m
 
 -- what is told is this item's, and what comes then
-goes_told : (w : Way) (whole : Tale) (a b c : Told) (s t : State) (rest : List ℕ) (at : Spot) (gone next : Gone) (course more : Course) (left m : ℕ)
-    → InTale whole a b course (tale_here left w (standing s rest at course.naming) gone) → Wrote b c (line_of at.offset course.naming s.heap gone.event)
+goes_told : (holes : List Hole) (w : Way) (whole : Tale) (a b c : Told) (s t : State) (rest : List ℕ) (at : Spot) (gone next : Gone) (course more : Course) (left m : ℕ)
+    → InTale whole a b course (tale_here holes left w (standing s rest at course.naming) gone) → Wrote b c (line_of (in_file holes at.offset) course.naming s.heap gone.event)
     → more.imports ≡ course.imports + imports_of s.heap gone.event → more.calls ≡ course.calls + calls_of s.heap gone.event
     → more.naming ≡ naming_after gone.row (length s.heap) course.naming
     → left ≡ suc m
-    → tale_here left w (standing s rest at course.naming) gone ≡ tale_after (counted_text at.offset course.naming s.heap gone.event) (tale left w (behind s rest at gone (naming_after gone.row (length s.heap) course.naming)))
+    → tale_here holes left w (standing s rest at course.naming) gone ≡ tale_after (counted_text (in_file holes at.offset) course.naming s.heap gone.event) (tale holes left w (behind s rest at gone (naming_after gone.row (length s.heap) course.naming)))
     → Goes (going w (behind s rest at gone more.naming)) next t
-    → InTale whole a c more (tale_here m w (behind t rest at gone more.naming) next)
-goes_told w whole a b c s t rest at gone next course more left m k q i j naming suc_is is g =
+    → InTale whole a c more (tale_here holes m w (behind t rest at gone more.naming) next)
+goes_told holes w whole a b c s t rest at gone next course more left m k q i j naming suc_is is g =
     let p : Standing = behind s rest at gone more.naming in
-    let named : tale left w (behind s rest at gone (naming_after gone.row (length s.heap) course.naming)) ≡ tale left w p = ap (λ (n : Naming). tale left w (behind s rest at gone n)) (sym naming) in
-    let told : tale_here left w (standing s rest at course.naming) gone ≡ tale_after (counted_text at.offset course.naming s.heap gone.event) (tale left w p) =
-    is ∙ ap (tale_after (counted_text at.offset course.naming s.heap gone.event)) named in
-    let here_is : InTale whole a b course (tale_after (counted_text at.offset course.naming s.heap gone.event) (tale left w p)) = subst (InTale whole a b course) told k in
-    let line : InTale whole a c more (tale left w p) = line_written whole a b c course more (counted_text at.offset course.naming s.heap gone.event) (tale left w p) here_is q i j in
-    let then_is : tale left w p ≡ tale_here m w (behind t rest at gone more.naming) next = ap (λ (n : ℕ). tale n w p) suc_is ∙ next_tale m w p next t g in
+    let named : tale holes left w (behind s rest at gone (naming_after gone.row (length s.heap) course.naming)) ≡ tale holes left w p = ap (λ (n : Naming). tale holes left w (behind s rest at gone n)) (sym naming) in
+    let told : tale_here holes left w (standing s rest at course.naming) gone ≡ tale_after (counted_text (in_file holes at.offset) course.naming s.heap gone.event) (tale holes left w p) =
+    is ∙ ap (tale_after (counted_text (in_file holes at.offset) course.naming s.heap gone.event)) named in
+    let here_is : InTale whole a b course (tale_after (counted_text (in_file holes at.offset) course.naming s.heap gone.event) (tale holes left w p)) = subst (InTale whole a b course) told k in
+    let line : InTale whole a c more (tale holes left w p) = line_written whole a b c course more (counted_text (in_file holes at.offset) course.naming s.heap gone.event) (tale holes left w p) here_is q i j in
+    let then_is : tale holes left w p ≡ tale_here holes m w (behind t rest at gone more.naming) next = ap (λ (n : ℕ). tale holes n w p) suc_is ∙ next_tale holes m w p next t g in
     subst (InTale whole a c more) then_is line
 
-pub goes_round : (w : Way) (whole : Tale) (a b c : Told) (s t : State) (rest : List ℕ) (at : Spot) (gone next : Gone) (course more : Course) (left : ℕ)
-    → InLoop w whole a b s rest at gone course left → Wrote b c (line_of at.offset course.naming s.heap gone.event)
+pub goes_round : (holes : List Hole) (w : Way) (whole : Tale) (a b c : Told) (s t : State) (rest : List ℕ) (at : Spot) (gone next : Gone) (course more : Course) (left : ℕ)
+    → InLoop holes w whole a b s rest at gone course left → Wrote b c (line_of (in_file holes at.offset) course.naming s.heap gone.event)
     → more.imports ≡ course.imports + imports_of s.heap gone.event → more.calls ≡ course.calls + calls_of s.heap gone.event
     → more.naming ≡ naming_after gone.row (length s.heap) course.naming
     → ended gone left at.offset ≡ None
     → Goes (going w (behind s rest at gone more.naming)) next t
     → next.size ≤ length (drop gone.size rest) → length t.heap ≤ length s.heap + 2
-    → InLoop w whole a c t (drop gone.size rest) (spot_after at gone) next more (left - 1)
-goes_round w whole a b c s t rest at gone next course more left k q i j naming none g size heap =
-    let behind = goes_behind left w (standing s rest at course.naming) gone none in
+    → InLoop holes w whole a c t (drop gone.size rest) (spot_after at gone) next more (left - 1)
+goes_round holes w whole a b c s t rest at gone next course more left k q i j naming none g size heap =
+    let behind = goes_behind holes left w (standing s rest at course.naming) gone none in
     let m : ℕ = behind.before in
     let less : left - 1 ≡ m = omega (arith, behind.count) in
     let shorter : length (drop gone.size rest) ≡ length rest - gone.size = length-drop gone.size rest in
     rw less (record {
-      told = goes_told w whole a b c s t rest at gone next course more left m k.told q i j naming behind.count behind.tale_is g;
+      told = goes_told holes w whole a b c s t rest at gone next course more left m k.told q i j naming behind.count behind.tale_is g;
       size = size;
       few = omega (arith, k.few, behind.count);
       small = omega (arith, k.small, shorter);
@@ -186,25 +188,25 @@ goes_round w whole a b c s t rest at gone next course more left k q i j naming n
     })
 
 -- the line of an item after which it ends
-pub last_line : (w : Way) (whole : Tale) (a b c : Told) (s : State) (rest : List ℕ) (at : Spot) (gone : Gone) (course more : Course) (left : ℕ) (x : Closing)
-    → InLoop w whole a b s rest at gone course left → Wrote b c (line_of at.offset course.naming s.heap gone.event)
+pub last_line : (holes : List Hole) (w : Way) (whole : Tale) (a b c : Told) (s : State) (rest : List ℕ) (at : Spot) (gone : Gone) (course more : Course) (left : ℕ) (x : Closing)
+    → InLoop holes w whole a b s rest at gone course left → Wrote b c (line_of (in_file holes at.offset) course.naming s.heap gone.event)
     → more.imports ≡ course.imports + imports_of s.heap gone.event → more.calls ≡ course.calls + calls_of s.heap gone.event
     → ended gone left at.offset ≡ Some x → IsTold a c whole (record { course = more; closing = x })
-last_line w whole a b c s rest at gone course more left x k q i j e =
-    tale_done whole a c more x (line_written whole a b c course more (counted_text at.offset course.naming s.heap gone.event) (tale_over x)
-    (subst (InTale whole a b course) (ends_here left w (standing s rest at course.naming) gone x e) k.told) q i j)
+last_line holes w whole a b c s rest at gone course more left x k q i j e =
+    tale_done whole a c more x (line_written whole a b c course more (counted_text (in_file holes at.offset) course.naming s.heap gone.event) (tale_over x)
+    (subst (InTale whole a b course) (ends_here holes left w (standing s rest at course.naming) gone x e) k.told) q i j)
 
 -- the line is cut short
-pub item_broken : (w : Way) (whole : Tale) (a b c : Told) (s : State) (rest : List ℕ) (at : Spot) (gone : Gone) (course : Course) (left : ℕ)
-    → InLoop w whole a b s rest at gone course left → Broke b c (line_of at.offset course.naming s.heap gone.event) → Broke a c whole.lines.text
-item_broken w whole a b c s rest at gone course left k q = line_broken whole a b c course (counted_text at.offset course.naming s.heap gone.event) _ k.told q
+pub item_broken : (holes : List Hole) (w : Way) (whole : Tale) (a b c : Told) (s : State) (rest : List ℕ) (at : Spot) (gone : Gone) (course : Course) (left : ℕ)
+    → InLoop holes w whole a b s rest at gone course left → Broke b c (line_of (in_file holes at.offset) course.naming s.heap gone.event) → Broke a c whole.lines.text
+item_broken holes w whole a b c s rest at gone course left k q = line_broken whole a b c course (counted_text (in_file holes at.offset) course.naming s.heap gone.event) _ k.told q
 
 -- memory runs out behind the line of an item
-pub memory_behind : (w : Way) (whole : Tale) (a b c : Told) (s : State) (rest : List ℕ) (at : Spot) (gone : Gone) (course : Course) (left : ℕ)
-    → InLoop w whole a b s rest at gone course left → Wrote b c (line_of at.offset course.naming s.heap gone.event)
+pub memory_behind : (holes : List Hole) (w : Way) (whole : Tale) (a b c : Told) (s : State) (rest : List ℕ) (at : Spot) (gone : Gone) (course : Course) (left : ℕ)
+    → InLoop holes w whole a b s rest at gone course left → Wrote b c (line_of (in_file holes at.offset) course.naming s.heap gone.event)
     → CutsText a c whole.lines.text stop.Memory
-memory_behind w whole a b c s rest at gone course left k q =
-    let e : CountedText = counted_text at.offset course.naming s.heap gone.event in
+memory_behind holes w whole a b c s rest at gone course left k q =
+    let e : CountedText = counted_text (in_file holes at.offset) course.naming s.heap gone.event in
     let more : Course = record { imports = course.imports + e.imports; calls = course.calls + e.calls; naming = course.naming; left = course.left } in
     memory_stops whole a c more _ (line_written whole a b c course more e _ k.told q refl refl)
 

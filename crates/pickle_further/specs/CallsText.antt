@@ -7,7 +7,7 @@ use Rattle.pickle_doc.specs.Document.{Contents, ReadsAs}
 use Rattle.pickle_show.specs.declared.end.Ending.TheVariants as ending
 use Rattle.pickle_show.specs.declared.stop.TextStop.{TextStop}
 use Rattle.pickle_show.specs.declared.stop.TextStop.TheVariants as stop
-use Rattle.pickle_show.specs.declared.naming.Detail.{Detail}
+use Rattle.pickle_show.specs.Manner.{Manner, ending_in}
 use Rattle.pickle_show.specs.Output.{Output}
 use Rattle.pickle_show.specs.CallsLine.{calls_end_text, ending_status}
 use Rattle.pickle_show.specs.Calls.{calls}
@@ -19,24 +19,24 @@ use Rattle.pickle_further.specs.Parts.{ignoring, are_many, standing_first, parts
 -- ---- of a document
 
 -- the lines up to the end, and what is behind it; the status is that of the first
-abbrev pub document_calls : Detail → Pickles → Contents → Output
+abbrev pub document_calls : Manner → Pickles → Contents → Output
 document_calls how p d = record { text = (calls how d).text ⧺ parts how p d; status = (calls how d).status }
 
 -- ---- of bytes that one unpickler reads on and on
 
-abbrev pub tale_calls : List ℕ → Tale → Output
-tale_calls bytes t = record {
-  text = t.lines.text ⧺ calls_end_text bytes t.lines.imports t.lines.calls (ending.Closed 0 t.closing);
+abbrev pub tale_calls : Manner → List ℕ → Tale → Output
+tale_calls how bytes t = record {
+  text = t.lines.text ⧺ calls_end_text bytes t.lines.imports t.lines.calls (ending_in how.holes (ending.Closed 0 t.closing));
   status = ending_status (ending.Closed 0 t.closing);
 }
 
-unfoldable pub kept_calls : Detail → List ℕ → Output
-kept_calls how bytes = tale_calls bytes (tale_of (ignoring pickles.OneMemo) (standing_first how pickles.OneMemo bytes))
+unfoldable pub kept_calls : Manner → List ℕ → Output
+kept_calls how bytes = tale_calls how bytes (tale_of how.holes (ignoring pickles.OneMemo) (standing_first how.detail pickles.OneMemo bytes))
 
 -- ---- of bytes
 
 -- this is their text: that of the document that they read as, or with the memo kept that of the bytes
-abbrev pub IsCallsText : Detail → Pickles → List ℕ → Output → Type 0
+abbrev pub IsCallsText : Manner → Pickles → List ℕ → Output → Type 0
 IsCallsText how pickles.OneMemo bytes o = o ≡ kept_calls how bytes
 IsCallsText how pickles.First bytes o = (d : Contents) × ReadsAs false bytes d × (o ≡ document_calls how pickles.First d)
 IsCallsText how pickles.All bytes o = (d : Contents) × ReadsAs true bytes d × (o ≡ document_calls how pickles.All d)
@@ -53,18 +53,18 @@ PutsText old new text (Ok x) = Wrote old new text
 PutsText old new text (Err e) = CutsText old new text e
 
 -- the whole text was written, and this is its status
-abbrev pub CompletesText : Detail → Pickles → List ℕ → Told → Told → ℕ → Type 0
+abbrev pub CompletesText : Manner → Pickles → List ℕ → Told → Told → ℕ → Type 0
 CompletesText how p bytes old new status = (o : Output) × IsCallsText how p bytes o × Wrote old new o.text × (status ≡ o.status)
 
 -- a beginning of it was written
-abbrev pub CutsCallsText : Detail → Pickles → List ℕ → Told → Told → TextStop → Type 0
+abbrev pub CutsCallsText : Manner → Pickles → List ℕ → Told → Told → TextStop → Type 0
 CutsCallsText how p bytes old new e = (o : Output) × IsCallsText how p bytes o × CutsText old new o.text e
 
 -- ---- the same of a document
 
-abbrev pub CompletesDocument : Detail → Pickles → List ℕ → Told → Told → ℕ → Type 0
+abbrev pub CompletesDocument : Manner → Pickles → List ℕ → Told → Told → ℕ → Type 0
 CompletesDocument how p bytes old new status =
     (d : Contents) × ReadsAs (are_many p) bytes d × Wrote old new (document_calls how p d).text × (status ≡ (document_calls how p d).status)
 
-abbrev pub CutsDocument : Detail → Pickles → List ℕ → Told → Told → TextStop → Type 0
+abbrev pub CutsDocument : Manner → Pickles → List ℕ → Told → Told → TextStop → Type 0
 CutsDocument how p bytes old new e = (d : Contents) × ReadsAs (are_many p) bytes d × CutsText old new (document_calls how p d).text e

@@ -19,6 +19,8 @@ use Rattle.pickle_machine.specs.Move.{fresh}
 use Rattle.pickle_machine.specs.Loader.{loader_move, move_as, cleared}
 use Rattle.pickle_lenient.specs.declared.taken.Taken.{Taken}
 use Rattle.pickle_lenient.specs.Stream.{taken}
+use Rattle.pickle_holes.specs.declared.hole.Hole.{Hole}
+use Rattle.pickle_holes.specs.Holes.{in_file}
 use Rattle.pickle_show.specs.declared.report.Closing.{Closing}
 use Rattle.pickle_show.specs.declared.report.Closing.TheVariants as closing
 use Rattle.pickle_show.specs.declared.event.Event.{Event}
@@ -128,7 +130,7 @@ abbrev pub stands_after : Standing → Going → Standing
 stands_after p g =
     record { state = g.state; rest = drop g.gone.size p.rest; at = spot_after p.at g.gone; naming = naming_after g.gone.row (length g.state.heap) p.naming }
 
--- ---- all items
+-- ---- all items, without the holes of a file
 
 -- their lines with how many imports and calls these are, and how it ended
 pub record Tale : Type 0 where
@@ -143,16 +145,16 @@ tale_after e t =
     record { lines = record { text = e.text ⧺ t.lines.text; imports = e.imports + t.lines.imports; calls = e.calls + t.lines.calls }; closing = t.closing }
 
 -- an item, and unless it ended there what comes then
-abbrev pub tale_with : Standing → Going → Tale → Tale
-tale_with p g more = tale_after (counted_text p.at.offset p.naming g.state.heap g.gone.event) (option_map_or tale_over g.gone.closing more)
+abbrev pub tale_with : List Hole → Standing → Going → Tale → Tale
+tale_with holes p g more = tale_after (counted_text (in_file holes p.at.offset) p.naming g.state.heap g.gone.event) (option_map_or tale_over g.gone.closing more)
 
 -- at most n items: more than there are bytes there are not
-unfoldable pub tale : ℕ → Way → Standing → Tale
-tale zero w p = tale_over (closing.Fault (tail.Front front.Ended) p.at.offset)
-tale (suc n) w p = tale_with p (going w p) (tale n w (stands_after p (going w p)))
+unfoldable pub tale : List Hole → ℕ → Way → Standing → Tale
+tale holes zero w p = tale_over (closing.Fault (tail.Front front.Ended) p.at.offset)
+tale holes (suc n) w p = tale_with holes p (going w p) (tale holes n w (stands_after p (going w p)))
 
-abbrev pub tale_of : Way → Standing → Tale
-tale_of w p = tale (suc (length p.rest)) w p
+abbrev pub tale_of : List Hole → Way → Standing → Tale
+tale_of holes w p = tale holes (suc (length p.rest)) w p
 
 -- ---- the first item of a kind
 

@@ -7,6 +7,7 @@ use Rattle.pickle_doc.specs.declared.fault.TailFault.TheVariants as tail
 use Rattle.pickle_machine.specs.State.{State}
 use Rattle.pickle_lenient.specs.declared.fault.NotTaken.{NotTaken}
 use Rattle.pickle_lenient.specs.declared.fault.NotTaken.TheVariants as stop
+use Rattle.pickle_holes.specs.declared.hole.Hole.{Hole}
 use Rattle.pickle_show.specs.declared.course.Course.{Course}
 use Rattle.pickle_show.specs.declared.naming.Naming.{Naming}
 use Rattle.pickle_show.specs.declared.report.Closing.{Closing}
@@ -44,8 +45,8 @@ EndsAtFault stop.Memory offset gone = ⊥
 abbrev pub here : Gone → Standing → Going
 here gone p = record { gone = gone; state = p.state }
 
-abbrev pub tale_here : ℕ → Way → Standing → Gone → Tale
-tale_here n w p gone = tale_with p (here gone p) (tale n w (stands_after p (here gone p)))
+abbrev pub tale_here : List Hole → ℕ → Way → Standing → Gone → Tale
+tale_here holes n w p gone = tale_with holes p (here gone p) (tale holes n w (stands_after p (here gone p)))
 
 -- why it ends after this item, n being how many more may come
 abbrev pub ended : Gone → ℕ → ℕ → Option Closing

@@ -15,7 +15,9 @@ use Rattle.pickle_show.specs.declared.end.Ending.TheVariants as ending
 use Rattle.pickle_show.specs.Column.{newline}
 use Rattle.pickle_show.specs.Report.{closing_line}
 use Rattle.pickle_show.specs.CallsLine.{totals_line}
+use Rattle.pickle_holes.specs.declared.hole.Hole.{Hole}
 use Rattle.pickle_show.specs.declared.naming.Detail.{Detail}
+use Rattle.pickle_show.specs.Manner.{Manner, closing_in}
 use Rattle.pickle_show.specs.Naming.{begin}
 use Rattle.pickle_show.specs.Calls.{CallsEnd, calls_end, naming_at}
 use Rattle.pickle_further.specs.declared.way.Pickles.{Pickles}
@@ -56,17 +58,17 @@ header_words frames.Buffered = buffered_words
 unfoldable pub header : Frames → List ℕ
 header f = header_words f ⧺ newline
 
-unfoldable pub tale_text : Tale → List ℕ
-tale_text t = t.lines.text ⧺ part_end t.lines.imports t.lines.calls t.closing
+unfoldable pub tale_text : List Hole → Tale → List ℕ
+tale_text holes t = t.lines.text ⧺ part_end t.lines.imports t.lines.calls (closing_in holes t.closing)
 
 -- from the first item with an event on, if there is one
-abbrev pub told_text : Way → Option Standing → List ℕ
-told_text w (Some p) = header w.frames ⧺ tale_text (tale_of w p)
-told_text w None = []
+abbrev pub told_text : List Hole → Way → Option Standing → List ℕ
+told_text holes w (Some p) = header w.frames ⧺ tale_text holes (tale_of holes w p)
+told_text holes w None = []
 
 -- from here on: nothing where no item has an event
-unfoldable pub text_from : Way → Standing → List ℕ
-text_from w p = told_text w (search_from sought.Event w p)
+unfoldable pub text_from : List Hole → Way → Standing → List ℕ
+text_from holes w p = told_text holes w (search_from sought.Event w p)
 
 -- ---- where the lines end
 
@@ -81,8 +83,8 @@ abbrev pub standing_at : Detail → Contents → ℕ → State → Standing
 standing_at how d k s =
     record { state = s; rest = drop (offset_of d k) (document_bytes d); at = record { offset = offset_of d k; place = k; left = 0 }; naming = naming_at how d k }
 
-abbrev pub behind_at : Detail → Pickles → Contents → ℕ → Option State → List ℕ
-behind_at how p d k (Some s) = text_from (ignoring p) (standing_at how d k s)
+abbrev pub behind_at : Manner → Pickles → Contents → ℕ → Option State → List ℕ
+behind_at how p d k (Some s) = text_from how.holes (ignoring p) (standing_at how.detail d k s)
 behind_at how p d k None = []
 
 -- ---- from the first byte on
@@ -96,13 +98,13 @@ are_many pickles.OneMemo = false
 abbrev pub standing_first : Detail → Pickles → List ℕ → Standing
 standing_first how p bytes = record { state = start (are_many p); rest = bytes; at = record { offset = 0; place = 0; left = 0 }; naming = begin how 0 }
 
-abbrev pub found_text : Way → Option Standing → List ℕ
-found_text w (Some p) = text_from w p
-found_text w None = []
+abbrev pub found_text : List Hole → Way → Option Standing → List ℕ
+found_text holes w (Some p) = text_from holes w p
+found_text holes w None = []
 
 -- from the first item on whose reading loses bytes
-abbrev pub lost_text : Detail → Pickles → List ℕ → List ℕ
-lost_text how p bytes = found_text (buffering p) (search_from sought.Lost (buffering p) (standing_first how p bytes))
+abbrev pub lost_text : Manner → Pickles → List ℕ → List ℕ
+lost_text how p bytes = found_text how.holes (buffering p) (search_from sought.Lost (buffering p) (standing_first how.detail p bytes))
 
 -- ---- both
 
@@ -113,9 +115,9 @@ is_open (ending.Closed kept (closing.Refused k r)) = true
 is_open (ending.Closed kept (closing.Fault f offset)) = true
 is_open (ending.Unsure offset) = true
 
-abbrev pub parts_to : Detail → Pickles → Contents → CallsEnd → List ℕ
+abbrev pub parts_to : Manner → Pickles → Contents → CallsEnd → List ℕ
 parts_to how p d e =
     if is_open e.ending then behind_at how p d e.place (run (start d.many) (ops_of d) e.place) ⧺ lost_text how p (document_bytes d) else []
 
-unfoldable pub parts : Detail → Pickles → Contents → List ℕ
+unfoldable pub parts : Manner → Pickles → Contents → List ℕ
 parts how p d = parts_to how p d (calls_end d)

@@ -7,6 +7,7 @@ ghost use Rattle.pickle_further.specs.Inside.{standing, tale_here, ended, IsTold
 use crate::going::{Gone, go};
 use crate::way::{Spot, Way};
 use pickle_doc::TailFault;
+use pickle_holes::Holes;
 use pickle_machine::Machine;
 use pickle_ops::{FrontFault, Page};
 use pickle_show::{Closing, Course, Naming, TextStop, write_line};
@@ -64,9 +65,10 @@ pub fn spot_after(at: Spot, gone: Gone) -> Spot
     }
 }
 
-/// Writes the line of an item that was gone over, and those of what comes then.
+/// Writes the line of an item that was gone over, and those of what comes then: of what is left of a file without these holes.
 pub fn write_items<S: Page>(
     alloc: Global,
+    holes: &Holes,
     way: Way,
     bytes: &[u8],
     from: Spot,
@@ -80,8 +82,8 @@ pub fn write_items<S: Page>(
     requires heap { length machine.old.state.heap + 2 * length bytes.now ≤ 2 ^ 32 - 8 }
     requires offset { from.offset ≤ 2 ^ 31 }
     requires place { from.place ≤ 2 ^ 31 }
-    ensures ok { IfOk result (IsTold (S.told sink.old) (S.told sink.new) (tale_here (length bytes.now) way (standing machine.old.state bytes.now from naming) first)) }
-    ensures err { IfErr result (CutsText (S.told sink.old) (S.told sink.new) (tale_here (length bytes.now) way (standing machine.old.state bytes.now from naming) first).lines.text) }
+    ensures ok { IfOk result (IsTold (S.told sink.old) (S.told sink.new) (tale_here holes.now (length bytes.now) way (standing machine.old.state bytes.now from naming) first)) }
+    ensures err { IfErr result (CutsText (S.told sink.old) (S.told sink.new) (tale_here holes.now (length bytes.now) way (standing machine.old.state bytes.now from naming) first).lines.text) }
 {
     let mut gone = first;
     let mut rest = bytes;
@@ -89,7 +91,14 @@ pub fn write_items<S: Page>(
     let mut course = course_of(naming);
     let mut left = bytes.len();
     'items: loop {
-        write_line(at.offset, course.naming, machine.heap(), gone.event, sink)?;
+        write_line(
+            holes,
+            at.offset,
+            course.naming,
+            machine.heap(),
+            gone.event,
+            sink,
+        )?;
         course = course.with(gone.row, machine.heap(), gone.event);
         if let Some(closing) = ended(gone, left, at.offset) {
             return Ok(TaleEnd { course, closing });

@@ -1,4 +1,5 @@
-//! What loaders may do behind the end of the lines.
+//! What loaders may do behind the end of the lines. The bytes are what is left of a file without these holes; the offsets that are told are
+//! those in the file.
 
 ghost use Rattle.std.specs.Prelude.{◌≡◌, ◌≤◌, ◌^◌, length, Some};
 ghost use Rattle.pickle_io.specs.Device.{Writes};
@@ -13,10 +14,13 @@ use crate::engine::write_items;
 use crate::going::go;
 use crate::seek::{Sought, Visited, seek};
 use crate::way::{Spot, Way};
+use pickle_holes::Holes;
 use pickle_lenient::Frames;
 use pickle_machine::Machine;
 use pickle_ops::{Failed, Page, write_all};
-use pickle_show::{Closing, Course, Detail, Naming, TextStop, write_closing, write_totals};
+use pickle_show::{
+    Closing, Course, Detail, Naming, TextStop, closing_in, write_closing, write_totals,
+};
 use std::alloc::Global;
 
 /// The words of the line above what loaders may do that ignore frames.
@@ -101,16 +105,18 @@ fn write_part_end<S: Page>(course: Course, closing: Closing, sink: &mut S) -> Re
 /// Writes what comes to this, and the last lines.
 fn write_tale<S: Page>(
     alloc: Global,
+    holes: &Holes,
     way: Way,
     item: Visited<'_>,
     machine: &mut Machine,
     sink: &mut S,
 ) -> Result<(), TextStop>
     requires { HasRoom machine.old.state item }
-    ensures { PutsText (S.told sink.old) (S.told sink.new) (tale_text (tale_here (length item.entry.rest.now) way (standing_of machine.old.state item.entry) item.entry.gone)) result }
+    ensures { PutsText (S.told sink.old) (S.told sink.new) (tale_text holes.now (tale_here holes.now (length item.entry.rest.now) way (standing_of machine.old.state item.entry) item.entry.gone)) result }
 {
     let end = write_items(
         alloc,
+        holes,
         way,
         item.rest,
         item.at,
@@ -119,38 +125,40 @@ fn write_tale<S: Page>(
         machine,
         sink,
     )?;
-    write_part_end(end.course, end.closing, sink)?;
+    write_part_end(end.course, closing_in(holes, end.closing), sink)?;
     Ok(())
 }
 
 /// Writes what loaders may do from this item on, which has an event.
 fn write_told<S: Page>(
     alloc: Global,
+    holes: &Holes,
     way: Way,
     item: Visited<'_>,
     machine: &mut Machine,
     sink: &mut S,
 ) -> Result<(), TextStop>
     requires { HasRoom machine.old.state item }
-    ensures { (s : State) → Goes (going way (standing_of s item.entry)) item.entry.gone machine.old.state → PutsText (S.told sink.old) (S.told sink.new) (told_text way (Some (standing_of s item.entry))) result }
+    ensures { (s : State) → Goes (going way (standing_of s item.entry)) item.entry.gone machine.old.state → PutsText (S.told sink.old) (S.told sink.new) (told_text holes.now way (Some (standing_of s item.entry))) result }
 {
     write_header(way.frames, sink)?;
-    write_tale(alloc, way, item, machine, sink)
+    write_tale(alloc, holes, way, item, machine, sink)
 }
 
 /// Writes what loaders may do from this item on, where it or one behind it has an event.
 fn write_visited<S: Page>(
     alloc: Global,
+    holes: &Holes,
     way: Way,
     item: Visited<'_>,
     machine: &mut Machine,
     sink: &mut S,
 ) -> Result<(), TextStop>
     requires { HasRoom machine.old.state item }
-    ensures { (s : State) → Goes (going way (standing_of s item.entry)) item.entry.gone machine.old.state → PutsText (S.told sink.old) (S.told sink.new) (text_from way (standing_of s item.entry)) result }
+    ensures { (s : State) → Goes (going way (standing_of s item.entry)) item.entry.gone machine.old.state → PutsText (S.told sink.old) (S.told sink.new) (text_from holes.now way (standing_of s item.entry)) result }
 {
     match seek(alloc, way, Sought::Event, item, machine)? {
-        Some(found) => write_told(alloc, way, found, machine, sink),
+        Some(found) => write_told(alloc, holes, way, found, machine, sink),
         None => Ok(()),
     }
 }
@@ -158,6 +166,7 @@ fn write_visited<S: Page>(
 /// Writes what loaders may do from here on, where an item has an event.
 pub fn write_from<S: Page>(
     alloc: Global,
+    holes: &Holes,
     way: Way,
     rest: &[u8],
     at: Spot,
@@ -169,7 +178,7 @@ pub fn write_from<S: Page>(
     requires heap { length machine.old.state.heap ≤ 2 ^ 30 }
     requires offset { at.offset ≤ 2 ^ 30 }
     requires place { at.place ≤ 2 ^ 30 }
-    ensures { PutsText (S.told sink.old) (S.told sink.new) (text_from way (standing machine.old.state rest.now at naming)) result }
+    ensures { PutsText (S.told sink.old) (S.told sink.new) (text_from holes.now way (standing machine.old.state rest.now at naming)) result }
 {
     let gone = go(alloc, way, rest, at, machine)?;
     let item = Visited {
@@ -178,7 +187,7 @@ pub fn write_from<S: Page>(
         naming,
         gone,
     };
-    write_visited(alloc, way, item, machine, sink)
+    write_visited(alloc, holes, way, item, machine, sink)
 }
 
 /// Writes what loaders may do from the first item on whose reading loses bytes, where it or one behind it has an event. The machine has
@@ -186,6 +195,7 @@ pub fn write_from<S: Page>(
 pub fn write_found<S: Page>(
     alloc: Global,
     detail: Detail,
+    holes: &Holes,
     way: Way,
     bytes: &[u8],
     machine: &mut Machine,
@@ -193,7 +203,7 @@ pub fn write_found<S: Page>(
 ) -> Result<(), TextStop>
     requires few { length bytes.now ≤ 2 ^ 30 }
     requires heap { length machine.old.state.heap ≤ 2 ^ 30 }
-    ensures { PutsText (S.told sink.old) (S.told sink.new) (found_text way (search_from Sought.Lost way (standing machine.old.state bytes.now (record { offset = 0; place = 0; left = 0 }) (begin detail 0)))) result }
+    ensures { PutsText (S.told sink.old) (S.told sink.new) (found_text holes.now way (search_from Sought.Lost way (standing machine.old.state bytes.now (record { offset = 0; place = 0; left = 0 }) (begin detail 0)))) result }
 {
     let at = Spot {
         offset: 0,
@@ -209,7 +219,7 @@ pub fn write_found<S: Page>(
         gone,
     };
     match seek(alloc, way, Sought::Lost, first, machine)? {
-        Some(found) => write_visited(alloc, way, found, machine, sink),
+        Some(found) => write_visited(alloc, holes, way, found, machine, sink),
         None => Ok(()),
     }
 }

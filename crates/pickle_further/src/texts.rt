@@ -3,6 +3,7 @@
 ghost use Rattle.std.specs.Prelude.{◌≡◌, ◌≤◌, ◌+◌, ◌*◌, ◌-◌, ◌^◌, length, drop, IfOk, IfErr};
 ghost use Rattle.pickle_io.specs.Device.{Told};
 ghost use Rattle.pickle_doc.specs.Document.{size_limit};
+ghost use Rattle.pickle_show.specs.Manner.{manner};
 ghost use Rattle.pickle_show.specs.Ran.{IsRun};
 ghost use Rattle.pickle_further.specs.Parts.{are_many, is_open, lost_text, parts};
 ghost use Rattle.pickle_further.specs.CallsText.{CompletesText, CutsCallsText, CompletesDocument, CutsDocument, PutsText};
@@ -12,6 +13,7 @@ use crate::going::go;
 use crate::parts::{write_found, write_from};
 use crate::way::{Pickles, Spot, Way};
 use pickle_doc::Items;
+use pickle_holes::Holes;
 use pickle_lenient::Frames;
 use pickle_machine::Machine;
 use pickle_ops::Page;
@@ -45,25 +47,27 @@ fn is_open(ending: Ending) -> bool
 fn write_lost<S: Page>(
     alloc: Global,
     detail: Detail,
+    holes: &Holes,
     pickles: Pickles,
     bytes: &[u8],
     sink: &mut S,
 ) -> Result<(), TextStop>
     requires { length bytes.now ≤ size_limit }
-    ensures { PutsText (S.told sink.old) (S.told sink.new) (lost_text detail pickles bytes.now) result }
+    ensures { PutsText (S.told sink.old) (S.told sink.new) (lost_text (manner detail holes.now) pickles bytes.now) result }
 {
     let way = Way {
         pickles,
         frames: Frames::Buffered,
     };
     let mut machine = Machine::start(alloc, are_many(pickles));
-    write_found(alloc, detail, way, bytes, &mut machine, sink)
+    write_found(alloc, detail, holes, way, bytes, &mut machine, sink)
 }
 
 /// Writes what loaders may do behind the end of the lines.
 fn write_parts<S: Page>(
     alloc: Global,
     detail: Detail,
+    holes: &Holes,
     pickles: Pickles,
     bytes: &[u8],
     ran: Ran,
@@ -74,7 +78,7 @@ fn write_parts<S: Page>(
     requires offset { ran.offset ≤ length bytes.now }
     requires place { ran.place ≤ length bytes.now }
     requires heap { length machine.old.state.heap ≤ ran.place }
-    ensures { (a b : Told) → (w : IsRun detail (are_many pickles) bytes.now a b machine.old.state ran) → PutsText (S.told sink.old) (S.told sink.new) (parts detail pickles w.d) result }
+    ensures { (a b : Told) → (w : IsRun (manner detail holes.now) (are_many pickles) bytes.now a b machine.old.state ran) → PutsText (S.told sink.old) (S.told sink.new) (parts (manner detail holes.now) pickles w.d) result }
 {
     if !is_open(ran.ending) {
         return Ok(());
@@ -89,27 +93,54 @@ fn write_parts<S: Page>(
         left: 0,
     };
     let rest = bytes.split_at(ran.offset as usize).1;
-    write_from(alloc, way, rest, at, ran.course.naming, machine, sink)?;
-    write_lost(alloc, detail, pickles, bytes, sink)
+    write_from(
+        alloc,
+        holes,
+        way,
+        rest,
+        at,
+        ran.course.naming,
+        machine,
+        sink,
+    )?;
+    write_lost(alloc, detail, holes, pickles, bytes, sink)
 }
 
 /// Writes the text of the document that the bytes read as.
 fn write_document<S: Page>(
     alloc: Global,
     detail: Detail,
+    holes: &Holes,
     pickles: Pickles,
     bytes: &[u8],
     sink: &mut S,
 ) -> Result<u8, TextStop>
     requires { length bytes.now ≤ size_limit }
-    ensures ok { IfOk result (CompletesDocument detail pickles bytes.now (S.told sink.old) (S.told sink.new)) }
-    ensures err { IfErr result (CutsDocument detail pickles bytes.now (S.told sink.old) (S.told sink.new)) }
+    ensures ok { IfOk result (CompletesDocument (manner detail holes.now) pickles bytes.now (S.told sink.old) (S.told sink.new)) }
+    ensures err { IfErr result (CutsDocument (manner detail holes.now) pickles bytes.now (S.told sink.old) (S.told sink.new)) }
 {
     let many = are_many(pickles);
     let mut machine = Machine::start(alloc, many);
-    let ran = run_items(alloc, detail, many, Items::new(bytes), &mut machine, sink)?;
-    let status = write_end(bytes, ran.course, ran.ending, sink)?;
-    write_parts(alloc, detail, pickles, bytes, ran, &mut machine, sink)?;
+    let ran = run_items(
+        alloc,
+        detail,
+        holes,
+        many,
+        Items::new(bytes),
+        &mut machine,
+        sink,
+    )?;
+    let status = write_end(holes, bytes, ran.course, ran.ending, sink)?;
+    write_parts(
+        alloc,
+        detail,
+        holes,
+        pickles,
+        bytes,
+        ran,
+        &mut machine,
+        sink,
+    )?;
     Ok(status)
 }
 
@@ -117,12 +148,13 @@ fn write_document<S: Page>(
 fn write_kept<S: Page>(
     alloc: Global,
     detail: Detail,
+    holes: &Holes,
     bytes: &[u8],
     sink: &mut S,
 ) -> Result<u8, TextStop>
     requires { length bytes.now ≤ size_limit }
-    ensures ok { IfOk result (CompletesText detail Pickles.OneMemo bytes.now (S.told sink.old) (S.told sink.new)) }
-    ensures err { IfErr result (CutsCallsText detail Pickles.OneMemo bytes.now (S.told sink.old) (S.told sink.new)) }
+    ensures ok { IfOk result (CompletesText (manner detail holes.now) Pickles.OneMemo bytes.now (S.told sink.old) (S.told sink.new)) }
+    ensures err { IfErr result (CutsCallsText (manner detail holes.now) Pickles.OneMemo bytes.now (S.told sink.old) (S.told sink.new)) }
 {
     let mut machine = Machine::start(alloc, false);
     let way = Way {
@@ -137,6 +169,7 @@ fn write_kept<S: Page>(
     let first = go(alloc, way, bytes, at, &mut machine)?;
     let end = write_items(
         alloc,
+        holes,
         way,
         bytes,
         at,
@@ -145,29 +178,37 @@ fn write_kept<S: Page>(
         &mut machine,
         sink,
     )?;
-    let status = write_end(bytes, end.course, Ending::Closed(0, end.closing), sink)?;
+    let status = write_end(
+        holes,
+        bytes,
+        end.course,
+        Ending::Closed(0, end.closing),
+        sink,
+    )?;
     Ok(status)
 }
 
 /// Writes what the pickles of the bytes would import and call: a line for each item that does, the last lines, and behind a refused item,
 /// a fault, or an end of which loaders disagree what those may do that go on. Answers the status: 0 where the reading ended with the
-/// bytes, right behind a STOP, else 1. There are to be no more bytes than the limit.
+/// bytes, right behind a STOP, else 1. The bytes are what is left of a file without these holes, and the offsets that are told are those in
+/// the file. There are to be no more bytes than the limit.
 ///
 /// `Memory` (M) where memory runs out, `Failed` where the sink fails; what was written then is a beginning of the text.
 pub fn calls<S: Page>(
     alloc: Global,
     detail: Detail,
+    holes: &Holes,
     pickles: Pickles,
     bytes: &[u8],
     sink: &mut S,
 ) -> Result<u8, TextStop>
     requires { length bytes.now ≤ size_limit }
-    ensures ok { IfOk result (CompletesText detail pickles bytes.now (S.told sink.old) (S.told sink.new)) }
-    ensures err { IfErr result (CutsCallsText detail pickles bytes.now (S.told sink.old) (S.told sink.new)) }
+    ensures ok { IfOk result (CompletesText (manner detail holes.now) pickles bytes.now (S.told sink.old) (S.told sink.new)) }
+    ensures err { IfErr result (CutsCallsText (manner detail holes.now) pickles bytes.now (S.told sink.old) (S.told sink.new)) }
 {
     match pickles {
-        Pickles::First => write_document(alloc, detail, Pickles::First, bytes, sink),
-        Pickles::All => write_document(alloc, detail, Pickles::All, bytes, sink),
-        Pickles::OneMemo => write_kept(alloc, detail, bytes, sink),
+        Pickles::First => write_document(alloc, detail, holes, Pickles::First, bytes, sink),
+        Pickles::All => write_document(alloc, detail, holes, Pickles::All, bytes, sink),
+        Pickles::OneMemo => write_kept(alloc, detail, holes, bytes, sink),
     }
 }

@@ -16,7 +16,7 @@ use Rattle.pickle_machine.specs.State.{State, start}
 use Rattle.pickle_machine.specs.Run.{run}
 use Rattle.pickle_lenient.specs.declared.taken.Frames.TheVariants as frames
 use Rattle.pickle_lenient.specs.Stream.{taken}
-use Rattle.pickle_show.specs.declared.naming.Detail.{Detail}
+use Rattle.pickle_show.specs.Manner.{Manner}
 use Rattle.pickle_show.specs.declared.naming.Detail.TheVariants as detail
 use Rattle.pickle_show.specs.declared.report.Closing.TheVariants as closing
 use Rattle.pickle_show.specs.Listing.{reached}
@@ -135,7 +135,7 @@ far_all V p d formed small anew mode t zero = record { place = 0; within = omega
 far_all V p d formed small anew mode t (suc n) = far_next V p d n (stands (ignoring p) (First p d) n) refl formed small anew mode t (far_all V p d formed small anew mode t n)
 
 -- status 0
-pub through : (how : Detail) (d : Contents) → (calls how d).status ≡ 0 → IsThrough d
+pub through : (how : Manner) (d : Contents) → (calls how d).status ≡ 0 → IsThrough d
 through how d status =
     let far = is_reached (start d.many) (ops_of d) (length (ops_of d)) in
     let k : ℕ = reached (start d.many) (ops_of d) (length (ops_of d)) in

@@ -23,7 +23,8 @@ use Rattle.pickle_show.specs.CallsLine.{event_text, event_line, line_of, ending_
 use Rattle.pickle_show.specs.Listing.{reached}
 use Rattle.pickle_show.specs.Report.{refused_on, closing_status}
 use Rattle.pickle_show.specs.declared.report.Closing.{Closing}
-use Rattle.pickle_show.specs.declared.naming.Detail.{Detail}
+use Rattle.pickle_holes.specs.Holes.{in_file}
+use Rattle.pickle_show.specs.Manner.{Manner}
 use Rattle.pickle_show.specs.declared.naming.Naming.{Naming}
 use Rattle.pickle_show.specs.Calls.{naming_at, entry_on, entry_at, first_inside, closing_to, kept_by, end_to, end_from, end_by, calls_end, calls}
 use Rattle.pickle_loader.specs.Environment.{Value, Act, World}
@@ -52,7 +53,7 @@ item_tells V proto offset m None y z h = refl
 
 pub told_has_line : ToldHasLine
 unfolding told_at entry_at
-told_has_line how V d k some = λ none. some (item_tells V (protocol_at (ops_of d) k) (offset_of d k) (naming_at how d k) (item_at d k) (run (start d.many) (ops_of d) k) (run (start d.many) (ops_of d) (suc k)) none)
+told_has_line how V d k some = λ none. some (item_tells V (protocol_at (ops_of d) k) (in_file how.holes (offset_of d k)) (naming_at how.detail d k) (item_at d k) (run (start d.many) (ops_of d) k) (run (start d.many) (ops_of d) (suc k)) none)
 
 -- ---- status 0
 
@@ -82,7 +83,7 @@ zero_by d k s None is here e =
     ap (λ (x : Option ℕ). ending_status (end_from d k x).ending) is ∙ ap (λ (y : Option State). ending_status (end_to d k y).ending) here in
     (refl, closed_zero (kept_by d c == 0) (closing_status c) (sym closes ∙ e), closed_kept (kept_by d c == 0) (closing_status c) (sym closes ∙ e))
 
-pub zero_end : (how : Detail) (d : Contents) (k : ℕ) (s : State) → reached (start d.many) (ops_of d) (length (ops_of d)) ≡ k → run (start d.many) (ops_of d) k ≡ Some s → (calls how d).status ≡ 0
+pub zero_end : (how : Manner) (d : Contents) (k : ℕ) (s : State) → reached (start d.many) (ops_of d) (length (ops_of d)) ≡ k → run (start d.many) (ops_of d) k ≡ Some s → (calls how d).status ≡ 0
     → (first_inside d k ≡ None) × (closing_status (closing_to d k (refused_on (item_at d k) s)) ≡ 0) × ((kept_by d (closing_to d k (refused_on (item_at d k) s)) == 0) ≡ true)
 unfolding calls calls_end
 zero_end how d k s e here nought =
@@ -119,11 +120,11 @@ all_told how w d formed status =
 
 -- ---- no line, no act
 
-told_same : (how : Detail) (V : ℕ → Value) (d : Contents) (k : ℕ) → (entry_at how d k).text ≡ [] → told V d.many (ops_of d) (suc k) ≡ told V d.many (ops_of d) k
+told_same : (how : Manner) (V : ℕ → Value) (d : Contents) (k : ℕ) → (entry_at how d k).text ≡ [] → told V d.many (ops_of d) (suc k) ≡ told V d.many (ops_of d) k
 unfolding told told_at entry_at
 told_same how V d k none =
     ap (λ (l : List Act). told V d.many (ops_of d) k ++ l)
-    (item_tells V (protocol_at (ops_of d) k) (offset_of d k) (naming_at how d k) (item_at d k) (run (start d.many) (ops_of d) k) (run (start d.many) (ops_of d) (suc k)) none)
+    (item_tells V (protocol_at (ops_of d) k) (in_file how.holes (offset_of d k)) (naming_at how.detail d k) (item_at d k) (run (start d.many) (ops_of d) k) (run (start d.many) (ops_of d) (suc k)) none)
     ∙ append-nil (told V d.many (ops_of d) k)
 
 -- no more is told than the state tells

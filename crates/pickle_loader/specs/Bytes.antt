@@ -5,7 +5,7 @@ use Rattle.pickle_doc.specs.Document.{Contents, ReadsAs}
 use Rattle.pickle_doc.specs.Place.{ops_of}
 use Rattle.pickle_machine.specs.State.{State, start}
 use Rattle.pickle_machine.specs.Run.{run}
-use Rattle.pickle_show.specs.declared.naming.Detail.{Detail}
+use Rattle.pickle_show.specs.Manner.{Manner}
 use Rattle.pickle_show.specs.Calls.{calls_end, calls}
 use Rattle.pickle_loader.specs.Environment.{Value, Act, World}
 use Rattle.pickle_loader.specs.Dispatch.{Loaded, Going, Ended, Failed, acts_of, new_unpickler, load_item}
@@ -47,5 +47,5 @@ BytesAreListed = (w : World) (many : Bool) (bytes : List ℕ) (d : Contents) →
 -- where the reading ends with status 0, for which no STOP may leave a frame unfinished, however long the unpickler runs, all that is told
 -- of what it does is a beginning of what the lines tell
 abbrev pub NothingElse : Type 0
-NothingElse = (how : Detail) (w : World) (many : Bool) (bytes : List ℕ) (d : Contents) → ReadsAs many bytes d → length bytes < 2 ^ 64 → (calls how d).status ≡ 0
+NothingElse = (how : Manner) (w : World) (many : Bool) (bytes : List ℕ) (d : Contents) → ReadsAs many bytes d → length bytes < 2 ^ 64 → (calls how d).status ≡ 0
     → (V : ℕ → Value) × ((n : ℕ) → (rest : List Act) × (told_of (acts_of (load_bytes w many bytes n).now) ++ rest ≡ told V many (ops_of d) (length (ops_of d))))

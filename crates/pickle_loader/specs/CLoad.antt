@@ -13,7 +13,7 @@ use Rattle.pickle_doc.specs.Document.{Contents, ReadsAs}
 use Rattle.pickle_doc.specs.Place.{ops_of}
 use Rattle.pickle_lenient.specs.declared.taken.Taken.{Taken}
 use Rattle.pickle_lenient.specs.Stream.{taken}
-use Rattle.pickle_show.specs.declared.naming.Detail.{Detail}
+use Rattle.pickle_show.specs.Manner.{Manner}
 use Rattle.pickle_show.specs.declared.naming.Detail.TheVariants as detail
 use Rattle.pickle_show.specs.Calls.{calls}
 use Rattle.pickle_further.specs.declared.way.Pickles.{Pickles}
@@ -139,5 +139,5 @@ NothingBeyondInC = (w : World) (way : Way) (bytes : List ℕ)
 -- where the lines of one pickle or of several end with status 0, it is a beginning of what they tell: of bytes that are there whole, from which
 -- frames are ignored
 abbrev pub NothingElseInC : Type 0
-NothingElseInC = (how : Detail) (w : World) (p : Pickles) (bytes : List ℕ) (d : Contents) → begins_anew p ≡ true → ReadsAs (are_many p) bytes d → length bytes < 2 ^ 64 → (calls how d).status ≡ 0
+NothingElseInC = (how : Manner) (w : World) (p : Pickles) (bytes : List ℕ) (d : Contents) → begins_anew p ≡ true → ReadsAs (are_many p) bytes d → length bytes < 2 ^ 64 → (calls how d).status ≡ 0
     → (V : ℕ → Value) × ((n : ℕ) → (rest : List Act) × (told_of (acts_of (seen_loaded (c_load_way w (ignoring p) bytes n).now)) ++ rest ≡ told V d.many (ops_of d) (length (ops_of d))))

@@ -1,13 +1,18 @@
 -- The texts that are written of an input, and what is left of one that is not finished.
 -- Source: own.
-use Rattle.std.specs.Prelude.{◌≡◌, ◌<◌, ◌↔◌, ℕ, Bool, List, length, Result, Err, IfOk, IfErr}
-use Rattle.pickle_io.specs.Device.{Told}
+use Rattle.std.specs.Prelude.{◌≡◌, ◌<◌, ◌↔◌, ℕ, Bool, List, length, codes, decimal, Option, Some, None, Result, Err, IfOk, IfErr}
+use Rattle.pickle_io.specs.Text.{◌⧺◌}
+use Rattle.pickle_io.specs.Device.{Told, Wrote}
 use Rattle.pickle_doc.specs.Document.{Contents, size_limit}
 use Rattle.pickle_show.specs.Output.{Output, Breaks, Begins}
 use Rattle.pickle_show.specs.Listing.{listing}
 use Rattle.pickle_show.specs.Written.{IsListed}
 use Rattle.pickle_show.specs.Report.{IsReported, BreaksReport}
-use Rattle.pickle_show.specs.declared.naming.Detail.{Detail}
+use Rattle.pickle_holes.specs.declared.hole.Hole.{Hole}
+use Rattle.pickle_holes.specs.Holes.{first_outside, without}
+use Rattle.pickle_show.specs.Column.{newline}
+use Rattle.pickle_show.specs.Manner.{Manner, whole}
+use Rattle.pickle_show.specs.declared.stop.TextStop.{TextStop}
 use Rattle.pickle_show.specs.declared.stop.TextStop.TheVariants as cut
 use Rattle.pickle_further.specs.declared.way.Pickles.{Pickles}
 use Rattle.pickle_further.specs.CallsText as further
@@ -22,7 +27,7 @@ use Rattle.pickle_script.specs.declared.texts.Text.TheVariants as text
 abbrev pub CompletesText : Text → Bool → List ℕ → Told → Told → ℕ → Type 0
 CompletesText text.Listing many bytes old new status = IsListed many bytes old new status
 CompletesText text.Objects many bytes old new status = IsReported many bytes old new status
-CompletesText (text.Calls pickles detail) many bytes old new status = further.CompletesText detail pickles bytes old new status
+CompletesText (text.Calls pickles detail) many bytes old new status = further.CompletesText (whole detail) pickles bytes old new status
 
 -- ---- not finished
 
@@ -41,7 +46,7 @@ StopsReport many bytes old new stop.TooLarge = new ≡ old
 StopsReport many bytes old new stop.Memory = new ≡ old
 
 -- what it leaves of what is imported and called: as of a listing
-abbrev pub StopsCalls : Detail → Pickles → List ℕ → Told → Told → Stop → Type 0
+abbrev pub StopsCalls : Manner → Pickles → List ℕ → Told → Told → Stop → Type 0
 StopsCalls how pickles bytes old new stop.Read = ⊥
 StopsCalls how pickles bytes old new stop.Write = further.CutsCallsText how pickles bytes old new cut.Failed
 StopsCalls how pickles bytes old new stop.TooLarge = further.CutsCallsText how pickles bytes old new cut.Memory
@@ -50,7 +55,7 @@ StopsCalls how pickles bytes old new stop.Memory = further.CutsCallsText how pic
 abbrev pub StopsText : Text → Bool → List ℕ → Told → Told → Stop → Type 0
 StopsText text.Listing many bytes old new e = Stops listing many bytes old new e
 StopsText text.Objects many bytes old new e = StopsReport many bytes old new e
-StopsText (text.Calls pickles detail) many bytes old new e = StopsCalls detail pickles bytes old new e
+StopsText (text.Calls pickles detail) many bytes old new e = StopsCalls (whole detail) pickles bytes old new e
 
 -- ---- the answer
 
@@ -60,5 +65,45 @@ pub record AnswersText (text : Text) (many : Bool) (bytes : List ℕ) {S : Type 
   -- Write comes only where the sink has failed, Memory only where it has not, and Read never
   pub stopped : IfErr answer (StopsText text many bytes (told old) (told new))
   -- too many bytes, and only those, are refused before anything is written
+  pub too_large : (answer ≡ Err stop.TooLarge) ↔ (size_limit < length bytes)
+  pub untouched : answer ≡ Err stop.TooLarge → new ≡ old
+
+-- ---- of what is left of a file without its holes
+
+unfoldable pub hole_text : Hole → List ℕ
+hole_text h = codes "hole " ⧺ decimal h.offset ⧺ codes ":" ⧺ decimal h.size
+
+unfoldable pub outside_words : List ℕ
+outside_words = codes " ends behind the last of "
+
+-- the line of a hole that does not lie within the file
+unfoldable pub outside_line : Hole → ℕ → List ℕ
+outside_line h size = codes "refused: " ⧺ hole_text h ⧺ outside_words ⧺ decimal size ⧺ codes " bytes" ⧺ newline
+
+-- the text and the status: those of what is left, with the offsets of the file; or the line of a hole
+abbrev pub IsCallsLeft : Manner → Pickles → List ℕ → Option Hole → Output → Type 0
+IsCallsLeft how pickles bytes (Some h) o = o ≡ record { text = outside_line h (length bytes); status = 1 }
+IsCallsLeft how pickles bytes None o = further.IsCallsText how pickles (without how.holes bytes) o
+
+abbrev pub IsCallsOfFile : Manner → Pickles → List ℕ → Output → Type 0
+IsCallsOfFile how pickles bytes o = IsCallsLeft how pickles bytes (first_outside (length bytes) how.holes) o
+
+abbrev pub CompletesFile : Manner → Pickles → List ℕ → Told → Told → ℕ → Type 0
+CompletesFile how pickles bytes old new status = (o : Output) × IsCallsOfFile how pickles bytes o × Wrote old new o.text × (status ≡ o.status)
+
+-- a beginning of it was written, and then the sink failed, or memory ran out
+abbrev pub CutsFile : Manner → Pickles → List ℕ → Told → Told → TextStop → Type 0
+CutsFile how pickles bytes old new e = (o : Output) × IsCallsOfFile how pickles bytes o × further.CutsText old new o.text e
+
+abbrev pub StopsFile : Manner → Pickles → List ℕ → Told → Told → Stop → Type 0
+StopsFile how pickles bytes old new stop.Read = ⊥
+StopsFile how pickles bytes old new stop.Write = CutsFile how pickles bytes old new cut.Failed
+StopsFile how pickles bytes old new stop.TooLarge = new ≡ old
+StopsFile how pickles bytes old new stop.Memory = CutsFile how pickles bytes old new cut.Memory
+
+-- what is answered where the text of what is imported and called by a file was to be written to a sink
+pub record AnswersCalls (how : Manner) (pickles : Pickles) (bytes : List ℕ) {S : Type 0} (told : S → Told) (old new : S) (answer : Result ℕ Stop) : Type 0 where
+  pub whole : IfOk answer (CompletesFile how pickles bytes (told old) (told new))
+  pub stopped : IfErr answer (StopsFile how pickles bytes (told old) (told new))
   pub too_large : (answer ≡ Err stop.TooLarge) ↔ (size_limit < length bytes)
   pub untouched : answer ≡ Err stop.TooLarge → new ≡ old

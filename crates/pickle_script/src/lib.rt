@@ -5,6 +5,7 @@
 #![tactic(auto)]
 
 mod fault_text;
+mod file_calls;
 mod grammar;
 mod items;
 mod keyword;
@@ -21,6 +22,7 @@ mod talk;
 mod texts;
 mod words;
 
+pub use file_calls::calls_of_file;
 pub use grammar::read_command;
 pub use items::write_items;
 pub use laws::one_cut;

@@ -6,6 +6,7 @@ ghost use Rattle.pickle_script.specs.Output.{AnswersText};
 use crate::stop::Stop;
 use pickle_doc::LIMIT;
 use pickle_further::Pickles;
+use pickle_holes::Holes;
 use pickle_ops::Page;
 use pickle_show::{Detail, list_bytes, report_of_bytes};
 use std::alloc::Global;
@@ -44,9 +45,10 @@ pub fn write_text<S: Page>(
     match text {
         Text::Listing => Ok(list_bytes(alloc, many, bytes, sink)?),
         Text::Objects => Ok(report_of_bytes(alloc, many, bytes, sink)?),
-        Text::Calls(pickles, detail) => Ok(pickle_further::calls(
-            alloc, detail, pickles, bytes, sink,
-        )?),
+        Text::Calls(pickles, detail) => {
+            let holes = Holes::new(alloc);
+            Ok(pickle_further::calls(alloc, detail, &holes, pickles, bytes, sink)?)
+        }
     }
 }
 

@@ -27,7 +27,8 @@ use Rattle.pickle_show.specs.declared.event.Before.{Before}
 use Rattle.pickle_show.specs.declared.event.Event.{Event}
 use Rattle.pickle_show.specs.declared.event.Event.TheVariants as event
 use Rattle.pickle_show.specs.Event.{before_of, event_of, made_event, made_as, is_view, top_of, taken_count}
-use Rattle.pickle_show.specs.declared.naming.Detail.{Detail}
+use Rattle.pickle_holes.specs.Holes.{in_file}
+use Rattle.pickle_show.specs.Manner.{Manner}
 use Rattle.pickle_show.specs.CallsLine.{event_line, line_of}
 use Rattle.pickle_show.specs.Calls.{CountedText, naming_at, entry_at}
 use Rattle.pickle_show.specs.CallsLaws.{IsStep, Makes, Changes, IsShown, LineExactly, row_adds}
@@ -112,23 +113,23 @@ item_of_step d k s t step =
     let m = moves_at d k s t step in
     (m.item, m.there, subst (λ (x : State). HeapOf (row_of m.item) (fresh s) x) m.leads (heap_of (row_of m.item) (kind_of m.item) k (fresh s)))
 
-a_line : (how : Detail) (d : Contents) (k : ℕ) (o : Operation) (s t : State) (e : Event) → item_at d k ≡ Some o → IsStep d k s t → item_event o s t ≡ Some e → (entry_at how d k).text ≢ []
+a_line : (how : Manner) (d : Contents) (k : ℕ) (o : Operation) (s t : State) (e : Event) → item_at d k ≡ Some o → IsStep d k s t → item_event o s t ≡ Some e → (entry_at how d k).text ≢ []
 a_line how d k o s t e there step is = λ none.
-    let text : (entry_at how d k).text ≡ line_of (offset_of d k) (naming_at how d k) t.heap (item_event o s t) = ap (λ (x : CountedText). x.text) (entry_is how d k o s t there step.before step.after) in
-    let here : event_line (offset_of d k) (naming_at how d k) t.heap e ≡ [] = ap (line_of (offset_of d k) (naming_at how d k) t.heap) (sym is) ∙ sym text ∙ none in
-    absurd (omega (arith, long (offset_of d k) (naming_at how d k) t.heap e, ap length here))
+    let text : (entry_at how d k).text ≡ line_of (in_file how.holes (offset_of d k)) (naming_at how.detail d k) t.heap (item_event o s t) = ap (λ (x : CountedText). x.text) (entry_is how d k o s t there step.before step.after) in
+    let here : event_line (in_file how.holes (offset_of d k)) (naming_at how.detail d k) t.heap e ≡ [] = ap (line_of (in_file how.holes (offset_of d k)) (naming_at how.detail d k) t.heap) (sym is) ∙ sym text ∙ none in
+    absurd (omega (arith, long (in_file how.holes (offset_of d k)) (naming_at how.detail d k) t.heap e, ap length here))
 
 build_event : (o : Operation) (s t : State) → o.opcode ≡ op.Build → (e : Event) × (item_event o s t ≡ Some e)
 build_event o s t is = (_, ap (λ (x : Opcode). event_of (row_of_opcode x o.arg) (before_of (fresh s)) t) is)
 
-makes_line : (how : Detail) (d : Contents) (k : ℕ) (s t : State) → IsStep d k s t → Makes s t → (entry_at how d k).text ≢ []
+makes_line : (how : Manner) (d : Contents) (k : ℕ) (s t : State) → IsStep d k s t → Makes s t → (entry_at how d k).text ≢ []
 makes_line how d k s t step m =
     let i = item_of_step d k s t step in
     let made = pushed_by (row_of i.0) (fresh s) t m.id m.object i.2 m.there (ap (λ (l : List Object). slice_get l m.id) (fresh_heap s) ∙ m.fresh) in
     let here : slice_get t.heap (length (fresh s).heap) ≡ Some m.object = ap (slice_get t.heap) (sym made.0) ∙ m.there in
     a_line how d k i.0 s t (event.Made (length (fresh s).heap)) i.1 step (made.1 ∙ made_here t.heap (length (fresh s).heap) m.object here (or_true (is_opaque m.object.kind) (is_view t.heap m.object) m.shown))
 
-changes_line : (how : Detail) (d : Contents) (k : ℕ) (s t : State) → IsStep d k s t → Changes s t → (entry_at how d k).text ≢ []
+changes_line : (how : Manner) (d : Contents) (k : ℕ) (s t : State) → IsStep d k s t → Changes s t → (entry_at how d k).text ≢ []
 changes_line how d k s t step c = λ none.
     let i = item_of_step d k s t step in
     let kinds : c.new.kind ≡ c.old.kind = kind_stays (row_of i.0) (fresh s) t c.id c.old c.new i.2 (ap (λ (l : List Object). slice_get l c.id) (fresh_heap s) ∙ c.before) c.after in
@@ -148,7 +149,7 @@ adds_event (row.CutChange filling.Append) b t a o = added filling.Append (taken_
 adds_event (row.CutChange filling.Add) b t a o = added filling.Add (taken_count b t) t o
 adds_event _ b t a o = absurd cc
 
-shown_line : (how : Detail) (d : Contents) (k : ℕ) (s t : State) → IsStep d k s t → IsShown d k s t → (entry_at how d k).text ≢ []
+shown_line : (how : Manner) (d : Contents) (k : ℕ) (s t : State) → IsStep d k s t → IsShown d k s t → (entry_at how d k).text ≢ []
 shown_line how d k s t step shown = elim shown [
   | inl makes ↦ makes_line how d k s t step makes
   | inr rest ↦ (elim rest [

@@ -31,7 +31,8 @@ use Rattle.pickle_machine.specs.Move.{deep, object_meets, push, last_of, without
 use Rattle.pickle_machine.specs.Run.{after, run}
 use Rattle.pickle_machine.proofs.Single.{single_fresh, run_single}
 use Rattle.pickle_show.specs.declared.event.Before.{Before}
-use Rattle.pickle_show.specs.declared.naming.Detail.{Detail}
+use Rattle.pickle_holes.specs.Holes.{in_file}
+use Rattle.pickle_show.specs.Manner.{Manner}
 use Rattle.pickle_show.specs.declared.naming.Naming.{Naming}
 use Rattle.pickle_show.specs.Naming.{naming_after}
 use Rattle.pickle_show.specs.Event.{before_of, event_of}
@@ -248,15 +249,15 @@ run_one : (d : Contents) (k : ℕ) → d.many ≡ false → run (start d.many) (
 run_one d k m = ap (λ (b : Bool). run (start b) (ops_of d) k) m
 
 -- up to a place that the first pickle reaches
-record SameTo (how : Detail) (d e : Contents) (k : ℕ) : Type 0 where
-  naming : naming_at how e k ≡ naming_at how d k
+record SameTo (how : Manner) (d e : Contents) (k : ℕ) : Type 0 where
+  naming : naming_at how.detail e k ≡ naming_at how.detail d k
   text : (entries how e k).text ≡ (entries how d k).text
 
-entries-none : (how : Detail) (d e : Contents) → (entries how e 0).text ≡ (entries how d 0).text
+entries-none : (how : Manner) (d e : Contents) → (entries how e 0).text ≡ (entries how d 0).text
 unfolding entries
 entries-none how d e = refl
 
-same_to : (how : Detail) (d e : Contents) (k : ℕ) (t : State) → Begins d e → k ≤ length (ops_of d) → run (start d.many) (ops_of d) k ≡ Some t → SameTo how d e k
+same_to : (how : Manner) (d e : Contents) (k : ℕ) (t : State) → Begins d e → k ≤ length (ops_of d) → run (start d.many) (ops_of d) k ≡ Some t → SameTo how d e k
 same_to how d e zero t b less r = record { naming = refl; text = entries-none how d e }
 same_to how d e (suc k) t b less r =
     let step : Step (ops_of d) k t = step_of (ops_of d) k t (sym (run_one d (suc k) b.one) ∙ r) in
@@ -278,13 +279,13 @@ same_to how d e (suc k) t b less r =
     let mine = entry_is how d k o s t step.item before r in
     let its = entry_is how e k o (as_many false s) (as_many stop t) there at behind in
     let same : entry_at how e k ≡ entry_at how d k =
-    its ∙ ap₂ (λ (n : ℕ) (m : Naming). counted_text n m t.heap (event_of (row_of o) (before_of (fresh (as_many false s))) (as_many stop t))) offset ind.naming
-    ∙ ap (counted_text (offset_of d k) (naming_at how d k) t.heap) event ∙ sym mine in
+    its ∙ ap₂ (λ (n : ℕ) (m : Naming). counted_text (in_file how.holes n) m t.heap (event_of (row_of o) (before_of (fresh (as_many false s))) (as_many stop t))) offset ind.naming
+    ∙ ap (counted_text (in_file how.holes (offset_of d k)) (naming_at how.detail d k) t.heap) event ∙ sym mine in
     record {
       naming =
-          ap₂ (λ (x : Option Operation) (y : Option State). naming_on x y (naming_at how e k)) there behind
+          ap₂ (λ (x : Option Operation) (y : Option State). naming_on x y (naming_at how.detail e k)) there behind
           ∙ ap (naming_after (row_of o) (length t.heap)) ind.naming
-          ∙ sym (ap₂ (λ (x : Option Operation) (y : Option State). naming_on x y (naming_at how d k)) step.item r);
+          ∙ sym (ap₂ (λ (x : Option Operation) (y : Option State). naming_on x y (naming_at how.detail d k)) step.item r);
       text = text-suc how e k ∙ ap₂ (λ (x y : List ℕ). x ++ y) ind.text (ap (λ (c : CountedText). c.text) same) ∙ sym (text-suc how d k);
     }
 

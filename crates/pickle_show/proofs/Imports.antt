@@ -18,7 +18,8 @@ use Rattle.pickle_machine.proofs.HeapGrowth.{fresh_heap}
 use Rattle.pickle_show.specs.Column.{right_aligned, newline}
 use Rattle.pickle_show.specs.ObjectText.{id_text}
 use Rattle.pickle_show.specs.declared.event.Event.TheVariants as event
-use Rattle.pickle_show.specs.declared.naming.Detail.{Detail}
+use Rattle.pickle_holes.specs.Holes.{in_file}
+use Rattle.pickle_show.specs.Manner.{Manner}
 use Rattle.pickle_show.specs.declared.naming.Naming.{Naming}
 use Rattle.pickle_show.specs.Event.{made_event, is_view}
 use Rattle.pickle_show.specs.Naming.{Spelled, Pair, NewPair, member_text, said_text, pair_text, pair_renamed, import_text, import_for, names_by, names_text}
@@ -32,8 +33,8 @@ use Rattle.pickle_show.proofs.Exact.{pushed_by, made_here, or_true, item_event, 
 -- ---- the event
 
 -- an item that makes an object which comes from elsewhere has the line of that
-line_of_made : (how : Detail) (d : Contents) (k : ℕ) (s t : State) (o : Object) → IsStep d k s t → slice_get t.heap (length s.heap) ≡ Some o → is_opaque o.kind ≡ true
-    → (entry_at how d k).text ≡ event_line (offset_of d k) (naming_at how d k) t.heap (event.Made (length s.heap))
+line_of_made : (how : Manner) (d : Contents) (k : ℕ) (s t : State) (o : Object) → IsStep d k s t → slice_get t.heap (length s.heap) ≡ Some o → is_opaque o.kind ≡ true
+    → (entry_at how d k).text ≡ event_line (in_file how.holes (offset_of d k)) (naming_at how.detail d k) t.heap (event.Made (length s.heap))
 line_of_made how d k s t o step there opaque =
     let i = item_of_step d k s t step in
     let size : length (fresh s).heap ≡ length s.heap = ap (λ (l : List Object). length l) (fresh_heap s) in
@@ -41,7 +42,7 @@ line_of_made how d k s t o step there opaque =
     let made = pushed_by (row_of i.0) (fresh s) t (length s.heap) o i.2 there none in
     let here : item_event i.0 s t ≡ Some (event.Made (length s.heap)) =
     made.1 ∙ ap (made_event t.heap) size ∙ made_here t.heap (length s.heap) o there (or_true (is_opaque o.kind) (is_view t.heap o) (inl opaque)) in
-    ap (λ (c : CountedText). c.text) (entry_is how d k i.0 s t i.1 step.before step.after) ∙ ap (line_of (offset_of d k) (naming_at how d k) t.heap) here
+    ap (λ (c : CountedText). c.text) (entry_is how d k i.0 s t i.1 step.before step.after) ∙ ap (line_of (in_file how.holes (offset_of d k)) (naming_at how.detail d k) t.heap) here
 
 made_line : (offset : ℕ) (m : Naming) (heap : List Object) (id : ℕ) (o : Object) → slice_get heap id ≡ Some o
     → event_line offset m heap (event.Made id) ≡ right_aligned 5 (decimal offset) ⧺ codes ": " ⧺ (made_words m heap o.kind o.parts ⧺ codes " as " ⧺ id_text id) ⧺ newline
@@ -99,8 +100,8 @@ from_elsewhere heap _ parts p e = absurd cc
 pub line_of_import : LineOfImport
 line_of_import how d k s t o p from name step there names h n =
     let id : ℕ = length s.heap in
-    let m : Naming = naming_at how d k in
+    let m : Naming = naming_at how.detail d k in
     let words : made_words m t.heap o.kind o.parts ≡ codes "import " ⧺ import_said m.old (pair_renamed p) from name =
     words_are m t.heap o.kind o.parts p names ∙ ap (λ (w : List ℕ). codes "import " ⧺ w) (names_are m p from name h n) in
-    line_of_made how d k s t o step there (from_elsewhere t.heap o.kind o.parts p names) ∙ made_line (offset_of d k) m t.heap id o there
-    ∙ ap (λ (w : List ℕ). right_aligned 5 (decimal (offset_of d k)) ⧺ codes ": " ⧺ (w ⧺ codes " as " ⧺ id_text id) ⧺ newline) words
+    line_of_made how d k s t o step there (from_elsewhere t.heap o.kind o.parts p names) ∙ made_line (in_file how.holes (offset_of d k)) m t.heap id o there
+    ∙ ap (λ (w : List ℕ). right_aligned 5 (decimal (in_file how.holes (offset_of d k))) ⧺ codes ": " ⧺ (w ⧺ codes " as " ⧺ id_text id) ⧺ newline) words

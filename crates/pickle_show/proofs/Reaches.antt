@@ -34,7 +34,8 @@ use Rattle.pickle_show.proofs.Walks.{one_line}
 use Rattle.pickle_show.specs.Column.{right_aligned, newline}
 use Rattle.pickle_show.specs.declared.event.Event.{Event}
 use Rattle.pickle_show.specs.Event.{before_of, top_of, is_view, made_event, filled_event, event_of}
-use Rattle.pickle_show.specs.declared.naming.Detail.{Detail}
+use Rattle.pickle_holes.specs.Holes.{in_file}
+use Rattle.pickle_show.specs.Manner.{Manner}
 use Rattle.pickle_show.specs.CallsLine.{event_text, event_line, line_of}
 use Rattle.pickle_show.specs.declared.naming.Naming.{Naming}
 use Rattle.pickle_show.specs.Calls.{naming_at, CountedText, entry_at, calls}
@@ -298,18 +299,18 @@ pub no_line_no_reach : NoLineNoReach
 no_line_no_reach how d k s t step none id o there opaque =
     let m = moves_at d k s t step in
     let from : State = fresh s in
-    let here : (entry_at how d k).text ≡ line_of (offset_of d k) (naming_at how d k) t.heap (event_of (row_of m.item) (before_of from) t) = ap (λ (e : CountedText). e.text) (entry_is how d k m.item s t m.there step.before step.after) in
+    let here : (entry_at how d k).text ≡ line_of (in_file how.holes (offset_of d k)) (naming_at how.detail d k) t.heap (event_of (row_of m.item) (before_of from) t) = ap (λ (e : CountedText). e.text) (entry_is how d k m.item s t m.there step.before step.after) in
     let nothing : event_of (row_of m.item) (before_of from) t ≡ None = no_line _ _ _ _ (sym here ∙ none) in
     let at : event_of (row_of m.item) (before_of from) (next m.item k s) ≡ None = ap (λ (u : State). event_of (row_of m.item) (before_of from) u) m.leads ∙ nothing in
     ap (λ (h : List Object). slice_get h id) (sym (fresh_heap s))
     ∙ row_unseen (row_of m.item) (kind_of m.item) k from m.accepted at id o (ap (λ (u : State). slice_get u.heap id) m.leads ∙ there) opaque
 
-pub only_shown : (how : Detail) (d : Contents) (k : ℕ) (s t : State) → IsStep d k s t → (entry_at how d k).text ≢ [] → IsShown d k s t
+pub only_shown : (how : Manner) (d : Contents) (k : ℕ) (s t : State) → IsStep d k s t → (entry_at how d k).text ≢ [] → IsShown d k s t
 only_shown how d k s t step some =
     let m = moves_at d k s t step in
     let from : State = fresh s in
-    let here : (entry_at how d k).text ≡ line_of (offset_of d k) (naming_at how d k) t.heap (event_of (row_of m.item) (before_of from) t) = ap (λ (e : CountedText). e.text) (entry_is how d k m.item s t m.there step.before step.after) in
-    let event = a_line (offset_of d k) (naming_at how d k) t.heap (event_of (row_of m.item) (before_of from) t) (λ e. some (here ∙ e)) in
+    let here : (entry_at how d k).text ≡ line_of (in_file how.holes (offset_of d k)) (naming_at how.detail d k) t.heap (event_of (row_of m.item) (before_of from) t) = ap (λ (e : CountedText). e.text) (entry_is how d k m.item s t m.there step.before step.after) in
+    let event = a_line (in_file how.holes (offset_of d k)) (naming_at how.detail d k) t.heap (event_of (row_of m.item) (before_of from) t) (λ e. some (here ∙ e)) in
     let at : event_of (row_of m.item) (before_of from) (next m.item k s) ≡ Some event.0 = ap (λ (u : State). event_of (row_of m.item) (before_of from) u) m.leads ∙ event.1 in
     let all : RowShown (row_of m.item) from t = subst (λ (u : State). RowShown (row_of m.item) from u) m.leads (row_shown (row_of m.item) (kind_of m.item) k from event.0 m.accepted at) in
     elim all [

@@ -24,7 +24,8 @@ use Rattle.pickle_show.specs.declared.end.Ending.{Ending}
 use Rattle.pickle_show.specs.declared.end.Ending.TheVariants as ending
 use Rattle.pickle_show.specs.declared.event.Event.{Event}
 use Rattle.pickle_show.specs.Event.{before_of, event_of}
-use Rattle.pickle_show.specs.declared.naming.Detail.{Detail}
+use Rattle.pickle_holes.specs.Holes.{in_file}
+use Rattle.pickle_show.specs.Manner.{Manner, ending_in}
 use Rattle.pickle_show.specs.declared.naming.Naming.{Naming}
 use Rattle.pickle_show.specs.declared.begins.TheConstants.{CONTAINERS}
 use Rattle.pickle_show.specs.Begins.{is_like, begins_by, begins_like, begins_words, begins_line, begins_text}
@@ -98,21 +99,21 @@ pub line_has : (offset : ℕ) (m : Naming) (heap : List Object) (e : Option Even
 line_has offset m heap None = inl refl
 line_has offset m heap (Some e) = inr (event_is_line offset m heap e)
 
-entry_has : (how : Detail) (d : Contents) (k : ℕ) → HasLine (entry_at how d k).text
+entry_has : (how : Manner) (d : Contents) (k : ℕ) → HasLine (entry_at how d k).text
 unfolding entry_at
 entry_has how d k = go (item_at d k) (run (start d.many) (ops_of d) k) (run (start d.many) (ops_of d) (suc k))
   where
-    go : (x : Option Operation) (y z : Option State) → HasLine (entry_on (offset_of d k) (naming_at how d k) x y z).text
-    go (Some o) (Some s) (Some t) = line_has (offset_of d k) (naming_at how d k) t.heap (event_of (row_of o) (before_of (fresh s)) t)
+    go : (x : Option Operation) (y z : Option State) → HasLine (entry_on (in_file how.holes (offset_of d k)) (naming_at how.detail d k) x y z).text
+    go (Some o) (Some s) (Some t) = line_has (in_file how.holes (offset_of d k)) (naming_at how.detail d k) t.heap (event_of (row_of o) (before_of (fresh s)) t)
     go (Some o) (Some s) None = inl refl
     go (Some o) None z = inl refl
     go None y z = inl refl
 
-entries-none : (how : Detail) (d : Contents) → (entries how d 0).text ≡ []
+entries-none : (how : Manner) (d : Contents) → (entries how d 0).text ≡ []
 unfolding entries
 entries-none how d = refl
 
-cut_entries : (how : Detail) (d : Contents) (n : ℕ) (rest : List ℕ) → cut_lines ((entries how d n).text ++ rest) ≡ item_lines how d n ++ cut_lines rest
+cut_entries : (how : Manner) (d : Contents) (n : ℕ) (rest : List ℕ) → cut_lines ((entries how d n).text ++ rest) ≡ item_lines how d n ++ cut_lines rest
 cut_entries how d zero rest = ap (λ (t : List ℕ). cut_lines (t ++ rest)) (entries-none how d)
 cut_entries how d (suc k) rest =
     let e : List ℕ = (entry_at how d k).text in
@@ -245,13 +246,13 @@ cut_end bytes imports calls e =
     ∙ ap (λ (ls : List (List ℕ)). if_any (begins_text bytes) ++ ls)
     (cut_line (totals_line imports calls) (ending_lines e) (totals_is_line imports calls) ∙ ap (λ (ls : List (List ℕ)). totals_line imports calls ∷ ls) (cut_ending e))
 
-calls_text : (how : Detail) (d : Contents) → (calls how d).text ≡ (entries how d (calls_end d).place).text ++ calls_end_text (document_bytes d) (entries how d (calls_end d).place).imports (entries how d (calls_end d).place).calls (calls_end d).ending
+calls_text : (how : Manner) (d : Contents) → (calls how d).text ≡ (entries how d (calls_end d).place).text ++ calls_end_text (document_bytes d) (entries how d (calls_end d).place).imports (entries how d (calls_end d).place).calls (ending_in how.holes (calls_end d).ending)
 unfolding calls ◌⧺◌
 calls_text how d = refl
 
 pub text_is_its_lines : TextIsItsLines
 text_is_its_lines how d =
     let e : CallsEnd = calls_end d in
-    let last : List ℕ = calls_end_text (document_bytes d) (entries how d e.place).imports (entries how d e.place).calls e.ending in
+    let last : List ℕ = calls_end_text (document_bytes d) (entries how d e.place).imports (entries how d e.place).calls (ending_in how.holes e.ending) in
     ap cut_lines (calls_text how d) ∙ cut_entries how d e.place last
-    ∙ ap (λ (ls : List (List ℕ)). item_lines how d e.place ++ ls) (cut_end (document_bytes d) (entries how d e.place).imports (entries how d e.place).calls e.ending)
+    ∙ ap (λ (ls : List (List ℕ)). item_lines how d e.place ++ ls) (cut_end (document_bytes d) (entries how d e.place).imports (entries how d e.place).calls (ending_in how.holes e.ending))

@@ -46,7 +46,8 @@ use Rattle.pickle_show.specs.declared.event.Event.TheVariants as event
 use Rattle.pickle_show.specs.declared.course.Course.{Course}
 use Rattle.pickle_show.specs.Event.{before_of, event_of, object_is}
 use Rattle.pickle_show.specs.CallsLine.{line_of, imports_of, calls_of, calls_end_text, ending_status, one_if, is_import, is_call}
-use Rattle.pickle_show.specs.declared.naming.Detail.{Detail}
+use Rattle.pickle_holes.specs.Holes.{in_file}
+use Rattle.pickle_show.specs.Manner.{Manner, ending_in}
 use Rattle.pickle_show.specs.declared.naming.Naming.{Naming}
 use Rattle.pickle_show.specs.Naming.{begin, naming_after}
 use Rattle.pickle_show.specs.Calls.{naming_at, left_at, is_inside, or_here, first_inside, CallsEnd, end_from, end_by, calls_end, CountedText, no_entry, counted_text, entry_at, entries, closing_of, closed, calls, calls_to}
@@ -56,25 +57,25 @@ use Rattle.pickle_show.specs.CallsWritten.{BreaksCalls, BeginsCalls, CutsCalls}
 
 -- ---- what items come to
 
-pub entries-zero : (how : Detail) (d : Contents) → entries how d 0 ≡ no_entry
+pub entries-zero : (how : Manner) (d : Contents) → entries how d 0 ≡ no_entry
 unfolding entries
 entries-zero how d = refl
 
-pub text-suc : (how : Detail) (d : Contents) (k : ℕ) → (entries how d (suc k)).text ≡ (entries how d k).text ++ (entry_at how d k).text
+pub text-suc : (how : Manner) (d : Contents) (k : ℕ) → (entries how d (suc k)).text ≡ (entries how d k).text ++ (entry_at how d k).text
 unfolding entries ◌⧺◌
 text-suc how d k = refl
 
-imports-suc : (how : Detail) (d : Contents) (k : ℕ) → (entries how d (suc k)).imports ≡ (entries how d k).imports + (entry_at how d k).imports
+imports-suc : (how : Manner) (d : Contents) (k : ℕ) → (entries how d (suc k)).imports ≡ (entries how d k).imports + (entry_at how d k).imports
 unfolding entries
 imports-suc how d k = refl
 
-calls-suc : (how : Detail) (d : Contents) (k : ℕ) → (entries how d (suc k)).calls ≡ (entries how d k).calls + (entry_at how d k).calls
+calls-suc : (how : Manner) (d : Contents) (k : ℕ) → (entries how d (suc k)).calls ≡ (entries how d k).calls + (entry_at how d k).calls
 unfolding entries
 calls-suc how d k = refl
 
 -- item k, where it has a move
-pub entry_is : (how : Detail) (d : Contents) (k : ℕ) (o : Operation) (s t : State) → item_at d k ≡ Some o → run (start d.many) (ops_of d) k ≡ Some s → run (start d.many) (ops_of d) (suc k) ≡ Some t
-    → entry_at how d k ≡ counted_text (offset_of d k) (naming_at how d k) t.heap (event_of (row_of o) (before_of (fresh s)) t)
+pub entry_is : (how : Manner) (d : Contents) (k : ℕ) (o : Operation) (s t : State) → item_at d k ≡ Some o → run (start d.many) (ops_of d) k ≡ Some s → run (start d.many) (ops_of d) (suc k) ≡ Some t
+    → entry_at how d k ≡ counted_text (in_file how.holes (offset_of d k)) (naming_at how.detail d k) t.heap (event_of (row_of o) (before_of (fresh s)) t)
 unfolding entry_at
 entry_is how d k o s t e r f = rw (e, r, f) refl
 
@@ -100,13 +101,13 @@ event_is : (o : Operation) (k : ℕ) (s t : State) → move o k s ≡ Ok t → e
 event_is o k s t e = event_by s.stopped (row_of o) s t (accepted (refusal_at o s) (next o k s) t e)
 
 -- what is written for it
-entry_here : (how : Detail) (d : Contents) (k offset : ℕ) (m : Naming) (o : Operation) (s t : State) → item_at d k ≡ Some o → run (start d.many) (ops_of d) k ≡ Some s → move o k s ≡ Ok t → offset ≡ offset_of d k
-    → m ≡ naming_at how d k → entry_at how d k ≡ counted_text offset m t.heap (event_of (row_of o) (before_of s) t)
+entry_here : (how : Manner) (d : Contents) (k offset : ℕ) (m : Naming) (o : Operation) (s t : State) → item_at d k ≡ Some o → run (start d.many) (ops_of d) k ≡ Some s → move o k s ≡ Ok t → offset ≡ offset_of d k
+    → m ≡ naming_at how.detail d k → entry_at how d k ≡ counted_text (in_file how.holes offset) m t.heap (event_of (row_of o) (before_of s) t)
 entry_here how d k offset m o s t e r i f g =
     let next : run (start d.many) (ops_of d) (suc k) ≡ Some t = rw (run-suc (start d.many) (ops_of d) k o s e r, i) refl in
-    entry_is how d k o s t e r next ∙ ap (λ (x : Option Event). counted_text (offset_of d k) (naming_at how d k) t.heap x) (sym (event_is o k s t i))
-    ∙ ap (λ (n : ℕ). counted_text n (naming_at how d k) t.heap (event_of (row_of o) (before_of s) t)) (sym f)
-    ∙ ap (λ (n : Naming). counted_text offset n t.heap (event_of (row_of o) (before_of s) t)) (sym g)
+    entry_is how d k o s t e r next ∙ ap (λ (x : Option Event). counted_text (in_file how.holes (offset_of d k)) (naming_at how.detail d k) t.heap x) (sym (event_is o k s t i))
+    ∙ ap (λ (n : ℕ). counted_text (in_file how.holes n) (naming_at how.detail d k) t.heap (event_of (row_of o) (before_of s) t)) (sym f)
+    ∙ ap (λ (n : Naming). counted_text (in_file how.holes offset) n t.heap (event_of (row_of o) (before_of s) t)) (sym g)
 
 one_or_none : (b : _) → one_if b ≤ 1
 one_or_none true = omega arith
@@ -124,7 +125,7 @@ few_calls heap (Some (event.Made id)) = one_or_none (object_is is_call heap id)
 few_calls heap (Some (event.State value target)) = omega arith
 few_calls heap (Some (event.Filled f count target)) = omega arith
 
-entries_more : (how : Detail) (d : Contents) (k n : ℕ) → (rest : List ℕ) × ((entries how d (k + n)).text ≡ (entries how d k).text ++ rest)
+entries_more : (how : Manner) (d : Contents) (k n : ℕ) → (rest : List ℕ) × ((entries how d (k + n)).text ≡ (entries how d k).text ++ rest)
 entries_more how d k zero = let e : k + 0 ≡ k = omega arith in ([], rw e (sym (append-nil (entries how d k).text)))
 entries_more how d k (suc n) =
     let e : k + suc n ≡ suc (k + n) = omega arith in
@@ -133,7 +134,7 @@ entries_more how d k (suc n) =
     (before.0 ++ last, rw e (text-suc how d (k + n) ∙ ap (λ (t : List ℕ). t ++ last) before.1 ∙ append_assoc (entries how d k).text before.0 last))
 
 -- the first lines come first
-pub entries_first : (how : Detail) (d : Contents) (k n : ℕ) → k ≤ n → (rest : List ℕ) × ((entries how d n).text ≡ (entries how d k).text ++ rest)
+pub entries_first : (how : Manner) (d : Contents) (k n : ℕ) → k ≤ n → (rest : List ℕ) × ((entries how d n).text ≡ (entries how d k).text ++ rest)
 entries_first how d k n h =
     let e : k + (n - k) ≡ n = omega arith in
     let more = entries_more how d k (n - k) in
@@ -188,19 +189,19 @@ reaches d k s r h b =
     end_later d k last far.state (first_inside d last) (far.most k s h r) far.is (b last)
 
 -- then the text begins with the lines before it
-begins : (how : Detail) (d : Contents) (k : ℕ) (s : State) → run (start d.many) (ops_of d) k ≡ Some s → k ≤ length (ops_of d) → ((n j : ℕ) → first_inside d n ≡ Some j → k ≤ suc j)
+begins : (how : Manner) (d : Contents) (k : ℕ) (s : State) → run (start d.many) (ops_of d) k ≡ Some s → k ≤ length (ops_of d) → ((n j : ℕ) → first_inside d n ≡ Some j → k ≤ suc j)
     → (rest : List ℕ) × ((calls how d).text ≡ (entries how d k).text ++ rest)
 unfolding calls ◌⧺◌
 begins how d k s r h b =
     let e : CallsEnd = calls_end d in
     let first = entries_first how d k e.place (reaches d k s r h b) in
-    let last : List ℕ = calls_end_text (document_bytes d) (entries how d e.place).imports (entries how d e.place).calls e.ending in
+    let last : List ℕ = calls_end_text (document_bytes d) (entries how d e.place).imports (entries how d e.place).calls (ending_in how.holes e.ending) in
     (first.0 ++ last, ap (λ (t : List ℕ). t ++ last) first.1 ∙ append_assoc (entries how d k).text first.0 last)
 
 -- ---- the items that were stepped
 
 -- the first k items have moves; this is the state that they reach, and these are the counts of their lines
-pub record Progress (how : Detail) (d : Contents) (k offset : ℕ) (s : State) (course : Course) : Type 0 where
+pub record Progress (how : Manner) (d : Contents) (k offset : ℕ) (s : State) (course : Course) : Type 0 where
   pub reached : run (start d.many) (ops_of d) k ≡ Some s
   pub stands : offset ≡ offset_of d k
   pub imports : course.imports ≡ (entries how d k).imports
@@ -208,11 +209,11 @@ pub record Progress (how : Detail) (d : Contents) (k offset : ℕ) (s : State) (
   pub heap : length s.heap ≤ k
   pub few_imports : course.imports ≤ k
   pub few_calls : course.calls ≤ k
-  pub naming : course.naming ≡ naming_at how d k
+  pub naming : course.naming ≡ naming_at how.detail d k
   pub left : course.left ≡ left_at d k
 
 -- of the document that the bytes are, k items were read and stepped, their lines were written, and the last of them is STOP or not
-pub record Walked (how : Detail) (many : Bool) (bytes : List ℕ) (old new : Told) (rest : List ℕ) (left k offset : ℕ) (s : State) (course : Course) (last : Bool) : Type 0 where
+pub record Walked (how : Manner) (many : Bool) (bytes : List ℕ) (old new : Told) (rest : List ℕ) (left k offset : ℕ) (s : State) (course : Course) (last : Bool) : Type 0 where
   pub d : Contents
   pub reads : ReadsAs many bytes d
   pub stands : HasRead d k rest left
@@ -221,8 +222,8 @@ pub record Walked (how : Detail) (many : Bool) (bytes : List ℕ) (old new : Tol
   pub ends : ends_with_stop (take k (items_of d)) ≡ last
   pub outside : first_inside d k ≡ None
 
-pub walked_none : (how : Detail) (many : Bool) (bytes : List ℕ) (a : Told) → (some : (d : Contents) × ReadsAs many bytes d) → length bytes ≤ size_limit
-    → Walked how many bytes a a bytes 0 0 0 (start many) (record { imports = 0; calls = 0; naming = begin how 0; left = 0 }) false
+pub walked_none : (how : Manner) (many : Bool) (bytes : List ℕ) (a : Told) → (some : (d : Contents) × ReadsAs many bytes d) → length bytes ≤ size_limit
+    → Walked how many bytes a a bytes 0 0 0 (start many) (record { imports = 0; calls = 0; naming = begin how.detail 0; left = 0 }) false
 unfolding first_inside
 walked_none how many bytes a some small = record {
   d = some.0;
@@ -250,7 +251,7 @@ walked_none how many bytes a some small = record {
 abbrev EndsSo : Contents → ℕ → Ending → Type 0
 EndsSo d k e = calls_end d ≡ record { place = k; ending = e }
 
-refused : {how : Detail} (d : Contents) (k offset : ℕ) (o : Operation) (s : State) (course : Course) (r : Refusal) → Progress how d k offset s course → item_at d k ≡ Some o → refusal_at o s ≡ Some r
+refused : {how : Manner} (d : Contents) (k offset : ℕ) (o : Operation) (s : State) (course : Course) (r : Refusal) → Progress how d k offset s course → item_at d k ≡ Some o → refusal_at o s ≡ Some r
     → first_inside d k ≡ None → EndsSo d k (ending.Closed 0 (closing.Refused k r))
 unfolding calls_end
 refused d k offset o s course r p e f out =
@@ -259,7 +260,7 @@ refused d k offset o s course r p e f out =
     let last : reached (start d.many) (ops_of d) (length (ops_of d)) ≡ k = reached_last (start d.many) (ops_of d) k (length (ops_of d)) s p.reached none (omega arith) in
     rw (last, out, p.reached, e, f) refl
 
-ended : {how : Detail} (d : Contents) (k offset : ℕ) (s : State) (course : Course) (c : Closing) → Progress how d k offset s course → length (ops_of d) ≡ k → closing_of d (finish_of d) ≡ c
+ended : {how : Manner} (d : Contents) (k offset : ℕ) (s : State) (course : Course) (c : Closing) → Progress how d k offset s course → length (ops_of d) ≡ k → closing_of d (finish_of d) ≡ c
     → first_inside d k ≡ None → EndsSo d k (closed d c)
 unfolding calls_end
 ended d k offset s course c p all is out =
@@ -275,7 +276,7 @@ few_here : {many : Bool} (bytes : List ℕ) (d : Contents) (k : ℕ) → ReadsAs
 few_here bytes d k r le = omega (arith, le, length-bytes_of (ops_of d), ops_within d, ap length r.whole)
 
 -- the run ends here
-runs : {how : Detail} {many : Bool} (bytes : List ℕ) (a b : Told) (d : Contents) (k offset : ℕ) (s : State) (course : Course) (e : Ending) → ReadsAs many bytes d → Progress how d k offset s course
+runs : {how : Manner} {many : Bool} (bytes : List ℕ) (a b : Told) (d : Contents) (k offset : ℕ) (s : State) (course : Course) (e : Ending) → ReadsAs many bytes d → Progress how d k offset s course
     → Wrote a b (entries how d k).text → k ≤ length (ops_of d) → EndsSo d k e → IsRun how many bytes a b s (record { course = course; ending = e; offset = offset; place = k })
 runs {how = how} bytes a b d k offset s course e r p w le is = record {
   d = d;
@@ -293,19 +294,19 @@ runs {how = how} bytes a b d k offset s course e r p w le is = record {
 }
 
 -- what is left of the text are the last lines
-pub run_whole : {how : Detail} {many : Bool} (bytes : List ℕ) (a b : Told) (s : State) (r : Ran) → (w : IsRun how many bytes a b s r)
-    → (calls how w.d).text ≡ (entries how w.d r.place).text ++ calls_end_text bytes r.course.imports r.course.calls r.ending
+pub run_whole : {how : Manner} {many : Bool} (bytes : List ℕ) (a b : Told) (s : State) (r : Ran) → (w : IsRun how many bytes a b s r)
+    → (calls how w.d).text ≡ (entries how w.d r.place).text ++ calls_end_text bytes r.course.imports r.course.calls (ending_in how.holes r.ending)
 unfolding calls ◌⧺◌
 run_whole {how = how} bytes a b s r w =
-    let whole : (calls how w.d).text ≡ (entries how w.d r.place).text ++ calls_end_text (document_bytes w.d) (entries how w.d r.place).imports (entries how w.d r.place).calls r.ending =
+    let whole : (calls how w.d).text ≡ (entries how w.d r.place).text ++ calls_end_text (document_bytes w.d) (entries how w.d r.place).imports (entries how w.d r.place).calls (ending_in how.holes r.ending) =
     ap (λ (e : CallsEnd). (calls_to how w.d e).text) w.ends in
-    rw (w.imports, w.calls) (whole ∙ ap (λ (x : List ℕ). (entries how w.d r.place).text ++ calls_end_text x (entries how w.d r.place).imports (entries how w.d r.place).calls r.ending) w.reads.whole)
+    rw (w.imports, w.calls) (whole ∙ ap (λ (x : List ℕ). (entries how w.d r.place).text ++ calls_end_text x (entries how w.d r.place).imports (entries how w.d r.place).calls (ending_in how.holes r.ending)) w.reads.whole)
 
-pub run_answers : {how : Detail} {many : Bool} (bytes : List ℕ) (a b : Told) (s : State) (r : Ran) → (w : IsRun how many bytes a b s r) → (calls how w.d).status ≡ ending_status r.ending
+pub run_answers : {how : Manner} {many : Bool} (bytes : List ℕ) (a b : Told) (s : State) (r : Ran) → (w : IsRun how many bytes a b s r) → (calls how w.d).status ≡ ending_status r.ending
 unfolding calls
 run_answers {how = how} bytes a b s r w = ap (λ (e : CallsEnd). (calls_to how w.d e).status) w.ends
 
-pub refused_runs : {how : Detail} {many : Bool} {last : Bool} (bytes : List ℕ) (a b : Told) (rest : List ℕ) (left k offset : ℕ) (o : Operation) (s : State) (course : Course) (r : Refusal)
+pub refused_runs : {how : Manner} {many : Bool} {last : Bool} (bytes : List ℕ) (a b : Told) (rest : List ℕ) (left k offset : ℕ) (o : Operation) (s : State) (course : Course) (r : Refusal)
     → Walked how many bytes a b rest left k offset s course last → IsNextItem left rest o (size_of o) → refusal_at o s ≡ Some r
     → IsRun how many bytes a b s (record { course = course; ending = ending.Closed 0 (closing.Refused k r); offset = offset; place = k })
 refused_runs bytes a b rest left k offset o s course r w n f =
@@ -313,11 +314,11 @@ refused_runs bytes a b rest left k offset o s course r w n f =
     runs bytes a b w.d k offset s course (ending.Closed 0 (closing.Refused k r)) w.reads w.progress w.written (omega (arith, within (ops_of w.d) k o g.there))
     (refused w.d k offset o s course r w.progress g.there f w.outside)
 
-sizes_all : {how : Detail} (d : Contents) (k offset : ℕ) (s : State) (course : Course) → Progress how d k offset s course → length (ops_of d) ≡ k → tail_offset d ≡ offset
+sizes_all : {how : Manner} (d : Contents) (k offset : ℕ) (s : State) (course : Course) → Progress how d k offset s course → length (ops_of d) ≡ k → tail_offset d ≡ offset
 sizes_all d k offset s course p all = ap sizes (sym (take_all k (items_of d) (omega (arith, all, length-map (items_of d) (λ (i : Item). i.op))))) ∙ sym p.stands
 
 -- how the document ends whose tail has this fault, where its last item is STOP or not
-finish_there : {how : Detail} {many : Bool} {last : Bool} (bytes : List ℕ) (a b : Told) (rest : List ℕ) (left k offset : ℕ) (s : State) (course : Course) (f : TailFault) (x : Bool)
+finish_there : {how : Manner} {many : Bool} {last : Bool} (bytes : List ℕ) (a b : Told) (rest : List ℕ) (left k offset : ℕ) (s : State) (course : Course) (f : TailFault) (x : Bool)
     → (w : Walked how many bytes a b rest left k offset s course last) → IsDone w.d k rest (Some f) → (length rest == 0 && last) ≡ x → finish_of w.d ≡ finish_by x (Some f)
 finish_there bytes a b rest left k offset s course f x w done is =
     let all : take k (items_of w.d) ≡ items_of w.d = take_all k (items_of w.d) (omega (arith, done.all, length-map (items_of w.d) (λ (i : Item). i.op))) in
@@ -331,7 +332,7 @@ first_holds : (a b : Bool) → (a && b) ≡ true → a ≡ true
 first_holds true b e = refl
 first_holds false b e = absurd cc
 
-tail_runs_by : {how : Detail} {many : Bool} {last : Bool} (bytes : List ℕ) (a b : Told) (rest : List ℕ) (left k offset : ℕ) (s : State) (course : Course) (f : TailFault) (x : Bool)
+tail_runs_by : {how : Manner} {many : Bool} {last : Bool} (bytes : List ℕ) (a b : Told) (rest : List ℕ) (left k offset : ℕ) (s : State) (course : Course) (f : TailFault) (x : Bool)
     → (w : Walked how many bytes a b rest left k offset s course last) → IsDone w.d k rest (Some f) → (length rest == 0 && last) ≡ x
     → IsRun how many bytes a b s (record { course = course; ending = ending.Closed 0 (closing_at x f offset); offset = offset; place = k })
 tail_runs_by {last = last} bytes a b rest left k offset s course f true w done is =
@@ -346,7 +347,7 @@ tail_runs_by bytes a b rest left k offset s course f false w done is =
     (ended w.d k offset s course (closing.Fault f offset) w.progress done.all fault w.outside)
 
 -- after all items of the bytes, n of which are left
-pub tail_runs : {how : Detail} {many : Bool} {last : Bool} (bytes : List ℕ) (a b : Told) (rest : List ℕ) (left k offset : ℕ) (s : State) (course : Course) (f : TailFault) (n : ℕ) (c : Closing)
+pub tail_runs : {how : Manner} {many : Bool} {last : Bool} (bytes : List ℕ) (a b : Told) (rest : List ℕ) (left k offset : ℕ) (s : State) (course : Course) (f : TailFault) (n : ℕ) (c : Closing)
     → Walked how many bytes a b rest left k offset s course last → HasTailFault left rest f → n ≡ length rest → c ≡ closing_at (n == 0 && last) f offset
     → IsRun how many bytes a b s (record { course = course; ending = ending.Closed 0 c; offset = offset; place = k })
 tail_runs {how = how} {many = many} {last = last} bytes a b rest left k offset s course f n c w h same is =
@@ -357,23 +358,23 @@ tail_runs {how = how} {many = many} {last = last} bytes a b rest left k offset s
 -- ---- item k
 
 -- the line is cut short
-pub line_breaks : {how : Detail} {many : Bool} {last : Bool} (bytes : List ℕ) (a b c : Told) (rest : List ℕ) (left k offset : ℕ) (o : Operation) (s t : State) (course : Course)
-    → Walked how many bytes a b rest left k offset s course last → IsNextItem left rest o (size_of o) → move o k s ≡ Ok t → Broke b c (line_of offset course.naming t.heap (event_of (row_of o) (before_of s) t))
+pub line_breaks : {how : Manner} {many : Bool} {last : Bool} (bytes : List ℕ) (a b c : Told) (rest : List ℕ) (left k offset : ℕ) (o : Operation) (s t : State) (course : Course)
+    → Walked how many bytes a b rest left k offset s course last → IsNextItem left rest o (size_of o) → move o k s ≡ Ok t → Broke b c (line_of (in_file how.holes offset) course.naming t.heap (event_of (row_of o) (before_of s) t))
     → BreaksCalls how many bytes a c
 line_breaks {how = how} bytes a b c rest left k offset o s t course w n m q =
     let g = item_is w.d k left rest o (size_of o) w.stands n in
     let next : run (start w.d.many) (ops_of w.d) (suc k) ≡ Some t = rw (run-suc (start w.d.many) (ops_of w.d) k o s g.there w.progress.reached, m) refl in
-    let here : (entry_at how w.d k).text ≡ line_of offset course.naming t.heap (event_of (row_of o) (before_of s) t) =
+    let here : (entry_at how w.d k).text ≡ line_of (in_file how.holes offset) course.naming t.heap (event_of (row_of o) (before_of s) t) =
     ap (λ (e : CountedText). e.text) (entry_here how w.d k offset course.naming o s t g.there w.progress.reached m w.progress.stands w.progress.naming) in
-    let line : (entries how w.d (suc k)).text ≡ (entries how w.d k).text ++ line_of offset course.naming t.heap (event_of (row_of o) (before_of s) t) =
+    let line : (entries how w.d (suc k)).text ≡ (entries how w.d k).text ++ line_of (in_file how.holes offset) course.naming t.heap (event_of (row_of o) (before_of s) t) =
     text-suc how w.d k ∙ ap (λ (l : List ℕ). (entries how w.d k).text ++ l) here in
-    let front : Broke a c (entries how w.d (suc k)).text = rw line (Broke-after a b c (entries how w.d k).text (line_of offset course.naming t.heap (event_of (row_of o) (before_of s) t)) w.written q) in
+    let front : Broke a c (entries how w.d (suc k)).text = rw line (Broke-after a b c (entries how w.d k).text (line_of (in_file how.holes offset) course.naming t.heap (event_of (row_of o) (before_of s) t)) w.written q) in
     let text = begins how w.d (suc k) t next (omega (arith, within (ops_of w.d) k o g.there)) (λ n j e. omega (arith, inside_after w.d k n j w.outside e)) in
     let all : Broke a c (calls how w.d).text = rw text.1 (Broke-more a c (entries how w.d (suc k)).text text.0 front) in
     (w.d, w.reads, all)
 
 -- memory runs out
-pub memory_stops : {how : Detail} {many : Bool} {last : Bool} (bytes : List ℕ) (a b : Told) (rest : List ℕ) (left k offset : ℕ) (o : Operation) (s : State) (course : Course)
+pub memory_stops : {how : Manner} {many : Bool} {last : Bool} (bytes : List ℕ) (a b : Told) (rest : List ℕ) (left k offset : ℕ) (o : Operation) (s : State) (course : Course)
     → Walked how many bytes a b rest left k offset s course last → IsNextItem left rest o (size_of o) → BeginsCalls how many bytes a b
 memory_stops {how = how} bytes a b rest left k offset o s course w n =
     let g = item_is w.d k left rest o (size_of o) w.stands n in
@@ -382,7 +383,7 @@ memory_stops {how = how} bytes a b rest left k offset o s course w n =
     (w.d, w.reads, (text.0, front))
 
 -- item k was stepped and its line written: what is read now stands after it
-pub record Moved (how : Detail) (many : Bool) (bytes : List ℕ) (old new : Told) (rest : List ℕ) (left k offset : ℕ) (o : Operation) (s : State) (course : Course) : Type 0 where
+pub record Moved (how : Manner) (many : Bool) (bytes : List ℕ) (old new : Told) (rest : List ℕ) (left k offset : ℕ) (o : Operation) (s : State) (course : Course) : Type 0 where
   pub d : Contents
   pub reads : ReadsAs many bytes d
   pub there : item_at d k ≡ Some o
@@ -397,9 +398,9 @@ inside_next : (d : Contents) (k : ℕ) (o : Operation) → item_at d k ≡ Some 
 unfolding first_inside
 inside_next d k o e none = ap (λ (x : Option ℕ). or_here x (is_inside d.many (item_at d k) (left_at d k)) k) none ∙ ap (λ (x : Option Operation). or_here None (is_inside d.many x (left_at d k)) k) e
 
-pub moved : {how : Detail} {many : Bool} {last : Bool} (bytes : List ℕ) (a b c : Told) (rest : List ℕ) (left k offset : ℕ) (o : Operation) (s t : State) (course next : Course)
+pub moved : {how : Manner} {many : Bool} {last : Bool} (bytes : List ℕ) (a b c : Told) (rest : List ℕ) (left k offset : ℕ) (o : Operation) (s t : State) (course next : Course)
     → Walked how many bytes a b rest left k offset s course last → IsNextItem left rest o (size_of o) → move o k s ≡ Ok t
-    → Wrote b c (line_of offset course.naming t.heap (event_of (row_of o) (before_of s) t))
+    → Wrote b c (line_of (in_file how.holes offset) course.naming t.heap (event_of (row_of o) (before_of s) t))
     → next.imports ≡ course.imports + imports_of t.heap (event_of (row_of o) (before_of s) t)
     → next.calls ≡ course.calls + calls_of t.heap (event_of (row_of o) (before_of s) t)
     → next.naming ≡ naming_after (row_of o) (length t.heap) course.naming → next.left ≡ left_behind course.left o
@@ -408,14 +409,14 @@ moved {how = how} {many = many} bytes a b c rest left k offset o s t course next
     let g = item_is w.d k left rest o (size_of o) w.stands n in
     let r : Option Event = event_of (row_of o) (before_of s) t in
     let after : run (start w.d.many) (ops_of w.d) (suc k) ≡ Some t = rw (run-suc (start w.d.many) (ops_of w.d) k o s g.there w.progress.reached, m) refl in
-    let here : entry_at how w.d k ≡ counted_text offset course.naming t.heap r = entry_here how w.d k offset course.naming o s t g.there w.progress.reached m w.progress.stands w.progress.naming in
-    let line : (entries how w.d (suc k)).text ≡ (entries how w.d k).text ++ line_of offset course.naming t.heap r =
+    let here : entry_at how w.d k ≡ counted_text (in_file how.holes offset) course.naming t.heap r = entry_here how w.d k offset course.naming o s t g.there w.progress.reached m w.progress.stands w.progress.naming in
+    let line : (entries how w.d (suc k)).text ≡ (entries how w.d k).text ++ line_of (in_file how.holes offset) course.naming t.heap r =
     text-suc how w.d k ∙ ap (λ (e : CountedText). (entries how w.d k).text ++ e.text) here in
     let imports : (entries how w.d (suc k)).imports ≡ (entries how w.d k).imports + imports_of t.heap r =
     imports-suc how w.d k ∙ ap (λ (e : CountedText). (entries how w.d k).imports + e.imports) here in
     let calls : (entries how w.d (suc k)).calls ≡ (entries how w.d k).calls + calls_of t.heap r =
     calls-suc how w.d k ∙ ap (λ (e : CountedText). (entries how w.d k).calls + e.calls) here in
-    let named : naming_at how w.d (suc k) ≡ naming_after (row_of o) (length t.heap) (naming_at how w.d k) = rw (g.there, after) refl in
+    let named : naming_at how.detail w.d (suc k) ≡ naming_after (row_of o) (length t.heap) (naming_at how.detail w.d k) = rw (g.there, after) refl in
     let left_is : left_at w.d (suc k) ≡ left_behind (left_at w.d k) o = rw g.there refl in
     let here_left : next.left ≡ left_behind (left_at w.d k) o = v ∙ ap (λ (x : ℕ). left_behind x o) w.progress.left in
     record {
@@ -437,14 +438,14 @@ moved {how = how} {many = many} bytes a b c rest left k offset o s t course next
         naming = rw (add-one k) (u ∙ ap (λ (x : Naming). naming_after (row_of o) (length t.heap) x) w.progress.naming ∙ sym named);
         left = rw (add-one k) (here_left ∙ sym left_is);
       };
-      written = rw (add-one k, line) (Wrote-trans a b c (entries how w.d k).text (line_of offset course.naming t.heap r) w.written q);
+      written = rw (add-one k, line) (Wrote-trans a b c (entries how w.d k).text (line_of (in_file how.holes offset) course.naming t.heap r) w.written q);
     }
 
 none_inside : (many stop left : Bool) (k : ℕ) → (stop && left) ≡ false → or_here None (many && (stop && left)) k ≡ None
 none_inside true stop left k e = ap (λ (b : Bool). or_here None b k) e
 none_inside false stop left k e = refl
 
-pub goes_on : {how : Detail} {many : Bool} (bytes : List ℕ) (a b : Told) (rest : List ℕ) (left k offset : ℕ) (o : Operation) (s : State) (course : Course)
+pub goes_on : {how : Manner} {many : Bool} (bytes : List ℕ) (a b : Told) (rest : List ℕ) (left k offset : ℕ) (o : Operation) (s : State) (course : Course)
     → Moved how many bytes a b rest left k offset o s course → ends_reading many o.opcode ≡ false → (is_stop o.opcode && nat_lt 0 course.left) ≡ false
     → Walked how many bytes a b rest left (k + 1) offset s course (is_stop o.opcode)
 goes_on {many = many} bytes a b rest left k offset o s course w miss out =
@@ -464,7 +465,7 @@ one_pickle_outside true true left k e = absurd cc
 one_pickle_outside true false left k e = absurd cc
 one_pickle_outside false stop left k e = refl
 
-pub stop_runs : {how : Detail} {many : Bool} (bytes : List ℕ) (a b : Told) (rest : List ℕ) (left k offset : ℕ) (o : Operation) (s : State) (course : Course) (n : ℕ)
+pub stop_runs : {how : Manner} {many : Bool} (bytes : List ℕ) (a b : Told) (rest : List ℕ) (left k offset : ℕ) (o : Operation) (s : State) (course : Course) (n : ℕ)
     → Moved how many bytes a b rest left k offset o s course → ends_reading many o.opcode ≡ true → n ≡ length rest
     → IsRun how many bytes a b s (record { course = course; ending = ending.Closed n closing.Stopped; offset = offset; place = k + 1 })
 stop_runs {many = many} bytes a b rest left k offset o s course n w hit same =
@@ -485,7 +486,7 @@ unfolding calls_end
 unsure_end d k last e f = ap (end_by d) e ∙ ap (end_from d last) f
 
 -- where a frame goes on behind STOP, the lines end
-pub unsure_runs : {how : Detail} {many : Bool} (bytes : List ℕ) (a b : Told) (rest : List ℕ) (left k offset : ℕ) (o : Operation) (s : State) (course : Course) (at : ℕ)
+pub unsure_runs : {how : Manner} {many : Bool} (bytes : List ℕ) (a b : Told) (rest : List ℕ) (left k offset : ℕ) (o : Operation) (s : State) (course : Course) (at : ℕ)
     → Moved how many bytes a b rest left k offset o s course → ends_reading many o.opcode ≡ false → (is_stop o.opcode && nat_lt 0 course.left) ≡ true → offset ≡ at + size_of o
     → IsRun how many bytes a b s (record { course = course; ending = ending.Unsure at; offset = offset; place = k + 1 })
 unsure_runs {many = many} bytes a b rest left k offset o s course at w miss out is =
@@ -502,7 +503,7 @@ unsure_runs {many = many} bytes a b rest left k offset o s course at w miss out 
 
 -- ---- errors
 
-pub cut_failed : {A : Type 0} (how : Detail) {many : Bool} (bytes : List ℕ) (a b : Told) (r : Result A TextStop) → IsErrAnd r (λ e. e ≡ stop.Failed) → BreaksCalls how many bytes a b → IfErr r (CutsCalls how many bytes a b)
+pub cut_failed : {A : Type 0} (how : Manner) {many : Bool} (bytes : List ℕ) (a b : Told) (r : Result A TextStop) → IsErrAnd r (λ e. e ≡ stop.Failed) → BreaksCalls how many bytes a b → IfErr r (CutsCalls how many bytes a b)
 cut_failed how bytes a b (Ok x) h w = absurd h
 cut_failed how bytes a b (Err e) h w = rw h w
 
@@ -515,7 +516,7 @@ pub record Bounds (bytes : List ℕ) (k offset : ℕ) (o : Operation) (s : State
   pub imports : course.imports ≤ k
   pub calls : course.calls ≤ k
 
-pub bounds : {how : Detail} {many : Bool} {last : Bool} (bytes : List ℕ) (a b : Told) (rest : List ℕ) (left k offset : ℕ) (o : Operation) (s : State) (course : Course)
+pub bounds : {how : Manner} {many : Bool} {last : Bool} (bytes : List ℕ) (a b : Told) (rest : List ℕ) (left k offset : ℕ) (o : Operation) (s : State) (course : Course)
     → Walked how many bytes a b rest left k offset s course last → IsNextItem left rest o (size_of o) → Bounds bytes k offset o s course
 bounds bytes a b rest left k offset o s course w n =
     let g = item_is w.d k left rest o (size_of o) w.stands n in

@@ -27,7 +27,9 @@ use Rattle.pickle_show.specs.Listing.{reached}
 use Rattle.pickle_show.specs.declared.event.Event.{Event}
 use Rattle.pickle_show.specs.Event.{before_of, event_of}
 use Rattle.pickle_show.specs.CallsLine.{line_of, imports_of, calls_of, calls_end_text, ending_status}
+use Rattle.pickle_holes.specs.Holes.{in_file}
 use Rattle.pickle_show.specs.declared.naming.Detail.{Detail}
+use Rattle.pickle_show.specs.Manner.{Manner, ending_in}
 use Rattle.pickle_show.specs.declared.naming.Naming.{Naming}
 use Rattle.pickle_show.specs.Naming.{begin, naming_after}
 
@@ -63,11 +65,11 @@ entry_on offset m (Some o) None t = no_entry
 entry_on offset m None s t = no_entry
 
 -- what item k comes to
-unfoldable pub entry_at : Detail → Contents → ℕ → CountedText
-entry_at how d k = entry_on (offset_of d k) (naming_at how d k) (item_at d k) (run (start d.many) (ops_of d) k) (run (start d.many) (ops_of d) (suc k))
+unfoldable pub entry_at : Manner → Contents → ℕ → CountedText
+entry_at how d k = entry_on (in_file how.holes (offset_of d k)) (naming_at how.detail d k) (item_at d k) (run (start d.many) (ops_of d) k) (run (start d.many) (ops_of d) (suc k))
 
 -- what the first n items come to
-unfoldable pub entries : Detail → Contents → ℕ → CountedText
+unfoldable pub entries : Manner → Contents → ℕ → CountedText
 entries how d zero = no_entry
 entries how d (suc k) =
     record {
@@ -147,11 +149,11 @@ calls_end d = end_by d (reached (start d.many) (ops_of d) (length (ops_of d)))
 -- ---- the text of a document
 
 -- what the items come to, and the last lines
-abbrev pub with_end : Contents → CountedText → Ending → Output
-with_end d e x = record { text = e.text ⧺ calls_end_text (document_bytes d) e.imports e.calls x; status = ending_status x }
+abbrev pub with_end : Manner → Contents → CountedText → Ending → Output
+with_end how d e x = record { text = e.text ⧺ calls_end_text (document_bytes d) e.imports e.calls (ending_in how.holes x); status = ending_status x }
 
-abbrev pub calls_to : Detail → Contents → CallsEnd → Output
-calls_to how d e = with_end d (entries how d e.place) e.ending
+abbrev pub calls_to : Manner → Contents → CallsEnd → Output
+calls_to how d e = with_end how d (entries how d e.place) e.ending
 
-unfoldable pub calls : Detail → Contents → Output
+unfoldable pub calls : Manner → Contents → Output
 calls how d = calls_to how d (calls_end d)

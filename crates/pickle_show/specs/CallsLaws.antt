@@ -15,7 +15,7 @@ use Rattle.pickle_ops.specs.Row.{row_of}
 use Rattle.pickle_machine.specs.State.{State, start}
 use Rattle.pickle_machine.specs.Run.{run}
 use Rattle.pickle_machine.specs.Loader.{loose_at}
-use Rattle.pickle_show.specs.declared.naming.Detail.{Detail}
+use Rattle.pickle_show.specs.Manner.{Manner}
 use Rattle.pickle_show.specs.Output.{Output}
 use Rattle.pickle_show.specs.Event.{is_view, top_of}
 use Rattle.pickle_show.specs.Calls.{calls, calls_end, entries, entry_at}
@@ -23,12 +23,12 @@ use Rattle.pickle_show.specs.Calls.{calls, calls_end, entries, entry_at}
 -- ---- one text
 
 -- the text of the document that the bytes read as, as several pickles or as one
-abbrev pub IsCallsOf : Detail → Bool → List ℕ → Output → Type 0
+abbrev pub IsCallsOf : Manner → Bool → List ℕ → Output → Type 0
 IsCallsOf how many bytes c = (d : Contents) × ReadsAs many bytes d × (c ≡ calls how d)
 
 -- in each mode a byte string has one text with one status, and no other
 abbrev pub OneText : Type 0
-OneText = (how : Detail) (many : Bool) (bytes : List ℕ) → AreBytes bytes → length bytes < 2 ^ 64
+OneText = (how : Manner) (many : Bool) (bytes : List ℕ) → AreBytes bytes → length bytes < 2 ^ 64
     → (c : Output) × IsCallsOf how many bytes c × ((e : Contents) → ReadsAs many bytes e → c ≡ calls how e)
 
 -- ---- no line, no reach
@@ -40,7 +40,7 @@ pub record IsStep (d : Contents) (k : ℕ) (s t : State) : Type 0 where
 
 -- an accepted item without a line makes no opaque object and leaves every one as it was
 abbrev pub NoLineNoReach : Type 0
-NoLineNoReach = (how : Detail) (d : Contents) (k : ℕ) (s t : State) → IsStep d k s t → (entry_at how d k).text ≡ []
+NoLineNoReach = (how : Manner) (d : Contents) (k : ℕ) (s t : State) → IsStep d k s t → (entry_at how d k).text ≡ []
     → (id : ℕ) (o : Object) → slice_get t.heap id ≡ Some o → is_opaque o.kind ≡ true → slice_get s.heap id ≡ Some o
 
 -- ---- exactly which items have a line
@@ -89,11 +89,11 @@ IsShown d k s t = Makes s t ⊎ (Changes s t ⊎ (Adds d k t ⊎ Builds d k))
 
 -- an accepted item has a line exactly where it is shown
 abbrev pub LineExactly : Type 0
-LineExactly = (how : Detail) (d : Contents) (k : ℕ) (s t : State) → IsStep d k s t → ((entry_at how d k).text ≢ [] → IsShown d k s t) × (IsShown d k s t → (entry_at how d k).text ≢ [])
+LineExactly = (how : Manner) (d : Contents) (k : ℕ) (s t : State) → IsStep d k s t → ((entry_at how d k).text ≢ [] → IsShown d k s t) × (IsShown d k s t → (entry_at how d k).text ≢ [])
 
 -- ---- the first pickle
 
 -- of several pickles the lines of the first come first, up to where those of one pickle end
 abbrev pub FirstLinesComeFirst : Type 0
-FirstLinesComeFirst = (how : Detail) (bytes : List ℕ) (d e : Contents) → length bytes < 2 ^ 64 → ReadsAs false bytes d → ReadsAs true bytes e
+FirstLinesComeFirst = (how : Manner) (bytes : List ℕ) (d e : Contents) → length bytes < 2 ^ 64 → ReadsAs false bytes d → ReadsAs true bytes e
     → (more : List ℕ) × ((entries how e (calls_end e).place).text ≡ (entries how d (calls_end d).place).text ++ more)

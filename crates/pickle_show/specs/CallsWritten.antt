@@ -4,15 +4,15 @@
 use Rattle.std.specs.Prelude.{ℕ, Bool, List}
 use Rattle.pickle_io.specs.Device.{Told}
 use Rattle.pickle_show.specs.declared.stop.TextStop.{TextStop}
-use Rattle.pickle_show.specs.declared.naming.Detail.{Detail}
+use Rattle.pickle_show.specs.Manner.{Manner}
 use Rattle.pickle_show.specs.Output.{Breaks, Begins, Cuts}
 use Rattle.pickle_show.specs.Calls.{calls}
 
-abbrev pub BreaksCalls : Detail → Bool → List ℕ → Told → Told → Type 0
+abbrev pub BreaksCalls : Manner → Bool → List ℕ → Told → Told → Type 0
 BreaksCalls how many bytes old new = Breaks (calls how) many bytes old new
 
-abbrev pub BeginsCalls : Detail → Bool → List ℕ → Told → Told → Type 0
+abbrev pub BeginsCalls : Manner → Bool → List ℕ → Told → Told → Type 0
 BeginsCalls how many bytes old new = Begins (calls how) many bytes old new
 
-abbrev pub CutsCalls : Detail → Bool → List ℕ → Told → Told → TextStop → Type 0
+abbrev pub CutsCalls : Manner → Bool → List ℕ → Told → Told → TextStop → Type 0
 CutsCalls how many bytes old new e = Cuts (calls how) many bytes old new e

@@ -4,7 +4,7 @@ use Rattle.std.specs.Prelude.{◌≡◌, ◌≢◌, ℕ, zero, suc, ◌^◌, ◌
 use Rattle.pickle_io.specs.Text.{◌⧺◌, quoted}
 use Rattle.pickle_names.specs.Value.{decode_all}
 use Rattle.pickle_doc.specs.Document.{Contents, document_bytes, AreBytes}
-use Rattle.pickle_show.specs.declared.naming.Detail.{Detail}
+use Rattle.pickle_show.specs.Manner.{Manner, ending_in}
 use Rattle.pickle_show.specs.declared.end.Ending.{Ending}
 use Rattle.pickle_show.specs.declared.end.Ending.TheVariants as ending
 use Rattle.pickle_show.specs.Column.{right_aligned, newline}
@@ -17,6 +17,7 @@ use Rattle.pickle_ops.specs.declared.kind.Kind.TheVariants as kind
 use Rattle.pickle_ops.specs.declared.row.Filling.TheVariants as filling
 use Rattle.pickle_machine.specs.State.{State}
 use Rattle.pickle_doc.specs.Place.{offset_of}
+use Rattle.pickle_holes.specs.Holes.{in_file}
 use Rattle.pickle_ops.specs.Object.{Object}
 use Rattle.pickle_show.specs.declared.event.Event.{Event}
 use Rattle.pickle_show.specs.declared.event.Event.TheVariants as event
@@ -53,7 +54,7 @@ if_any [] = []
 if_any (byte ∷ bytes) = (byte ∷ bytes) ∷ []
 
 -- those of the first n items, each of which has one or none
-abbrev pub item_lines : Detail → Contents → ℕ → List (List ℕ)
+abbrev pub item_lines : Manner → Contents → ℕ → List (List ℕ)
 item_lines how d zero = []
 item_lines how d (suc k) = item_lines how d k ++ if_any (entry_at how d k).text
 
@@ -62,13 +63,13 @@ abbrev pub ending_pieces : Ending → List (List ℕ)
 ending_pieces (ending.Closed kept c) = if_any (kept_line kept) ++ if_any (closing_line c)
 ending_pieces (ending.Unsure offset) = unsure_line offset ∷ []
 
-abbrev pub last_pieces : Detail → Contents → CallsEnd → List (List ℕ)
-last_pieces how d e = if_any (begins_text (document_bytes d)) ++ (totals_line (entries how d e.place).imports (entries how d e.place).calls ∷ ending_pieces e.ending)
+abbrev pub last_pieces : Manner → Contents → CallsEnd → List (List ℕ)
+last_pieces how d e = if_any (begins_text (document_bytes d)) ++ (totals_line (entries how d e.place).imports (entries how d e.place).calls ∷ ending_pieces (ending_in how.holes e.ending))
 
 -- cut behind its newlines, a text is the line of each item that has one, in order, and the last lines: no name and no text of a pickle makes
 -- a line of its own
 abbrev pub TextIsItsLines : Type 0
-TextIsItsLines = (how : Detail) (d : Contents) → cut_lines (calls how d).text ≡ item_lines how d (calls_end d).place ++ last_pieces how d (calls_end d)
+TextIsItsLines = (how : Manner) (d : Contents) → cut_lines (calls how d).text ≡ item_lines how d (calls_end d).place ++ last_pieces how d (calls_end d)
 
 -- ---- what a line says
 
@@ -125,7 +126,7 @@ import_said old (Some i) from name = if old then two_quoted i.from (member_of i.
 
 -- an accepted item that imports an object by names which can be read has exactly the line with these names
 abbrev pub LineOfImport : Type 0
-LineOfImport = (how : Detail) (d : Contents) (k : ℕ) (s t : State) (o : Object) (p : Pair) (from name : List ℕ) → IsStep d k s t → slice_get t.heap (length s.heap) ≡ Some o
+LineOfImport = (how : Manner) (d : Contents) (k : ℕ) (s t : State) (o : Object) (p : Pair) (from name : List ℕ) → IsStep d k s t → slice_get t.heap (length s.heap) ≡ Some o
     → names_of t.heap o ≡ Some p → IsRead p.from from → IsRead p.name name
-    → (entry_at how d k).text ≡ right_aligned 5 (decimal (offset_of d k)) ⧺ codes ": "
-    ⧺ (codes "import " ⧺ import_said (naming_at how d k).old (pair_renamed p) from name ⧺ codes " as " ⧺ id_text (length s.heap)) ⧺ newline
+    → (entry_at how d k).text ≡ right_aligned 5 (decimal (in_file how.holes (offset_of d k))) ⧺ codes ": "
+    ⧺ (codes "import " ⧺ import_said (naming_at how.detail d k).old (pair_renamed p) from name ⧺ codes " as " ⧺ id_text (length s.heap)) ⧺ newline

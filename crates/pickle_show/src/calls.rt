@@ -4,6 +4,7 @@ ghost use Rattle.std.specs.Prelude.{◌≡◌, IfOk, IfErr};
 ghost use Rattle.pickle_machine.specs.State.{start};
 ghost use Rattle.pickle_show.specs.Source.{GivesDocument};
 ghost use Rattle.pickle_show.specs.CallsWritten.{CutsCalls};
+ghost use Rattle.pickle_show.specs.Manner.{manner};
 ghost use Rattle.pickle_show.specs.Ran.{IsRun};
 
 use crate::calls_line::write_line;
@@ -14,6 +15,7 @@ use crate::naming::{Detail, leaves_frame};
 use crate::report::{Closing, closing_at, step_over};
 use crate::stop::TextStop;
 use pickle_doc::{ItemSource, NextRef, ends_reading, is_stop};
+use pickle_holes::Holes;
 use pickle_machine::{Machine, Refusal};
 use pickle_ops::{Page, Row};
 use std::alloc::Global;
@@ -25,7 +27,7 @@ pub struct Ran {
     pub course: Course,
     /// How it ended.
     pub ending: Ending,
-    /// The offset behind the last item that was run, in bytes.
+    /// The offset behind the last item that was run, in bytes, without the holes of the file.
     pub offset: u64,
     /// How many items were run.
     pub place: usize,
@@ -35,12 +37,13 @@ pub struct Ran {
 /// which has done nothing yet, runs the items; each line is written when its item was stepped, and no item, no step and no line is kept.
 /// The run ends at the end of the items, at an item that is refused, or where of several pickles STOP leaves a frame unfinished, since
 /// loaders disagree about what is behind it. The machine then stands behind the last item that was run. The source is to give a document
-/// that is not too large.
+/// that is not too large. It is what is left of a file without these holes, and the lines have the offsets of the file.
 ///
 /// `Memory` (M) where memory runs out, `Failed` where the sink fails; what was written then is a beginning of the text.
 pub fn run_items<'a, I: ItemSource<'a>, S: Page>(
     alloc: Global,
     detail: Detail,
+    holes: &Holes,
     many: bool,
     source: I,
     machine: &mut Machine,
@@ -48,8 +51,8 @@ pub fn run_items<'a, I: ItemSource<'a>, S: Page>(
 ) -> Result<Ran, TextStop>
     requires source { GivesDocument many (I.unread source) }
     requires fresh { machine.old.state ≡ start many }
-    ensures ok { IfOk result (IsRun detail many (I.unread source).rest (S.told sink.old) (S.told sink.new) machine.new.state) }
-    ensures err { IfErr result (CutsCalls detail many (I.unread source).rest (S.told sink.old) (S.told sink.new)) }
+    ensures ok { IfOk result (IsRun (manner detail holes.now) many (I.unread source).rest (S.told sink.old) (S.told sink.new) machine.new.state) }
+    ensures err { IfErr result (CutsCalls (manner detail holes.now) many (I.unread source).rest (S.told sink.old) (S.told sink.new)) }
 {
     let mut reader = source;
     let mut course = Course::new(detail);
@@ -83,7 +86,7 @@ pub fn run_items<'a, I: ItemSource<'a>, S: Page>(
                     });
                 }
                 let event = event_of(row, before, machine);
-                write_line(offset, course.naming, machine.heap(), event, sink)?;
+                write_line(holes, offset, course.naming, machine.heap(), event, sink)?;
                 course = course.over(&op, row, machine.heap(), event);
                 let at = offset;
                 offset += op.size() as u64;

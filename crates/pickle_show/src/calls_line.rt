@@ -2,6 +2,7 @@
 
 ghost use Rattle.pickle_io.specs.Text.{◌⧺◌};
 ghost use Rattle.std.specs.Prelude.{◌≡◌, drop};
+ghost use Rattle.pickle_holes.specs.Holes.{in_file};
 ghost use Rattle.pickle_names.specs.Value.{whole_text};
 ghost use Rattle.pickle_io.specs.Device.{Writes};
 ghost use Rattle.pickle_show.specs.Brief.{value_text};
@@ -16,6 +17,7 @@ use crate::name::{
 use crate::naming::Naming;
 use crate::number::write_right;
 use crate::words::{write_id, write_with_id, write_with_number, write_with_signed};
+use pickle_holes::Holes;
 use pickle_names::{Coding, write_text};
 use pickle_ops::{Failed, Filling, Kind, ObjId, Object, Page, write_all};
 
@@ -280,20 +282,21 @@ fn write_event_line<S: Page>(
     write_all(sink, b"\n")
 }
 
-/// Writes the line of a step, if it has an event.
+/// Writes the line of a step, if it has an event. The offset is that without the holes of the file, and the line has that in the file.
 #[tactic(auto, using(pickle_io::proofs::Devices::text_steps))]
 #[inline(always)]
 pub fn write_line<S: Page>(
+    holes: &Holes,
     offset: u64,
     naming: Naming,
     heap: &[Object],
     event: Option<Event>,
     sink: &mut S,
 ) -> Result<(), Failed>
-    ensures { Writes (S.told sink.old) (S.told sink.new) result (line_of offset naming heap.now event) }
+    ensures { Writes (S.told sink.old) (S.told sink.new) result (line_of (in_file holes.now offset) naming heap.now event) }
 {
     match event {
-        Some(event) => write_event_line(offset, naming, heap, event, sink),
+        Some(event) => write_event_line(holes.in_file(offset), naming, heap, event, sink),
         None => Ok(()),
     }
 }

@@ -5,6 +5,7 @@ ghost use Rattle.pickle_io.specs.Text.{◌⧺◌};
 ghost use Rattle.pickle_io.specs.Device.{Writes};
 ghost use Rattle.pickle_show.specs.Line.{kept_line};
 ghost use Rattle.pickle_show.specs.Report.{closing_line};
+ghost use Rattle.pickle_show.specs.Manner.{closing_in, ending_in};
 ghost use Rattle.pickle_show.specs.CallsLine.{totals_line, unsure_words, unsure_line, ending_lines, ending_status, calls_end_text};
 
 use crate::begins::write_begins;
@@ -12,6 +13,7 @@ use crate::course::Course;
 use crate::line::write_kept_line;
 use crate::report::{Closing, status_of, write_closing};
 use crate::stop::TextStop;
+use pickle_holes::Holes;
 use pickle_ops::{Failed, Page, write_all, write_decimal};
 
 /// How the lines of a document end.
@@ -99,20 +101,43 @@ fn write_last_lines<S: Page>(
     write_ending(ending, sink)
 }
 
+/// How a run ended, with its offset in the file that has these holes.
+pub fn closing_in(holes: &Holes, closing: Closing) -> Closing
+    ensures { result ≡ closing_in holes.now closing }
+{
+    match closing {
+        Closing::Stopped => Closing::Stopped,
+        Closing::Refused(place, refusal) => Closing::Refused(place, refusal),
+        Closing::Fault(fault, offset) => Closing::Fault(fault, holes.in_file(offset)),
+    }
+}
+
+/// How the lines end, with the offset in the file that has these holes.
+fn ending_in(holes: &Holes, ending: Ending) -> Ending
+    ensures { result ≡ ending_in holes.now ending }
+{
+    match ending {
+        Ending::Closed(kept, closing) => Ending::Closed(kept, closing_in(holes, closing)),
+        Ending::Unsure(offset) => Ending::Unsure(holes.in_file(offset)),
+    }
+}
+
 /// Writes the last lines: what the bytes begin like, if that holds pickles inside, how many imports and calls there are, how many bytes
-/// STOP left, and how the reading ended. Answers the status: 0 where nothing is said of how it ended, else 1.
+/// STOP left, and how the reading ended. The bytes are what is left of a file without these holes, and the offset is told as in the file.
+/// Answers the status: 0 where nothing is said of how it ended, else 1.
 ///
 /// `Failed` where the sink fails; a beginning of the lines was written then.
 pub fn write_end<S: Page>(
+    holes: &Holes,
     bytes: &[u8],
     course: Course,
     ending: Ending,
     sink: &mut S,
 ) -> Result<u8, TextStop>
-    ensures text { Writes (S.told sink.old) (S.told sink.new) result (calls_end_text bytes.now course.imports course.calls ending) }
+    ensures text { Writes (S.told sink.old) (S.told sink.new) result (calls_end_text bytes.now course.imports course.calls (ending_in holes.now ending)) }
     ensures status { IfOk result (λ status. status ≡ ending_status ending) }
     ensures failed { IfErr result (λ e. e ≡ TextStop.Failed) }
 {
-    write_last_lines(bytes, course, ending, sink)?;
+    write_last_lines(bytes, course, ending_in(holes, ending), sink)?;
     Ok(ending_status(ending))
 }

@@ -49,7 +49,7 @@ pub use calls_laws::{
 };
 pub use calls_line::write_line;
 pub use course::Course;
-pub use end::{Ending, write_end, write_totals};
+pub use end::{Ending, closing_in, write_end, write_totals};
 pub use event::{Before, Event, event_of};
 pub use laws::one_report;
 pub use list::{list_bytes, list_items, write_listing};

@@ -2,7 +2,10 @@
 use Rattle.std.proofs.Common.{◌≡◌, true, ℕ, ◌<◌, ◌≤◌, ◌^◌, List, [], ◌∷◌, Option, Some, None, Result, Ok, Err, refl, sym, ap, subst, ◌∙◌, arith, codes}
 use Rattle.std.specs.Prelude.{Bool, IsTrue, false, IfSome, IfErr, IsErrAnd, option_map}
 use Rattle.std.specs.Str.Parse.{IsNumeral, digits_value, without_leading_plus}
-use Rattle.clap.specs.Words.{App, Row, Text, TriesOne, first_of, kind_of, takes}
+use Rattle.std.specs.Option.{unwrap_or}
+use Rattle.clap.specs.Words.{App, Row, Text, TriesOne, all_of, first_of, kind_of, takes}
+use Rattle.pickle_holes.specs.declared.hole.Hole.{Hole}
+use Rattle.pickle_holes.specs.Text.{holes_of}
 use Rattle.clap.specs.declared.error.Error.{Error}
 use Rattle.clap.specs.declared.error.kind.ErrorKind.TheVariants as kind
 use Rattle.picklestep.specs.declared.task.Task.{Task}
@@ -11,7 +14,7 @@ use Rattle.picklestep.specs.declared.task.CallsOptions.{CallsOptions}
 use Rattle.picklestep.specs.declared.task.Usage.{Usage}
 use Rattle.picklestep.specs.declared.task.Usage.TheVariants as usage
 use Rattle.pickle_further.specs.declared.way.Pickles.{Pickles}
-use Rattle.picklestep.specs.CommandLine.{Matches, GivesReading, HasReading, HasCallsOptions, IsMemory, IsNamed, IsWindow, most_records}
+use Rattle.picklestep.specs.CommandLine.{Matches, GivesReading, HasReading, skips_of, HasCallsOptions, IsMemory, IsNamed, IsWindow, most_records}
 
 -- ---- a subcommand
 
@@ -108,6 +111,19 @@ pub reads_none : (first : Bool) (memo : Option Text) (rows : List Row) (p : Pick
 reads_none first memo rows p is is_not e out h =
     let same : h.first ≡ first = same_answer h.first first h.first_is h.all_is is is_not in
     out p (subst (λ m. GivesReading first m p) (sym e) (subst (λ b. GivesReading b (first_of (codes "memo") rows) p) same h.gives))
+
+-- ---- the bytes that are left out
+
+pub skips_are : (texts : List Text) (rows : List Row) → Some texts ≡ all_of (codes "skip") rows → skips_of rows ≡ texts
+skips_are texts rows e = sym (ap (λ (o : Option (List Text)). unwrap_or o []) e)
+
+pub no_skips : (rows : List Row) → None ≡ all_of (codes "skip") rows → skips_of rows ≡ []
+no_skips rows e = sym (ap (λ (o : Option (List Text)). unwrap_or o []) e)
+
+pub no_holes : (rows : List Row) (o : Option (List Hole)) (options : CallsOptions) → o ≡ holes_of (skips_of rows) → o ≡ None → HasCallsOptions rows options → ⊥
+no_holes rows o options e none h = let bad : ◌≡◌ {A = Option (List Hole)} None (Some options.holes) = sym none ∙ e ∙ h.holes_is in absurd cc
+
+-- ---- a task of `calls`
 
 -- the first letter of the subcommand
 letter : Matches → ℕ

@@ -1,11 +1,14 @@
 -- The command line, as clap's words say it, and the task that clap's matches of the words name.
-use Rattle.std.specs.Prelude.{◌≡◌, ◌≢◌, ◌≤◌, Bool, IsTrue, ℕ, List, Option, None, Some, IfSome, option_map, true, false, pos, codes, ⊤}
+use Rattle.std.specs.Prelude.{◌≡◌, ◌≢◌, ◌≤◌, Bool, IsTrue, ℕ, List, [], Option, None, Some, IfSome, option_map, true, false, pos, codes, ⊤}
+use Rattle.std.specs.Option.{unwrap_or}
 use Rattle.std.specs.String.{string_bytes}
 use Rattle.std.specs.Str.Parse.{IsNumeral, digits_value, without_leading_plus}
-use Rattle.clap.specs.Words.{App, Row, Rule, Text, first_of, one_of, kind_of, new_app, new_rule, with_rule, with_subcommand}
-use Rattle.clap.specs.declared.builder.action.ArgAction.TheVariants.{Set, SetTrue}
+use Rattle.clap.specs.Words.{App, Row, Rule, Text, all_of, first_of, one_of, kind_of, new_app, new_rule, with_rule, with_subcommand}
+use Rattle.clap.specs.declared.builder.action.ArgAction.TheVariants.{Append, Set, SetTrue}
 use Rattle.clap.specs.declared.builder.value_parser.ValueParser.TheVariants as parser
 use Rattle.clap.specs.declared.error.kind.ErrorKind.TheVariants as kind
+use Rattle.pickle_holes.specs.declared.hole.Hole.{Hole}
+use Rattle.pickle_holes.specs.Text.{holes_of}
 use Rattle.pickle_show.specs.declared.naming.Detail.{Detail}
 use Rattle.pickle_show.specs.declared.naming.Detail.TheVariants as detail
 use Rattle.pickle_further.specs.declared.way.Pickles.{Pickles}
@@ -42,6 +45,9 @@ first_rule = record (new_rule (codes "first")) { long = Some (codes "first"); ac
 abbrev pub memo_rule : Rule
 memo_rule = record (new_rule (codes "memo")) { long = Some (codes "memo"); value_names = 1; action = Some Set }
 
+abbrev pub skip_rule : Rule
+skip_rule = record (new_rule (codes "skip")) { long = Some (codes "skip"); value_names = 1; action = Some Append }
+
 abbrev pub full_rule : Rule
 full_rule = record (new_rule (codes "full")) { long = Some (codes "full"); action = Some SetTrue }
 
@@ -50,7 +56,7 @@ abbrev pub on_file : Text → App
 on_file name = with_rule (with_rule (new_app name) file_rule) many_rule
 
 abbrev pub calls_app : App
-calls_app = with_rule (with_rule (with_rule (on_file (codes "calls")) first_rule) memo_rule) full_rule
+calls_app = with_rule (with_rule (with_rule (with_rule (on_file (codes "calls")) first_rule) memo_rule) full_rule) skip_rule
 
 abbrev pub debug_app : App
 debug_app = with_rule (with_rule (on_file (codes "debug")) window_rule) save_rule
@@ -107,9 +113,18 @@ abbrev pub HasDetail : List Row → Detail → Type 0
 HasDetail rows detail.Full = first_of (codes "full") rows ≡ Some (codes "true")
 HasDetail rows detail.Cut = first_of (codes "full") rows ≢ Some (codes "true")
 
+-- the texts behind each `--skip`
+abbrev pub skips_of : List Row → List Text
+skips_of rows = unwrap_or (all_of (codes "skip") rows) []
+
+-- the holes of a file are what these texts are
+abbrev pub HasHoles : List Row → List Hole → Type 0
+HasHoles rows holes = holes_of (skips_of rows) ≡ Some holes
+
 pub record HasCallsOptions (rows : List Row) (options : CallsOptions) : Type 0 where
   pub pickles_is : HasReading rows options.pickles
   pub detail_is : HasDetail rows options.detail
+  pub holes_is : HasHoles rows options.holes
 
 pub record HasOptions (rows : List Row) (options : Options) : Type 0 where
   pub save_is : first_of (codes "save") rows ≡ option_map string_bytes options.save

@@ -1,6 +1,6 @@
 -- What is left at the devices of the program: its input, its output, and what a session is saved in.
 -- Source: own.
-use Rattle.std.specs.Prelude.{◌≡◌, ◌≢◌, ◌⊎◌, ℕ, Bool, List, [], Option, None, Some, IfSome, Result, Err, IsErr}
+use Rattle.std.specs.Prelude.{◌≡◌, ◌≢◌, ◌⊎◌, ℕ, List, [], Bool, true, false, Option, Result, Err, IsErr, ⊤}
 use Rattle.pickle_io.specs.Device.{Told, Wrote, Broke}
 use Rattle.pickle_io.specs.Whole.{IsWhole, StopsSo}
 use Rattle.pickle_io.specs.declared.buffered.Buffered.{Buffered}
@@ -11,10 +11,12 @@ use Rattle.pickle_script.specs.declared.stop.Stop.TheVariants as stop
 use Rattle.pickle_script.specs.declared.texts.Text.{Text}
 use Rattle.pickle_script.specs.Stop.{stop_of_read}
 use Rattle.pickle_script.specs.declared.texts.Text.TheVariants as text
-use Rattle.pickle_script.specs.Output.{AnswersText}
+use Rattle.pickle_show.specs.Manner.{manner}
+use Rattle.pickle_script.specs.Output.{AnswersText, AnswersCalls}
 use Rattle.picklestep.specs.declared.task.Task.{Task}
 use Rattle.picklestep.specs.declared.task.Task.TheVariants as task
 use Rattle.picklestep.specs.declared.task.GivenFile.{GivenFile}
+use Rattle.picklestep.specs.declared.task.CallsOptions.{CallsOptions}
 
 -- ---- a page
 
@@ -38,17 +40,21 @@ pub record WasNotRead (source source' : Option (List ℕ)) (old new : Told) (res
   pub stopped : StopsSo source source' size_limit why
   pub unwritten : new ≡ old
 
+-- what is answered of bytes
+abbrev pub Answer : Type 1
+Answer = List ℕ → Told → Told → Result ℕ Stop → Type 0
+
 -- these are all bytes of the source, this was answered of them, and it was handed on
-pub record WasAnswered (text : Text) (many : Bool) (source source' : Option (List ℕ)) (old new : Told) (result : Result ℕ Stop) : Type 0 where
+pub record WasAnswered (answering : Answer) (source source' : Option (List ℕ)) (old new : Told) (result : Result ℕ Stop) : Type 0 where
   pub bytes : List ℕ
   pub read : IsWhole source source' size_limit bytes
   pub between : Told
   pub answer : Result ℕ Stop
-  pub answers : AnswersText text many bytes (λ (t : Told). t) old between answer
+  pub answers : answering bytes old between answer
   pub handed : HandsOn between new answer result
 
-abbrev pub AnswersInput : Text → Bool → Option (List ℕ) → Option (List ℕ) → Told → Told → Result ℕ Stop → Type 0
-AnswersInput text many source source' old new result = WasNotRead source source' old new result ⊎ WasAnswered text many source source' old new result
+abbrev pub AnswersInput : Answer → Option (List ℕ) → Option (List ℕ) → Told → Told → Result ℕ Stop → Type 0
+AnswersInput answering source source' old new result = WasNotRead source source' old new result ⊎ WasAnswered answering source source' old new result
 
 -- ---- the text that a task asks for
 
@@ -59,16 +65,24 @@ input_of (task.Objects input) = input
 input_of (task.Calls input options) = input
 input_of (task.Debug input options) = input
 
+-- a text is answered, or what is imported and called by what is left of a file
+abbrev pub answering : Text → Bool → Answer
+answering text many bytes old new answer = AnswersText text many bytes (λ (t : Told). t) old new answer
+
+abbrev pub answering_calls : CallsOptions → Answer
+answering_calls options bytes old new answer = AnswersCalls (manner options.detail options.holes) options.pickles bytes (λ (t : Told). t) old new answer
+
 -- a conversation asks for no text
-abbrev pub text_of : Task → Option Text
-text_of (task.List input) = Some text.Listing
-text_of (task.Objects input) = Some text.Objects
-text_of (task.Calls input options) = Some (text.Calls options.pickles options.detail)
-text_of (task.Debug input options) = None
+abbrev pub asks_for_text : Task → Bool
+asks_for_text (task.Debug input options) = false
+asks_for_text _ = true
 
 -- the text that is asked for, in the mode that is asked for, was answered of all bytes of the source
 abbrev pub AnswersTask : Task → Option (List ℕ) → Option (List ℕ) → Told → Told → Result ℕ Stop → Type 0
-AnswersTask t source source' old new result = IfSome (text_of t) (λ text. AnswersInput text (input_of t).many source source' old new result)
+AnswersTask (task.List input) source source' old new result = AnswersInput (answering text.Listing input.many) source source' old new result
+AnswersTask (task.Objects input) source source' old new result = AnswersInput (answering text.Objects input.many) source source' old new result
+AnswersTask (task.Calls input options) source source' old new result = AnswersInput (answering_calls options) source source' old new result
+AnswersTask (task.Debug input options) source source' old new result = ⊤
 
 -- it was answered of all bytes of the file; or there was an error, and nothing was written
 abbrev pub AnswersFile : Task → Option (List ℕ) → Told → Told → Result ℕ Stop → Type 0

@@ -1,15 +1,15 @@
 //! The answer of a task: a text of all bytes of a source, written to a device through a page that holds nothing back at the end.
 
-ghost use Rattle.std.specs.Prelude.{◌≡◌, ◌≢◌, None, Err};
+ghost use Rattle.std.specs.Prelude.{◌≡◌, ◌≢◌, true, Err};
 ghost use Rattle.std.specs.String.{string_bytes};
-ghost use Rattle.picklestep.specs.Device.{AnswersInput, AnswersTask, AnswersFile, device_of, text_of as asked_text, input_of as asked_input};
+ghost use Rattle.picklestep.specs.Device.{AnswersInput, AnswersTask, AnswersFile, answering, answering_calls, asks_for_text, device_of, input_of as asked_input};
 
 use crate::files::Files;
 use crate::output::write_out;
-use crate::task::{GivenFile, Task};
+use crate::task::{CallsOptions, GivenFile, Task};
 use pickle_doc::LIMIT;
 use pickle_ops::{Buffered, Sink, Source, read_limited};
-use pickle_script::{Stop, Text, write_text};
+use pickle_script::{Stop, Text, calls_of_file, write_text};
 use std::alloc::Global;
 
 /// Reads a source whole, writes this text of its bytes, hands all of it on, and answers the status. The bytes are one pickle, or where
@@ -21,13 +21,31 @@ fn answer_text<R: Source, K: Sink + Drop>(
     source: &mut R,
     page: &mut Buffered<K>,
 ) -> Result<u8, Stop>
-    ensures answers { AnswersInput text many (R.remaining source.old) (R.remaining source.new) (⟦<Buffered<K> as Sink>⟧.told page.old) (⟦<Buffered<K> as Sink>⟧.told page.new) result }
+    ensures answers { AnswersInput (answering text many) (R.remaining source.old) (R.remaining source.new) (⟦<Buffered<K> as Sink>⟧.told page.old) (⟦<Buffered<K> as Sink>⟧.told page.new) result }
 
     // Unless the device fails the page holds nothing back, so that what it reports is what the device took.
     ensures handed { result ≢ Err Stop.Write → ⟦<Buffered<K> as Sink>⟧.held page.old ≡ 0 → ⟦<Buffered<K> as Sink>⟧.told page.new ≡ K.told (device_of page.new) }
 {
     let bytes = read_limited(alloc, source, LIMIT)?;
     let written = write_text(alloc, text, many, bytes.as_slice(), page);
+    write_out(page, written)
+}
+
+/// Reads a source whole, writes what is left of its bytes without the holes would import and call, hands all of it on, and answers the status.
+/// The stops are those of `answer_task`.
+fn answer_calls<R: Source, K: Sink + Drop>(
+    alloc: Global,
+    options: &CallsOptions,
+    source: &mut R,
+    page: &mut Buffered<K>,
+) -> Result<u8, Stop>
+    ensures answers { AnswersInput (answering_calls options.now) (R.remaining source.old) (R.remaining source.new) (⟦<Buffered<K> as Sink>⟧.told page.old) (⟦<Buffered<K> as Sink>⟧.told page.new) result }
+    ensures handed { result ≢ Err Stop.Write → ⟦<Buffered<K> as Sink>⟧.held page.old ≡ 0 → ⟦<Buffered<K> as Sink>⟧.told page.new ≡ K.told (device_of page.new) }
+{
+    let mut bytes = read_limited(alloc, source, LIMIT)?;
+    let (pickles, detail) = (options.pickles, options.detail);
+    let file = bytes.as_mut_slice();
+    let written = calls_of_file(alloc, pickles, detail, &options.holes, file, page);
     write_out(page, written)
 }
 
@@ -43,18 +61,6 @@ fn input_of(task: &Task) -> &GivenFile
     }
 }
 
-/// The text that a task asks for. A conversation asks for none.
-fn text_of(task: &Task) -> Option<Text>
-    ensures { result ≡ asked_text task.now }
-{
-    match task {
-        Task::List(_) => Some(Text::Listing),
-        Task::Objects(_) => Some(Text::Objects),
-        Task::Calls(_, options) => Some(Text::Calls(options.pickles, options.detail)),
-        Task::Debug(_, _) => None,
-    }
-}
-
 /// Reads the input of a task that is no conversation from a source whole, writes the text that the task asks for, hands all of it on,
 /// and answers the status.
 ///
@@ -66,13 +72,15 @@ fn answer_task<R: Source, K: Sink + Drop>(
     source: &mut R,
     page: &mut Buffered<K>,
 ) -> Result<u8, Stop>
-    requires { asked_text task.now ≢ None }
+    requires { asks_for_text task.now ≡ true }
     ensures answers { AnswersTask task.now (R.remaining source.old) (R.remaining source.new) (⟦<Buffered<K> as Sink>⟧.told page.old) (⟦<Buffered<K> as Sink>⟧.told page.new) result }
     ensures handed { result ≢ Err Stop.Write → ⟦<Buffered<K> as Sink>⟧.held page.old ≡ 0 → ⟦<Buffered<K> as Sink>⟧.told page.new ≡ K.told (device_of page.new) }
 {
-    match text_of(task) {
-        Some(text) => answer_text(alloc, text, input_of(task).many, source, page),
-        None => unreachable!(),
+    match task {
+        Task::List(input) => answer_text(alloc, Text::Listing, input.many, source, page),
+        Task::Objects(input) => answer_text(alloc, Text::Objects, input.many, source, page),
+        Task::Calls(_, options) => answer_calls(alloc, options, source, page),
+        Task::Debug(_, _) => unreachable!(),
     }
 }
 
@@ -83,7 +91,7 @@ pub fn answer_file<K: Sink + Drop, F: Files>(
     files: &F,
     page: &mut Buffered<K>,
 ) -> Result<u8, Stop>
-    requires { asked_text task.now ≢ None }
+    requires { asks_for_text task.now ≡ true }
     ensures answers { AnswersFile task.now (F.bytes_of files.now (string_bytes (asked_input task.now).file)) (⟦<Buffered<K> as Sink>⟧.told page.old) (⟦<Buffered<K> as Sink>⟧.told page.new) result }
     ensures handed { result ≢ Err Stop.Write → ⟦<Buffered<K> as Sink>⟧.held page.old ≡ 0 → ⟦<Buffered<K> as Sink>⟧.told page.new ≡ K.told (device_of page.new) }
 {

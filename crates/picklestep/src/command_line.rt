@@ -2,7 +2,7 @@
 
 ghost use Rattle.std.specs.Prelude.{◌≡◌, IfOk, false};
 ghost use Rattle.clap.specs.Words.{rule_of, app_of};
-ghost use Rattle.picklestep.specs.CommandLine.{file_rule, many_rule, first_rule, memo_rule, full_rule, window_rule, save_rule, on_file, calls_app, debug_app, program};
+ghost use Rattle.picklestep.specs.CommandLine.{file_rule, many_rule, first_rule, memo_rule, full_rule, skip_rule, window_rule, save_rule, on_file, calls_app, debug_app, program};
 
 use clap::{Arg, ArgAction, Command};
 use std::alloc::{AllocError, Global};
@@ -72,6 +72,18 @@ fn full_argument<'a>(alloc: Global) -> Arg<'a>
         .action(ArgAction::SetTrue)
 }
 
+/// Which bytes are left out.
+fn skip_argument<'a>(alloc: Global) -> Arg<'a>
+    ensures rule { rule_of result ≡ skip_rule }
+    ensures local { result.global ≡ false }
+{
+    Arg::new(alloc, "skip")
+        .long("skip")
+        .value_name("OFFSET:LENGTH")
+        .help("leave bytes of FILE out, as raw numbers between opcodes; offsets stay those in FILE")
+        .action(ArgAction::Append)
+}
+
 /// How many step records a conversation keeps.
 fn window_argument<'a>(alloc: Global) -> Arg<'a>
     ensures rule { rule_of result ≡ window_rule }
@@ -126,7 +138,8 @@ fn calls_command<'a>(alloc: Global) -> Result<Command<'a>, AllocError>
     )?
     .arg(first_argument(alloc))?
     .arg(memo_argument(alloc))?
-    .arg(full_argument(alloc))
+    .arg(full_argument(alloc))?
+    .arg(skip_argument(alloc))
 }
 
 /// The command that answers lines about a file.

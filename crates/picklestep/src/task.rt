@@ -3,11 +3,13 @@
 ghost use Rattle.std.specs.Prelude.{◌≡◌, ◌≤◌, IsTrue, ℕ, Option, Some, None, Ok, IfOk, IfErr, IfSome, map, option_map, true, codes};
 ghost use Rattle.std.specs.String.{string_bytes};
 ghost use Rattle.clap.specs.Words.{found_of, first_of, one_of, rows_of, subcommand_of, subcommand_rows_of, takes};
-ghost use Rattle.picklestep.specs.CommandLine.{program, most_records, GivesReading, HasReading, HasDetail, HasCallsOptions, HasOptions, IsWindow, IsNamed, IsBounded, IsMemory};
+ghost use Rattle.pickle_holes.specs.Text.{holes_of};
+ghost use Rattle.picklestep.specs.CommandLine.{program, most_records, GivesReading, HasReading, HasDetail, HasCallsOptions, skips_of, HasOptions, IsWindow, IsNamed, IsBounded, IsMemory};
 
 use crate::command_line::{MOST_RECORDS, command_line};
 use clap::error::ErrorKind;
 use clap::{ArgMatches, Error};
+use pickle_holes::{Holes, first_unfit};
 use pickle_script::{Detail, Pickles};
 use std::alloc::{AllocError, Global};
 
@@ -24,7 +26,7 @@ pub struct GivenFile {
 }
 
 /// What the program is asked to do, each with the file that it is done on.
-#[derive(Drop, Debug, PartialEq, Eq)]
+#[derive(Drop, Debug)]
 pub enum Task {
     /// List the opcodes.
     List(GivenFile),
@@ -37,12 +39,14 @@ pub enum Task {
 }
 
 /// The options of what pickles would import and call.
-#[derive(Clone, Copy, Debug, PartialEq, Eq)]
+#[derive(Drop, Debug)]
 pub struct CallsOptions {
     /// Which pickles are read.
     pub pickles: Pickles,
     /// How much of an argument is shown.
     pub detail: Detail,
+    /// The bytes of the file that are left out.
+    pub holes: Holes,
 }
 
 /// The options of a conversation.
@@ -184,17 +188,49 @@ fn detail_of(found: &ArgMatches<'_>) -> Detail
     }
 }
 
-/// The options of what pickles would import and call; no answer where they name no pickles.
-fn calls_options_of(found: &ArgMatches<'_>) -> Option<CallsOptions>
-    ensures some { IfSome result (HasCallsOptions (rows_of (found_of found.now))) }
-    ensures none { result ≡ None → (options : CallsOptions) → HasCallsOptions (rows_of (found_of found.now)) options → ⊥ }
+/// The bytes of the file that are left out; no answer where a text is no hole, or none that stands behind those before it.
+fn holes_of(alloc: Global, found: &ArgMatches<'_>) -> Result<Option<Holes>, AllocError>
+    ensures { IfOk result (λ holes. holes ≡ holes_of (skips_of (rows_of (found_of found.now)))) }
 {
-    match pickles_of(found) {
-        Some(pickles) => {
-            let detail = detail_of(found);
-            Some(CallsOptions { pickles, detail })
-        }
-        None => None,
+    match found.get_strs("skip") {
+        Some(texts) => pickle_holes::holes_of(alloc, texts),
+        None => pickle_holes::holes_of(alloc, &[]),
+    }
+}
+
+/// The options of what pickles would import and call; no answer where they name no pickles or no holes.
+fn calls_options_of(
+    alloc: Global,
+    found: &ArgMatches<'_>,
+) -> Result<Option<CallsOptions>, AllocError>
+    ensures some { IfOk result (λ r. IfSome r (HasCallsOptions (rows_of (found_of found.now)))) }
+    ensures none { result ≡ Ok None → (options : CallsOptions) → HasCallsOptions (rows_of (found_of found.now)) options → ⊥ }
+{
+    let Some(pickles) = pickles_of(found) else {
+        return Ok(None);
+    };
+    let Some(holes) = holes_of(alloc, found)? else {
+        return Ok(None);
+    };
+    let detail = detail_of(found);
+    Ok(Some(CallsOptions {
+        pickles,
+        detail,
+        holes,
+    }))
+}
+
+/// Why the matches of words that clap takes name no task: the first text that is no hole, or else the options of the reading.
+fn why_none(alloc: Global, matches: &ArgMatches<'_>) -> Result<String, AllocError> {
+    let Some((_, found)) = matches.subcommand() else {
+        return String::from_str(alloc, NO_READING);
+    };
+    let texts = found.get_strs("skip").unwrap_or_default();
+    match first_unfit(alloc, texts)? {
+        Some(text) => format!(in alloc;
+            "'{text}' is no OFFSET:LENGTH, or does not stand behind the bytes that are left out before it"
+        ),
+        None => String::from_str(alloc, NO_READING),
     }
 }
 
@@ -217,7 +253,7 @@ fn named(alloc: Global, matches: &ArgMatches<'_>) -> Result<Option<Task>, AllocE
         let file = String::from_str(alloc, file)?;
         Ok(Some(Task::Objects(GivenFile { file, many })))
     } else if name == "calls" {
-        let Some(options) = calls_options_of(found) else {
+        let Some(options) = calls_options_of(alloc, found)? else {
             return Ok(None);
         };
         let file = String::from_str(alloc, file)?;
@@ -249,6 +285,9 @@ pub fn task_of(alloc: Global, words: &[&str]) -> Result<Task, Usage>
     let matches = command.try_get_matches_from_mut(words)?;
     match named(alloc, &matches)? {
         Some(task) => Ok(task),
-        None => Err(Usage::Words(command.error(ErrorKind::InvalidValue, NO_READING)?)),
+        None => {
+            let why = why_none(alloc, &matches)?;
+            Err(Usage::Words(command.error(ErrorKind::InvalidValue, why.as_str())?))
+        }
     }
 }

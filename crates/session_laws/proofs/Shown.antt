@@ -30,7 +30,9 @@ use Rattle.pickle_show.proofs.Moves.{MarkStep, Stays, IsSet, Goes, move_marks}
 use Rattle.pickle_show.specs.declared.naming.Naming.{Naming}
 use Rattle.pickle_show.specs.Naming.{naming_after}
 use Rattle.pickle_show.specs.Event.{before_of, event_of}
+use Rattle.pickle_holes.specs.Holes.{in_file}
 use Rattle.pickle_show.specs.declared.naming.Detail.{Detail}
+use Rattle.pickle_show.specs.Manner.{Manner}
 use Rattle.pickle_show.specs.Calls.{entry_at, entry_on, naming_at, naming_on, counted_text}
 use Rattle.pickle_show.specs.Listing.{line_at, line_on, topmost_offset}
 use Rattle.pickle_show.specs.ObjectText.{objects_text}
@@ -167,11 +169,11 @@ entry_alike offset m (Some o) (Some p) (Some s) None a = refl
 entry_alike offset m (Some o) (Some p) (Some s) (Some t) a =
     ap (λ (r : Row). counted_text offset m t.heap (event_of r (before_of (fresh s)) t)) (same_row o p a)
 
-called : (how : Detail) (k i : ℕ) (d e : Contents) → i < k → e.many ≡ d.many → AgreeOps k d e → SameOffsets k d e → entry_at how e i ≡ entry_at how d i
+called : (how : Manner) (k i : ℕ) (d e : Contents) → i < k → e.many ≡ d.many → AgreeOps k d e → SameOffsets k d e → entry_at how e i ≡ entry_at how d i
 unfolding entry_at
 called how k i d e h m a offsets =
-    rw (offsets i (omega (arith, h)), same_naming how d e k i (omega (arith, h)) m a, same_state d e k i (omega (arith, h)) m a, same_state d e k (suc i) (omega (arith, h)) m a)
-    (entry_alike (offset_of d i) (naming_at how d i) (item_at d i) (item_at e i) (state_at d i) (state_at d (suc i)) (a i h))
+    rw (offsets i (omega (arith, h)), same_naming how.detail d e k i (omega (arith, h)) m a, same_state d e k i (omega (arith, h)) m a, same_state d e k (suc i) (omega (arith, h)) m a)
+    (entry_alike (in_file how.holes (offset_of d i)) (naming_at how.detail d i) (item_at d i) (item_at e i) (state_at d i) (state_at d (suc i)) (a i h))
 
 -- ---- all of it
 

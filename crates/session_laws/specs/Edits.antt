@@ -9,7 +9,7 @@ use Rattle.pickle_doc.specs.Document.{Contents}
 use Rattle.pickle_doc.specs.Place.{item_at, offset_of}
 use Rattle.pickle_machine.specs.State.{State}
 use Rattle.pickle_session.specs.Session.{state_at}
-use Rattle.pickle_show.specs.declared.naming.Detail.{Detail}
+use Rattle.pickle_show.specs.Manner.{Manner}
 use Rattle.pickle_show.specs.Calls.{entry_at}
 use Rattle.pickle_show.specs.Listing.{line_at}
 use Rattle.pickle_show.specs.ObjectText.{objects_text}
@@ -28,4 +28,4 @@ pub record ShowSame (k : ℕ) (d e : Contents) : Type 0 where
   -- `objects`, where the run has come to a place
   pub objects : (i : ℕ) → i ≤ k → objects_at e i ≡ objects_at d i
   -- `calls`: what each item comes to
-  pub called : (how : Detail) (i : ℕ) → i < k → entry_at how e i ≡ entry_at how d i
+  pub called : (how : Manner) (i : ℕ) → i < k → entry_at how e i ≡ entry_at how d i

@@ -10,5 +10,5 @@ returns-in_err-found g c = stopped _ _ _ _ _ c.from_residual-in_err-found.ensure
 
 pub returns-in-Some : goal.returns-in-Some
 returns-in-Some g c =
-    lost_puts c.args.detail c.args.way c.args.machine.now.state c.args.bytes.now (record { offset = 0; place = 0; left = 0 }) c.begin-naming.result c.in-Some.found c.in_ok-found.field-0 _ _ _ _
+    lost_puts c.args.holes.now c.args.detail c.args.way c.args.machine.now.state c.args.bytes.now (record { offset = 0; place = 0; left = 0 }) c.begin-naming.result c.in-Some.found c.in_ok-found.field-0 _ _ _ _
     c.begin-naming.ensures c.in-Some.is (c.in_ok-found.ensures.finds c.args.machine.now.state (c.in_ok-gone.ensures.ok c.begin-naming.result)) c.write_visited.ensures

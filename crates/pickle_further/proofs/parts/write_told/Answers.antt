@@ -4,7 +4,7 @@ use Rattle.pickle_further.proofs.parts.write_told.Goals as goal
 
 pub returns-in_err-write_header : goal.returns-in_err-write_header
 returns-in_err-write_header g c =
-    λ s e. stopped _ _ _ _ _ c.from_residual.ensures.1 (header_broken c.args.way s c.args.machine.now.state c.args.item _ _ e c.in_err-write_header.ensures)
+    λ s e. stopped _ _ _ _ _ c.from_residual.ensures.1 (header_broken c.args.holes.now c.args.way s c.args.machine.now.state c.args.item _ _ e c.in_err-write_header.ensures)
 
 pub returns : goal.returns
-returns g c = λ s e. tale_puts c.args.way s c.args.machine.now.state c.args.item _ _ _ _ e c.in_ok-write_header.ensures c.write_tale.ensures
+returns g c = λ s e. tale_puts c.args.holes.now c.args.way s c.args.machine.now.state c.args.item _ _ _ _ e c.in_ok-write_header.ensures c.write_tale.ensures

@@ -1,5 +1,6 @@
 use Rattle.std.proofs.Common.{arith}
 use Rattle.pickle_further.specs.declared.way.Pickles.TheVariants as pickles
+use Rattle.pickle_show.specs.Manner.{manner}
 use Rattle.pickle_further.proofs.Pieces.{no_text_yet}
 use Rattle.pickle_further.proofs.Tales.{err_is}
 use Rattle.pickle_further.proofs.Kept.{kept_cut, kept_broken, kept_done}
@@ -7,22 +8,22 @@ use Rattle.pickle_further.proofs.texts.write_kept.Goals as goal
 
 pub returns-in_err-first-clause-err : goal.returns-in_err-first-clause-err
 returns-in_err-first-clause-err g c =
-    err_is _ _ _ c.from_residual.ensures.1 (rw c.in_err-first.ensures.err (no_text_yet c.args.detail pickles.OneMemo c.args.bytes.now _ (λ i. omega (arith, c.type_inv.bytes i))))
+    err_is _ _ _ c.from_residual.ensures.1 (rw c.in_err-first.ensures.err (no_text_yet (manner c.args.detail c.args.holes.now) pickles.OneMemo c.args.bytes.now _ (λ i. omega (arith, c.type_inv.bytes i))))
 
 pub returns-in_err-end-clause-err : goal.returns-in_err-end-clause-err
 returns-in_err-end-clause-err g c =
     let first = rw c.start-machine.ensures at c.in_ok-first.ensures.ok in
     let cut = rw c.begin.ensures at c.in_err-end.ensures.err in
-    err_is _ _ _ c.from_residual-in_err-end.ensures.1 (kept_cut _ _ _ _ _ _ _ (first _) cut)
+    err_is _ _ _ c.from_residual-in_err-end.ensures.1 (kept_cut (manner c.args.detail c.args.holes.now) _ _ _ _ _ _ (first _) cut)
 
 pub returns-in_err-status-clause-err : goal.returns-in_err-status-clause-err
 returns-in_err-status-clause-err g c =
     let first = rw c.start-machine.ensures at c.in_ok-first.ensures.ok in
     let told = rw c.begin.ensures at c.in_ok-end.ensures.ok in
-    err_is _ _ _ c.from_residual-in_err-status.ensures.1 (rw c.in_err-status.ensures.failed (kept_broken _ _ _ _ _ _ _ _ (first _) told c.in_err-status.ensures.text))
+    err_is _ _ _ c.from_residual-in_err-status.ensures.1 (rw c.in_err-status.ensures.failed (kept_broken (manner c.args.detail c.args.holes.now) _ _ _ _ _ _ _ (first _) told c.in_err-status.ensures.text))
 
 pub returns-clause-ok : goal.returns-clause-ok
 returns-clause-ok g c =
     let first = rw c.start-machine.ensures at c.in_ok-first.ensures.ok in
     let told = rw c.begin.ensures at c.in_ok-end.ensures.ok in
-    kept_done _ _ _ _ _ _ _ _ _ (first _) told c.in_ok-status.ensures.text c.in_ok-status.ensures.status
+    kept_done (manner c.args.detail c.args.holes.now) _ _ _ _ _ _ _ _ (first _) told c.in_ok-status.ensures.text c.in_ok-status.ensures.status

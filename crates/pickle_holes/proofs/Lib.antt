@@ -1,0 +1,5 @@
+pub mod Gets
+pub mod Placed
+pub mod Kept
+pub mod Cutting
+pub mod Added

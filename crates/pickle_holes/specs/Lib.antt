@@ -1,0 +1,4 @@
+-- The definitions that contracts cite.
+pub mod Holes
+pub mod Laws
+pub mod Text
