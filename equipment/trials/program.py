@@ -102,7 +102,7 @@ OBJECTS = (
     is_usage("objects without a file", "objects"),
 )
 
-NO_HOLES = ("", "1", ":", "1:", ":1", "-1:1", "+1:1", "1:1:1", "1,1", "0x1:1", " 1:1", "1:9223372036854775808", "18446744073709551616:1")
+NO_HOLES = ("", "1", ":", "1:", ":1", "1:-1", "+1:1", "1:1:1", "1,1", "0x1:1", " 1:1", "1:9223372036854775808", "18446744073709551616:1")
 # A thousand opcodes NONE with three bytes behind each, between an import and its call; and where these bytes are.
 HOLED = '''printf 'NN\\377\\377\\377cm\\nn\\n' >holed.pickle; echo 2:3 >holes.txt
 for ((i = 0; i < 999; i++)); do printf 'N0\\377\\377\\377' >>holed.pickle; echo "$((i * 5 + 12)):3" >>holes.txt; done

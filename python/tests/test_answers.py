@@ -118,6 +118,25 @@ class RealPickles(unittest.TestCase):
                 for reach in answer:
                     self.check_number(reach, objects[reach.number] if reach.number is not None else None)
 
+    def test_bytes_that_are_left_out(self) -> None:
+        """Bytes are put before an opcode and left out again: only the offsets behind them are others."""
+        junk = b'\xff' * 7
+        for name, data in self.pickles.items():
+            known = known_opcodes(data)
+            at = known[len(known) // 2].offset if known else 0
+            with self.subTest(name, at=at):
+                answer = picklestep.calls(data[:at] + junk + data[at:], skip=[(at, len(junk))])
+                told = picklestep.calls(data)
+                self.assertEqual([(reach.offset, reach.text) for reach in answer],
+                                 [(reach.offset + len(junk) * (reach.offset >= at), reach.text) for reach in told])
+                self.assertEqual(answer.end.code, told.end.code)
+
+    def test_bytes_that_cannot_be_left_out(self) -> None:
+        self.assertEqual(picklestep.calls(LIST, skip=[(0, len(LIST) + 1)]).end.how, 'refused')
+        for skip in ([(2, 1), (1, 1)], [(0, 2), (1, 1)], [(0, -1)]):
+            with self.assertRaisesRegex(picklestep.ProgramError, 'is no OFFSET:LENGTH'):
+                picklestep.calls(LIST, skip=skip)
+
     def check_number(self, reach: Reach, made: Optional[Object]) -> None:
         """The object that a line ends in is of the line's kind."""
         kinds = {'import': ('global', 'stack-global', 'ext'), 'call': ('call', 'obj'), 'new': ('new', 'new-ex'), 'inst': ('inst',),

@@ -66,7 +66,10 @@ keeps_settled false true bytes t lost =
 keeps_settled false false bytes t lost = keeps_all t lost
 
 -- of what is taken
-keeps_taken : (bytes : List ℕ) (t item : Taken) → Ok (settled bytes t) ≡ Ok item → item.lost ≡ false → Keeps t item
+abbrev took : Taken → Result Taken FrontFault
+took t = Ok t
+
+keeps_taken : (bytes : List ℕ) (t item : Taken) → took (settled bytes t) ≡ Ok item → item.lost ≡ false → Keeps t item
 keeps_taken bytes t item e lost =
     let same : settled bytes t ≡ item = ok_taken (settled bytes t) item (Ok (settled bytes t)) refl e in
     subst (λ (x : Taken). Keeps t x) same (keeps_settled (is_stop t.op.opcode) (is_frame t.op.opcode) bytes t (ap (λ (x : Taken). x.lost) same ∙ lost))

@@ -155,7 +155,7 @@ bytes_are_listed w many bytes d reads small =
 -- ---- nothing else
 
 -- told is a beginning of what is told later
-told_more : (V : ℕ → Value) (many : Bool) (ops : List Operation) (n m : ℕ) → m ≤ n → (rest : List Act) × (told V many ops n ≡ told V many ops m ++ rest)
+pub told_more : (V : ℕ → Value) (many : Bool) (ops : List Operation) (n m : ℕ) → m ≤ n → (rest : List Act) × (told V many ops n ≡ told V many ops m ++ rest)
 unfolding told
 told_more V many ops zero m h = let none : 0 ≡ m = omega (arith, h) in ([], ap (told V many ops) none ∙ sym (append-nil (told V many ops m)))
 told_more V many ops (suc n) m h = elim (cases_lt m (suc n)) [
@@ -170,7 +170,7 @@ front_of w V acts s (Going u) f = ([], append-nil (told_of u.acts) ∙ f.1)
 front_of w V acts s (Ended v u) f = ([], append-nil (told_of u.acts) ∙ f.1)
 front_of w V acts s (Failed done) f = f
 
-run_before : (from : State) (ops : List Operation) (n m : ℕ) (t : State) → run from ops n ≡ Some t → m ≤ n → (s : State) × (run from ops m ≡ Some s)
+pub run_before : (from : State) (ops : List Operation) (n m : ℕ) (t : State) → run from ops n ≡ Some t → m ≤ n → (s : State) × (run from ops m ≡ Some s)
 run_before from ops zero m t e h = let none : 0 ≡ m = omega (arith, h) in (t, ap (run from ops) (sym none) ∙ e)
 run_before from ops (suc n) m t e h = elim (cases_lt m (suc n)) [
   | inl less ↦ let x = move_to from ops n t e in run_before from ops n m x.before x.reached (omega (arith, less))
@@ -219,7 +219,7 @@ over_by w many bytes n (suc j) true is h =
 
 -- ---- at the end of a document that stops
 
-status_finish : (d : Contents) (f : Finish) → closing_status (closing_of d f) ≡ 0 → f ≡ finish.Stopped
+pub status_finish : (d : Contents) (f : Finish) → closing_status (closing_of d f) ≡ 0 → f ≡ finish.Stopped
 status_finish d finish.Stopped e = refl
 status_finish d (finish.Fault f) e = absurd cc
 
@@ -270,7 +270,7 @@ one_over w d e =
     ∙ ap (goes_on false) (next_load w false (ops_of d) last.0 last.1 last.3)
     ∙ item_over w last.1 (load w false (ops_of d) last.0) last.4
 
-drop_all : (ops : List Operation) → drop (length ops) ops ≡ []
+pub drop_all : (ops : List Operation) → drop (length ops) ops ≡ []
 drop_all [] = refl
 drop_all (o ∷ ops) = drop_all ops
 
@@ -289,10 +289,10 @@ all_over w false bytes d j r stopped =
     over_by w false bytes (length (ops_of d)) j false over (λ e. absurd cc)
 
 -- status 0
-closing_none : (d : Contents) (k : ℕ) (r : Option Refusal) → r ≡ None → closing_status (closing_to d k r) ≡ 0 → closing_status (closing_of d (finish_of d)) ≡ 0
+pub closing_none : (d : Contents) (k : ℕ) (r : Option Refusal) → r ≡ None → closing_status (closing_to d k r) ≡ 0 → closing_status (closing_of d (finish_of d)) ≡ 0
 closing_none d k r none e = ap (λ (x : Option Refusal). closing_status (closing_to d k x)) (sym none) ∙ e
 
-joined : (done rest more acts all : List Act) → done ++ rest ≡ acts → all ≡ acts ++ more → done ++ (rest ++ more) ≡ all
+pub joined : (done rest more acts all : List Act) → done ++ rest ≡ acts → all ≡ acts ++ more → done ++ (rest ++ more) ≡ all
 joined done rest more acts all e f = sym (append_assoc done rest more) ∙ ap (λ (l : List Act). l ++ more) e ∙ sym f
 
 -- bytes of which no STOP leaves a frame unfinished

@@ -1,28 +1,32 @@
 -- A whole load by the unpickler in C is one by the unpickler in Python.
-use Rattle.std.proofs.Common.{◌≡◌, ℕ, zero, suc, Bool, true, false, List, ◌++◌, drop, Ok, Err, refl, sym, ap, subst}
+use Rattle.std.proofs.Common.{◌≡◌, ℕ, zero, suc, ◌^◌, ◌<◌, Bool, true, false, List, ◌++◌, length, drop, Ok, Err, refl, sym, ap, subst}
 use Rattle.std.specs.Prelude.{◌||◌, if◌then◌else◌, Result, ⊤}
 use Rattle.pickle_ops.specs.declared.opcode.Opcode.{Opcode}
 use Rattle.pickle_ops.specs.declared.opcode.Opcode.TheVariants as op
 use Rattle.pickle_ops.specs.declared.row.Row.{Row}
 use Rattle.pickle_ops.specs.declared.row.Row.TheVariants as row
 use Rattle.pickle_ops.specs.declared.fault.FrontFault.{FrontFault}
+use Rattle.pickle_doc.specs.Document.{document_bytes}
+use Rattle.pickle_doc.specs.Place.{ops_of}
 use Rattle.pickle_lenient.specs.declared.taken.Taken.{Taken}
 use Rattle.pickle_lenient.specs.Stream.{taken}
 use Rattle.pickle_show.specs.declared.naming.Detail.TheVariants as detail
 use Rattle.pickle_further.specs.declared.way.Pickles.{Pickles}
 use Rattle.pickle_further.specs.declared.way.Pickles.TheVariants as pickles
 use Rattle.pickle_further.specs.declared.way.Way.{Way}
-use Rattle.pickle_further.specs.Parts.{standing_first}
+use Rattle.pickle_further.specs.Parts.{ignoring, standing_first}
 use Rattle.pickle_loader.specs.Environment.{Act, World}
 use Rattle.pickle_loader.specs.Unpickler.{Step, Raised}
 use Rattle.pickle_loader.specs.Dispatch.{Loaded, loaded, acts_of}
-use Rattle.pickle_loader.specs.Told.{told_of}
+use Rattle.pickle_loader.specs.Told.{told_of, told}
 use Rattle.pickle_loader.specs.Onward as onward
 use Rattle.pickle_loader.specs.Onward.{Onward, reads_on, load_more, load_read, load_on, load_way, acts_before}
 use Rattle.pickle_loader.specs.CUnpickler.{CUnpickler, CStep, CRan, CStopped, CRaised, seen}
-use Rattle.pickle_loader.specs.CLoad.{load_keyed, dispatch_as, c_load_taken, CLoaded, CGoing, CEnded, CFailed, c_loaded, seen_loaded, COnward, c_again, c_load_more, c_load_read, c_load_on, c_load_way, asked, raises, as_in_c, seen_onward, OneLoad, NothingBeyondInC}
+use Rattle.pickle_loader.specs.CLoad.{load_keyed, dispatch_as, c_load_taken, CLoaded, CGoing, CEnded, CFailed, c_loaded, seen_loaded, COnward, c_again, c_load_more, c_load_read, c_load_on, c_load_way, asked, raises, as_in_c, seen_onward, OneLoad, NothingBeyondInC, NothingElseInC}
 use Rattle.pickle_loader.proofs.CSteps.{Fenced, Same, same_is, dispatched, gets_key, puts_key}
 use Rattle.pickle_loader.proofs.Ways.{nothing_beyond}
+use Rattle.pickle_loader.proofs.Bytes.{joined}
+use Rattle.pickle_loader.proofs.Ends.{through, read_is_told}
 
 -- ---- an item
 
@@ -110,4 +114,18 @@ nothing_beyond_in_c w way bytes =
     let all = nothing_beyond (as_in_c w) way bytes in (
       all.0,
       λ n. subst (λ (x : Onward). (rest : List Act) × (told_of (acts_of x.now) ++ rest ≡ acts_before all.0 way (standing_first detail.Cut way.pickles bytes) n)) (sym (one_load w way bytes n)) (all.1 n),
+    )
+
+pub nothing_else_in_c : NothingElseInC
+nothing_else_in_c how w p bytes d anew reads small status =
+    let all = nothing_beyond_in_c w (ignoring p) bytes in
+    let less : length (document_bytes d) < 2 ^ 64 = subst (λ (l : List ℕ). length l < 2 ^ 64) (sym reads.whole) small in (
+      all.0,
+      λ n.
+          let lines = subst (λ (l : List ℕ). (rest : List Act) × (acts_before all.0 (ignoring p) (standing_first detail.Cut p l) n ++ rest ≡ told all.0 d.many (ops_of d) (length (ops_of d)))) reads.whole
+          (read_is_told all.0 p d reads.document.formed less anew reads.mode (through how d status) n) in
+          let front = all.1 n in (
+            front.0 ++ lines.0,
+            joined (told_of (acts_of (seen_loaded (c_load_way w (ignoring p) bytes n).now))) front.0 lines.0 (acts_before all.0 (ignoring p) (standing_first detail.Cut p bytes) n) (told all.0 d.many (ops_of d) (length (ops_of d))) front.1 (sym lines.1),
+          ),
     )

@@ -25,9 +25,10 @@ pub mod Items
 pub mod Leads
 pub mod Onwards
 pub mod Ways
+pub mod Readings
+pub mod Ends
 pub mod CSteps
 pub mod CLoads
-pub mod Readings
 pub mod Buffers
 pub mod Losses
 pub mod Unframing

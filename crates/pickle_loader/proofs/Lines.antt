@@ -67,9 +67,13 @@ closed_zero : (b : Bool) (n : ℕ) → cond b n 1 ≡ 0 → n ≡ 0
 closed_zero true n e = e
 closed_zero false n e = absurd cc
 
+closed_kept : (b : Bool) (n : ℕ) → cond b n 1 ≡ 0 → b ≡ true
+closed_kept true n e = refl
+closed_kept false n e = absurd cc
+
 -- status 0: no STOP leaves a frame unfinished, and the reading ends well
 zero_by : (d : Contents) (k : ℕ) (s : State) (x : Option ℕ) → first_inside d k ≡ x → run (start d.many) (ops_of d) k ≡ Some s → ending_status (end_by d k).ending ≡ 0
-    → (x ≡ None) × (closing_status (closing_to d k (refused_on (item_at d k) s)) ≡ 0)
+    → (x ≡ None) × (closing_status (closing_to d k (refused_on (item_at d k) s)) ≡ 0) × ((kept_by d (closing_to d k (refused_on (item_at d k) s)) == 0) ≡ true)
 zero_by d k s (Some j) is here e =
     let one : 1 ≡ 0 = sym (ap (λ (x : Option ℕ). ending_status (end_from d k x).ending) is) ∙ e in
     absurd (omega (arith, one))
@@ -77,10 +81,10 @@ zero_by d k s None is here e =
     let c : Closing = closing_to d k (refused_on (item_at d k) s) in
     let closes : ending_status (end_by d k).ending ≡ cond (kept_by d c == 0) (closing_status c) 1 =
     ap (λ (x : Option ℕ). ending_status (end_from d k x).ending) is ∙ ap (λ (y : Option State). ending_status (end_to d k y).ending) here in
-    (refl, closed_zero (kept_by d c == 0) (closing_status c) (sym closes ∙ e))
+    (refl, closed_zero (kept_by d c == 0) (closing_status c) (sym closes ∙ e), closed_kept (kept_by d c == 0) (closing_status c) (sym closes ∙ e))
 
 pub zero_end : (how : Manner) (d : Contents) (k : ℕ) (s : State) → reached (start d.many) (ops_of d) (length (ops_of d)) ≡ k → run (start d.many) (ops_of d) k ≡ Some s → (calls how d).status ≡ 0
-    → (first_inside d k ≡ None) × (closing_status (closing_to d k (refused_on (item_at d k) s)) ≡ 0)
+    → (first_inside d k ≡ None) × (closing_status (closing_to d k (refused_on (item_at d k) s)) ≡ 0) × ((kept_by d (closing_to d k (refused_on (item_at d k) s)) == 0) ≡ true)
 unfolding calls calls_end
 zero_end how d k s e here nought =
     let z : ending_status (end_by d k).ending ≡ 0 = sym (ap (λ (n : ℕ). ending_status (end_by d n).ending) e) ∙ nought in

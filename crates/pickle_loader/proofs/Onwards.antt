@@ -202,7 +202,7 @@ once o r s is e = go o.opcode e r (stop_row o r is e)
     go op.Stop e _ f = absurd cc
     go _ e y f = absurd cc
 
-zero_length : (xs : List ℕ) → (length xs == 0) ≡ true → xs ≡ []
+pub zero_length : (xs : List ℕ) → (length xs == 0) ≡ true → xs ≡ []
 zero_length [] e = refl
 zero_length (x ∷ xs) e = let none : length (x ∷ xs) ≡ 0 = zero_only (length (x ∷ xs)) e in absurd (omega (arith, none))
 

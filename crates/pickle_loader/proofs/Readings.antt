@@ -56,7 +56,7 @@ use Rattle.pickle_loader.proofs.Cuts.{drop_zero, drop_none, by_last}
 -- ---- bytes behind items
 
 -- what is left behind the first j items
-rest_is : (items : List Item) (tail : List ℕ) (j : ℕ) → drop (sizes (take j items)) (bytes_of (operations items) ++ tail) ≡ bytes_of (drop j (operations items)) ++ tail
+pub rest_is : (items : List Item) (tail : List ℕ) (j : ℕ) → drop (sizes (take j items)) (bytes_of (operations items) ++ tail) ≡ bytes_of (drop j (operations items)) ++ tail
 rest_is [] tail zero = drop_zero tail
 rest_is [] tail (suc j) = drop_zero tail
 rest_is (i ∷ items) tail zero = drop_zero (bytes_of (operations (i ∷ items)) ++ tail)
@@ -166,10 +166,10 @@ going_item p q o t none reads one moves =
 -- ---- along the items
 
 -- where both stand
-record Beside (V : ℕ → Value) (p : Pickles) (d : Contents) (k : ℕ) (s : State) (q : Standing) : Type 0 where
-  stands_there : q ≡ standing_at detail.Cut d k s
-  acts : acts_before V (ignoring p) (standing_first detail.Cut p (document_bytes d)) k ≡ told V d.many (ops_of d) k
-  proto : protocol (ignoring p) (standing_first detail.Cut p (document_bytes d)) k ≡ protocol_at (ops_of d) k
+pub record Beside (V : ℕ → Value) (p : Pickles) (d : Contents) (k : ℕ) (s : State) (q : Standing) : Type 0 where
+  pub stands_there : q ≡ standing_at detail.Cut d k s
+  pub acts : acts_before V (ignoring p) (standing_first detail.Cut p (document_bytes d)) k ≡ told V d.many (ops_of d) k
+  pub proto : protocol (ignoring p) (standing_first detail.Cut p (document_bytes d)) k ≡ protocol_at (ops_of d) k
 
 stands_zero : (p : Pickles) (bytes : List ℕ) (q : Standing) → stands (ignoring p) (standing_first detail.Cut p bytes) 0 ≡ Some q → standing_first detail.Cut p bytes ≡ q
 unfolding stands
@@ -250,29 +250,41 @@ item_acts V p proto q o t anew moves =
     ∙ ap (λ (e : Option Event). acts_told V proto (fresh q.state) t e) (event_fresh m o q.at.place q.state t (sym (moved_on_fresh m o q.at.place q.state) ∙ moved))
     ∙ ap (λ (e : Option Event). acts_told V proto (fresh q.state) t e) (event_less (row_of o) (fresh q.state) (before_of (fresh q.state)) t)
 
-accepted_move : (o : Operation) (k : ℕ) (s t : State) → refusal_at o s ≡ None → next o k s ≡ t → move o k s ≡ Ok t
+pub accepted_move : (o : Operation) (k : ℕ) (s t : State) → refusal_at o s ≡ None → next o k s ≡ t → move o k s ≡ Ok t
 accepted_move o k s t none leads = ap (λ (x : Option Refusal). outcome x (next o k s)) none ∙ ap Ok leads
 
-beside_next : (V : ℕ → Value) (p : Pickles) (d : Contents) (k : ℕ) (s t : State) (o : Operation) (q r : Standing) → IsFormed d → length (document_bytes d) < 2 ^ 64 → begins_anew p ≡ true → item_at d k ≡ Some o
-    → run (start d.many) (ops_of d) k ≡ Some s → run (start d.many) (ops_of d) (suc k) ≡ Some t → move o k s ≡ Ok t
-    → stands (ignoring p) (standing_first detail.Cut p (document_bytes d)) k ≡ Some q → stands_after q (going (ignoring p) q) ≡ r → Beside V p d k s q → Beside V p d (suc k) t r
-unfolding acts_before protocol
-beside_next V p d k s t o q r formed small anew there from to moves stood leads beside =
+-- what is told up to behind an item
+pub acts_next : (V : ℕ → Value) (p : Pickles) (d : Contents) (k : ℕ) (s t : State) (o : Operation) (q : Standing) → IsFormed d → length (document_bytes d) < 2 ^ 64 → begins_anew p ≡ true → item_at d k ≡ Some o
+    → run (start d.many) (ops_of d) k ≡ Some s → run (start d.many) (ops_of d) (suc k) ≡ Some t → move o k s ≡ Ok t → stands (ignoring p) (standing_first detail.Cut p (document_bytes d)) k ≡ Some q → Beside V p d k s q
+    → acts_before V (ignoring p) (standing_first detail.Cut p (document_bytes d)) (suc k) ≡ told V d.many (ops_of d) (suc k)
+unfolding acts_before
+acts_next V p d k s t o q formed small anew there from to moves stood beside =
     let first : Standing = standing_first detail.Cut p (document_bytes d) in
     let at : Standing = standing_at detail.Cut d k s in
     let taken_move = loaders_take_moves o k s t moves in
     let both = going_item p at o t refl (reads_item d k o formed small there) taken_move.one taken_move.next in
     let g : Gone = gone_to (ignoring p) at (item_taken o) (one_move (asks_less (row_of o) (fresh s))) (Ok t) in
     let here : stands (ignoring p) first k ≡ Some at = stood ∙ ap Some beside.stands_there in
+    ap (λ (x : Option Standing). acts_before V (ignoring p) first k ++ acts_on V (ignoring p) (protocol (ignoring p) first k) x) here
+    ∙ ap (λ (x : Gone). acts_before V (ignoring p) first k ++ acts_gone V (protocol (ignoring p) first k) at x) both.1
+    ∙ ap (λ (n : ℕ). acts_before V (ignoring p) first k ++ acts_gone V n at g) beside.proto
+    ∙ ap (λ (l : List Act). l ++ acts_gone V (protocol_at (ops_of d) k) at g) beside.acts
+    ∙ ap (λ (l : List Act). told V d.many (ops_of d) k ++ l) (item_acts V p (protocol_at (ops_of d) k) at o t anew taken_move.next)
+    ∙ sym (next_told V d.many (ops_of d) k o s t there from to)
+
+beside_next : (V : ℕ → Value) (p : Pickles) (d : Contents) (k : ℕ) (s t : State) (o : Operation) (q r : Standing) → IsFormed d → length (document_bytes d) < 2 ^ 64 → begins_anew p ≡ true → item_at d k ≡ Some o
+    → run (start d.many) (ops_of d) k ≡ Some s → run (start d.many) (ops_of d) (suc k) ≡ Some t → move o k s ≡ Ok t
+    → stands (ignoring p) (standing_first detail.Cut p (document_bytes d)) k ≡ Some q → stands_after q (going (ignoring p) q) ≡ r → Beside V p d k s q → Beside V p d (suc k) t r
+unfolding protocol
+beside_next V p d k s t o q r formed small anew there from to moves stood leads beside =
+    let first : Standing = standing_first detail.Cut p (document_bytes d) in
+    let at : Standing = standing_at detail.Cut d k s in
+    let taken_move = loaders_take_moves o k s t moves in
+    let both = going_item p at o t refl (reads_item d k o formed small there) taken_move.one taken_move.next in
+    let here : stands (ignoring p) first k ≡ Some at = stood ∙ ap Some beside.stands_there in
     record {
       stands_there = sym leads ∙ ap (λ (x : Standing). stands_after x (going (ignoring p) x)) beside.stands_there ∙ ap (stands_after at) both.1 ∙ next_stands p d k s t o anew there to;
-      acts =
-          ap (λ (x : Option Standing). acts_before V (ignoring p) first k ++ acts_on V (ignoring p) (protocol (ignoring p) first k) x) here
-          ∙ ap (λ (x : Gone). acts_before V (ignoring p) first k ++ acts_gone V (protocol (ignoring p) first k) at x) both.1
-          ∙ ap (λ (n : ℕ). acts_before V (ignoring p) first k ++ acts_gone V n at g) beside.proto
-          ∙ ap (λ (l : List Act). l ++ acts_gone V (protocol_at (ops_of d) k) at g) beside.acts
-          ∙ ap (λ (l : List Act). told V d.many (ops_of d) k ++ l) (item_acts V p (protocol_at (ops_of d) k) at o t anew taken_move.next)
-          ∙ sym (next_told V d.many (ops_of d) k o s t there from to);
+      acts = acts_next V p d k s t o q formed small anew there from to moves stood beside;
       proto =
           ap (λ (x : Option Standing). protocol_on (ignoring p) x (protocol (ignoring p) first k)) here
           ∙ ap (λ (x : Result Taken FrontFault). protocol_read x (protocol (ignoring p) first k)) both.0
@@ -280,7 +292,7 @@ beside_next V p d k s t o q r formed small anew there from to moves stood leads 
           ∙ sym (next_protocol (ops_of d) k o there);
     }
 
-beside_all : (V : ℕ → Value) (p : Pickles) (d : Contents) → IsFormed d → length (document_bytes d) < 2 ^ 64 → begins_anew p ≡ true → d.many ≡ are_many p
+pub beside_all : (V : ℕ → Value) (p : Pickles) (d : Contents) → IsFormed d → length (document_bytes d) < 2 ^ 64 → begins_anew p ≡ true → d.many ≡ are_many p
     → (k : ℕ) (s : State) (q : Standing) → run (start d.many) (ops_of d) k ≡ Some s → stands (ignoring p) (standing_first detail.Cut p (document_bytes d)) k ≡ Some q → Beside V p d k s q
 beside_all V p d formed small anew mode zero s q e stood = beside_first V p d s q mode (run_zero (start d.many) (ops_of d) s e) (stands_zero p (document_bytes d) q stood)
 beside_all V p d formed small anew mode (suc k) t r e stood =

@@ -1,7 +1,7 @@
 -- A whole load by the unpickler in C, that it is one by the unpickler in Python but for what is named here, and that the lines tell it.
 -- Source: Modules/_pickle.c, `load` (CPython 3.11). What it reads at the front of bytes, frames ignored or kept in a buffer, `taken` says, with
 -- its sources.
-use Rattle.std.specs.Prelude.{◌≡◌, ℕ, zero, suc, pos, int_lt, ◌||◌, Bool, true, false, List, [], ◌++◌, drop, if◌then◌else◌, Result, Ok, Err}
+use Rattle.std.specs.Prelude.{◌≡◌, ℕ, zero, suc, ◌^◌, ◌<◌, pos, int_lt, ◌||◌, Bool, true, false, List, [], ◌++◌, length, drop, if◌then◌else◌, Result, Ok, Err}
 use Rattle.pickle_ops.specs.declared.opcode.Opcode.{Opcode}
 use Rattle.pickle_ops.specs.declared.opcode.Opcode.TheVariants as op
 use Rattle.pickle_ops.specs.declared.form.Form.TheVariants as form
@@ -9,18 +9,22 @@ use Rattle.pickle_ops.specs.declared.row.Row.{Row}
 use Rattle.pickle_ops.specs.declared.row.Row.TheVariants as row
 use Rattle.pickle_ops.specs.declared.fault.FrontFault.{FrontFault}
 use Rattle.pickle_ops.specs.Argument.{integer_of}
+use Rattle.pickle_doc.specs.Document.{Contents, ReadsAs}
+use Rattle.pickle_doc.specs.Place.{ops_of}
 use Rattle.pickle_lenient.specs.declared.taken.Taken.{Taken}
 use Rattle.pickle_lenient.specs.Stream.{taken}
+use Rattle.pickle_show.specs.Manner.{Manner}
 use Rattle.pickle_show.specs.declared.naming.Detail.TheVariants as detail
+use Rattle.pickle_show.specs.Calls.{calls}
 use Rattle.pickle_further.specs.declared.way.Pickles.{Pickles}
 use Rattle.pickle_further.specs.declared.way.Pickles.TheVariants as pickles
 use Rattle.pickle_further.specs.declared.way.Way.{Way}
-use Rattle.pickle_further.specs.Parts.{standing_first}
+use Rattle.pickle_further.specs.Parts.{ignoring, are_many, standing_first}
 use Rattle.pickle_loader.specs.Environment.{Value, is_elsewhere, Act, Unpickler, World}
 use Rattle.pickle_loader.specs.Unpickler.{Step, Ran, Raised, item, pop, pop_mark}
 use Rattle.pickle_loader.specs.Dispatch.{Loaded, Going, Ended, Failed, acts_of}
-use Rattle.pickle_loader.specs.Told.{told_of}
-use Rattle.pickle_loader.specs.Onward.{Onward, reads_on, load_way, acts_before}
+use Rattle.pickle_loader.specs.Told.{told_of, told}
+use Rattle.pickle_loader.specs.Onward.{Onward, reads_on, load_way, acts_before, begins_anew}
 use Rattle.pickle_loader.specs.CUnpickler.{CUnpickler, CStep, CRan, CStopped, CRaised, are_call, are_call_with, are_pairs, load_frame, load_get, load_put, dispatch, seen}
 
 -- ---- an item
@@ -131,3 +135,9 @@ OneLoad = (w : World) (way : Way) (bytes : List ℕ) (n : ℕ) → seen_onward (
 abbrev pub NothingBeyondInC : Type 0
 NothingBeyondInC = (w : World) (way : Way) (bytes : List ℕ)
     → (V : ℕ → Value) × ((n : ℕ) → (rest : List Act) × (told_of (acts_of (seen_loaded (c_load_way w way bytes n).now)) ++ rest ≡ acts_before V way (standing_first detail.Cut way.pickles bytes) n))
+
+-- where the lines of one pickle or of several end with status 0, it is a beginning of what they tell: of bytes that are there whole, from which
+-- frames are ignored
+abbrev pub NothingElseInC : Type 0
+NothingElseInC = (how : Manner) (w : World) (p : Pickles) (bytes : List ℕ) (d : Contents) → begins_anew p ≡ true → ReadsAs (are_many p) bytes d → length bytes < 2 ^ 64 → (calls how d).status ≡ 0
+    → (V : ℕ → Value) × ((n : ℕ) → (rest : List Act) × (told_of (acts_of (seen_loaded (c_load_way w (ignoring p) bytes n).now)) ++ rest ≡ told V d.many (ops_of d) (length (ops_of d))))

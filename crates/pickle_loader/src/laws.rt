@@ -6,7 +6,7 @@ ghost use Rattle.pickle_loader.specs.FlatStack.{OneStack};
 ghost use Rattle.pickle_loader.specs.Beyond.{WideMovesAreFollowed, WhatIsMissingRaises, FillsAreFollowed, AStepBeyond};
 ghost use Rattle.pickle_loader.specs.Onward.{NothingBeyond, LinesAreRead, BufferedIsRead, LossIsFound};
 ghost use Rattle.pickle_loader.specs.Bytes.{BytesAreListed, NothingElse};
-ghost use Rattle.pickle_loader.specs.CLoad.{OneLoad, NothingBeyondInC};
+ghost use Rattle.pickle_loader.specs.CLoad.{OneLoad, NothingBeyondInC, NothingElseInC};
 
 /// What the unpickler does in any environment is what the lines tell, as far as it does not raise.
 pub fn loads_are_listed()
@@ -52,6 +52,11 @@ pub fn one_load()
 /// Whatever the unpickler in C does is a beginning of what the lines tell, behind an end too.
 pub fn nothing_beyond_in_c()
     ensures { NothingBeyondInC }
+{}
+
+/// Where the reading ends with status 0, the unpickler in C does nothing else, however long it runs, frames ignored.
+pub fn nothing_else_in_c()
+    ensures { NothingElseInC }
 {}
 
 /// An accepted item without a line makes the unpickler do nothing that is told.

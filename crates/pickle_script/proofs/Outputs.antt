@@ -1,5 +1,6 @@
 -- What is answered where there are too many bytes.
-use Rattle.std.proofs.Common.{◌≡◌, ℕ, ◌<◌, Bool, List, true, false, length, Some, Err, refl}
+use Rattle.std.proofs.Common.{◌≡◌, ℕ, ◌<◌, Bool, List, true, false, length, Some, Ok, Err, refl}
+use Rattle.std.specs.Prelude.{Result, IfErr, IsErrAnd}
 use Rattle.pickle_io.specs.Device.{Told, Wrote, Broke}
 use Rattle.pickle_io.proofs.Devices.{WroteAllBut-none}
 use Rattle.pickle_doc.specs.Document.{Contents, AreBytes, size_limit}
@@ -12,6 +13,7 @@ use Rattle.pickle_further.specs.CallsText.{document_calls, kept_calls}
 use Rattle.pickle_further.specs.CallsText as further
 use Rattle.pickle_show.specs.Manner.{Manner, whole}
 use Rattle.pickle_show.specs.declared.stop.TextStop.TheVariants as cut
+use Rattle.pickle_script.specs.declared.stop.Stop.{Stop}
 use Rattle.pickle_script.specs.declared.stop.Stop.TheVariants as stop
 use Rattle.pickle_script.specs.declared.texts.Text.{Text}
 use Rattle.pickle_script.specs.declared.texts.Text.TheVariants as text
@@ -54,7 +56,11 @@ refused_large told t many bytes sink small large = record {
 
 -- ---- of a file with holes
 
-outside : Hole → List ℕ → Output
+pub stopped_so : {A : Type 0} (P : Stop → Type 0) (x : Stop) (r : Result A Stop) → IsErrAnd r (λ e. e ≡ x) → P x → IfErr r P
+stopped_so P x (Ok y) h w = absurd h
+stopped_so P x (Err e) h w = rw h w
+
+abbrev outside : Hole → List ℕ → Output
 outside h bytes = record { text = outside_line h (length bytes); status = 1 }
 
 outside_is : (how : Manner) (p : Pickles) (bytes : List ℕ) (h : Hole) → first_outside (length bytes) how.holes ≡ Some h → IsCallsOfFile how p bytes (outside h bytes)
