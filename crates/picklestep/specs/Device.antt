@@ -40,21 +40,17 @@ pub record WasNotRead (source source' : Option (List ℕ)) (old new : Told) (res
   pub stopped : StopsSo source source' size_limit why
   pub unwritten : new ≡ old
 
--- what is answered of bytes
-abbrev pub Answer : Type 1
-Answer = List ℕ → Told → Told → Result ℕ Stop → Type 0
-
--- these are all bytes of the source, this was answered of them, and it was handed on
-pub record WasAnswered (answering : Answer) (source source' : Option (List ℕ)) (old new : Told) (result : Result ℕ Stop) : Type 0 where
+-- these are all bytes of the source, this was answered of them, and it was handed on; `says` is what is answered of bytes
+pub record WasAnswered (says : List ℕ → Told → Told → Result ℕ Stop → Type 0) (source source' : Option (List ℕ)) (old new : Told) (result : Result ℕ Stop) : Type 0 where
   pub bytes : List ℕ
   pub read : IsWhole source source' size_limit bytes
   pub between : Told
   pub answer : Result ℕ Stop
-  pub answers : answering bytes old between answer
+  pub answers : says bytes old between answer
   pub handed : HandsOn between new answer result
 
-abbrev pub AnswersInput : Answer → Option (List ℕ) → Option (List ℕ) → Told → Told → Result ℕ Stop → Type 0
-AnswersInput answering source source' old new result = WasNotRead source source' old new result ⊎ WasAnswered answering source source' old new result
+abbrev pub AnswersInput : (List ℕ → Told → Told → Result ℕ Stop → Type 0) → Option (List ℕ) → Option (List ℕ) → Told → Told → Result ℕ Stop → Type 0
+AnswersInput says source source' old new result = WasNotRead source source' old new result ⊎ WasAnswered says source source' old new result
 
 -- ---- the text that a task asks for
 
@@ -66,10 +62,10 @@ input_of (task.Calls input options) = input
 input_of (task.Debug input options) = input
 
 -- a text is answered, or what is imported and called by what is left of a file
-abbrev pub answering : Text → Bool → Answer
+abbrev pub answering : Text → Bool → List ℕ → Told → Told → Result ℕ Stop → Type 0
 answering text many bytes old new answer = AnswersText text many bytes (λ (t : Told). t) old new answer
 
-abbrev pub answering_calls : CallsOptions → Answer
+abbrev pub answering_calls : CallsOptions → List ℕ → Told → Told → Result ℕ Stop → Type 0
 answering_calls options bytes old new answer = AnswersCalls (manner options.detail options.holes) options.pickles bytes (λ (t : Told). t) old new answer
 
 -- a conversation asks for no text
