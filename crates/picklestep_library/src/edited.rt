@@ -2,14 +2,16 @@
 
 ghost use Rattle.std.specs.Prelude.{[], IfOk};
 ghost use Rattle.pickle_doc.specs.Document.{document_bytes};
+ghost use Rattle.pickle_show.specs.declared.naming.Detail.TheVariants as detail;
 ghost use Rattle.pickle_script.specs.Output.{CompletesText};
+ghost use Rattle.pickle_script.specs.declared.texts.Text.TheVariants as asked;
 ghost use Rattle.picklestep_library.specs.Answer.{took, IsTextAfter, Fills};
 
 use crate::fill::{Written, number_of, put};
 use crate::talk::{answers_to, open};
 use pickle_doc::LIMIT;
 use pickle_io::{Buffered, Sink, ToWrite};
-use pickle_script::{Stop, Text, write_session_text};
+use pickle_script::{Detail, Pickles, Stop, Text, write_session_text};
 use pickle_session::{Past, Session};
 use std::alloc::Global;
 
@@ -58,4 +60,20 @@ pub fn fill_after(
         // (all else is that memory ran out)
         Err(_) => number_of(Stop::Memory),
     }
+}
+
+/// The same of what is imported and called, in a reading.
+pub fn fill_calls(
+    alloc: Global,
+    pickles: Pickles,
+    many: bool,
+    bytes: &[u8],
+    script: &[u8],
+    out: &mut [u8],
+    written: &mut Written,
+) -> u8
+    ensures { Fills (IsTextAfter (asked.Calls pickles detail.Cut) many bytes.now script.now) bytes.now out.old out.new written.new result }
+{
+    let text = Text::Calls(pickles, Detail::Cut);
+    fill_after(alloc, text, many, bytes, script, out, written)
 }

@@ -166,15 +166,7 @@ pub extern "C" fn picklestep_edited_calls(
 ) -> u8
     ensures { Fills (IsTextAfter (asked.Calls pickles.All detail.Cut) many bytes.now script.now) bytes.now out.old out.new written.new result }
 {
-    edited::fill_after(
-        alloc,
-        Text::Calls(Pickles::All, Detail::Cut),
-        many,
-        bytes,
-        script,
-        out,
-        written,
-    )
+    edited::fill_calls(alloc, Pickles::All, many, bytes, script, out, written)
 }
 
 /// What the first pickle of it alone would import and call.
@@ -189,15 +181,7 @@ pub extern "C" fn picklestep_edited_calls_first(
 ) -> u8
     ensures { Fills (IsTextAfter (asked.Calls pickles.First detail.Cut) many bytes.now script.now) bytes.now out.old out.new written.new result }
 {
-    edited::fill_after(
-        alloc,
-        Text::Calls(Pickles::First, Detail::Cut),
-        many,
-        bytes,
-        script,
-        out,
-        written,
-    )
+    edited::fill_calls(alloc, Pickles::First, many, bytes, script, out, written)
 }
 
 /// What it would import and call, read by one unpickler that keeps its memo.
@@ -212,13 +196,5 @@ pub extern "C" fn picklestep_edited_calls_one_memo(
 ) -> u8
     ensures { Fills (IsTextAfter (asked.Calls pickles.OneMemo detail.Cut) many bytes.now script.now) bytes.now out.old out.new written.new result }
 {
-    edited::fill_after(
-        alloc,
-        Text::Calls(Pickles::OneMemo, Detail::Cut),
-        many,
-        bytes,
-        script,
-        out,
-        written,
-    )
+    edited::fill_calls(alloc, Pickles::OneMemo, many, bytes, script, out, written)
 }
