@@ -139,23 +139,26 @@ class Devices:
                 return f"with write {number} of {most} bytes failing: {why}"
         return ""
 
-    def interrupt(self, words: list[str], script: str, text: str, most: int, saved: bool) -> str:
-        """A signal interrupts each write in turn: it is made again, and nothing is lost or written twice."""
-        _, _, writes, _ = self.run(words, script, WRITE_MOST=most)
-        for number in range(1, writes + 1):
-            done, _, more, _ = self.run(words, script, WRITE_MOST=most, WRITE_SIGNAL=number)
+    def interrupt(self, words: list[str], script: str, text: str, most: int, saved: bool, *, is_reading: bool) -> str:
+        """A signal interrupts each read, or each write, in turn: it is made again, and nothing is lost, read or written twice."""
+        kind = "READ" if is_reading else "WRITE"
+        _, reads, writes, _ = self.run(words, script, **{f"{kind}_MOST": most})
+        calls = reads if is_reading else writes
+        for number in range(1, calls + 1):
+            done, reads, writes, _ = self.run(words, script, **{f"{kind}_MOST": most, f"{kind}_SIGNAL": number})
             self.broken += 1
-            if (done.stdout.decode(), done.stderr) != (text, b"") or more != writes + 1:
-                return f"with write {number} of {writes} interrupted there are {more}, and the output is {done.stdout!r}"
+            more = reads if is_reading else writes
+            if (done.stdout.decode(), done.stderr) != (text, b"") or more != calls + 1:
+                return f"with {kind.lower()} {number} of {calls} interrupted there are {more}, and the output is {done.stdout!r}"
             if saved and self.out.read_bytes() != self.file.read_bytes():
-                return f"with write {number} interrupted other bytes are saved"
-        return "" if writes else "nothing was written"
+                return f"with {kind.lower()} {number} interrupted other bytes are saved"
+        return "" if calls else f"there was no {kind.lower()}"
 
-    def interrupt_all(self) -> str:
+    def interrupt_all(self, is_reading: bool) -> str:
         """A task, and a conversation that is saved."""
-        why = self.interrupt(["list", str(self.file)], "", LISTING, 7, False)
+        why = self.interrupt(["list", str(self.file)], "", LISTING, 7, False, is_reading=is_reading)
         words = ["debug", str(self.file), "--save", str(self.out)]
-        return why or self.interrupt(words, BY_MEMO[1], BY_MEMO[2], 2, True)
+        return why or self.interrupt(words, BY_MEMO[1], BY_MEMO[2], 2, True, is_reading=is_reading)
 
     def shrink(self) -> str:
         """The file is emptied while it is read: what was read until then is listed, or reading fails."""
@@ -209,9 +212,11 @@ def trials(devices: Devices) -> list[Trial]:
         for is_reading in (True, False)
     ]
     shrink = functools.partial(devices.with_file, BY_MEMO[0], devices.shrink)
-    interrupt = functools.partial(devices.with_file, BY_MEMO[0], devices.interrupt_all)
     return [
         *found,
         Trial("a file that is emptied while it is read", shrink),
-        Trial("writes that a signal interrupts", interrupt),
+        *(
+            Trial(f"{name} that a signal interrupts", functools.partial(devices.with_file, BY_MEMO[0], devices.interrupt_all, is_reading))
+            for name, is_reading in (("reads", True), ("writes", False))
+        ),
     ]

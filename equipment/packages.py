@@ -1,7 +1,7 @@
 """Tries the Python package: builds its wheel, installs it into a fresh environment without a network, and runs its tests there.
 
-The wheel carries the released program for any Linux and the library, or the program that is tried where nothing was released. Where setuptools and wheel are not
-there, the tests run from the source tree. They run in another interpreter, which starts this file:
+The wheel carries the released program for any Linux and the library, or the program that is tried where that is not the released one. Where
+setuptools and wheel are not there, the tests run from the source tree. They run in another interpreter, which starts this file:
 
     packages.py --names             writes the names of the tests
     packages.py --run LINES NAME..  runs these tests (a name may be that of a class), or all where none is named; LINES gets for each its
@@ -11,6 +11,7 @@ there, the tests run from the source tree. They run in another interpreter, whic
 from __future__ import annotations
 
 import contextlib
+import filecmp
 import os
 import shutil
 import subprocess
@@ -25,7 +26,7 @@ from trials.trial import Verdict
 
 ROOT = Path(__file__).resolve().parent.parent
 SOURCES = ROOT / 'python'
-RELEASED = ROOT / 'dist' / 'linux-x86_64-static' / 'picklestep'
+RELEASED = ROOT / 'dist' / 'linux-x86_64' / 'picklestep'
 MOST_SECONDS = 600
 # All tests of the package together, on a machine that has much else to do.
 MOST_SECONDS_OF_TESTS = 3600
@@ -127,10 +128,15 @@ def call(words: List[str], folder: Path, seconds: int = MOST_SECONDS, **environm
     return '' if status == 0 else f'status {status}: ' + ' | '.join((folder / 'log').read_text(errors='replace').splitlines()[-5:])
 
 
+def is_released(program: str) -> bool:
+    """Whether the program that is tried is the released one. The released static one is the same, but for the C library."""
+    return RELEASED.is_file() and filecmp.cmp(program, RELEASED, shallow=False)
+
+
 def install(python: str, program: str, folder: Path) -> Tuple[str, str]:
     """Builds the wheel and installs it. Answers the interpreter that has it, and what was wrong."""
     shutil.copytree(SOURCES, folder / 'sources', ignore=shutil.ignore_patterns('__pycache__', 'tests', 'build', '*.egg-info'))
-    environment = {} if RELEASED.is_file() else {'PICKLESTEP_PROGRAM': program}
+    environment = {} if is_released(program) else {'PICKLESTEP_PROGRAM': program}
     if not environment:
         # The wheel looks for the released files next to its sources.
         shutil.copytree(ROOT / 'dist', folder / 'dist')

@@ -1,4 +1,4 @@
--- What only proofs and the contracts of private functions cite. No contract of a public item needs it.
+-- What proofs and the contracts of private functions cite. Besides, a `GapList` shows what is `seen` of its buffer (`List`).
 pub mod List
 pub mod Ownership
 pub mod Places

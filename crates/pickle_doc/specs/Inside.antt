@@ -1,4 +1,5 @@
--- What only proofs and the contracts of private functions cite. No contract of a public item needs it.
+-- What proofs and the contracts of private functions cite. Besides, a `Document` shows its items as the units of `contents_of`
+-- (`Grouping`).
 pub mod ByOffset
 pub mod Grouping
 pub mod Joined

@@ -105,13 +105,14 @@ pub struct Buffered<S> {
 }
 
 impl<S: Sink + Drop> Buffered<S> {
-    ghost use Rattle.std.specs.Prelude.{◌≡◌, ◌≤◌, [], drop, take, length, IfOk, OnOk};
+    ghost use Rattle.std.specs.Prelude.{◌≡◌, ◌≤◌, ◌+◌, ◌-◌, [], drop, take, length, IfOk, OnOk};
     ghost use Rattle.pickle_io.specs.Device.{Writes, holding};
 
     /// It holds nothing. An error comes only where memory runs out.
     pub fn new(alloc: Global, sink: S) -> Result<Buffered<S>, AllocError>
         ensures sink { IfOk result (λ b. b.sink ≡ sink) }
         ensures held { IfOk result (λ b. drop b.start (take b.len b.text.items) ≡ []) }
+        ensures none { IfOk result (λ b. b.len - b.start + S.held b.sink ≡ S.held sink) }
     {
         Buffered::with_room(alloc, sink, ROOM)
     }
@@ -120,6 +121,7 @@ impl<S: Sink + Drop> Buffered<S> {
     pub fn with_room(alloc: Global, sink: S, room: usize) -> Result<Buffered<S>, AllocError>
         ensures sink { IfOk result (λ b. b.sink ≡ sink) }
         ensures held { IfOk result (λ b. drop b.start (take b.len b.text.items) ≡ []) }
+        ensures none { IfOk result (λ b. b.len - b.start + S.held b.sink ≡ S.held sink) }
     {
         let mut text = Vec::new(alloc);
         text.resize(room.max(LINE), 0)?;

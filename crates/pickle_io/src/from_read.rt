@@ -1,16 +1,32 @@
 //! A reader of the standard library as a source.
 
 ghost use Rattle.std.specs.Prelude.{◌≡◌, ◌+◌, ◌<◌, ◌≤◌, length, take, IfOk, IsErr, OnOk, OnErr};
-ghost use Rattle.std.specs.Io.KnownBytes.{Consumes, IsAtEnd};
+ghost use Rattle.std.specs.Io.{ReadsAtMost};
+ghost use Rattle.std.specs.Io.KnownBytes.{Consumes, IsAtEnd, ReadConsumes};
 ghost use Rattle.pickle_io.specs.Device.{KeepsOrForgets, HasFailed};
 ghost use Rattle.pickle_io.specs.Wrapped.{reader_of, read_failures_of, turns_of, first_turns};
 
 use crate::sink::Failed;
 use crate::source::Source;
-use std::io::Read;
+use std::io;
+use std::io::{Error, ErrorKind, Read};
 
-/// A reader of the standard library as a source. Each error of the reader counts as a failure. So that it ends, it
-/// fails too once 18,446,744,073,709,551,615 reads have given a byte.
+/// One read, made again where a signal interrupted it.
+fn read_again<R: Read>(reader: &mut R, buffer: &mut [u8]) -> io::Result<usize>
+    ensures bound { ReadsAtMost result buffer.new }
+    ensures bytes { ReadConsumes (R.remaining reader.old) (R.remaining reader.new) result buffer.new }
+{
+    for _ in 0..u64::MAX {
+        match reader.read(buffer) {
+            Err(error) if error.kind() == ErrorKind::Interrupted => {}
+            given => return given,
+        }
+    }
+    Err(Error::from(ErrorKind::Interrupted))
+}
+
+/// A reader of the standard library as a source. Each error of the reader counts as a failure, but for a read that a signal interrupted,
+/// which is made again. So that it ends, it fails too once 18,446,744,073,709,551,615 reads have given a byte.
 #[derive(Drop)]
 pub struct FromRead<R> {
     reader: R,
@@ -56,7 +72,7 @@ impl<R: Read> Source for FromRead<R> {
         ensures spent { turns_of self.old ≡ 0 → IsErr result }
     {
         if self.turns > 0 {
-            if let Ok(n) = self.reader.read(buffer) {
+            if let Ok(n) = read_again(&mut self.reader, buffer) {
                 if n > 0 {
                     self.turns -= 1;
                 }

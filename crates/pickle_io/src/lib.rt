@@ -2,6 +2,7 @@
 //! the writers of plain texts, and a source read whole.
 #![tactic(auto)]
 
+mod asker;
 mod buffered;
 mod from_read;
 mod page;
@@ -11,6 +12,7 @@ mod text;
 mod to_write;
 mod whole;
 
+pub use asker::Asker;
 pub use buffered::Buffered;
 pub use from_read::FromRead;
 pub use page::Page;

@@ -1,4 +1,4 @@
--- What only proofs and the contracts of private functions cite. No contract of a public item needs it.
+-- What proofs and the contracts of private functions cite. Besides, a `StepRecord` shows the parts of its effect (`Records`).
 pub mod Cells
 pub mod Records
 pub mod Memo

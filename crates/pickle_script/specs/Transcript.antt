@@ -10,7 +10,7 @@ use Rattle.pickle_session.specs.declared.reply.Fault.TheVariants as fault
 use Rattle.pickle_session.specs.declared.reply.Reply.{Reply}
 use Rattle.pickle_session.specs.declared.reply.Reply.TheVariants as reply
 use Rattle.pickle_session.specs.Session.{state_at}
-use Rattle.pickle_session.specs.Allowed.{SessionState, Answers, Goes, IsFree}
+use Rattle.pickle_session.specs.Allowed.{SessionState, Answers, Goes, Stays, IsFree}
 use Rattle.pickle_script.specs.declared.line.Line.{Line}
 use Rattle.pickle_script.specs.declared.line.Line.TheVariants as line
 use Rattle.pickle_script.specs.declared.line.Query.{Query}
@@ -29,11 +29,13 @@ pub record PrintsText (p : SessionState) (says text : List ℕ) (q : SessionStat
   pub text_is : text ≡ says
   pub unchanged : q ≡ p
 
--- an answer that is allowed to the command, and its text; a step that is free finds memory
+-- an answer that is allowed to the command, and its text; where the cursor stays the machine stays, and a refused command leaves the
+-- records; a step that is free finds memory
 pub record Replies (c : Command) (p : SessionState) (text : List ℕ) (q : SessionState) : Type 0 where
   pub answer : Reply
   pub answers : Answers c p answer q.session
   pub goes : Goes c p answer q
+  pub stays : Stays p answer q
   pub free : c ≡ command.Step → IsFree p → answer ≢ reply.Refused fault.Memory
   pub text_is : text ≡ reply_text (end_of q.session.document) answer
 

@@ -4,6 +4,7 @@
 //! A run that is not finished is a `Stop`.
 #![tactic(auto)]
 
+mod edited;
 mod fault_text;
 mod grammar;
 mod items;
@@ -21,6 +22,7 @@ mod talk;
 mod texts;
 mod words;
 
+pub use edited::write_session_text;
 pub use grammar::read_command;
 pub use items::write_items;
 pub use laws::one_cut;

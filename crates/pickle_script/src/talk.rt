@@ -15,7 +15,7 @@ use crate::query::write_query;
 use crate::reply::write_reply;
 use crate::stop::Stop;
 use crate::syntax::{write_no_item_at, write_syntax};
-use pickle_ops::{Failed, Page, Source};
+use pickle_ops::{Asker, Failed, Page};
 use pickle_session::{Command, Past, Reply, Session};
 use std::alloc::Global;
 
@@ -207,25 +207,26 @@ fn finish<P: Past, K: Page>(
 }
 
 /// Goes on until a line quits, the source ends or a device fails.
-fn go_on<P: Past, S: Source, K: Page>(
+fn go_on<P: Past, S: Asker<K>, K: Page>(
     alloc: Global,
     session: &mut Session<P>,
     pending: &mut Pending,
     source: &mut S,
     sink: &mut K,
 ) -> Result<u8, Stop>
-    requires { pending.old ≡ record { line = []; refused = false } }
+    requires pending { pending.old ≡ record { line = []; refused = false } }
+    requires handed { K.held sink.old ≡ 0 }
     ensures finishes { IfOk result (λ status. Finishes session.old session.new status (S.remaining source.old) (S.remaining source.new) (K.told sink.old) (K.told sink.new)) }
     ensures reading { result ≡ Err Stop.Read → StopsReading session.old session.new (S.remaining source.old) (S.remaining source.new) (K.told sink.old) (K.told sink.new) }
     ensures read { result ≡ Err Stop.Read → HasFailed (S.failures source.old) (S.failures source.new) }
     ensures calm { result ≢ Err Stop.Read → S.failures source.new ≡ S.failures source.old }
     ensures writing { result ≡ Err Stop.Write → StopsWriting session.old session.new (S.remaining source.old) (S.remaining source.new) (K.told sink.old) (K.told sink.new) }
     ensures others { (result ≢ Err Stop.Memory) × (result ≢ Err Stop.TooLarge) }
-    ensures handed { result ≢ Err Stop.Write → K.held sink.old ≡ 0 → K.held sink.new ≡ 0 }
+    ensures handed { result ≢ Err Stop.Write → K.held sink.new ≡ 0 }
 {
     let mut block = [0u8; BLOCK];
     'turns: loop {
-        let Ok(count) = source.read(&mut block) else {
+        let Ok(count) = source.read_after(sink, &mut block) else {
             return Err(Stop::Read);
         };
         if count == 0 {
@@ -240,18 +241,19 @@ fn go_on<P: Past, S: Source, K: Page>(
 }
 
 /// Reads commands from the source and obeys them one by one, until one quits or the source ends, and answers the status: 1 where a line
-/// was refused, else 0. The text of each line is written before the next line is obeyed. Where lines were obeyed, the sink hands
-/// on what it holds before more is read, so that no answer waits for input. At the end it does so too.
+/// was refused, else 0. The text of each line is written before the next line is obeyed. More is read only once the sink has handed on
+/// all answers so far: reading requires that it holds nothing. At the end it holds nothing either.
 ///
 /// `Memory` comes only before anything was read. `Read` and `Write` come where the source or the sink fails: the
 /// session is that of the lines obeyed so far, a line of which only a part was read is not among them, and of the text
 /// of the last line alone a part may be missing from what the sink took. What the sink has not handed on it may still hold.
-pub fn converse<P: Past, S: Source, K: Page>(
+pub fn converse<P: Past, S: Asker<K>, K: Page>(
     alloc: Global,
     session: &mut Session<P>,
     source: &mut S,
     sink: &mut K,
 ) -> Result<u8, Stop>
+    requires handed { K.held sink.old ≡ 0 }
     ensures finishes { IfOk result (λ status. Finishes session.old session.new status (S.remaining source.old) (S.remaining source.new) (K.told sink.old) (K.told sink.new)) }
 
     // Read and Write come only where that device has failed.
@@ -265,7 +267,7 @@ pub fn converse<P: Past, S: Source, K: Page>(
     ensures no_other { result ≢ Err Stop.TooLarge }
 
     // At the end nothing is held back.
-    ensures handed { result ≢ Err Stop.Write → K.held sink.old ≡ 0 → K.held sink.new ≡ 0 }
+    ensures handed { result ≢ Err Stop.Write → K.held sink.new ≡ 0 }
 {
     let mut pending = Pending::new(alloc)?;
     go_on(alloc, session, &mut pending, source, sink)

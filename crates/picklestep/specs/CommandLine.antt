@@ -1,4 +1,5 @@
 -- The command line, as clap's words say it, and the task that clap's matches of the words name.
+-- Source: own; what clap's words mean is said by clap's crate.
 use Rattle.std.specs.Prelude.{◌≡◌, ◌≢◌, ◌≤◌, Bool, IsTrue, ℕ, List, Option, None, Some, IfSome, option_map, true, false, pos, codes, ⊤}
 use Rattle.std.specs.String.{string_bytes}
 use Rattle.std.specs.Str.Parse.{IsNumeral, digits_value, without_leading_plus}

@@ -61,7 +61,7 @@ pub record Talked (many : Bool) (bytes : List ℕ) (options : Options) {F : Type
   pub finishes : Finishes start after status input input' old new
   pub saves : Saves took (path_of options) files files' (document_bytes after.session.document)
 
--- it was not: there was no session, or nothing was saved
+-- there was a session of the bytes, but nothing was saved
 pub record Fell (many : Bool) (bytes : List ℕ) (options : Options) {F : Type 0} (files files' : F) (input input' : Option (List ℕ)) (old new : Told) (e : Stop) : Type 0 where
   pub start : SessionState
   pub after : SessionState

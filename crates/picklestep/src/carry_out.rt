@@ -9,25 +9,26 @@ use crate::answers::answer_file;
 use crate::debug::debug_file;
 use crate::files::Files;
 use crate::task::Task;
-use pickle_ops::{Buffered, Sink, Source};
+use pickle_ops::{Asker, Buffered, Sink};
 use pickle_script::Stop;
 use std::alloc::Global;
 
 /// Does a task on the file that it names, and answers the status: writes the text that it asks for to the page; or reads commands from
-/// the source, answers each on the page, and saves the document to the file that the options name, if they name one. The stops are those
+/// the source, which gives more only once the page holds no answer back, answers each on the page, and saves the document to the file that the options name, if they name one. The stops are those
 /// of `answer_file` and `debug_file`.
-pub fn carry_out<R: Source, K: Sink + Drop, F: Files>(
+pub fn carry_out<R: Asker<Buffered<K>>, K: Sink + Drop, F: Files>(
     alloc: Global,
     task: &Task,
     source: &mut R,
     page: &mut Buffered<K>,
     files: &mut F,
 ) -> Result<u8, Stop>
-    requires { IsBounded task.now }
+    requires bounded { IsBounded task.now }
+    requires handed { ⟦<Buffered<K> as Sink>⟧.held page.old ≡ 0 }
     ensures does { CarriesOut task.now F.bytes_of F.took files.old files.new (R.remaining source.old) (R.remaining source.new) (⟦<Buffered<K> as Sink>⟧.told page.old) (⟦<Buffered<K> as Sink>⟧.told page.new) result }
 
     // Unless a device fails the page holds nothing back, so that what it reports is what the device took.
-    ensures handed { result ≢ Err Stop.Write → ⟦<Buffered<K> as Sink>⟧.held page.old ≡ 0 → ⟦<Buffered<K> as Sink>⟧.told page.new ≡ K.told (device_of page.new) }
+    ensures handed { result ≢ Err Stop.Write → ⟦<Buffered<K> as Sink>⟧.told page.new ≡ K.told (device_of page.new) }
 {
     match task {
         Task::Debug(input, options) => debug_file(alloc, input, options, source, page, files),

@@ -15,7 +15,8 @@ const TOO_LARGE: u8 = 2;
 /// The text has no room in what was offered for it.
 const NO_ROOM: u8 = 3;
 
-/// How long a text is, and its status: 1 where an opcode or a line is refused or the bytes have a fault, else 0.
+/// How long a text is, and its status, which is that of the program: 1 where an opcode or a line is refused, the bytes have a fault, or lines
+/// of `calls` end in `unsure:` or `kept:`, else 0.
 #[repr(C)]
 #[derive(Clone, Copy)]
 pub struct Written {

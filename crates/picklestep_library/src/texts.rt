@@ -1,9 +1,9 @@
-//! The texts of an input and the answers of a conversation, in memory.
+//! The texts of an input, in memory.
 
-ghost use Rattle.std.specs.Prelude.{◌≡◌, ◌<◌, ◌↔◌, [], length, IfOk, Err, Some};
+ghost use Rattle.std.specs.Prelude.{◌≡◌, ◌<◌, ◌↔◌, length, IfOk, Err};
 ghost use Rattle.pickle_doc.specs.Document.{size_limit};
 ghost use Rattle.pickle_script.specs.declared.stop.Stop.TheVariants as stops;
-ghost use Rattle.picklestep_library.specs.Answer.{IsTextOf, IsTalkOf, Fills};
+ghost use Rattle.picklestep_library.specs.Answer.{IsTextOf, Fills};
 
 use crate::fill::{Written, number_of, put};
 use pickle_doc::LIMIT;

@@ -5,19 +5,19 @@ use Rattle.pickle_script.proofs.Endings.{nothing_yet, gave_nothing, finishes_who
 use Rattle.pickle_script.proofs.talk.go_on.Goals as goal
 
 pub turns-init : goal.turns-init
-turns-init g c = record { moment = nothing_yet _ _ _ _ c.requires; calm = refl; handed = λ h. h }
+turns-init g c = record { moment = nothing_yet _ _ _ _ c.requires.pending; calm = refl; handed = c.requires.handed }
 
 pub returns-in_err-finish-clause-writing : goal.returns-in_err-finish-clause-writing
 returns-in_err-finish-clause-writing g c = λ stop.
     let m = c.turns.invariant.moment in
-    let room : 0 < length c.read.new.buffer = omega (arith, c.read.auto.buffer) in
+    let room : 0 < length c.read_after.new.buffer = omega (arith, c.read_after.auto.buffer) in
     let gave = gave_nothing _ _ _ _ _ _ m.gave c.in-Ok.ensures.given c.if-count-eq0.true in
     breaks_at_end _ _ _ _ _ _ _ gave (c.in-Ok.ensures.end c.if-count-eq0.true room) (c.in_err-finish.ensures.ends _ _ m.given m.so_far)
 
 pub returns-then-count-eq0-clause-finishes : goal.returns-then-count-eq0-clause-finishes
 returns-then-count-eq0-clause-finishes g c =
     let m = c.turns.invariant.moment in
-    let room : 0 < length c.read.new.buffer = omega (arith, c.read.auto.buffer) in
+    let room : 0 < length c.read_after.new.buffer = omega (arith, c.read_after.auto.buffer) in
     let gave = gave_nothing _ _ _ _ _ _ m.gave c.in-Ok.ensures.given c.if-count-eq0.true in
     finishes_whole _ _ _ _ _ _ _ _ gave (c.in-Ok.ensures.end c.if-count-eq0.true room) (c.in_ok-finish.ensures.ends _ _ m.given m.so_far)
 
@@ -44,5 +44,5 @@ turns-preserved g c =
     record {
       moment = record { given = _; gave = gave; so_far = on };
       calm = c.in-Ok.ensures.calm ∙ c.turns.invariant.calm;
-      handed = λ h. c.in_ok-feed.ensures.handed (c.turns.invariant.handed h);
+      handed = c.in_ok-feed.ensures.handed c.turns.invariant.handed;
     }

@@ -1,0 +1,6 @@
+-- A read that is interrupted consumes nothing.
+use Rattle.std.specs.Io.KnownBytes.{Keeps}
+use Rattle.pickle_io.proofs.from_read.read_again.Given as goal
+
+abbrev pub invariant-loop : goal.invariant-loop
+invariant-loop g l = Keeps (g.R.Read.remaining l.initial.reader) (g.R.Read.remaining l.reader)
