@@ -1,7 +1,8 @@
 // Asks the library. Each line of standard input has a task (list, list --many, objects, objects --many, calls, calls --first,
-// calls --memo kept, debug, debug --many), a limit of memory in bytes (0: none), the file that is asked about and the file that the text is put in, with tabs
-// between them. For each, a line of standard output has the answer and the status. Status 1 where a file cannot be read or written. The word
-// of the command line is the file of the script of conversations.
+// calls --memo kept, debug, debug --many; or of what the script leaves: edited list, edited list --many and the like), a limit of memory in
+// bytes (0: none), the file that is asked about and the file that the text is put in, with tabs between them. For each, a line of standard
+// output has the answer and the status. Status 1 where a file cannot be read or written. The word of the command line is the file of the script
+// of conversations.
 #include <picklestep.h>
 #include <stdio.h>
 #include <stdlib.h>
@@ -39,6 +40,32 @@ static memory content_of(const char *path) {
 // What is asked in each conversation.
 static memory script;
 
+typedef uint8_t of_script(bool, const uint8_t *, size_t, const uint8_t *, size_t, uint8_t *, size_t, picklestep_written *);
+
+static const struct {
+    const char *task;
+    bool many;
+    of_script *function;
+} OF_SCRIPT[] = {
+    {"debug", false, picklestep_debug},
+    {"debug --many", true, picklestep_debug},
+    {"edited list", false, picklestep_edited_list},
+    {"edited list --many", true, picklestep_edited_list},
+    {"edited objects", false, picklestep_edited_objects},
+    {"edited objects --many", true, picklestep_edited_objects},
+    {"edited calls", false, picklestep_edited_calls},
+    {"edited calls --first", false, picklestep_edited_calls_first},
+    {"edited calls --memo kept", false, picklestep_edited_calls_one_memo},
+};
+
+static uint8_t ask_of_script(const char *task, memory given, memory out, picklestep_written *written) {
+    for (size_t i = 0; i < sizeof OF_SCRIPT / sizeof *OF_SCRIPT; i++)
+        if (!strcmp(task, OF_SCRIPT[i].task))
+            return OF_SCRIPT[i].function(OF_SCRIPT[i].many, given.bytes, given.size, script.bytes, script.size, out.bytes, out.size, written);
+    fputs("there is no such task\n", stderr);
+    exit(1);
+}
+
 static uint8_t ask(const char *task, memory given, memory out, picklestep_written *written) {
     if (!strcmp(task, "list"))
         return picklestep_list(false, given.bytes, given.size, out.bytes, out.size, written);
@@ -54,12 +81,7 @@ static uint8_t ask(const char *task, memory given, memory out, picklestep_writte
         return picklestep_calls_first(given.bytes, given.size, out.bytes, out.size, written);
     if (!strcmp(task, "calls --memo kept"))
         return picklestep_calls_one_memo(given.bytes, given.size, out.bytes, out.size, written);
-    if (!strcmp(task, "debug"))
-        return picklestep_debug(false, given.bytes, given.size, script.bytes, script.size, out.bytes, out.size, written);
-    if (!strcmp(task, "debug --many"))
-        return picklestep_debug(true, given.bytes, given.size, script.bytes, script.size, out.bytes, out.size, written);
-    fputs("there is no such task\n", stderr);
-    exit(1);
+    return ask_of_script(task, given, out, written);
 }
 
 static void answer(const char *task, size_t most, const char *from, const char *to) {

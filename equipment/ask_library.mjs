@@ -11,6 +11,13 @@ const TASKS = {
     'calls --memo kept': ['picklestep_calls_one_memo'],
     'debug': ['picklestep_debug', 0],
     'debug --many': ['picklestep_debug', 1],
+    'edited list': ['picklestep_edited_list', 0],
+    'edited list --many': ['picklestep_edited_list', 1],
+    'edited objects': ['picklestep_edited_objects', 0],
+    'edited objects --many': ['picklestep_edited_objects', 1],
+    'edited calls': ['picklestep_edited_calls', 0],
+    'edited calls --first': ['picklestep_edited_calls_first', 0],
+    'edited calls --memo kept': ['picklestep_edited_calls_one_memo', 0],
 };
 const script = readFileSync(process.argv[3]);
 const module = new WebAssembly.Module(readFileSync(process.argv[2]));
@@ -23,7 +30,7 @@ function ask(task, content) {
     if (!given || !written || !lines) return { answer: 1, status: 0, text: new Uint8Array() };
     new Uint8Array(library.memory.buffer).set(content, Number(given));
     new Uint8Array(library.memory.buffer).set(script, Number(lines));
-    const second = task.startsWith('debug') ? [lines, BigInt(script.length)] : [];
+    const second = /^(debug|edited)/.test(task) ? [lines, BigInt(script.length)] : [];
     for (let room = 200; ; ) {
         const out = library.take(BigInt(room));
         if (!out) return { answer: 1, status: 0, text: new Uint8Array() };

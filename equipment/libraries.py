@@ -27,6 +27,8 @@ TASKS = (
 )
 X86, ARM, MODULE = "linux-x86_64-library", "linux-aarch64-library", "libpicklestep.wasm"
 MUSL, MUSL_HEADERS = Path("/usr/lib/x86_64-linux-musl"), Path("/usr/include/x86_64-linux-musl")
+# (of these lines some edit each pickle, and some are refused)
+EDITS = b"insert 0 GLOBAL 6f730a6765746377640a\ngoto 1\nstep\ninsert 2 NONE\nundo\nnonsense\ndelete 3\nframe 2 2\nrun\n"
 WARNINGS = ("-Wall", "-Wextra", "-Werror")
 OF_STOPS = {1: b"picklestep: out of memory\n", 2: b"picklestep: too large\n"}
 LIMITS = (1, 1 << 16, 1 << 20, 8 << 20, 32 << 20)
@@ -57,13 +59,13 @@ class Libraries(Machines):
             self.call(self.tool(compiler, "a compiler"), "-O1", *WARNINGS, "-o", made, self.root / "equipment/ask_library.c", *words)
         return made
 
-    def asked(self, command: list["str | Path"], runs: list[Asked], most: int = 0) -> Iterator[Answer]:
-        """What the library answers, in one process that holds at most so many bytes for each of them."""
+    def asked(self, command: list["str | Path"], runs: list[Asked], most: int = 0, lines: bytes = SCRIPT) -> Iterator[Answer]:
+        """What the library answers, in one process that holds at most so many bytes for each of them. These are the lines of conversations."""
         folder = self.folder / "answers"
         folder.mkdir(parents=True, exist_ok=True)
         lines = [f"{' '.join(run.words)}\t{most}\t{run.file}\t{folder / str(number)}\n" for number, run in enumerate(runs)]
         script = self.folder / "script"
-        script.write_bytes(SCRIPT)
+        script.write_bytes(lines)
         said = self.call(*command, script, given="".join(lines).encode()).decode().splitlines()
         for number, line in enumerate(said):
             answer, status = map(int, line.split())
@@ -143,6 +145,21 @@ def compared(libraries: Libraries, way: str, kind: str) -> Noted:
     return libraries.compare_answers(runs, libraries.asked(getattr(libraries, way)(), runs))
 
 
+def of_edits(libraries: Libraries, way: str) -> Noted:
+    """The texts of what a script leaves are those of the bytes that the program saves after it."""
+    folder = libraries.folder / "saved"
+    folder.mkdir(parents=True, exist_ok=True)
+    saved, runs = [], []
+    for file in sorted(libraries.pickles.glob("*.pickle")):
+        for many in ((), ("--many",)):
+            out = folder / f"{len(saved)}.pickle"
+            subprocess.run([libraries.program, "debug", file, *many, "--save", out], input=EDITS, capture_output=True, timeout=300, check=False)
+            words = [("list", *many), ("objects", *many)] if many else [task for task in TASKS if "debug" not in task and "--many" not in task]
+            saved += [Asked(task, out) for task in words]
+            runs += [Asked(("edited", *task), file) for task in words]
+    return libraries.compare_answers(saved, libraries.asked(getattr(libraries, way)(), runs, lines=EDITS))
+
+
 def limits(libraries: Libraries) -> str:
     """Out of memory is an answer, and the next call is as any other."""
     runs = [Asked(words, large(libraries).file) for words in TASKS if words[0] != "debug"]
@@ -203,6 +220,7 @@ ROWS: list[tuple[str, Callable[[Libraries], "str | Noted"]]] = [
     ("the library: the header in C++", in_cxx),
     *((f"the library, {name}: all real pickles", functools.partial(compared, way=way, kind="real")) for way, name in WAYS.items()),
     *((f"the library, {name}: random cases", functools.partial(compared, way=way, kind="random")) for way, name in WAYS.items()),
+    *((f"the library, {WAYS[way]}: what edits leave", functools.partial(of_edits, way=way)) for way in ("static", "module")),
     ("the library: out of memory is an answer", limits),
     ("the library: too large is an answer", too_large),
     *(

@@ -16,7 +16,7 @@ from . import place
 from .errors import ProgramError
 from .place import find_library, find_program
 
-__all__ = ['MOST_BYTES', 'WORDS', 'answer']
+__all__ = ['EDITED', 'MOST_BYTES', 'WORDS', 'answer', 'edited']
 
 # Inputs up to this size are asked about here. For a larger one the start of the program is a small part of its time.
 MOST_BYTES = 1 << 16
@@ -38,6 +38,15 @@ WORDS: Dict[Tuple[str, ...], Tuple[str, Tuple[bool, ...]]] = {
     ('calls',): ('picklestep_calls', ()),
     ('calls', '--first'): ('picklestep_calls_first', ()),
     ('calls', '--memo', 'kept'): ('picklestep_calls_one_memo', ()),
+}
+
+# The functions for the same words about a pickle as the lines of a conversation leave it.
+EDITED: Dict[Tuple[str, ...], str] = {
+    ('list',): 'picklestep_edited_list',
+    ('objects',): 'picklestep_edited_objects',
+    ('calls',): 'picklestep_edited_calls',
+    ('calls', '--first'): 'picklestep_edited_calls_first',
+    ('calls', '--memo', 'kept'): 'picklestep_edited_calls_one_memo',
 }
 
 
@@ -66,23 +75,36 @@ class _Library:
         self._limit: Callable[[int], None] = library.picklestep_limit_memory
         library.picklestep_limit_memory.argtypes = [ctypes.c_size_t]
         library.picklestep_limit_memory.restype = None
-        self._functions = {words: (getattr(library, name), first) for words, (name, first) in WORDS.items()}
-        for function, first in self._functions.values():
-            function.argtypes = [*[ctypes.c_bool for _ in first], ctypes.c_char_p, ctypes.c_size_t, ctypes.c_void_p, ctypes.c_size_t,
-                                 ctypes.POINTER(_Written)]
-            function.restype = ctypes.c_uint8
+        self._functions = {words: (_declared(library, name, len(first), 1), first) for words, (name, first) in WORDS.items()}
+        self._edited = {words: _declared(library, name, 1, 2) for words, name in EDITED.items()}
 
     def answer(self, words: Sequence[str], content: bytes, memory: int) -> Optional[bytes]:
         """The text, where it can be had in so much memory."""
         function, first = self._functions[tuple(words)]
+        return self._text(function, (*first, content, len(content)), memory)
+
+    def edited(self, words: Sequence[str], many: bool, content: bytes, script: bytes, memory: int) -> Optional[bytes]:
+        """The text of what the lines of a script leave, where it can be had in so much memory."""
+        return self._text(self._edited[tuple(words)], (many, content, len(content), script, len(script)), memory)
+
+    def _text(self, function: Callable[..., int], given: Tuple[object, ...], memory: int) -> Optional[bytes]:
         out: Any = _room.out
         written = _room.written
         self._limit(memory)
-        answer = function(*first, content, len(content), out, len(out), written)
+        answer = function(*given, out, len(out), written)
         if answer == _NO_ROOM and written.size <= memory:
             out = ctypes.create_string_buffer(written.size)
-            answer = function(*first, content, len(content), out, len(out), written)
+            answer = function(*given, out, len(out), written)
         return ctypes.string_at(out, written.size) if answer == _DONE else None
+
+
+def _declared(library: ctypes.CDLL, name: str, modes: int, inputs: int) -> Callable[..., int]:
+    """A function of the library, with its types: so many modes and so many inputs come before the room for the text."""
+    function = getattr(library, name)
+    function.argtypes = [*[ctypes.c_bool] * modes, *[ctypes.c_char_p, ctypes.c_size_t] * inputs, ctypes.c_void_p, ctypes.c_size_t,
+                         ctypes.POINTER(_Written)]
+    function.restype = ctypes.c_uint8
+    return function  # type: ignore[no-any-return]
 
 
 @lru_cache(maxsize=None)
@@ -103,12 +125,28 @@ def answer(words: Sequence[str], content: bytes, memory: Optional[int] = None) -
     >>> answer(['calls'], b'N' * 100_000) is None
     True
     """
-    if len(content) > MOST_BYTES:
-        return None
+    library, most = _for(content, memory)
+    return None if library is None or tuple(words) not in WORDS else library.answer(words, content, most)
+
+
+def edited(words: Sequence[str], many: bool, content: bytes, script: bytes, memory: Optional[int] = None) -> Optional[bytes]:
+    """What the program writes about the bytes that the lines of a script leave of these, in a conversation about one pickle or `many`. None where
+    the program has to be asked.
+
+    >>> edited(['calls'], False, b'N' * 100_000, b'') is None
+    True
+    """
+    library, most = _for(content, memory)
+    name = tuple(word for word in words if word != '--many')
+    is_read_so = words[0] == 'calls' or many == ('--many' in words)  # (a listing is read as the conversation is)
+    return library.edited(name, many, content, script, most) if library is not None and is_read_so and name in EDITED else None
+
+
+def _for(content: bytes, memory: Optional[int]) -> Tuple[Optional[_Library], int]:
+    """The library, if it is to be asked about these bytes, and how much memory it may take."""
     most = _MOST_MEMORY if memory is None else min(_MOST_MEMORY, memory - _OF_PROGRAM)
-    if most <= 0 or tuple(words) not in WORDS:
-        return None
-    library = _library(os.environ.get('PICKLESTEP_PROGRAM'), place._HERE)
-    return None if library is None else library.answer(words, content, most)
+    if len(content) > MOST_BYTES or most <= 0:
+        return None, 0
+    return _library(os.environ.get('PICKLESTEP_PROGRAM'), place._HERE), most
 
 

@@ -11,13 +11,14 @@ import weakref
 from operator import index
 from typing import Dict, Iterator, List, Optional, Sequence, Tuple, Union, overload
 
-from . import texts
-from .answers import Heap, Items, ShownObjects
+from . import library, texts
+from .answers import Calls, Heap, Items, Listing, ShownObjects
 from .arguments import ArgumentValue, encoded
 from .errors import ProgramError, Refused, TimedOut
 from .program import Process, run_program
 from .records import Mark, Ran, Ref, Where
 from .sources import Input, OwnFile, Source, is_word
+from .tasks import AskedOfEdits, calls_of, listing_of
 
 __all__ = ['Session']
 
@@ -162,6 +163,7 @@ class Session(contextlib.AbstractContextManager['Session']):
                  memory: Optional[int] = None) -> None:
         self._limits = (timeout, memory)
         self._input = Input(source, own=True)
+        self._many = many
         self._words = ['debug', self._input.path, *(['--many'] if many else [])]
         try:
             talk = _Talk(Process([*self._words, *(['--window', str(index(window))] if window is not None else [])], self._input.files,
@@ -422,6 +424,31 @@ class Session(contextlib.AbstractContextManager['Session']):
         with OwnFile() as file:
             self._save(file.path, file.files)
             return file.content()
+
+    def listing(self) -> Listing:
+        """The opcodes of the pickle with the edits that are not undone, as `picklestep.listing` shows them.
+
+        >>> with Session(b'N.') as session:
+        ...     session.replace(0, 'BININT1', 5), session.listing()[0].name
+        (0, 'BININT1')
+        """
+        with self._asked() as asked:
+            return listing_of(asked, self._many)
+
+    def calls(self, *, first: bool = False, memo_kept: bool = False, full: bool = False) -> Calls:
+        """What the pickle with the edits that are not undone imports and calls, as `picklestep.calls` tells it.
+
+        >>> with Session(b'.') as session:
+        ...     session.insert(0, 'GLOBAL', 'os', 'getcwd'), session.calls()[0].text
+        (0, "import 'os' 'getcwd' as #0")
+        """
+        with self._asked() as asked:
+            return calls_of(asked, first, memo_kept, full)
+
+    def _asked(self) -> AskedOfEdits:
+        if not self._finalizer.alive:
+            raise ValueError('the session is closed')
+        return AskedOfEdits(self._input.small_content(library.MOST_BYTES), self._many, b''.join(self._talk.edits()), self.bytes, *self._limits)
 
     def save(self, path: Union[str, 'os.PathLike[str]']) -> None:
         """Writes the pickle with the edits that are not undone into a file, which may be the one that was opened.

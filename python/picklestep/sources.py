@@ -70,6 +70,13 @@ class Input:
         self.files, self.path = self._own.files, self._own.path
         return self._own.descriptor
 
+    def small_content(self, most: int) -> Optional[bytes]:
+        """The bytes of a file of our own that has at most so many of them."""
+        if self._own is None or not hasattr(os, 'pread'):  # (Windows has none)
+            return None
+        content = os.pread(self._own.descriptor, most + 1, 0)
+        return content if len(content) <= most else None
+
     def close(self) -> None:
         """Lets the input go."""
         if self._own is not None:

@@ -5,7 +5,7 @@ from __future__ import annotations
 import re
 import time
 from collections import deque
-from typing import Iterable, Iterator, List, Optional, Type, TypeVar
+from typing import Callable, Iterable, Iterator, List, Optional, Type, TypeVar
 
 from . import library
 from .answers import Calls, Listing, Objects
@@ -13,7 +13,7 @@ from .errors import ProgramError
 from .program import Process, run_program
 from .sources import Input, Source, small_content
 
-__all__ = ['calls', 'listing', 'objects']
+__all__ = ['AskedOfEdits', 'calls', 'calls_of', 'listing', 'listing_of', 'objects']
 
 _Report = TypeVar('_Report', Objects, Calls)
 
@@ -31,7 +31,7 @@ def listing(source: Source, *, many: bool = False, timeout: Optional[float] = No
     5 STOP None
     """
     with _Asked(source, timeout, memory) as asked:
-        return Listing(asked.answer(['list', *_many(many)]))
+        return listing_of(asked, many)
 
 
 def objects(source: Source, *, many: bool = False, timeout: Optional[float] = None, memory: Optional[int] = None) -> Objects:
@@ -41,7 +41,8 @@ def objects(source: Source, *, many: bool = False, timeout: Optional[float] = No
     >>> answer[2].kind, answer[2].parts, answer.results
     ('tuple', (0, 1), (2,))
     """
-    return _report(Objects, ['objects', *_many(many)], source, ['list', *_many(many)], timeout, memory)
+    with _Asked(source, timeout, memory) as asked:
+        return _report(Objects, ['objects', *_many(many)], asked, ['list', *_many(many)])
 
 
 def calls(source: Source, *, first: bool = False, memo_kept: bool = False, full: bool = False, many: bool = True,
@@ -56,22 +57,31 @@ def calls(source: Source, *, first: bool = False, memo_kept: bool = False, full:
     0 import 'posix' 'system' as #0
     23 call 'posix' 'system' ('id') as #3
     """
+    with _Asked(source, timeout, memory) as asked:
+        return calls_of(asked, first, memo_kept, full)
+
+
+def listing_of(asked: _Asked, many: bool) -> Listing:
+    """The opcodes of what is asked about."""
+    return Listing(asked.answer(['list', *_many(many)]))
+
+
+def calls_of(asked: _Asked, first: bool, memo_kept: bool, full: bool) -> Calls:
+    """What it imports and calls."""
     if first and memo_kept:
         raise ValueError('first and memo_kept are two readings')
     options = ['--first'] if first else ['--memo', 'kept'] if memo_kept else []
     options += ['--full'] if full else []
     # (A listing does not read on as one unpickler does, so where that was refused only the place is known.)
-    return _report(Calls, ['calls', *options], source, None if memo_kept else ['list', *_many(not first)], timeout, memory)
+    return _report(Calls, ['calls', *options], asked, None if memo_kept else ['list', *_many(not first)])
 
 
-def _report(kind: Type[_Report], words: List[str], source: Source, listing_words: Optional[List[str]], timeout: Optional[float],
-            memory: Optional[int]) -> _Report:
+def _report(kind: Type[_Report], words: List[str], asked: _Asked, listing_words: Optional[List[str]]) -> _Report:
     """An answer that counts opcodes and not bytes. Where one was refused, a listing by these words shows its offset."""
-    with _Asked(source, timeout, memory) as asked:
-        answer = kind(asked.answer(words))
-        if answer.end.how != 'refused' or listing_words is None:
-            return answer
-        return kind(answer.text, _last_offset(asked.blocks(listing_words)))
+    answer = kind(asked.answer(words))
+    if answer.end.how != 'refused' or listing_words is None:
+        return answer
+    return kind(answer.text, _last_offset(asked.blocks(listing_words)))
 
 
 def _many(many: bool) -> List[str]:
@@ -114,8 +124,11 @@ class _Asked:
 
     def _given(self) -> Input:
         if self._input is None:
-            self._input = Input(self._source)
+            self._input = self._opened()
         return self._input
+
+    def _opened(self) -> Input:
+        return Input(self._source)
 
     def __enter__(self) -> _Asked:
         return self
@@ -123,6 +136,26 @@ class _Asked:
     def __exit__(self, *error: object) -> None:
         if self._input is not None:
             self._input.close()
+
+
+class AskedOfEdits(_Asked):
+    """A pickle as the edits of a session leave it: a small one is asked about in this process, and so is not saved for that."""
+
+    def __init__(self, content: Optional[bytes], many: bool, edits: bytes, saved: Callable[[], bytes], timeout: Optional[float],
+                 memory: Optional[int]) -> None:
+        super().__init__(content or b'', timeout, memory)
+        self._is_small = content is not None
+        self._many = many
+        self._edits = edits
+        self._saved = saved
+
+    def _in_process(self, words: List[str]) -> Optional[bytes]:
+        if self._content is None or not self._is_small:
+            return None
+        return library.edited(words, self._many, self._content, self._edits, self._memory)
+
+    def _opened(self) -> Input:
+        return Input(self._saved())
 
 
 def _last_offset(blocks: Iterable[bytes]) -> Optional[int]:

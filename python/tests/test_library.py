@@ -55,6 +55,23 @@ class Answers(unittest.TestCase):
             words = chance.choice(list(library.WORDS))
             self.assertEqual(library.answer(words, bytes(content)), self.wanted(list(words), bytes(content)))
 
+    def test_what_edits_leave(self) -> None:
+        """As the program answers of the bytes that it saves after the same lines."""
+        script = b'insert 0 GLOBAL 6f730a6765746377640a\ngoto 1\nstep\ninsert 2 NONE\nundo\nnonsense\ndelete 3\nframe 2 2\nrun\n'
+        for path in PICKLES[::5]:
+            for many in (False, True):
+                saved = self.saved(path, many, script)
+                for name in library.EDITED:
+                    words = [*name, '--many'] if many and name[0] != 'calls' else [*name]
+                    with self.subTest(path.name, words=words):
+                        self.assertEqual(library.edited(words, many, path.read_bytes(), script), self.wanted(words, saved))
+
+    def saved(self, path: Path, many: bool, script: bytes) -> bytes:
+        with tempfile.TemporaryDirectory() as folder:
+            out = Path(folder, 'saved')
+            run_program(['debug', str(path), *(['--many'] if many else []), '--save', str(out)], script=script)
+            return out.read_bytes()
+
     def test_an_answer_with_more_room(self) -> None:
         content = b'\x8c\xfa' + b'n' * 250 + b'0'
         content = content * (library.MOST_BYTES // len(content))

@@ -56,6 +56,26 @@ class Words(unittest.TestCase):
             self.assertEqual(list(session.items())[1:4], [
                 Item(1, 2, 'BININT1', 2, True, False), Item(2, 4, 'TUPLE2', None, False, False), Item(3, 5, 'BINPUT', 0, False, True)])
 
+    def test_the_texts_of_what_edits_leave(self) -> None:
+        for many in (False, True):
+            with Session(LIST + LIST, many=many) as session:
+                session.goto(2)
+                session.insert(2, 'GLOBAL', 'os', 'getcwd')
+                session.delete(3) if many else session.undo()
+                content = session.bytes()
+                self.assertEqual(list(session.listing()), list(picklestep.listing(content, many=many)))
+                for how in ({}, {'first': True}, {'memo_kept': True}, {'full': True}):
+                    self.assertEqual(session.calls(**how).text, picklestep.calls(content, **how).text)
+                self.assertEqual(session.where().place, 2)
+        with self.assertRaises(ValueError):
+            session.listing()
+
+    def test_the_texts_of_a_large_pickle_after_an_edit(self) -> None:
+        with Session(b'N0' * 50_000 + b'N.') as session:
+            session.insert(0, 'GLOBAL', 'os', 'getcwd')
+            self.assertEqual([call.text for call in session.calls()], ["import 'os' 'getcwd' as #0"])
+            self.assertEqual(session.listing()[0].name, 'GLOBAL')
+
     def test_an_object_in_itself(self) -> None:
         with Session(b']q\x00(h\x00h\x00e.') as session:
             session.goto(6)

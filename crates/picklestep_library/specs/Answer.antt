@@ -2,7 +2,7 @@
 -- Source: own.
 use Rattle.std.specs.Prelude.{◌≡◌, ◌≢◌, ◌≤◌, ◌<◌, ◌↔◌, ◌⊎◌, ℕ, Bool, List, [], length, take, drop, Some}
 use Rattle.pickle_io.specs.Device.{Told}
-use Rattle.pickle_doc.specs.Document.{size_limit}
+use Rattle.pickle_doc.specs.Document.{size_limit, document_bytes}
 use Rattle.pickle_session.specs.Opening.{IsOpened}
 use Rattle.pickle_session.specs.Allowed.{SessionState}
 use Rattle.pickle_script.specs.Output.{CompletesText}
@@ -27,6 +27,17 @@ pub record IsTalkOf (many : Bool) (bytes script written : List ℕ) (status : �
   pub after : SessionState
   pub rest : List ℕ
   pub finishes : Finishes begun after status (Some script) (Some rest) (took []) (took written)
+
+-- these bytes are the whole text of the document that a session of an input has after the lines of a script, and this is its status
+pub record IsTextAfter (text : Text) (many : Bool) (bytes script written : List ℕ) (status : ℕ) : Type 0 where
+  pub begun : SessionState
+  pub opened : IsOpened many bytes begun
+  pub after : SessionState
+  pub rest : List ℕ
+  pub answers : List ℕ
+  pub answered : ℕ
+  pub finishes : Finishes begun after answered (Some script) (Some rest) (took []) (took answers)
+  pub completes : CompletesText text after.session.document.many (document_bytes after.session.document) (took []) (took written) status
 
 -- ---- the caller's memory
 

@@ -29,7 +29,7 @@ fn answers<P: Past, S: Source>(
 }
 
 /// The answers to the lines of a script, and the status.
-fn answers_to<P: Past>(
+pub fn answers_to<P: Past>(
     alloc: Global,
     session: &mut Session<P>,
     script: &[u8],
@@ -41,7 +41,7 @@ fn answers_to<P: Past>(
 }
 
 /// A session of an input, which keeps all records.
-fn open(alloc: Global, many: bool, bytes: &[u8]) -> Result<Session<Whole>, Stop>
+pub fn open(alloc: Global, many: bool, bytes: &[u8]) -> Result<Session<Whole>, Stop>
     ensures opened { IfOk result (IsOpened many bytes.now) }
     ensures large { (result ≡ Err stops.TooLarge) ↔ (size_limit < length bytes.now) }
 {

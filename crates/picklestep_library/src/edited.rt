@@ -1,0 +1,79 @@
+//! The texts of a document as the lines of a script leave it, in memory.
+
+ghost use Rattle.std.specs.Prelude.{[], IfOk};
+ghost use Rattle.pickle_doc.specs.Document.{document_bytes};
+ghost use Rattle.pickle_show.specs.declared.naming.Detail.TheVariants as detail;
+ghost use Rattle.pickle_script.specs.Output.{CompletesText};
+ghost use Rattle.pickle_script.specs.declared.texts.Text.TheVariants as asked;
+ghost use Rattle.picklestep_library.specs.Answer.{took, IsTextAfter, Fills};
+
+use crate::fill::{Written, number_of, put};
+use crate::talk::{answers_to, open};
+use pickle_doc::LIMIT;
+use pickle_io::{Buffered, Sink, ToWrite};
+use pickle_script::{Detail, Pickles, Stop, Text, write_session_text};
+use pickle_session::{Past, Session};
+use std::alloc::Global;
+
+/// A text of the document of a session, and its status.
+fn text_of<P: Past>(alloc: Global, text: Text, session: &Session<P>) -> Result<(Vec<u8>, u8), Stop>
+    ensures { IfOk result (λ r. CompletesText text session.now.session.document.many (document_bytes session.now.session.document) (took []) (took r.0.items) r.1) }
+{
+    let mut page = Buffered::new(alloc, ToWrite::new(Vec::new(alloc)))?;
+    let status = write_session_text(alloc, text, session, &mut page)?;
+    page.flush()?;
+    Ok((page.into_inner().into_inner(), status))
+}
+
+/// A text of the document after the lines of a script, in a session of an input, and its status.
+fn text_after(
+    alloc: Global,
+    text: Text,
+    many: bool,
+    bytes: &[u8],
+    script: &[u8],
+) -> Result<(Vec<u8>, u8), Stop>
+    ensures { IfOk result (λ r. IsTextAfter text many bytes.now script.now r.0.items r.1) }
+{
+    let mut session = open(alloc, many, bytes)?;
+    let _answers = answers_to(alloc, &mut session, script)?;
+    text_of(alloc, text, &session)
+}
+
+/// Puts a text of the document after the lines of a script at the start of `out`.
+pub fn fill_after(
+    alloc: Global,
+    text: Text,
+    many: bool,
+    bytes: &[u8],
+    script: &[u8],
+    out: &mut [u8],
+    written: &mut Written,
+) -> u8
+    ensures { Fills (IsTextAfter text many bytes.now script.now) bytes.now out.old out.new written.new result }
+{
+    if bytes.len() > LIMIT {
+        return number_of(Stop::TooLarge);
+    }
+    match text_after(alloc, text, many, bytes, script) {
+        Ok((text, status)) => put(text.as_slice(), status, out, written),
+        // (all else is that memory ran out)
+        Err(_) => number_of(Stop::Memory),
+    }
+}
+
+/// The same of what is imported and called, in a reading.
+pub fn fill_calls(
+    alloc: Global,
+    pickles: Pickles,
+    many: bool,
+    bytes: &[u8],
+    script: &[u8],
+    out: &mut [u8],
+    written: &mut Written,
+) -> u8
+    ensures { Fills (IsTextAfter (asked.Calls pickles detail.Cut) many bytes.now script.now) bytes.now out.old out.new written.new result }
+{
+    let text = Text::Calls(pickles, Detail::Cut);
+    fill_after(alloc, text, many, bytes, script, out, written)
+}
