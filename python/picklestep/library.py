@@ -10,7 +10,7 @@ import ctypes
 import os
 import threading
 from functools import lru_cache
-from typing import Any, Callable, Dict, Optional, Sequence, Tuple
+from typing import Any, Callable, Dict, List, Optional, Sequence, Tuple, cast
 
 from . import place
 from .errors import ProgramError
@@ -100,11 +100,11 @@ class _Library:
 
 def _declared(library: ctypes.CDLL, name: str, modes: int, inputs: int) -> Callable[..., int]:
     """A function of the library, with its types: so many modes and so many inputs come before the room for the text."""
-    function = getattr(library, name)
-    function.argtypes = [*[ctypes.c_bool] * modes, *[ctypes.c_char_p, ctypes.c_size_t] * inputs, ctypes.c_void_p, ctypes.c_size_t,
-                         ctypes.POINTER(_Written)]
+    function: Any = getattr(library, name)
+    given: List[Any] = [ctypes.c_char_p, ctypes.c_size_t] * inputs
+    function.argtypes = [*[ctypes.c_bool] * modes, *given, ctypes.c_void_p, ctypes.c_size_t, ctypes.POINTER(_Written)]
     function.restype = ctypes.c_uint8
-    return function  # type: ignore[no-any-return]
+    return cast(Callable[..., int], function)
 
 
 @lru_cache(maxsize=None)
