@@ -1,6 +1,7 @@
 //! A reader of the standard library as a source.
 
-ghost use Rattle.std.specs.Prelude.{◌≡◌, ◌+◌, ◌<◌, ◌≤◌, length, take, IfOk, IsErr, OnOk, OnErr};
+ghost use Rattle.std.specs.Prelude.{◌≡◌, ◌≢◌, ◌+◌, ◌<◌, ◌≤◌, length, take, IfOk, IfErr, IsErr, OnOk, OnErr};
+ghost use Rattle.std.specs.IoError.{error_kind};
 ghost use Rattle.std.specs.Io.{ReadsAtMost};
 ghost use Rattle.std.specs.Io.KnownBytes.{Consumes, IsAtEnd, ReadConsumes};
 ghost use Rattle.pickle_io.specs.Device.{KeepsOrForgets, HasFailed};
@@ -15,6 +16,7 @@ use std::io::{Error, ErrorKind, Read};
 fn read_again<R: Read>(reader: &mut R, buffer: &mut [u8]) -> io::Result<usize>
     ensures bound { ReadsAtMost result buffer.new }
     ensures bytes { ReadConsumes (R.remaining reader.old) (R.remaining reader.new) result buffer.new }
+    ensures again { IfErr result (λ e. error_kind e ≢ ErrorKind.Interrupted) }
 {
     for _ in 0..u64::MAX {
         match reader.read(buffer) {
@@ -22,7 +24,7 @@ fn read_again<R: Read>(reader: &mut R, buffer: &mut [u8]) -> io::Result<usize>
             given => return given,
         }
     }
-    Err(Error::from(ErrorKind::Interrupted))
+    Err(Error::from(ErrorKind::Other))
 }
 
 /// A reader of the standard library as a source. Each error of the reader counts as a failure, but for a read that a signal interrupted,

@@ -1,6 +1,7 @@
 //! A writer of the standard library as a sink.
 
-ghost use Rattle.std.specs.Prelude.{◌≡◌, ◌≤◌};
+ghost use Rattle.std.specs.Prelude.{◌≡◌, ◌≢◌, ◌≤◌, IfErr};
+ghost use Rattle.std.specs.IoError.{error_kind};
 ghost use Rattle.std.specs.Io.{WritesAtMost};
 ghost use Rattle.std.specs.Io.KnownBytes.{WriteAppends};
 ghost use Rattle.pickle_io.specs.Device.{HasFailed};
@@ -14,6 +15,7 @@ use std::io::{Error, ErrorKind, Write};
 fn write_again<W: Write>(writer: &mut W, bytes: &[u8]) -> io::Result<usize>
     ensures bound { WritesAtMost result bytes.now }
     ensures bytes { WriteAppends (W.contents writer.old) (W.contents writer.new) result bytes.now }
+    ensures again { IfErr result (λ e. error_kind e ≢ ErrorKind.Interrupted) }
 {
     for _ in 0..u64::MAX {
         match writer.write(bytes) {
@@ -21,7 +23,7 @@ fn write_again<W: Write>(writer: &mut W, bytes: &[u8]) -> io::Result<usize>
             written => return written,
         }
     }
-    Err(Error::from(ErrorKind::Interrupted))
+    Err(Error::from(ErrorKind::Other))
 }
 
 /// A writer of the standard library as a sink. Each error of the writer counts as a failure, but for a write that a signal
