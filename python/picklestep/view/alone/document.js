@@ -11,6 +11,7 @@ const MOST_HOLDERS = 20;
 const MOST_RESULTS = 5;
 const MOST_ARGUMENT = 1 << 16;
 const MOST_SOURCE = 1000000; // opcodes of a pickle that is written as Python source,
+const MOST_SOURCE_BYTES = 1 << 26; // and its bytes,
 const MOST_SOURCE_LINES = 1000; // of which so many lines are shown
 const MOST_FIRST = 300000; // opcodes that are shown while the rest is read,
 const MOST_READ = 8000000; // where these are not more
@@ -248,7 +249,7 @@ class Document {
 
   // The pickle as Python source, as much of it as is shown, and how many lines more there are.
   source() {
-    if (this.lines.length > MOST_SOURCE) return { source: [], more: 0, isLong: true };
+    if (this.lines.length > MOST_SOURCE || this.content.length > MOST_SOURCE_BYTES) return { source: [], more: 0, isLong: true };
     const offsets = new Numbers();
     for (let place = 0; place < this.listed; place += 1) offsets.add(this.lines.offset(place));
     const { opcodes, facts } = this, saidAt = (offset) => this.reaches.textAt(offset);
