@@ -482,6 +482,18 @@ class Alone(Driven):
         self.give(self.file('a.pickle', SYSTEM))
         self.assertEqual((self.texts('#rest'), self.texts('#where')), ([''], ['at 0 of 6, offset 0, end stopped']))
 
+    def test_many_opcodes_in_frames(self) -> None:
+        """The first part ends where a frame ends. Where one frame holds all, there is none."""
+        self.load()
+        data = pickle.dumps([(number,) for number in range(200_000)], 4)
+        self.give(self.file('frames.pickle', data))
+        self.assertRegex(self.texts('#closing')[0], '^the first 2[0-9]{2},[0-9]{3} opcodes: the rest is not read$')
+        places = sum(1 for _ in pickletools.genops(data))
+        self.browser.wait(f"document.querySelector('#where').textContent === 'at 0 of {places}, offset 0, end stopped'")
+        content = b'N' * 400_000 + b'.'
+        self.give(self.file('frame.pickle', b'\x80\x04\x95' + len(content).to_bytes(8, 'little') + content))
+        self.assertEqual((self.texts('#rest'), self.texts('#where')), ([''], ['at 0 of 400003, offset 0, end stopped']))
+
 
 class Made(unittest.TestCase):
     """The file itself."""
