@@ -14,7 +14,6 @@ __all__ = ['BROKEN', 'COUNTS', 'HEADING', 'HELD', 'ITEM', 'LEFT', 'LinesError', 
 
 QUOTED = r"'[^'\\]*(?:\\.[^'\\]*)*'"
 _NUMBER = r'-?[0-9]+|le:[0-9a-f]*|f8:[0-9a-f]{16}'
-_ESCAPE = re.compile(rb'\\(x[0-9a-f]{2}|.)')
 _ATOM = re.compile(f'({QUOTED})|({_NUMBER})')
 _OBJECT = re.compile(r'#([0-9]+) ([a-z-]+)')
 _PARTS = re.compile(r' \((#[^)]*)\)')
@@ -57,12 +56,8 @@ def unquoted(text: str) -> bytes:
     b"it's \x00 \\"
     """
     inner = text[1:-1].encode('ascii')
-    return _ESCAPE.sub(_unescaped, inner) if b'\\' in inner else inner
-
-
-def _unescaped(match: 're.Match[bytes]') -> bytes:
-    escape = match[1]
-    return bytes.fromhex(escape[1:].decode('ascii')) if len(escape) > 1 else escape
+    # (the program's escapes, `\xNN`, `\\` and `\'`, are among those of this codec, which is quick)
+    return inner.decode('unicode_escape').encode('latin-1') if b'\\' in inner else inner
 
 
 def number_of(text: str) -> Union[int, float]:

@@ -73,7 +73,8 @@ _EDGES = [
     b']p0\ng0\na(lp5\nI1\nag5\nag0\nat.', b'Np18446744073709551615\n0K\x01p18446744073709551614\ng18446744073709551615\n\x86.',
     b''.join(each + b'.' for each in _MARKED), pickle.dumps([list(range(100)), {n: n for n in range(40)}, {*range(30)}, (*range(50),)], 4),
     b'ca\nb\n(K\x01K\x02e(K\x01K\x02u(K\x01K\x02\x90K\x05a(' + b'K\x01' * 40 + b'e(' + b'K\x01' * 80 + b'u(' + b'K\x01' * 40 + b'\x90.',
-    b'\x80\x04ca\nb\n)}(X\x01\0\0\0aK\x01X\x02\0\0\0ifK\x02u\x92.' + b'\x80\x04ca\nb\n)}X\x01\0\0\0aK\x01s\x92.', b']' * 300 + b'a' * 299 + b'.', b'N' + b'\x85' * 100 + b'.',
+    b'\x80\x04ca\nb\n)}(X\x01\0\0\0aK\x01X\x02\0\0\0ifK\x02u\x92.' + b'\x80\x04ca\nb\n)}X\x01\0\0\0aK\x01s\x92.',
+    b']' * 300 + b'a' * 299 + b'.', b'N' + b'\x85' * 100 + b'.',
     b'(ca\nb\no.(ca\nb\nK\x01o.ca\nb\n}X\x01\0\0\0aK\x01sb.', *_ENDS]
 
 

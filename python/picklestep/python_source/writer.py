@@ -2,8 +2,7 @@
 
 from __future__ import annotations
 
-from ast import literal_eval
-from typing import Callable, Dict, Iterable, List, Optional, Sequence, Tuple
+from typing import Callable, Dict, Iterable, List, Optional, Sequence, Tuple, Union
 
 from .names import is_identifier
 from .nodes import Arguments, Called, Entry, Event, Filled, Node, Paired, Statement
@@ -59,7 +58,7 @@ class Writer:
         start = text[:2].lstrip('b')[:1]
         if start not in ('"', "'") or not text.endswith(start):
             return f'cut({text[:_MOST_LETTERS]!r}, {len(text) - _MOST_LETTERS})'
-        value = literal_eval(text)
+        value = _value_of(text)
         more = len(value) - _MOST_LETTERS
         return f'{value[:_MOST_LETTERS]!r} + cut({more})' if more > 0 else text
 
@@ -122,6 +121,12 @@ class Writer:
             self._end(f'{target}[{str(key)}] = {str(value)}', paired.offset)
         if shown < count:
             self._end(f'{target}.update(cut({count - shown}))', paired.offset)
+
+
+def _value_of(text: str) -> Union[str, bytes]:
+    """A text or bytes of what `repr` wrote, however long."""
+    inner = text[2 if text[0] == 'b' else 1:-1].encode('latin-1', 'backslashreplace').decode('unicode_escape')
+    return inner.encode('latin-1') if text[0] == 'b' else inner
 
 
 def _bracketed(start: str, end: str, texts: List[str], is_tuple: bool) -> str:

@@ -32,8 +32,9 @@ _MOST_ENTRIES = 500
 _MOST_HOLDERS = 20
 _MOST_RESULTS = 5
 _MOST_ARGUMENT = 1 << 16
-# Of up to so many opcodes the Python source is written, of which so many lines are shown.
+# Of up to so many opcodes and bytes the Python source is written, of which so many lines are shown.
 _MOST_SOURCE = 1_000_000
+_MOST_SOURCE_BYTES = 1 << 26
 _MOST_SOURCE_LINES = 1000
 _IMPORTS = ('import', 'inst')
 _CALLS = ('inst', 'call', 'new', 'state', 'append', 'set', 'add')
@@ -286,9 +287,10 @@ class Document:
 
     def source(self) -> Fields:
         """The pickle as Python source, as much of it as is shown, and how many lines more there are."""
-        if len(self.lines) > _MOST_SOURCE:
+        content = self.content()
+        if len(self.lines) > _MOST_SOURCE or len(content) > _MOST_SOURCE_BYTES:
             return {'source': [], 'more': 0, 'isLong': True}
-        lines = list(source(self.content(), full=False, many=bool(self._options)))
+        lines = list(source(content, full=False, many=bool(self._options)))
         return {'source': lines[:_MOST_SOURCE_LINES], 'more': max(0, len(lines) - _MOST_SOURCE_LINES), 'isLong': False}
 
     # --- For reports: the objects as they are at the end ---

@@ -11,8 +11,9 @@ const MOST_HOLDERS = 20;
 const MOST_RESULTS = 5;
 const MOST_ARGUMENT = 1 << 16;
 const MOST_SOURCE = 1000000; // opcodes of a pickle that is written as Python source,
+const MOST_SOURCE_BYTES = 1 << 26; // and its bytes,
 const MOST_SOURCE_LINES = 1000; // of which so many lines are shown
-const MOST_FIRST = 300000; // opcodes that are shown while the rest is read,
+const MOST_FIRST = 300000; // opcodes that are shown while the rest is read (or up to the last frame that is whole in them),
 const MOST_READ = 8000000; // where these are not more
 const SHIFTS = { replace: 0, insert: 1, delete: -1, frame: 1, unframe: -1 };
 const HOW = { '+': 'append', '&': 'add', '!': 'state', '[': 'key', '=': 'value' };
@@ -30,7 +31,7 @@ class Enough extends Error {
 }
 
 class Document {
-  // Opens a pickle. Where it has many opcodes, only the first of them are opened unless it is `isWhole`, and the document is a part.
+  // Opens a pickle. Where it has many opcodes, only the first of them are opened unless it is `isWhole`: the document is a part.
   static async open({ module, opcodes, facts, isLive }, file, name, many, isWhole, progress) {
     const document = new Document();
     const options = many ? ['--many'] : [];
@@ -43,7 +44,7 @@ class Document {
     document.session = await Session.open(module, document.content, many, isLive);
     await document.read().catch((error) => { document.session.close(); throw error; });
     document.pickle = document.version; // (its edits have others)
-    if (document.isPart) document.lines.closing = [`the first ${MOST_FIRST.toLocaleString('en')} opcodes: the rest is not read`];
+    if (document.isPart) document.lines.closing = [`the first ${document.lines.length.toLocaleString('en')} opcodes: the rest is not read`];
     return document;
   }
 
@@ -51,15 +52,20 @@ class Document {
     return readListing((words, into) => this.run(words, into, most), this.options);
   }
 
-  // The listing. Where it has more lines than are shown first, what is behind these is taken off the bytes.
+  // The listing. Where it has more lines than are shown first, what is behind these is taken off the bytes, unless a frame holds all of them:
+  // there is no reading on to the cut within a frame.
   listFirst() {
+    const whole = this.content;
     try {
       return this.list(MOST_FIRST);
     } catch (error) {
       if (!(error instanceof Enough)) throw error;
-      this.content = this.content.slice(0, error.offset);
-      return this.list();
+      this.content = whole.slice(0, error.offset);
     }
+    const first = this.list();
+    if (first.length > MOST_FIRST / 2) return first;
+    this.content = whole;
+    return this.list(MOST_READ);
   }
 
   // --- The pickle as it is ---
@@ -248,7 +254,7 @@ class Document {
 
   // The pickle as Python source, as much of it as is shown, and how many lines more there are.
   source() {
-    if (this.lines.length > MOST_SOURCE) return { source: [], more: 0, isLong: true };
+    if (this.lines.length > MOST_SOURCE || this.content.length > MOST_SOURCE_BYTES) return { source: [], more: 0, isLong: true };
     const offsets = new Numbers();
     for (let place = 0; place < this.listed; place += 1) offsets.add(this.lines.offset(place));
     const { opcodes, facts } = this, saidAt = (offset) => this.reaches.textAt(offset);

@@ -60,7 +60,8 @@ function isUtf8(bytes) {
 }
 
 function bytesSource(bytes) {
-  return bytes.length > MOST_WHOLE ? new Shortened(`${pythonBytes(bytes.subarray(0, MOST_LETTERS))} + cut(${bytes.length - MOST_LETTERS})`) : pythonBytes(bytes);
+  if (bytes.length <= MOST_WHOLE) return pythonBytes(bytes);
+  return new Shortened(`${pythonBytes(bytes.subarray(0, MOST_LETTERS))} + cut(${bytes.length - MOST_LETTERS})`);
 }
 
 function bytearraySource(bytes) {
@@ -105,7 +106,8 @@ function floatSource(value, isNegative) {
 
 const C_NUMBER = /^[ \t\v\f\r]*([+-]?)(0x[0-9a-f]+|0[0-7]*|[1-9][0-9]*)$/i;
 const PYTHON_NUMBER = /^[ \t\n\v\f\r]*([+-]?)(0x(?:_?[0-9a-f])+|0o(?:_?[0-7])+|0b(?:_?[01])+|[1-9](?:_?[0-9])*|0(?:_?0)*)[ \t\n\v\f\r]*$/i;
-const PYTHON_FLOAT = /^[ \t\n\v\f\r]*([+-]?)((?:[0-9](?:_?[0-9])*\.?(?:[0-9](?:_?[0-9])*)?|\.[0-9](?:_?[0-9])*)(?:e[+-]?[0-9](?:_?[0-9])*)?|inf(?:inity)?|nan)[ \t\n\v\f\r]*$/i;
+const DIGITS = '[0-9](?:_?[0-9])*';
+const PYTHON_FLOAT = new RegExp(`^[ \\t\\n\\v\\f\\r]*([+-]?)((?:${DIGITS}\\.?(?:${DIGITS})?|\\.${DIGITS})(?:e[+-]?${DIGITS})?|inf(?:inity)?|nan)[ \\t\\n\\v\\f\\r]*$`, 'i');
 
 const upToNul = (line) => line.split('\0', 1)[0];
 

@@ -47,22 +47,29 @@ const host = {
       say(`the module does not start: ${error.message}`, true);
       return;
     }
-    worker.thread = newThread(say, (text) => say(`the worker has ended: ${text}`, true));
+    worker.thread = newThread();
     by('where').textContent = '';
     say('Open a pickle, or choose an example.');
     by('opening').dataset.ready = 'yes';
   },
 };
 
-// A worker with the program in it. `progress` is told how far it is, and `ended` why it ended.
-function newThread(progress, ended) {
+// --- Workers ---
+
+const sayOfRest = (text) => { by('rest').textContent = text; };
+const sayAlone = (why) => sayOfRest(`The first part is shown alone: ${why}`);
+
+// A worker with the program in it.
+function newThread() {
   const thread = new Worker(worker.code);
   thread.onmessage = ({ data }) => {
-    if (data.progress !== undefined) { progress(data.progress); return; }
-    worker.asked.get(data.id)(data.answer);
-    worker.asked.delete(data.id);
+    if (data.progress === undefined) {
+      worker.asked.get(data.id).give(data.answer);
+      worker.asked.delete(data.id);
+    } else if (thread === worker.reader) sayOfRest(`The rest is being read: ${data.progress}`);
+    else say(data.progress);
   };
-  thread.onerror = (event) => ended(event.message);
+  thread.onerror = (event) => (thread === worker.reader ? sayAlone(event.message) : say(`the worker has ended: ${event.message}`, true));
   askThread(thread, 'start', { ...worker.program, from: worker.next });
   return thread;
 }
@@ -70,34 +77,45 @@ function newThread(progress, ended) {
 function askThread(thread, word, asked, moved) {
   const id = worker.next += 1;
   thread.postMessage({ id, word, asked: asked || {} }, moved || []);
-  return new Promise((answer) => worker.asked.set(id, answer));
+  return new Promise((give) => worker.asked.set(id, { thread, give }));
 }
 
-// --- What is shown in part ---
+// Ends a worker. What it was asked gets an empty answer.
+function endThread(thread) {
+  thread.terminate();
+  for (const [id, asked] of worker.asked) {
+    if (asked.thread !== thread) continue;
+    worker.asked.delete(id);
+    asked.give({});
+  }
+}
 
-// Reads the whole of a pickle of which the first part is shown, in a worker of its own, and shows it where the page is in that.
+// Reads the whole of a pickle of which the first part is shown, in a worker of its own, and goes on with that.
 async function readRest() {
-  const only = (text) => { if (worker.reader === reader) by('rest').textContent = `The first part is shown alone: ${text}`; };
-  const reader = worker.reader = newThread((text) => { if (worker.reader === reader) by('rest').textContent = `The rest is being read: ${text}`; }, only);
+  const reader = worker.reader = newThread();
   const { bytes, name, many } = await host.ask('whole');
   const answer = await askThread(reader, 'rest', { bytes, name, many }, [bytes.buffer]);
-  if (answer.failed) { only(answer.said.replace('not done: ', '')); return; }
-  view.busy = view.busy.then(async () => {
-    if (worker.reader !== reader) return;
-    const state = await askThread(reader, 'go', await host.ask('marks'));
-    if (state.failed) { only(state.said); return; }
-    worker.thread.terminate();
-    [worker.thread, worker.reader, worker.shown] = [reader, null, state.pickle];
-    by('rest').textContent = '';
-    say('all is read');
-    await show(state);
-  });
+  if (worker.reader !== reader) return; // (another pickle was opened)
+  if (answer.failed) sayAlone(answer.said.replace('not done: ', ''));
+  else view.busy = view.busy.then(() => goOn(reader)).catch(() => undefined);
+}
+
+// Shows the whole pickle where the page is in the first part.
+async function goOn(reader) {
+  if (worker.reader !== reader) return;
+  const state = await askThread(reader, 'go', await host.ask('marks'));
+  if (state.failed) { sayAlone(state.said); return; }
+  endThread(worker.thread);
+  [worker.thread, worker.reader, worker.shown] = [reader, null, state.pickle];
+  sayOfRest('');
+  say('all is read');
+  await show(state);
 }
 
 function endReader() {
-  worker.reader?.terminate();
+  if (worker.reader) endThread(worker.reader);
   worker.reader = null;
-  by('rest').textContent = '';
+  sayOfRest('');
 }
 
 // --- Opening ---
