@@ -9,7 +9,9 @@ import random
 import shutil
 import subprocess
 import sys
+import threading
 from collections.abc import Iterable, Iterator
+from concurrent.futures import ThreadPoolExecutor
 from dataclasses import dataclass, field
 from pathlib import Path
 from typing import Callable, NamedTuple
@@ -27,6 +29,7 @@ SCRIPT = (
 TASKS = (("list",), ("objects",), ("calls",), ("list", "--many"), ("debug",), ("debug", "--window", "3"))
 CASES = 2000
 SEED = 1
+AT_ONCE = 4
 # (a static program of Debian's glibc or musl needs no other file: it names neither a loader nor a library)
 NEEDS_OTHERS = ("INTERP", "NEEDED")
 LIMITS = (8, 16, 32, 64)  # MiB
@@ -66,7 +69,7 @@ def taken(file: Path) -> bytes:
 
 
 def ask(program: list[str], asked: Asked, memory: str | None = None) -> Answer:
-    saved = asked.file.with_suffix(".saved") if asked.saves else Path()
+    saved = Path(f"{asked.file}.{threading.get_ident()}.saved")
     limited = [] if memory is None else ["sh", "-c", 'ulimit -v "$1"; shift; exec "$@"', "sh", memory]
     done = subprocess.run([*limited, *program, *asked.command(saved)], input=asked.given, capture_output=True, timeout=300, check=False)
     return Answer(done.returncode, done.stdout, done.stderr, taken(saved) if asked.saves else b"")
@@ -127,15 +130,10 @@ class Machines:
             made += [Asked(tuple(words), file, script, saves=words[0] == "debug") for words, script in runs_of(block)]
         return made
 
-    def wanted(self, asked: Asked) -> Answer:
-        if asked not in self.answers:
-            self.answers[asked] = ask([str(self.program)], asked)
-        return self.answers[asked]
-
     def compare(self, asked: Asked, found: Answer) -> str:
         """What is wrong with an answer."""
         self.runs += 1
-        wanted = self.wanted(asked)
+        wanted = self.answers[asked]
         if found == wanted:
             return ""
         pairs = zip(found[1:], wanted[1:])
@@ -143,14 +141,14 @@ class Machines:
         return f"{' '.join(asked.words)} {asked.file.name}: {why}, with errors that begin: {beginning(found.errors)}"
 
     def compare_all(self, program: list[str], runs: list[Asked]) -> Noted:
-        for asked in runs:
-            why = self.compare(asked, ask(program, asked))
-            if why:
-                return Noted(why, "")
-        return Noted("", f": {len(runs)} runs")
+        """Each run is a process of its own, and some are there at once."""
+        with ThreadPoolExecutor(AT_ONCE) as pool:
+            return self.compare_answers(runs, pool.map(functools.partial(ask, program), runs))
 
     def compare_answers(self, runs: list[Asked], answers: Iterable[Answer]) -> Noted:
-        """The same of answers that come from one process."""
+        new = [asked for asked in runs if asked not in self.answers]
+        with ThreadPoolExecutor(AT_ONCE) as pool:
+            self.answers.update(zip(new, pool.map(functools.partial(ask, [str(self.program)]), new)))
         for asked, found in zip(runs, answers, strict=True):
             why = self.compare(asked, found)
             if why:

@@ -28,11 +28,17 @@ with picklestep.Session(hostile) as session:
 print(library.answer(['calls'], hostile) is not None, place.find_program().rpartition('/')[2])
 """
 SAID = "[\"import 'posix' 'system' as #0\", \"call 'posix' 'system' ('id') as #3\"] GLOBAL 0\nTrue 1 1\n"
-# The tests that are of the package and not of Linux, and that end in minutes though each start of Node takes a third of a second.
+# Classes that end in minutes though each start of Node takes a third of a second. All of them: over_node.py.
 OVER_NODE = (
+    "picklestep.scan",
     "test_answers.Listings",
+    "test_answers.ObjectLines",
+    "test_answers.Parts",
     "test_runs.CommandLine",
     "test_runs.Errors",
+    "test_scan.RealFiles",
+    "test_scan.TheCommand",
+    "test_scan_runs.AFewWorkers",
     "test_sessions.Edits",
     "test_sessions.Notebooks",
     "test_sessions.Threads",

@@ -76,6 +76,8 @@ def _hand_over(words: 'list[str]') -> int:
 def _become(command: 'list[str]') -> int:
     """Lets a command take the place of this process. On Windows execv would come back to the shell at once: there its status is answered."""
     if os.name == 'nt':
+        here = os.path.normcase(os.getcwd())
+        sys.path[:] = [path for path in sys.path if path and os.path.normcase(os.path.abspath(path)) != here]
         import subprocess
         return subprocess.call(command)
     os.execv(command[0], command)

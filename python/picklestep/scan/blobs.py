@@ -8,7 +8,7 @@ import tempfile
 import threading
 import time
 from bisect import bisect_right
-from contextlib import contextmanager
+from contextlib import contextmanager, suppress
 from copy import copy
 from dataclasses import dataclass
 from typing import BinaryIO, Iterable, Iterator, List, Optional, Sequence, Tuple, cast
@@ -246,10 +246,9 @@ class FileBlob(Blob):
 
     def opened_name(self) -> Optional[str]:
         """The path of this file, where it is still its own."""
-        try:
+        name = self.name
+        with suppress(OSError):  # (only Linux has such a path)
             name = os.readlink(f'/proc/{os.getpid()}/fd/{self.file.fileno()}')
-        except OSError:  # (only Linux has such a path)
-            name = self.name
         try:
             return name if name is not None and os.path.samestat(os.stat(name), os.fstat(self.file.fileno())) else None
         except OSError:

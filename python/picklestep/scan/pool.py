@@ -57,10 +57,11 @@ def _start(command: List[str], link: int) -> 'subprocess.Popen[bytes]':
     """Starts a process that inherits one end of a link. Windows has it as a handle, and groups of its own for Ctrl-C."""
     if os.name != 'nt':
         return subprocess.Popen(command, stdin=subprocess.DEVNULL, pass_fds=[link])
-    windows: Any = subprocess  # (elsewhere it has not these names)
-    os.set_handle_inheritable(link, True)
-    return subprocess.Popen(command, stdin=subprocess.DEVNULL, creationflags=windows.CREATE_NEW_PROCESS_GROUP,
-                            startupinfo=windows.STARTUPINFO(lpAttributeList={'handle_list': [link]}))
+    system: Any = os  # (elsewhere these modules have not these names)
+    processes: Any = subprocess
+    system.set_handle_inheritable(link, True)
+    return subprocess.Popen(command, stdin=subprocess.DEVNULL, creationflags=processes.CREATE_NEW_PROCESS_GROUP,
+                            startupinfo=processes.STARTUPINFO(lpAttributeList={'handle_list': [link]}))
 
 
 class _Worker:
