@@ -49,7 +49,7 @@ fn by_modules<'a>(
     None
 }
 
-/// Whether a row is for these names.
+/// Whether a row is for these names. The members differ in most rows, also where the modules do not.
 fn is_for(
     row: &(&'static str, &'static str, &'static str, &'static str),
     from: &[u8],
@@ -57,7 +57,7 @@ fn is_for(
 ) -> bool
     ensures { result ≡ (bytes_eq from.now row.now.0.now && bytes_eq name.now row.now.1.now) }
 {
-    from == row.0.as_bytes() && name == row.1.as_bytes()
+    name == row.1.as_bytes() && from == row.0.as_bytes()
 }
 
 /// What is imported for names that have a row, and where they have none, otherwise.

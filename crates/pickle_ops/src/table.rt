@@ -72,6 +72,7 @@ impl Kind {
     /// operation, and not copied. NEXT_BUFFER and READONLY_BUFFER make theirs from the state: for these, and for an
     /// operation that makes no object, the answer says nothing. It fails only where the argument has more than fourteen
     /// bytes, and there are so many that share it that they cannot be counted.
+    #[inline(always)]
     pub fn of(op: &Op) -> Result<Kind, AllocError>
         ensures ok { IfOk result (λ k. k ≡ kind_of op.now) }
         ensures err { OnErr result (most_inline < length op.now.arg) }
