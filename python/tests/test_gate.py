@@ -10,7 +10,7 @@ import shutil
 import subprocess
 import unittest
 from pathlib import Path
-from typing import Any, Dict, List, Tuple
+from typing import Any, Dict, List, Set, Tuple
 
 from json_schema import faults
 from pickles import ROOT
@@ -19,6 +19,27 @@ from scan_support import HARMLESS, HOSTILE, MODELS, ScanCase, python_with
 SCHEMA = Path(__file__).resolve().parent / 'data' / 'sarif-2.1.0-parts.json'
 PAGE = (ROOT / 'docs' / 'SCAN.md').read_text(encoding='utf-8')
 VALIDATE = 'import json, sys, jsonschema; jsonschema.Draft7Validator(json.load(open(sys.argv[1]))).validate(json.load(open(sys.argv[2])))'
+
+# The class of each object that is written, in a package that was made from the whole schema: what it may have, and what it must have.
+_RESULTS, _DRIVER = ('runs', 'results'), ('runs', 'tool', 'driver')
+_PLACE = (*_RESULTS, 'locations', 'physicalLocation')
+CLASSES: Dict[Tuple[str, ...], str] = {
+    (): 'SarifLog', ('runs',): 'Run', ('runs', 'tool'): 'Tool', _DRIVER: 'ToolComponent', (*_DRIVER, 'rules'): 'ReportingDescriptor',
+    (*_DRIVER, 'rules', 'shortDescription'): 'MultiformatMessageString', (*_DRIVER, 'rules', 'defaultConfiguration'): 'ReportingConfiguration',
+    ('runs', 'invocations'): 'Invocation', _RESULTS: 'Result', (*_RESULTS, 'message'): 'Message', (*_RESULTS, 'locations'): 'Location',
+    _PLACE: 'PhysicalLocation', (*_PLACE, 'artifactLocation'): 'ArtifactLocation', (*_PLACE, 'region'): 'Region',
+    (*_RESULTS, 'locations', 'logicalLocations'): 'LogicalLocation',
+}
+FIELDS = ("import json, sys, attr, sarif_om; print(json.dumps({name: [[each.metadata['schema_property_name'], each.default is attr.NOTHING] "
+          "for each in attr.fields(getattr(sarif_om, name))] for name in sys.argv[1:]}))")
+
+
+def part_of(schema: Dict[str, Any], path: Tuple[str, ...]) -> Dict[str, Any]:
+    """The schema of an object within others."""
+    for name in path:
+        inner: Dict[str, Any] = schema['properties'][name]
+        schema = inner['items'] if inner['type'] == 'array' else inner
+    return schema
 
 
 class Findings(ScanCase):
@@ -56,6 +77,30 @@ class Findings(ScanCase):
             if python is not None:
                 done = subprocess.run([python, '-c', VALIDATE, str(SCHEMA), 'out.sarif'], cwd=self.folder, capture_output=True, text=True)
                 self.assertEqual((done.returncode, done.stderr), (0, ''))
+
+    def test_the_parts_ask_for_what_the_whole_schema_does(self) -> None:
+        """They take no name that it does not have, and leave out none that it requires."""
+        python = python_with('sarif_om')
+        if python is None:
+            self.skipTest('there is no sarif_om (python3-sarif-python-om)')
+        run = subprocess.run([python, '-c', FIELDS, *CLASSES.values()], capture_output=True, text=True, check=True)
+        fields = json.loads(run.stdout)
+        schema = json.loads(SCHEMA.read_text())
+        for path, name in CLASSES.items():
+            with self.subTest(name):
+                part = part_of(schema, path)
+                self.assertIs(part['additionalProperties'], False)
+                self.assertEqual(set(part['properties']) - {each for each, _ in fields[name]}, set())
+                self.assertEqual(set(part.get('required', ())), {each for each, is_required in fields[name] if is_required})
+        self.assertEqual(self.objects_of(self.sarif()), set(CLASSES))
+
+    def objects_of(self, value: Any, path: Tuple[str, ...] = ()) -> Set[Tuple[str, ...]]:
+        """The places of all objects, but for those whose names are free."""
+        if isinstance(value, list):
+            return {found for each in value for found in self.objects_of(each, path)}
+        if not isinstance(value, dict) or path[-1:] == ('partialFingerprints',):
+            return set()
+        return {path, *(found for name, each in value.items() for found in self.objects_of(each, (*path, name)))}
 
     def test_other_files_do_not_fit_it(self) -> None:
         schema, made = json.loads(SCHEMA.read_text()), self.sarif()

@@ -212,7 +212,7 @@ class SqliteFiles(ScanCase):
         path = str(self.folder / 'a.db')
         connection = sqlite3.connect(path)
         connection.execute('CREATE TABLE t (value BLOB)')
-        connection.execute('INSERT INTO t VALUES (zeroblob(100000000))')
+        connection.execute('INSERT INTO t VALUES (zeroblob(30000000))')
         connection.execute('INSERT INTO t VALUES (?)', (b'\x80\x04B' + struct.pack('<I', 20 << 20) + b'x' * (20 << 20) + HOSTILE,))
         connection.commit()
         connection.close()
