@@ -3,7 +3,8 @@ use Rattle.std.proofs.Common.{◌≡◌, true, ℕ, ◌<◌, ◌≤◌, ◌^◌,
 use Rattle.std.specs.Prelude.{Bool, IsTrue, false, IfSome, IfErr, IsErrAnd, option_map}
 use Rattle.std.specs.Str.Parse.{IsNumeral, digits_value, without_leading_plus}
 use Rattle.std.specs.Option.{unwrap_or}
-use Rattle.clap.specs.Words.{App, Row, Text, TriesOne, all_of, first_of, kind_of, takes}
+use Rattle.clap.specs.Words.{App, HasMatchesOf, Row, Text, TriesOne, all_of, first_of, is_simple, kind_of, subcommand_of, subcommand_rows_of, takes}
+use Rattle.clap.specs.declared.parser.matches.ArgMatches.{ArgMatches}
 use Rattle.pickle_holes.specs.declared.hole.Hole.{Hole}
 use Rattle.pickle_holes.specs.Text.{holes_of}
 use Rattle.clap.specs.declared.error.Error.{Error}
@@ -14,7 +15,7 @@ use Rattle.picklestep.specs.declared.task.CallsOptions.{CallsOptions}
 use Rattle.picklestep.specs.declared.task.Usage.{Usage}
 use Rattle.picklestep.specs.declared.task.Usage.TheVariants as usage
 use Rattle.pickle_further.specs.declared.way.Pickles.{Pickles}
-use Rattle.picklestep.specs.CommandLine.{Matches, GivesReading, HasReading, skips_of, HasCallsOptions, IsMemory, IsNamed, IsWindow, most_records}
+use Rattle.picklestep.specs.CommandLine.{Matches, GivesReading, HasReading, skips_of, HasCallsOptions, IsMemory, IsNamed, IsWindow, most_records, program}
 
 -- ---- a subcommand
 
@@ -138,6 +139,12 @@ no_reading matches rows (task.List input) e out u = let bad : 99 ≡ 108 = ap le
 no_reading matches rows (task.Objects input) e out u = let bad : 99 ≡ 111 = ap letter (sym e ∙ u.used) in omega (arith, bad)
 no_reading matches rows (task.Calls input options) e out u = out options (subst (λ r. HasCallsOptions r options) (sym (not_used matches _ _ rows u.0.rows e u.0.used)) u.1)
 no_reading matches rows (task.Debug input options) e out u = let bad : 99 ≡ 100 = ap letter (sym e ∙ u.0.used) in omega (arith, bad)
+
+-- ---- the matches of the program's words
+
+-- the program's command line is one of those whose matches clap's words say
+pub matched : (a : App) (words : List Text) (m : ArgMatches) → a ≡ program → HasMatchesOf a words m → subcommand_rows_of m ≡ subcommand_of program words
+matched a words m e has = (has (ap is_simple e)).1 ∙ ap (λ (x : App). subcommand_of x words) e
 
 -- ---- a refusal
 

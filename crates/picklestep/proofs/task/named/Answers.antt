@@ -1,4 +1,4 @@
-use Rattle.std.proofs.Common.{rules, ◌≡◌, refl, sym, ◌∙◌, ap, Some, codes}
+use Rattle.std.proofs.Common.{rules, ◌≡◌, sym, ◌∙◌, ap, Some, Ok, codes}
 use Rattle.clap.proofs.WalkLemmas.{first_value-rows}
 use Rattle.clap.specs.Words.{Text, found_of, rows_of}
 use Rattle.picklestep.proofs.Named.{used_is, no_task, no_reading}
@@ -30,11 +30,11 @@ returns-in_ok-file-2-clause-some c =
       one_is = c.is_given-many.ensures.no;
     }
 
-pub returns-in_default-calls_options_of-clause-none : goal.returns-in_default-calls_options_of-clause-none
-returns-in_default-calls_options_of-clause-none c =
+pub returns-in_default-2-clause-none : goal.returns-in_default-2-clause-none
+returns-in_default-2-clause-none c =
     let name : c.in-Some.name.now ≡ codes "calls" = search rules in
     let rows = rows_of (found_of c.in-Some.found.now) in
-    λ is task. no_reading _ rows task (used_is _ _ _ _ _ c.in-Some.ensures.name c.in-Some.ensures.rows ∙ ap (λ (n : Text). Some (n, rows)) name) (c.in_default-calls_options_of.ensures.none refl)
+    λ is task. no_reading _ rows task (used_is _ _ _ _ _ c.in-Some.ensures.name c.in-Some.ensures.rows ∙ ap (λ (n : Text). Some (n, rows)) name) (c.in_ok-options.ensures.none (ap Ok c.in_default-2.is))
 
 pub returns-in_ok-file-3-clause-some : goal.returns-in_ok-file-3-clause-some
 returns-in_ok-file-3-clause-some c =
