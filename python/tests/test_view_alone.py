@@ -104,7 +104,8 @@ class Driven(unittest.TestCase):
     # --- The same in both pages ---
 
     def drive(self) -> List[Dict[str, Any]]:
-        """What is seen after each key."""
+        """What is seen after each key. No frame of the screen is waited for."""
+        self.browser.js('void (window.requestAnimationFrame = (draw) => setTimeout(draw))')
         seen = [self.browser.js(SEEN)]
         for key in KEYS:
             if key[0] == '#':
