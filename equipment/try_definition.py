@@ -101,7 +101,7 @@ def _trial(number: int, pickles: Sequence[pathlib.Path]) -> Noted:
     """Runs this script in a process of its own, whose memory is limited."""
     words = [sys.executable, "-W", "ignore", "-B", __file__, *(["--odd"] if number == 0 else []), str(SEED + number), str(EACH)]
     words += map(str, pickles if number == 0 else [])
-    done = subprocess.run(words, capture_output=True, text=True, check=False, timeout=600)
+    done = subprocess.run(words, capture_output=True, text=True, check=False, timeout=1800)
     if done.returncode != 0:
         return Noted(f"it ended with status {done.returncode}: {done.stderr.strip()[-300:]}", "")
     found = json.loads(done.stdout)

@@ -104,7 +104,8 @@ class Driven(unittest.TestCase):
     # --- The same in both pages ---
 
     def drive(self) -> List[Dict[str, Any]]:
-        """What is seen after each key."""
+        """What is seen after each key. No frame of the screen is waited for."""
+        self.browser.js('void (window.requestAnimationFrame = (draw) => setTimeout(draw))')
         seen = [self.browser.js(SEEN)]
         for key in KEYS:
             if key[0] == '#':
@@ -479,6 +480,9 @@ class Alone(Driven):
         self.browser.wait("document.querySelector('#rest').textContent === 'The first part is shown alone: more than 8,000,000 opcodes are not "
                           "read here (picklestep view shows them)'")
         self.assertTrue(self.texts('#where')[0].startswith('at 0 of 300000,'))
+        self.browser.js("showPane('result')")
+        self.browser.js(SETTLED)
+        self.assertIn('# The rest of the pickle is not read.', self.texts('#source')[0])
         self.give(self.file('a.pickle', SYSTEM))
         self.assertEqual((self.texts('#rest'), self.texts('#where')), ([''], ['at 0 of 6, offset 0, end stopped']))
 

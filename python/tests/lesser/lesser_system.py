@@ -53,10 +53,17 @@ class _Lesser(types.ModuleType):
         return own['_others'][name] if name in own['_others'] else getattr(own['_module'], name)
 
     def __setattr__(self, name: str, value: Any) -> None:
-        setattr(self.__dict__['_module'], name, value)
+        """(A test may put something else there for a while.)"""
+        if name in self.__dict__['_others']:
+            self.__dict__[name] = value
+        else:
+            setattr(self.__dict__['_module'], name, value)
 
     def __delattr__(self, name: str) -> None:
-        delattr(self.__dict__['_module'], name)
+        if name in self.__dict__:
+            del self.__dict__[name]
+        else:
+            delattr(self.__dict__['_module'], name)
 
 
 def _is_hidden(path: object) -> bool:

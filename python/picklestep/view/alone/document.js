@@ -259,7 +259,9 @@ class Document {
     for (let place = 0; place < this.listed; place += 1) offsets.add(this.lines.offset(place));
     const { opcodes, facts } = this, saidAt = (offset) => this.reaches.textAt(offset);
     const lines = sourceOf(this.content, offsets, this.lines.closing, { opcodes, facts, saidAt }).split('\n').slice(0, -1);
-    return { source: lines.slice(0, MOST_SOURCE_LINES), more: Math.max(0, lines.length - MOST_SOURCE_LINES), isLong: false };
+    const shown = lines.slice(0, MOST_SOURCE_LINES);
+    if (this.isPart) shown.push('# The rest of the pickle is not read.');
+    return { source: shown, more: Math.max(0, lines.length - MOST_SOURCE_LINES), isLong: false };
   }
 
   // --- Moving ---
