@@ -79,7 +79,12 @@ def _become(command: 'list[str]') -> int:
         here = os.path.normcase(os.getcwd())
         sys.path[:] = [path for path in sys.path if path and os.path.normcase(os.path.abspath(path)) != here]
         import subprocess
-        return subprocess.call(command)
+        process = subprocess.Popen(command)
+        while True:
+            try:
+                return process.wait()
+            except KeyboardInterrupt:  # (Ctrl-C goes to the command too, and it ends as it will)
+                pass
     os.execv(command[0], command)
 
 
