@@ -9,6 +9,8 @@ from __future__ import annotations
 
 import collections
 import datetime
+import io
+import itertools
 import json
 import os
 import pickle
@@ -16,6 +18,7 @@ import random
 import subprocess
 import sys
 import time
+import types
 import urllib.request
 import zipfile
 from pathlib import Path
@@ -78,14 +81,35 @@ def make_files(folder: Path) -> None:
             (folder / f'{number}.pkl').write_bytes(pickle.dumps(made[number % 4 - 1], number % 4 + 2))
 
 
+class Numbers:
+    """The numbers of a tensor, which a pickle only names."""
+
+
+class Pickler(pickle.Pickler):
+    """Names them as torch does, which need not be installed."""
+
+    kind = type('FloatStorage', (), {'__module__': 'torch'})
+
+    def persistent_id(self, value: Any) -> Any:
+        return ('storage', self.kind, '0', 'cpu', STORAGES // 4) if isinstance(value, Numbers) else None
+
+
 def make_large(path: Path) -> None:
-    """A zip archive as torch writes it: a pickle of a megabyte, and a gigabyte of numbers."""
-    with zipfile.ZipFile(path, 'w', zipfile.ZIP_STORED, allowZip64=True) as archive:
-        archive.writestr('archive/data.pkl', pickle.dumps([{'name': f'layer{at}', 'shape': (at, at + 1)} for at in range(25_000)], 2))
-        with archive.open('archive/data/0', 'w', force_zip64=True) as member:
-            for _ in range(STORAGES >> 20):
-                member.write(os.urandom(1 << 10) * (1 << 10))
-        archive.writestr('archive/version', '3\n')
+    """A zip archive as torch writes it: a pickle of a megabyte, and a gigabyte of numbers. The data begin at multiples of 64."""
+    sys.modules['torch'] = types.ModuleType('torch')
+    setattr(sys.modules['torch'], 'FloatStorage', Pickler.kind)
+    made = io.BytesIO()
+    Pickler(made, 2).dump([Numbers(), [{'name': f'layer{at}', 'shape': (at, at + 1)} for at in range(25_000)]])
+    numbers = itertools.repeat(os.urandom(1 << 10) * (1 << 10), STORAGES >> 20)
+    with open(path, 'wb') as file, zipfile.ZipFile(file, 'w') as archive:
+        for name, pieces in (('data.pkl', iter([made.getvalue()])), ('data/0', numbers), ('version', iter([b'3\n']))):
+            member = zipfile.ZipInfo(f'archive/{name}', (1980, 1, 1, 0, 0, 0))
+            fill = -(file.tell() + 34 + len(member.filename)) % 64
+            member.extra = b'FB' + fill.to_bytes(2, 'little') + b'Z' * fill
+            with archive.open(member, 'w') as out:
+                for piece in pieces:
+                    out.write(piece)
+            member.extra = b''  # (the directory has none)
 
 
 def ask(address: str, word: str, **fields: Any) -> Any:

@@ -239,7 +239,7 @@ def lightning(folder: Path) -> None:
 WRITERS: Dict[str, Callable[[Path], None]] = {each.__name__: each for each in (
     plain, numpy, scipy, pandas, sklearn, torch, joblib, xgboost, networkx, xarray, transformers, lightning)}
 # Which module a writer needs, where that is another than its name says.
-MODULES = {'plain': 'pickle', 'transformers': 'torch', 'lightning': 'torch'}
+MODULES = {'plain': 'pickle', 'joblib': 'sklearn', 'transformers': 'torch', 'lightning': 'torch'}
 
 
 def write(folder: Path, library: str) -> None:
