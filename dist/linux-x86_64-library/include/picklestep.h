@@ -2,7 +2,8 @@
  *
  * Each function reads an input of `length` bytes and puts a text at the start of `out`, which has `room` bytes. The text is, byte for byte,
  * what the program prints for the same task; the proofs of the program hold for it, up to the bytes in `out`. A text is ASCII, and no NUL
- * byte ends it. Nothing else is read or written, nothing is kept between calls, and threads may call at once.
+ * byte ends it. Nothing else is read or written, nothing but each thread's limit of memory is kept between calls, and threads may call at
+ * once.
  *
  * No pointer may be NULL, also where a length is 0, and `out` and `written` may not overlap each other or what is read. Nobody may change what
  * is read during a call. The proofs take these for granted.
@@ -29,7 +30,8 @@ enum {
 /* What is told of a text, where the answer is PICKLESTEP_DONE or PICKLESTEP_NO_ROOM. */
 typedef struct {
     size_t size;    /* its bytes */
-    uint8_t status; /* the status of the program: 1 where an opcode or a line is refused or the bytes have a fault, else 0 */
+    uint8_t status; /* the status of the program: 1 where an opcode or a line is refused, the bytes have a fault, or the lines of `calls` end in
+                       `unsure:` or `kept:`, else 0 */
 } picklestep_written;
 
 /* The opcodes of a pickle; with `many`, of several pickles that follow one another (`picklestep list FILE [--many]`). */
@@ -51,6 +53,19 @@ uint8_t picklestep_calls_one_memo(const uint8_t *bytes, size_t length, uint8_t *
  * (`picklestep debug FILE [--many]`, with the script as its standard input). A conversation that goes on is asked with all lines so far. */
 uint8_t picklestep_debug(bool many, const uint8_t *bytes, size_t length, const uint8_t *script, size_t script_length, uint8_t *out, size_t room,
                          picklestep_written *written);
+
+/* The texts of a pickle as the lines of a script leave it, in a conversation about it or with `many` about several: what the functions above answer
+ * of the bytes that `picklestep debug FILE [--many] --save OUT` saves then. Nothing is saved, and the answers to the lines are not told. */
+uint8_t picklestep_edited_list(bool many, const uint8_t *bytes, size_t length, const uint8_t *script, size_t script_length, uint8_t *out, size_t room,
+                               picklestep_written *written);
+uint8_t picklestep_edited_objects(bool many, const uint8_t *bytes, size_t length, const uint8_t *script, size_t script_length, uint8_t *out,
+                                  size_t room, picklestep_written *written);
+uint8_t picklestep_edited_calls(bool many, const uint8_t *bytes, size_t length, const uint8_t *script, size_t script_length, uint8_t *out,
+                                size_t room, picklestep_written *written);
+uint8_t picklestep_edited_calls_first(bool many, const uint8_t *bytes, size_t length, const uint8_t *script, size_t script_length, uint8_t *out,
+                                      size_t room, picklestep_written *written);
+uint8_t picklestep_edited_calls_one_memo(bool many, const uint8_t *bytes, size_t length, const uint8_t *script, size_t script_length,
+                                         uint8_t *out, size_t room, picklestep_written *written);
 
 /* How many bytes of memory each call on this thread may hold at most from now on, besides `bytes` and `out`; SIZE_MAX, as at first, is no
  * limit. (The module for WebAssembly has no such function: there the limit is that of its memory.) */
