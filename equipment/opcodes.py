@@ -43,7 +43,7 @@ NAMED = {
     "equipment/fuzz.py": {"STEP", "F1", "F3", "F7"},
     "equipment/count_calls.py": set(),
     "equipment/real_pickles/answers.py": {"F2", "S3"},
-    "python/picklestep/scan/begins.py": {"ARROW1", "BLOSC", "HEAD", "LMDB", "LZIP", "PAR1", "PGDMP", "ZF"},
+    "python/picklestep/scan/begins.py": {"ARROW1", "BLOSC", "HEAD", "LMDB", "LZIP", "PAR1", "PGDMP", "ZF", "MAY_BE_KNOWN"},
     "python/picklestep/scan/canonical/pickles.py": set(),
     "python/picklestep/scan/canonical/wide.py": set(),
     "python/picklestep/scan/stores/walk.py": {"MOST"},
