@@ -16,7 +16,6 @@ from picklestep.errors import ProgramError
 TESTS = Path(__file__).resolve().parent
 PACKAGE = Path(place.__file__).resolve().parent.parent
 MODULE = next((path for path in (PACKAGE / 'picklestep/bin/picklestep.mjs', TESTS.parents[1] / 'dist/picklestep.mjs') if path.is_file()), None)
-HOSTILE = b'cposix\nsystem\n(X\x02\0\0\0idtR.'
 ASK = """\
 import picklestep, sys
 from picklestep import place
