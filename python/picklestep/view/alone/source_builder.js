@@ -260,7 +260,7 @@ class Builder {
     Object.assign(this.pushName(), { kind: 'readonly', isOpaque: false });
   }
 
-  // What is on the stack where reading ends early. It is needed now.
+  // What is on the stack where reading ends early. It is needed here.
   leave() {
     this.takeAll(this.stack);
     return this.stack;
