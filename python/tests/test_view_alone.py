@@ -149,7 +149,8 @@ class Driven(unittest.TestCase):
             self.give(path)
             for at, (here, there) in enumerate(zip(self.drive(), seen)):
                 self.equal(here, there, f'{path.name} after {KEYS[:at]}')
-        self.assertEqual((self.requests(), self.browser.errors()), ([], []))
+        # (the page with a server says that it is closed, and a browser may send that late)
+        self.assertEqual(([url for url in self.requests() if not url.endswith('/closed')], self.browser.errors()), ([], []))
 
     def equal(self, here: Dict[str, Any], there: Dict[str, Any], what: str) -> None:
         """Compares what two pages show. One has a bar more, and so some rows less: those count that both show."""
