@@ -146,11 +146,9 @@ class Definition:
         self.load_next = self.program.value(f"{LOADER}.Bytes", "load_next")
         self.load_way = self.program.value(f"{LOADER}.Onward", "load_way")
         self.load_on = self.program.value(f"{LOADER}.Onward", "load_on")
-        self.has_c = self.program.module(f"{LOADER}.CLoad") is not None
-        if self.has_c:
-            self.c_load_way = self.program.value(f"{LOADER}.CLoad", "c_load_way")
-            self.c_load_on = self.program.value(f"{LOADER}.CLoad", "c_load_on")
-            self.seen_onward = self.program.value(f"{LOADER}.CLoad", "seen_onward")
+        self.c_load_way = self.program.value(f"{LOADER}.CLoad", "c_load_way")
+        self.c_load_on = self.program.value(f"{LOADER}.CLoad", "c_load_on")
+        self.seen_onward = self.program.value(f"{LOADER}.CLoad", "seen_onward")
         self.acts_of = self.program.value(f"{LOADER}.Dispatch", "acts_of")
         self.fetch = self.program.value(f"{LOADER}.Reader", "fetch")
         self.form_of = self.program.value(TABLE, "form_of")
@@ -172,8 +170,6 @@ class Definition:
 
     def in_c(self, data: bytes, plan: Plan, encoding: str, pickles: str, frames: str) -> Run:
         """What the unpickler in C does where it reads in this way."""
-        if not self.has_c:
-            return self.way(data, plan, encoding, pickles, frames)
         world = World(plan, encoding == "bytes")
         record, way = world.record(is_python=False), _way(pickles, frames)
         begin = self.c_load_way(record, way, tuple(data), 0)

@@ -4,7 +4,8 @@
     definition_lemmas.py crates SEED COUNT >crates/pickle_loader/proofs/Cases.antt
 
 With a line `pub mod Cases` in proofs/Lib.antt `rt check` in crates/pickle_loader refuses each case at which antt.py is wrong. Neither is
-kept: the file is some megabytes large, and follows the definition.
+kept: the file is some megabytes large, and follows the definition. No group of trials runs this: run it by hand where the definition of the
+unpickler or antt.py was changed.
 """
 
 from __future__ import annotations

@@ -236,7 +236,13 @@ def build_nothing(libraries: Libraries, source: Path, made: Path) -> None:
     """A script is not compiled."""
 
 
-WAYS = {"static": "x86-64, static", "shared": "x86-64, shared", "musl": "x86-64, static, with musl", "arm": "ARM, under an emulator", "module": "the module in Node"}
+WAYS = {
+    "static": "x86-64, static",
+    "shared": "x86-64, shared",
+    "musl": "x86-64, static, with musl",
+    "arm": "ARM, under an emulator",
+    "module": "the module in Node",
+}
 ROWS: list[tuple[str, Callable[[Libraries], "str | Noted"]]] = [
     ("the library: its functions", functions_of),
     ("the library: the header in C++", in_cxx),

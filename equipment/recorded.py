@@ -17,7 +17,7 @@ from typing import Any
 from load_worker import EXTENSIONS, LOADERS, has_more
 
 # Codes of extensions, those too that only the unpickler in Python takes.
-CODES = {*EXTENSIONS, 0, -1}
+CODES = frozenset(EXTENSIONS)
 # Of 1000 answers so many are of a kind: with things almost alone pickles go far, with all kinds they meet more cases.
 CALM = [("raises", 4), ("buffer", 10), ("thing", 986)]
 MIXED = [("raises", 20), ("str", 120), ("tuple", 40), ("dict", 40), ("buffer", 60), ("array", 60), ("thing", 660)]

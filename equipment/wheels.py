@@ -134,6 +134,8 @@ def contents(wheel: Path) -> dict[str, bytes]:
 
 def installed(wheels: Wheels, machine: str, in_process: bool, program: str) -> str:
     """The wheel is installed and asked, by the package and by its command."""
+    if program == "picklestep.mjs" and shutil.which("node") is None:
+        raise Skip("there is no Node")
     interpreter = wheels.environment(f"env-{machine}")
     wheels.install(interpreter, wheels.wheel(machine, wheels.sources))
     found = wheels.call(interpreter, "-c", ASK)

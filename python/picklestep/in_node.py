@@ -72,10 +72,16 @@ class InNode:
     def __init__(self, module: str, most: int) -> None:
         self._module = module
         self._most = most
-        self._turn = threading.Lock()
         self._link: Optional[_Link] = None
+        self._renew_turn()
         if node_path() is None:
             raise ProgramError('Node is not on the path')
+        if hasattr(os, 'register_at_fork'):
+            os.register_at_fork(after_in_child=self._renew_turn)
+
+    def _renew_turn(self) -> None:
+        """A new lock. (In a copy of this process, which fork made, nobody would give back the one that a thread had.)"""
+        self._turn = threading.Lock()
 
     def ask(self, function: str, modes: Tuple[bool, ...], inputs: Tuple[bytes, ...], memory: int) -> Optional[bytes]:
         """The text, or None where it cannot be had in that memory, which is the same for all, or where Node does not answer."""

@@ -3,32 +3,47 @@
 FOLDER is where the package is. It comes behind the standard library, so that it hides nothing of it.
 """
 
+import contextlib
 import os
 import sys
 
 __all__ = ['main']
 
 
-def _plain(path: str) -> str:
-    """A path as the module has it. Each drive of Windows is a folder of its own; elsewhere there is one root."""
+def _plain(path: str, drive: str) -> str:
+    """A path as the module has it. Each drive of Windows is a folder of its own, and the module has that of the current folder; elsewhere there is
+    one root. Raises ValueError for a path on another drive or on another machine."""
     if os.name != 'nt':
         return path
-    path = path.replace('\\', '/')
-    return path[2:] if path[1:3] == ':/' else path
+    plain = path.replace('\\', '/')
+    has_drive = plain[1:3] == ':/'
+    if plain[:2] == '//' or has_drive and plain[:2].lower() != drive.lower():
+        raise ValueError(f'{path} is not on the drive of the current folder ({drive}), and no other is read')
+    return plain[2:] if has_drive else plain
 
 
 def main(folder: str, file: str, words: 'list[str]') -> int:
     """Runs the module with these words, and answers its status."""
+    try:
+        return _run(folder, file, words)
+    except Exception as error:  # (of whatever kind: Python's own status is 1, and that is the status of an answer)
+        print(f'picklestep: {error}', file=sys.stderr)
+        return 2
+
+
+def _run(folder: str, file: str, words: 'list[str]') -> int:
     sys.path.append(folder)
     import wasmtime
     config = wasmtime.Config()
-    config.cache = True  # (to compile the module takes longer than most runs)
+    with contextlib.suppress(wasmtime.WasmtimeError):  # (it is kept at home, which may not be there to be written)
+        config.cache = True  # (to compile the module takes longer than most runs)
     engine = wasmtime.Engine(config)
     wasi = wasmtime.WasiConfig()
     here = os.getcwd()
-    wasi.argv = ['picklestep', *map(_plain, words)]
-    wasi.env = [('PWD', _plain(here))]
-    wasi.preopen_dir(f'{here[:2]}\\' if os.name == 'nt' else '/', '/')
+    drive = here[:2]
+    wasi.argv = ['picklestep', *(_plain(word, drive) for word in words)]
+    wasi.env = [('PWD', _plain(here, drive))]
+    wasi.preopen_dir(f'{drive}\\' if os.name == 'nt' else '/', '/')
     wasi.inherit_stdin()
     wasi.inherit_stdout()
     wasi.inherit_stderr()

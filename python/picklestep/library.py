@@ -145,7 +145,7 @@ def edited(words: Sequence[str], many: bool, content: bytes, script: bytes, memo
 def _ask(function: str, modes: Tuple[bool, ...], inputs: Tuple[bytes, ...], memory: Optional[int]) -> Optional[bytes]:
     """What the library answers, if there is one and it is to be asked about so many bytes in so much memory."""
     most = _MOST_MEMORY if memory is None else min(_MOST_MEMORY, memory - _OF_PROGRAM)
-    if most <= 0 or len(inputs[0]) > MOST_BYTES:
+    if most <= 0 or sum(map(len, inputs)) > MOST_BYTES:
         return None
     library = _library(os.environ.get('PICKLESTEP_PROGRAM'), place._HERE)
     return None if library is None else library.ask(function, modes, inputs, most)

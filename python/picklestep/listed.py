@@ -6,18 +6,15 @@ lines whose offsets have as many digits begin their codes in the same column, so
 
 from __future__ import annotations
 
-import re
 from typing import AnyStr, Dict, Iterator, List, Optional, Tuple
 
 from .errors import ProgramError
 from .program import Process
 from .records import End
 from .sources import Input
-from .texts import end_of
+from .texts import CLOSING_BEGINS, end_of
 
 __all__ = ['Listed', 'in_columns', 'offset_of']
-
-_CLOSING = re.compile('\n[a-z]')  # (a line of an opcode begins with a blank or a digit)
 
 
 class Listed:
@@ -46,7 +43,7 @@ class Listed:
             text = b''.join([*parts, whole]).decode('ascii')
             parts = [rest]
             lines = [held, *text.split('\n')] if held else text.split('\n')
-            if text[0].isalpha() or _CLOSING.search(text):
+            if text[0].isalpha() or CLOSING_BEGINS.search(text):
                 lines = self._without_closing(lines)
             held = lines.pop() if lines else ''  # (it may be refused, which only the next line says)
             yield from self._in_columns(lines)

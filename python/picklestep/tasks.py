@@ -2,7 +2,6 @@
 
 from __future__ import annotations
 
-import re
 import time
 from collections import deque
 from typing import Callable, Iterable, Iterator, List, Optional, Tuple, Type, TypeVar
@@ -12,6 +11,7 @@ from .answers import Calls, Listing, Objects
 from .errors import ProgramError
 from .program import Process, run_program
 from .sources import Input, Source, small_content
+from .texts import OFFSET_IN_BYTES
 
 __all__ = ['AskedOfEdits', 'calls', 'calls_of', 'listing', 'listing_of', 'objects']
 
@@ -168,13 +168,12 @@ def _last_offset(blocks: Iterable[bytes]) -> Optional[int]:
     offset, line = None, b''
     for block in blocks:
         block = line + block
-        for match in deque(_OFFSET.finditer(block), 1):
+        for match in deque(OFFSET_IN_BYTES.finditer(block), 1):
             offset = int(match[1])
         at = block.rfind(b'\n') + 1
         line = block[at:at + _MOST_OFFSET]
     return offset
 
 
-# The beginning of an opcode's line. (Its closing colon may come with the next block.)
-_OFFSET = re.compile(rb'^ *([0-9]+): ', re.MULTILINE)
+# The beginning of an opcode's line has at most so many bytes. (Its closing colon may come with the next block.)
 _MOST_OFFSET = 20

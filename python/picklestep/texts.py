@@ -4,13 +4,15 @@ from __future__ import annotations
 
 import re
 import struct
+from dataclasses import replace
 from typing import Callable, Dict, List, Optional, Sequence, Tuple, Union
 
 from .records import (Argument, Brief, Briefs, Change, End, Extension, Global, Item, Mark, Name, Object, Opcode, Reach, Ref, Value, Where)
 
-__all__ = ['BROKEN', 'COUNTS', 'HEADING', 'HELD', 'ITEM', 'LEFT', 'LinesError', 'MADE', 'OBJECT', 'OFFSET', 'OPCODE', 'QUOTED',
-           'QUOTED_OR_NUMBER', 'REACHED', 'READONLY', 'RESULT', 'SHOWN', 'closing_of', 'container_in', 'memo_of', 'object_of', 'opcode_of', 'reach_of', 'stack_of', 'unquoted',
-           'where_of']
+__all__ = ['BROKEN', 'CLOSING_BEGINS', 'COUNTS', 'GIVEN', 'HEADING', 'HELD', 'IN_HEADINGS', 'ITEM', 'LEFT', 'LinesError', 'MADE', 'NAME_AND_NUMBER',
+           'OBJECT', 'OFFSET', 'OFFSET_IN_BYTES', 'OPCODE', 'QUOTED', 'QUOTED_OR_NUMBER', 'REACHED', 'READONLY', 'RESULT', 'SHOWN', 'closing_of',
+           'container_in', 'holding', 'memo_of', 'object_of', 'opcode_of', 'reach_of', 'stack_of', 'stored_under', 'unquoted', 'where_of',
+           'with_offset']
 
 QUOTED = r"'[^'\\]*(?:\\.[^'\\]*)*'"
 _NUMBER = r'-?[0-9]+|le:[0-9a-f]*|f8:[0-9a-f]{16}'
@@ -21,21 +23,29 @@ _CHANGE = re.compile(r' (?:([+&!])#([0-9]+)|\[#([0-9]+)\]=#([0-9]+))')
 _CHANGES = {'+': 'append', '&': 'add', '!': 'state'}
 # What is under these headings the strict reading does not reach.
 HEADING = re.compile(r'^(a loader may go on|a loader that buffers frames may go on):$', re.MULTILINE)
+# Each heading has these words, and hardly any other line.
+IN_HEADINGS = ' may go on:\n'
 COUNTS = re.compile(r'^([0-9]+) imports, ([0-9]+) calls$', re.MULTILINE)
 # A line of `calls`: its offset, its text and first word, and the name in it where the module is in quotes.
 REACHED = re.compile(rf"^ *([0-9]+): ((\w+)(?: ((?:raw )?{QUOTED} (?:(?:raw )?{QUOTED}|#[0-9]+)))?.*)$", re.MULTILINE)
 # A line with an offset, and its text; what may be the number of an object in that, beside texts.
 OFFSET = re.compile(r'^ *([0-9]+): (.*)$', re.MULTILINE)
 QUOTED_OR_NUMBER = re.compile(rf'{QUOTED}|#([0-9]+)')
+# In a listing: the beginning of an opcode's line, its name with the whole number that follows it, and where a closing line begins (that of an
+# opcode begins with a blank or a digit).
+OFFSET_IN_BYTES = re.compile(rb'^ *([0-9]+): ', re.MULTILINE)
+NAME_AND_NUMBER = re.compile(rb'[ 0-9]*: \S+ +(\S+)(?: +(?:\(as )?([0-9]+)\)?)?.*\n')
+CLOSING_BEGINS = re.compile('\n[a-z]')
 # Lines of `objects`, `items` and `show`, and closing lines of which there may be several.
 OBJECT = re.compile(r'^#.*$', re.MULTILINE)
 ITEM = re.compile(r'^([> ])([* ]) *([0-9]+) +([0-9]+): ([A-Z][A-Z0-9_]*)(?: (.*))?$', re.MULTILINE)
 SHOWN = re.compile(r'^([0-9]+) (#[0-9]+)( .*)?$', re.MULTILINE)
 LEFT = re.compile(r'^left: ([0-9]+) objects, ([0-9]+) marks$', re.MULTILINE)
 RESULT = re.compile(r'^result #([0-9]+)$', re.MULTILINE)
-# The place of an item that has a breakpoint; the object that a line of `calls` makes.
+# The place of an item that has a breakpoint; the object that a line of `calls` makes, and the one that it makes or that is given something.
 BROKEN = re.compile(r'^[> ]\* *([0-9]+) ', re.MULTILINE)
 MADE = re.compile(' as #([0-9]+)$')
+GIVEN = re.compile(r' (?:as|to|in) #([0-9]+)$')
 # In lines of `objects`, as bytes: what an object holds (in parentheses what it was made of, then what was put in), and the beginning of a view.
 HELD = re.compile(rb'([ (+&!=]|\[)#([0-9]+)')
 READONLY = re.compile(rb'^#[0-9]+ readonly ', re.MULTILINE)
@@ -43,6 +53,26 @@ _CONTAINER = re.compile(r'^begins like an? (.*): picklestep scan looks into it$'
 _CLOSING = re.compile(r'(?:it (?=ends: ))?(refused|fault|unsure|left|kept|ends): (.*)|(highest protocol among opcodes) = (.*)|result #.*|'
                       r'[0-9]+ imports, .*|begins like .*')
 _WHERE = re.compile(r'at ([0-9]+) of ([0-9]+), offset ([0-9]+), buffers ([0-9]+), result (none|#[0-9]+(?: #[0-9]+)*), end (.*)')
+
+
+def holding(number: int) -> 're.Pattern[bytes]':
+    """Where lines of `objects` name this object, as bytes."""
+    return re.compile(rb'[ (+&![=]#%d(?![0-9])' % number)
+
+
+def stored_under(answer: str, key: int) -> Optional[int]:
+    """The object that an answer to `memo` has under a key.
+
+    >>> stored_under('memo 0=#1 1=#4', 1)
+    4
+    """
+    found = re.search(f' {key}=#([0-9]+)', answer)
+    return None if found is None else int(found[1])
+
+
+def with_offset(end: End, offset: int) -> End:
+    """An end of reading with another offset, also in its text."""
+    return replace(end, offset=offset, text=re.sub(rf'(?<= at ){end.offset}$', str(offset), end.text))
 
 
 class LinesError(ValueError):

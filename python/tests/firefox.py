@@ -82,8 +82,9 @@ class Firefox:
         assert PROGRAM is not None
         self._profile = tempfile.mkdtemp(prefix='picklestep-firefox-')
         command = [PROGRAM, '--headless', '--remote-debugging-port=0', '--no-remote', '--profile', self._profile]
-        self._process = subprocess.Popen(command, stdin=subprocess.DEVNULL, stdout=subprocess.DEVNULL, stderr=subprocess.PIPE,
-                                         start_new_session=True)
+        self._errors = Path(self._profile, 'stderr')
+        with self._errors.open('wb') as errors:
+            self._process = subprocess.Popen(command, stdin=subprocess.DEVNULL, stdout=subprocess.DEVNULL, stderr=errors, start_new_session=True)
         self._number = 0
         self.told: List[Dict[str, Any]] = []
         try:
@@ -97,12 +98,14 @@ class Firefox:
             raise
 
     def _port(self) -> int:
-        assert self._process.stderr is not None
-        for line in self._process.stderr:
-            match = re.search(rb'WebDriver BiDi listening on ws://127\.0\.0\.1:([0-9]+)', line)
+        """Where it listens, which it says once it has started."""
+        deadline = time.monotonic() + _SECONDS
+        while time.monotonic() < deadline and self._process.poll() is None:
+            match = re.search(rb'WebDriver BiDi listening on ws://127\.0\.0\.1:([0-9]+)\n', self._errors.read_bytes())
             if match is not None:
                 return int(match[1])
-        raise BrowserError('the browser ended')
+            time.sleep(0.05)
+        raise BrowserError(f'the browser does not listen: {self._errors.read_text(errors="replace")[-300:]}')
 
     def call(self, method: str, **words: Any) -> Dict[str, Any]:
         """Asks the browser, and answers what it answers."""
@@ -173,6 +176,4 @@ class Firefox:
     def _end(self) -> None:
         os.killpg(self._process.pid, signal.SIGKILL)
         self._process.wait()
-        assert self._process.stderr is not None
-        self._process.stderr.close()
         shutil.rmtree(self._profile, ignore_errors=True)

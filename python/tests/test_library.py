@@ -128,6 +128,12 @@ class InProcess(unittest.TestCase):
             with self.started(), self.assertRaises(AssertionError):
                 ask()
 
+    def test_the_limit_of_size_is_that_of_all_inputs(self) -> None:
+        half = library.MOST_BYTES // 2
+        lines = b'where\n' * (half // 6)
+        self.assertIsNotNone(library.edited(['calls'], False, b'N.', lines))
+        self.assertIsNone(library.edited(['calls'], False, b'N' * (half + 8) + b'.', lines))
+
     def test_a_limit_of_memory_stays_an_answer(self) -> None:
         self.assertIsNone(library.answer(['calls'], SQUARE))
         many = b'N' * 65_000 + b'.'

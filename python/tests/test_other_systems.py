@@ -10,13 +10,12 @@ import unittest
 from pathlib import Path
 from unittest import mock
 
-from picklestep import place
+from picklestep import in_wasmtime, place
 from picklestep.errors import ProgramError
 
 TESTS = Path(__file__).resolve().parent
 PACKAGE = Path(place.__file__).resolve().parent.parent
 MODULE = next((path for path in (PACKAGE / 'picklestep/bin/picklestep.mjs', TESTS.parents[1] / 'dist/picklestep.mjs') if path.is_file()), None)
-HOSTILE = b'cposix\nsystem\n(X\x02\0\0\0idtR.'
 ASK = """\
 import picklestep, sys
 from picklestep import place
@@ -67,6 +66,25 @@ class OtherSystems(unittest.TestCase):
         found = asked('-c', ASK, PYTHONPATH=f'{PACKAGE}{os.pathsep}{folder}', PATH='/nowhere', PICKLESTEP_PROGRAM=str(MODULE),
                       WASMTIME_STAND_IN=str(shutil.which('node')))
         self.assertEqual(found, SAID)
+
+
+class InWasmtime(unittest.TestCase):
+    """The start of the module by wasmtime."""
+
+    def test_what_does_not_run_is_no_answer(self) -> None:
+        """(Here there is no such package, or no such module.)"""
+        done = subprocess.run([sys.executable, '-I', in_wasmtime.__file__, '/nowhere', '/nowhere/none.wasm', 'list', 'none.pickle'],
+                              capture_output=True, text=True, check=False, timeout=120)
+        self.assertEqual((done.returncode, done.stdout), (2, ''))
+        self.assertRegex(done.stderr, '^picklestep: .')
+
+    def test_another_drive_is_not_taken_for_the_current_one(self) -> None:
+        with mock.patch('os.name', 'nt'):
+            for path, wanted in (('C:\\a\\b.pkl', '/a/b.pkl'), ('c:/b.pkl', '/b.pkl'), ('a\\b.pkl', 'a/b.pkl'), ('--many', '--many')):
+                self.assertEqual(in_wasmtime._plain(path, 'C:'), wanted)
+            for path in ('D:\\a.pkl', 'd:/a.pkl', '\\\\server\\share\\a.pkl', '//server/share/a.pkl'):
+                with self.assertRaisesRegex(ValueError, 'not on the drive of the current folder'):
+                    in_wasmtime._plain(path, 'C:')
 
 
 class WhichProgram(unittest.TestCase):

@@ -14,7 +14,7 @@ from typing import Dict, Iterable, List
 from chromium import PROGRAM, Browser
 from harmless import Maker, opcodes_at_random
 from picklestep.python_source import source
-from pickles import ROOT, real_pickles
+from pickles import real_pickles
 from test_source import dumped
 from test_view_alone import MODELS, PAGE, READY
 

@@ -149,7 +149,8 @@ class Driven(unittest.TestCase):
             self.give(path)
             for at, (here, there) in enumerate(zip(self.drive(), seen)):
                 self.equal(here, there, f'{path.name} after {KEYS[:at]}')
-        self.assertEqual((self.requests(), self.browser.errors()), ([], []))
+        # (the page with a server says that it is closed, and a browser may send that late)
+        self.assertEqual(([url for url in self.requests() if not url.endswith('/closed')], self.browser.errors()), ([], []))
 
     def equal(self, here: Dict[str, Any], there: Dict[str, Any], what: str) -> None:
         """Compares what two pages show. One has a bar more, and so some rows less: those count that both show."""
@@ -450,11 +451,17 @@ class Alone(Driven):
             self.assertRegex(str(self.browser.js(f'({attempt}).then(() => "done", (error) => "refused: " + error.message)')), '^refused: ')
         self.assertEqual(self.browser.js('window.ran'), None)
 
+    def hold_the_rest(self) -> None:
+        """The page reads what is after the first opcodes no sooner than `mayRead()` is called."""
+        self.browser.js("""{ const rest = readRest; const may = new Promise((go) => { window.mayRead = go; });
+            readRest = async () => { await may; await rest(); }; }""")
+
     def test_many_opcodes(self) -> None:
         """Of a list of 5 MB the first opcodes are there at once, to step through. When all are read, the page is where it was."""
         self.load()
         self.browser.js("""{ window.said = []; const rest = document.querySelector('#rest');
             new MutationObserver(() => window.said.push(rest.textContent)).observe(rest, { childList: true }); }""")
+        self.hold_the_rest()
         self.choose(self.file('large.pickle', b'\x80\x04](' + b'K\x01' * 2_500_000 + b'e.'))
         self.browser.wait("document.querySelector('#where').textContent === 'at 0 of 300000, offset 0, end not read yet'")
         self.assertEqual(self.texts('#closing'), ['the first 300,000 opcodes: the rest is not read'])
@@ -464,6 +471,7 @@ class Alone(Driven):
         self.browser.key('Delete')
         self.said('not done: edits wait until the rest is read')
         self.assertEqual(self.browser.js("['edit', 'save'].map((id) => document.getElementById(id).disabled)"), [True, True])
+        self.browser.js('void mayRead()')
         self.browser.wait("document.querySelector('#where').textContent.startsWith('at 1 of 2500005,')")
         self.assertTrue(any(text.startswith('The rest is being read: list: ') for text in self.browser.js('window.said')))
         self.assertEqual((self.texts('#rest'), self.texts('#said')), ([''], ['all is read']))
@@ -489,9 +497,11 @@ class Alone(Driven):
     def test_many_opcodes_in_frames(self) -> None:
         """The first part ends where a frame ends. Where one frame holds all, there is none."""
         self.load()
+        self.hold_the_rest()
         data = pickle.dumps([(number,) for number in range(200_000)], 4)
         self.give(self.file('frames.pickle', data))
         self.assertRegex(self.texts('#closing')[0], '^the first 2[0-9]{2},[0-9]{3} opcodes: the rest is not read$')
+        self.browser.js('void mayRead()')
         places = sum(1 for _ in pickletools.genops(data))
         self.browser.wait(f"document.querySelector('#where').textContent === 'at 0 of {places}, offset 0, end stopped'")
         content = b'N' * 400_000 + b'.'

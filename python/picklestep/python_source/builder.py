@@ -18,10 +18,10 @@ from .literals import of_bytes, of_float, of_integer, of_line, of_text
 from .names import Names, python3_name
 from .nodes import Arguments, Called, Entry, Event, Filled, Node, Paired, Statement, is_pure
 
-__all__ = ['Builder', 'KINDS', 'taken_count']
+__all__ = ['Builder', 'KINDS', 'MOST_SHORT', 'taken_count']
 
 # The most letters of a plain value that is written wherever it is used.
-_SHORT = 80
+MOST_SHORT = 80
 
 _Handler = Callable[[str], None]
 
@@ -101,11 +101,11 @@ class Builder:
         text = line[line.index("'"):]
         if '\\' in text:
             text = of_text(text)
-        self.stack.append(text if len(text) <= _SHORT else Node('atom', self._made, [], text, is_pure=True))
+        self.stack.append(text if len(text) <= MOST_SHORT else Node('atom', self._made, [], text, is_pure=True))
         self._made += 1
 
     def _push_value(self, text: str) -> None:
-        self.stack.append(text if len(text) <= _SHORT else Node('atom', self._made, [], text, is_pure=True))
+        self.stack.append(text if len(text) <= MOST_SHORT else Node('atom', self._made, [], text, is_pure=True))
         self._made += 1
 
     def _on_bytearray8(self, line: str) -> None:

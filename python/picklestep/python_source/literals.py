@@ -8,10 +8,10 @@ import struct
 from ..texts import unquoted
 from ..values import PlainValue, Unreadable, read_form, unescaped
 
-__all__ = ['literal', 'of_bytes', 'of_float', 'of_integer', 'of_line', 'of_text']
+__all__ = ['MOST_DECIMAL_BITS', 'literal', 'of_bytes', 'of_float', 'of_integer', 'of_line', 'of_text']
 
 # Python shows integers up to this many bits in decimal digits (it has a limit of 4,300 digits). Larger ones are hexadecimal.
-_MOST_DECIMAL_BITS = 14000
+MOST_DECIMAL_BITS = 14000
 
 
 def literal(value: PlainValue) -> str:
@@ -22,7 +22,7 @@ def literal(value: PlainValue) -> str:
     """
     if isinstance(value, float) and not math.isfinite(value):
         return f'-float({str(-value)!r})' if math.isnan(value) and math.copysign(1, value) < 0 else f'float({str(value)!r})'
-    if isinstance(value, int) and value.bit_length() > _MOST_DECIMAL_BITS:
+    if isinstance(value, int) and value.bit_length() > MOST_DECIMAL_BITS:
         return hex(value)
     return repr(value)
 

@@ -7,12 +7,12 @@ from typing import Callable, Dict, Iterable, List, Optional, Sequence, Tuple, Un
 from .names import is_identifier
 from .nodes import Arguments, Called, Entry, Event, Filled, Node, Paired, Statement
 
-__all__ = ['Writer']
+__all__ = ['COLUMNS', 'MOST_DEPTH', 'MOST_ITEMS', 'MOST_LETTERS', 'Writer']
 
-_COLUMNS = 100
-_MOST_DEPTH = 6  # brackets in brackets; what has more gets a name of its own (Python reads no more than 200)
-_MOST_ITEMS = 16
-_MOST_LETTERS = 64
+COLUMNS = 100
+MOST_DEPTH = 6  # brackets in brackets; what has more gets a name of its own (Python reads no more than 200)
+MOST_ITEMS = 16
+MOST_LETTERS = 64
 
 _BRACKETS = {'list': ('[', ']'), 'tuple': ('(', ')'), 'set': ('{', '}'), 'dict': ('{', '}'), 'frozenset': ('frozenset({', '})')}
 _EMPTY = {'set': 'set()', 'frozenset': 'frozenset()'}
@@ -45,7 +45,7 @@ class Writer:
             text, depth = self._atom(node.text), 0
         else:
             text, depth = self._container(node)
-        if node.uses > 1 or depth > _MOST_DEPTH:
+        if node.uses > 1 or depth > MOST_DEPTH:
             node.text, node.is_named = f'_{node.number}', True
             self.lines.append(f'{node.text} = {text}')
         else:
@@ -53,21 +53,21 @@ class Writer:
 
     def _atom(self, text: str) -> str:
         """A long plain value. What is cut off is counted in letters of its source, or in those of the text or the bytes that it is."""
-        if self._full or len(text) <= _MOST_LETTERS + 20:
+        if self._full or len(text) <= MOST_LETTERS + 20:
             return text
         start = text[:2].lstrip('b')[:1]
         if start not in ('"', "'") or not text.endswith(start):
-            return f'cut({text[:_MOST_LETTERS]!r}, {len(text) - _MOST_LETTERS})'
+            return f'cut({text[:MOST_LETTERS]!r}, {len(text) - MOST_LETTERS})'
         value = _value_of(text)
-        more = len(value) - _MOST_LETTERS
-        return f'{value[:_MOST_LETTERS]!r} + cut({more})' if more > 0 else text
+        more = len(value) - MOST_LETTERS
+        return f'{value[:MOST_LETTERS]!r} + cut({more})' if more > 0 else text
 
     def _container(self, node: Node) -> Tuple[str, int]:
         """The literal of a container, and how deep it is."""
         items = node.items
         if not items:
             return _EMPTY.get(node.kind) or ''.join(_BRACKETS[node.kind]), 0
-        shown = items if self._full or len(items) <= _MOST_ITEMS else items[:_MOST_ITEMS * (2 if node.kind == 'dict' else 1)]
+        shown = items if self._full or len(items) <= MOST_ITEMS else items[:MOST_ITEMS * (2 if node.kind == 'dict' else 1)]
         texts = list(map('%s: %s'.__mod__, zip(shown[::2], shown[1::2]))) if node.kind == 'dict' else list(map(str, shown))
         if len(shown) < len(items):
             texts.append(f'**cut({(len(items) - len(shown)) // 2})' if node.kind == 'dict' else f'*cut({len(items) - len(shown)})')
@@ -97,14 +97,14 @@ class Writer:
 
     def _shown(self, entries: Sequence[Entry], star: str) -> List[str]:
         """How entries appear, as many as are shown, and how many more there are."""
-        shown = entries if self._full else entries[:_MOST_ITEMS]
+        shown = entries if self._full else entries[:MOST_ITEMS]
         return [str(entry) for entry in shown] + ([f'{star}cut({len(entries) - len(shown)})'] if len(shown) < len(entries) else [])
 
     def _keywords(self, keywords: Entry) -> List[str]:
         if not isinstance(keywords, Node) or keywords.is_named or keywords.kind != 'dict':
             return ['**' + str(keywords)]
         names = [key[1:-1] if isinstance(key, str) and key[:1] == "'" else '' for key in keywords.items[::2]]
-        if len(set(names)) == len(names) <= _MOST_ITEMS and all(map(is_identifier, names)):
+        if len(set(names)) == len(names) <= MOST_ITEMS and all(map(is_identifier, names)):
             return [f'{name}={str(value)}' for name, value in zip(names, keywords.items[1::2])]
         return ['**' + str(keywords)]
 
@@ -116,7 +116,7 @@ class Writer:
     def _paired(self, paired: Paired) -> None:
         target = str(paired.target)
         count = len(paired.items) // 2
-        shown = count if self._full else min(count, _MOST_ITEMS)
+        shown = count if self._full else min(count, MOST_ITEMS)
         for key, value in zip(paired.items[:2 * shown:2], paired.items[1::2]):
             self._end(f'{target}[{str(key)}] = {str(value)}', paired.offset)
         if shown < count:
@@ -134,11 +134,11 @@ def _bracketed(start: str, end: str, texts: List[str], is_tuple: bool) -> str:
     inner = ', '.join(texts)
     if not texts:
         return start + end
-    if len(inner) + len(start) < _COLUMNS and '\n' not in inner:
+    if len(inner) + len(start) < COLUMNS and '\n' not in inner:
         return f'{start}{inner},{end}' if is_tuple and len(texts) == 1 else start + inner + end
     longest = max(map(len, texts))
-    if longest < _COLUMNS // 4 and '\n' not in inner:
-        count = _COLUMNS // (longest + 2)
+    if longest < COLUMNS // 4 and '\n' not in inner:
+        count = COLUMNS // (longest + 2)
         texts = [', '.join(texts[at:at + count]) for at in range(0, len(texts), count)]
     elif '\n' in inner:
         texts = [text.replace('\n', '\n    ') for text in texts]

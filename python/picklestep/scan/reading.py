@@ -15,7 +15,7 @@ from ..errors import OutOfMemory, PicklestepError, ProgramError, TimedOut
 from ..program import Process
 from ..records import End, Extension, Global, Name, Ref
 from ..session import Session
-from ..texts import HEADING, REACHED, reach_of
+from ..texts import GIVEN, HEADING, IN_HEADINGS, OFFSET_IN_BYTES, REACHED, reach_of, with_offset
 from .begins import is_dotted
 from .blobs import CHUNK, Blob, Budget, FileBlob, Spooled, spooled
 from .results import Call, Import, Pickle, Place
@@ -30,7 +30,6 @@ _WITH_NAME = ('import', 'inst', 'call', 'new')
 
 # These lines say that something is given a state or filled. What that is stands at their end, and so does what an import gives.
 _CHANGES = ('state', 'append', 'set', 'add')
-_NUMBER = re.compile(r' (?:as|to|in) #([0-9]+)$')
 
 # These lines alone show no pickle: many texts begin with the letters P and Q, and what a loader does with such an id is its own.
 _WEAK = ('persistent', 'buffer', 'readonly')
@@ -53,12 +52,6 @@ WAITING = 5
 
 # With less processor time left, in seconds, nothing is asked in this process, which cannot be stopped.
 _LITTLE_TIME = 1
-
-# Each heading has these words, and hardly any other line.
-_IN_HEADINGS = ' may go on:\n'
-
-# The beginning of an opcode's line in a listing.
-_OPCODE = re.compile(rb'^ *([0-9]+): ', re.MULTILINE)
 
 _LEGACY_TORCH = b'\x80\x02\x8a\x0al\xfc\x9cF\xf9 j\xa8P\x19.'
 
@@ -112,7 +105,7 @@ class Summary:
             text = b''.join([*rest, whole, newline]).decode('ascii')
             rest, self._begun = [begun], len(begun)
             at = 0
-            for heading in HEADING.finditer(text) if _IN_HEADINGS in text else ():
+            for heading in HEADING.finditer(text) if IN_HEADINGS in text else ():
                 tail = self._take_lines(text, at, heading.start(), tail)
                 self._begin_part(heading[1], tail)
                 at = heading.end()
@@ -141,9 +134,7 @@ class Summary:
         """Keeps how the strict reading ended."""
         self.end = Calls(tail).end
         if self._offset_of is not None and self.end.offset is not None:
-            offset = self._offset_of(self.end.offset)
-            text = re.sub(rf'(?<= at ){self.end.offset}$', str(offset), self.end.text)
-            self.end = replace(self.end, offset=offset, text=text)
+            self.end = with_offset(self.end, self._offset_of(self.end.offset))
 
     def _line(self, match: 're.Match[str]') -> None:
         """Counts a line. A pickle may have a hundred thousand lines and few names, so a name is read once."""
@@ -239,7 +230,7 @@ class _Found:
 
 def _number_of(text: str) -> str:
     """The number of the object in which a line ends, as text."""
-    found = _NUMBER.search(text)
+    found = GIVEN.search(text)
     return found[1] if found else ''
 
 
@@ -301,7 +292,7 @@ class Asked:
         """Where an opcode begins. `item` counts the opcodes before it. None where a limit is met first."""
         text = self._in_process(['list', '--many'], budget)
         if text is not None:
-            found = next(islice(_OPCODE.finditer(text), item, None), None)
+            found = next(islice(OFFSET_IN_BYTES.finditer(text), item, None), None)
             return None if found is None else int(found[1])
         try:
             with Session(self._path(), window=1, many=True, timeout=max(1, budget.seconds), memory=budget.memory()) as session:

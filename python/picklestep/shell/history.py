@@ -3,16 +3,15 @@
 from __future__ import annotations
 
 import pickletools
-import re
 from array import array
 from itertools import islice
 from typing import Dict, List
 
+from ..texts import NAME_AND_NUMBER
 from ..view.lines import OpcodeLines
 
 __all__ = ['History']
 
-_NAME = re.compile(rb'[ 0-9]*: \S+ +(\S+)(?: +(?:\(as )?([0-9]+)\)?)?.*\n')
 _TAKEN: Dict[bytes, int] = {opcode.name.encode('ascii'): len(opcode.stack_before) for opcode in pickletools.opcodes}
 _CUTS = frozenset(opcode.name.encode('ascii') for opcode in pickletools.opcodes if pickletools.markobject in opcode.stack_before)
 _CHANGES = {b'APPEND': 1, b'SETITEM': 2, b'BUILD': 1, b'APPENDS': 0, b'SETITEMS': 0, b'ADDITEMS': 0}
@@ -29,7 +28,7 @@ class History:
         self._stack: List[int] = []
         self._marks: List[int] = []
         self._memo: Dict[bytes, int] = {}
-        for place, match in enumerate(islice(_NAME.finditer(lines.text), until)):
+        for place, match in enumerate(islice(NAME_AND_NUMBER.finditer(lines.text), until)):
             self._step(place, match[1], match[2])
 
     def _step(self, place: int, name: bytes, key: bytes) -> None:

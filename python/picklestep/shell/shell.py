@@ -12,7 +12,7 @@ from ..errors import NoResult, PicklestepError, Refused
 from ..records import Ref
 from ..python_source import source
 from ..sources import Source
-from ..texts import LinesError, opcode_of
+from ..texts import LinesError, opcode_of, stored_under
 from ..view.document import Done
 from .breaks import BREAKS, Break, next_break
 from .edits import OPCODES, EditError, of_object, of_value, of_words, renaming
@@ -362,10 +362,10 @@ class Shell:
         self._here()
         answer = self.pickle.session.ask('memo').rstrip('\n')
         if text:
-            found = re.search(f' {self._count(text)}=#([0-9]+)', answer)
+            found = stored_under(answer, self._count(text))
             if found is None:
                 raise WordError(f'nothing is stored under {text}')
-            return f'{text}: #{found[1]} {self.pickle.described(int(found[1]))}'
+            return f'{text}: #{found} {self.pickle.described(found)}'
         first, *shown = answer.rsplit(' ', _MOST_LINES) if answer.count(' ') > _MOST_LINES else ['', *answer.split(' ')[1:]]
         rows = [f'{key}: #{number} {self.pickle.described(int(number))}' for key, _, number in (word.partition('=#') for word in shown)]
         return '\n'.join(([f'.. {first.count(" ")} before'] if first else []) + rows) or 'empty'

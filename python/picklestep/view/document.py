@@ -3,7 +3,6 @@
 from __future__ import annotations
 
 import os
-import re
 from array import array
 from bisect import bisect_left, bisect_right
 from itertools import islice
@@ -15,7 +14,7 @@ from ..errors import Refused
 from ..python_source import source
 from ..session import Session
 from ..sources import Input, Source
-from ..texts import BROKEN, HELD, MADE
+from ..texts import BROKEN, HELD, MADE, holding
 from .lines import Lines, add_items, lines_of, read_all, silent
 
 __all__ = ['Document', 'Done', 'Fields']
@@ -276,7 +275,7 @@ class Document:
         """The objects that hold an object, the first of them."""
         heap, made = self._objects(), self._made()
         found: List[int] = []
-        for match in re.finditer(rb'[ (+&![=]#%d(?![0-9])' % number, heap.text):
+        for match in holding(number).finditer(heap.text):
             holder = heap.number_at(match.start())
             is_in_text = heap.text.find(b"'", match.end(), heap.starts[holder + 1]) >= 0
             if holder >= made or len(found) == _MOST_HOLDERS:

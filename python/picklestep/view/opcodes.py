@@ -6,10 +6,12 @@ import keyword
 import pickletools
 from typing import Any, Dict
 
-from ..python_source.builder import KINDS, taken_count
+from ..python_source.builder import KINDS, MOST_SHORT, taken_count
 from ..python_source.code import HEAD
 from ..python_source.helpers import HELPERS
+from ..python_source.literals import MOST_DECIMAL_BITS
 from ..python_source.names import TAKEN
+from ..python_source.writer import COLUMNS, MOST_DEPTH, MOST_ITEMS, MOST_LETTERS
 from ..shell.explain import EFFECTS, EXPLAINED
 from .lines import MAKE_NONE, shown_code
 
@@ -30,12 +32,14 @@ def opcode_table() -> Dict[str, Dict[str, Any]]:
 
 def source_facts() -> Dict[str, Any]:
     """What the page without a server writes into the source of a pickle as `picklestep source` does: the line at its head, the functions that
-    it may define, the names that are taken, with what they are, and the opcodes that make containers, with the kind of each and how many
-    objects it takes (none where it takes those above the mark).
+    it may define, the names that are taken, with what they are, the opcodes that make containers, with the kind of each and how many
+    objects it takes (none where it takes those above the mark), and the most that is written in one piece.
 
     >>> source_facts()['kinds']['TUPLE2'], source_facts()['taken']['len']
     (['tuple', 2], 'builtins len')
     """
     kinds = {opcode.name: [KINDS[opcode.name], taken_count(opcode)] for opcode in pickletools.opcodes if opcode.name in KINDS}
     return {'head': HEAD, 'helpers': HELPERS, 'taken': {name: ' '.join(thing) for name, thing in TAKEN.items()},
-            'keywords': [word for word in keyword.kwlist if word[0] != '_'], 'kinds': kinds}
+            'keywords': [word for word in keyword.kwlist if word[0] != '_'], 'kinds': kinds,
+            'most': {'columns': COLUMNS, 'depth': MOST_DEPTH, 'items': MOST_ITEMS, 'letters': MOST_LETTERS, 'short': MOST_SHORT,
+                     'decimalBits': MOST_DECIMAL_BITS}}

@@ -155,8 +155,9 @@ def _holding(joined: bytes, stride: int, size: int) -> Set[int]:
     runs = joined.translate(_OF_RUNS)
     at = runs.find(_ONE_RUN)
     while at >= 0:
-        likely.update((at // stride, (at + _LEAST_RUN - 1) // stride))
-        at = runs.find(_ONE_RUN, at + 1)
+        last = (at + _LEAST_RUN - 1) // stride
+        likely.update((at // stride, last))
+        at = runs.find(_ONE_RUN, max(at + 1, (last + 1) * stride - _LEAST_RUN + 1))  # (on to what ends in the next one)
     return {number for number in likely if _may_hold(joined[number * stride:number * stride + size])} | _naming(joined, stride)
 
 

@@ -2,10 +2,12 @@
 // Plain values as Python source: what a loader makes of the bytes that an opcode holds, as Python's `repr` shows it. What no loader takes
 // fails in the source as it would there.
 
-const MOST_DECIMAL_BITS = 14000; // larger whole numbers are in hexadecimal
+// Limits of `picklestep source`, which come with the facts: up to so many bits whole numbers are decimal (`decimalBits`), and so many `letters`
+// of a text are shown, `items` of a container, `columns` of a line, brackets in brackets (`depth`), and letters of what is written wherever it
+// is used (`short`).
+const MOST = {};
 const MOST_DIGITS = 4300; // longer decimal numbers are read by no Python
 const MOST_WHOLE = 65536; // bytes; a longer text is put into the source with its beginning alone
-const MOST_LETTERS = 64; // of a text in the source
 
 // A text of the source that is cut already.
 class Shortened {
@@ -40,10 +42,10 @@ function longText(bytes) {
   let letters = 0, end = 0;
   for (let at = 0; at < bytes.length; at += 1) {
     if ((bytes[at] & 0xc0) === 0x80) continue;
-    if (letters === MOST_LETTERS) end = at;
+    if (letters === MOST.letters) end = at;
     letters += 1;
   }
-  return new Shortened(`${signsSource(signsOf(bytes.subarray(0, end)))} + cut(${letters - MOST_LETTERS})`);
+  return new Shortened(`${signsSource(signsOf(bytes.subarray(0, end)))} + cut(${letters - MOST.letters})`);
 }
 
 // Whether bytes are UTF-8, in which halves of pairs may stand alone.
@@ -61,7 +63,7 @@ function isUtf8(bytes) {
 
 function bytesSource(bytes) {
   if (bytes.length <= MOST_WHOLE) return pythonBytes(bytes);
-  return new Shortened(`${pythonBytes(bytes.subarray(0, MOST_LETTERS))} + cut(${bytes.length - MOST_LETTERS})`);
+  return new Shortened(`${pythonBytes(bytes.subarray(0, MOST.letters))} + cut(${bytes.length - MOST.letters})`);
 }
 
 function bytearraySource(bytes) {
@@ -70,7 +72,7 @@ function bytearraySource(bytes) {
 }
 
 // The beginning of bytes in the source, in the quotes that all of them get.
-const beginningOf = (bytes) => pythonBytes(bytes.subarray(0, MOST_LETTERS), bytes.includes(39) && !bytes.includes(34) ? '"' : "'");
+const beginningOf = (bytes) => pythonBytes(bytes.subarray(0, MOST.letters), bytes.includes(39) && !bytes.includes(34) ? '"' : "'");
 
 // How many letters bytes have in the source.
 function sizeOfSource(bytes) {
@@ -86,7 +88,7 @@ function sizeOfSource(bytes) {
 
 // A source of which only the beginning is shown, with how many letters are behind it.
 function cutSource(beginning, size) {
-  return new Shortened(`cut(${signsSource([...beginning.slice(0, MOST_LETTERS)])}, ${size - MOST_LETTERS})`);
+  return new Shortened(`cut(${signsSource([...beginning.slice(0, MOST.letters)])}, ${size - MOST.letters})`);
 }
 
 // --- Numbers ---
@@ -94,7 +96,7 @@ function cutSource(beginning, size) {
 function wholeSource(value) {
   const hex = (value < 0n ? -value : value).toString(16);
   const bits = 4 * hex.length - Math.clz32(parseInt(hex[0], 16)) + 28;
-  return bits > MOST_DECIMAL_BITS ? `${value < 0n ? '-' : ''}0x${hex}` : String(value);
+  return bits > MOST.decimalBits ? `${value < 0n ? '-' : ''}0x${hex}` : String(value);
 }
 
 function floatSource(value, isNegative) {

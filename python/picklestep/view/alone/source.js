@@ -1,9 +1,6 @@
 'use strict';
 // A pickle as Python source, word for word as `picklestep source` writes it: texts are cut after 64 letters and containers after 16 items.
 
-const COLUMNS = 100;
-const MOST_DEPTH = 6; // brackets in brackets; what has more gets a name of its own
-const MOST_ITEMS = 16;
 const BRACKETS = { list: ['[', ']'], tuple: ['(', ')'], set: ['{', '}'], dict: ['{', '}'], frozenset: ['frozenset({', '})'] };
 const EMPTY = { list: '[]', tuple: '()', dict: '{}', set: 'set()', frozenset: 'frozenset()' };
 
@@ -16,11 +13,11 @@ const lettersOf = (text) => text.length - (text.match(PAIR) || []).length;
 function bracketed(start, end, texts, isTuple = false) {
   if (!texts.length) return start + end;
   const inner = texts.join(', '), isOneLine = !inner.includes('\n');
-  if (isOneLine && lettersOf(inner) + lettersOf(start) < COLUMNS) return isTuple && texts.length === 1 ? `${start}${inner},${end}` : start + inner + end;
+  if (isOneLine && lettersOf(inner) + lettersOf(start) < MOST.columns) return isTuple && texts.length === 1 ? `${start}${inner},${end}` : start + inner + end;
   const longest = Math.max(...texts.map(lettersOf));
   let lines = texts;
-  if (longest < COLUMNS / 4 && isOneLine) {
-    const count = Math.floor(COLUMNS / (longest + 2));
+  if (longest < MOST.columns / 4 && isOneLine) {
+    const count = Math.floor(MOST.columns / (longest + 2));
     lines = Array.from({ length: Math.ceil(texts.length / count) }, (_, at) => texts.slice(count * at, count * (at + 1)).join(', '));
   } else if (!isOneLine) lines = texts.map((text) => text.replaceAll('\n', '\n    '));
   return `${start}\n    ${lines.join(',\n    ')},\n${end}`;
@@ -40,7 +37,7 @@ class Writer {
   // A node comes to be. It gets a statement where it is used more than once, or is deep.
   place(node) {
     const [text, depth] = node.kind === 'atom' ? [this.atom(node), 0] : this.container(node);
-    node.isNamed = node.uses > 1 || depth > MOST_DEPTH;
+    node.isNamed = node.uses > 1 || depth > MOST.depth;
     node.text = node.isNamed ? `_${node.number}` : text;
     if (node.isNamed) this.lines.push(`${node.text} = ${text}`);
     else node.depth = depth;
@@ -48,12 +45,12 @@ class Writer {
 
   // A long plain value.
   atom({ text, isShortened }) {
-    if (isShortened || lettersOf(text) <= MOST_LETTERS + 20) return text;
+    if (isShortened || lettersOf(text) <= MOST.letters + 20) return text;
     const [, isBytes, quote] = /^(b?)(['"]?)/.exec(text);
     if (!quote || !text.endsWith(quote)) return cutSource(text, lettersOf(text)).text;
-    const signs = signsOfLiteral(text), first = signs.slice(0, MOST_LETTERS);
-    if (signs.length <= MOST_LETTERS) return text;
-    return `${isBytes ? pythonBytes(latin(first.join(''))) : signsSource(first)} + cut(${signs.length - MOST_LETTERS})`;
+    const signs = signsOfLiteral(text), first = signs.slice(0, MOST.letters);
+    if (signs.length <= MOST.letters) return text;
+    return `${isBytes ? pythonBytes(latin(first.join(''))) : signsSource(first)} + cut(${signs.length - MOST.letters})`;
   }
 
   // The literal of a container, and how deep it is.
@@ -62,14 +59,14 @@ class Writer {
     const [start, end] = BRACKETS[kind], isDict = kind === 'dict';
     const depth = 1 + inner.reduce((most, node) => Math.max(most, node.depth), 0);
     if (!isDict) return [bracketed(start, end, this.shown(items), kind === 'tuple'), depth];
-    const keys = keysOf(items.slice(0, 2 * MOST_ITEMS)), more = items.length / 2 - keys.length;
+    const keys = keysOf(items.slice(0, 2 * MOST.items)), more = items.length / 2 - keys.length;
     return [bracketed(start, end, [...keys.map((key, at) => `${key}: ${items[2 * at + 1]}`), ...(more ? [`**cut(${more})`] : [])]), depth];
   }
 
   // How entries appear, as many as are shown, and how many more there are.
   shown(entries) {
-    const more = entries.length - MOST_ITEMS;
-    return [...entries.slice(0, MOST_ITEMS).map(String), ...(more > 0 ? [`*cut(${more})`] : [])];
+    const more = entries.length - MOST.items;
+    return [...entries.slice(0, MOST.items).map(String), ...(more > 0 ? [`*cut(${more})`] : [])];
   }
 
   call({ number, method, called, items, spread, keywords, offset }) {
@@ -83,7 +80,7 @@ class Writer {
   keywords(keywords) {
     if (keywords.kind !== 'dict' || keywords.isNamed) return [`**${keywords}`];
     const names = keysOf(keywords.items).map((key) => (!isNode(key) && key[0] === "'" ? key.slice(1, -1) : ''));
-    const areNames = new Set(names).size === names.length && names.length <= MOST_ITEMS && names.every((name) => this.names.isIdentifier(name));
+    const areNames = new Set(names).size === names.length && names.length <= MOST.items && names.every((name) => this.names.isIdentifier(name));
     return areNames ? names.map((name, at) => `${name}=${keywords.items[2 * at + 1]}`) : [`**${keywords}`];
   }
 
@@ -93,7 +90,7 @@ class Writer {
   }
 
   pair({ target, items, offset }) {
-    const count = items.length / 2, shown = Math.min(count, MOST_ITEMS);
+    const count = items.length / 2, shown = Math.min(count, MOST.items);
     for (let at = 0; at < shown; at += 1) this.end(`${target}[${items[2 * at]}] = ${items[2 * at + 1]}`, offset);
     if (shown < count) this.end(`${target}.update(cut(${count - shown}))`, offset);
   }
@@ -108,6 +105,7 @@ function endingOf(closing, lastOffset) {
 
 // The source of a pickle: its bytes, the offsets of its opcodes as far as a loader gets, and how reading ended.
 function sourceOf(content, offsets, closing, { opcodes, facts, saidAt }) {
+  Object.assign(MOST, facts.most);
   const { early, isRefused, kept } = endingOf(closing, offsets.length ? offsets.at(offsets.length - 1) : 0);
   const builder = new Builder(content, opcodes, facts, saidAt);
   for (let at = 0; at < offsets.length - Number(isRefused); at += 1) builder.read(offsets.at(at));

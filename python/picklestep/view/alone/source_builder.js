@@ -3,7 +3,6 @@
 // which opcodes there are, which of them is refused, and where reading ends; here is only kept which object lies where on the stack and in
 // the memo.
 
-const MOST_SHORT = 80; // letters of a plain value that is written wherever it is used
 const LENGTHS = { string1: 1, string4: 4, bytes1: 1, bytes4: 4, bytes8: 8, bytearray8: 8, unicodestring1: 1, unicodestring4: 4, unicodestring8: 8,
   long1: 1, long4: 4 }; // of the lengths before arguments, by their forms
 
@@ -84,7 +83,7 @@ class Builder {
   }
 
   pushValue(source) {
-    if (typeof source === 'string' && lettersOf(source) <= MOST_SHORT) this.push(source);
+    if (typeof source === 'string' && lettersOf(source) <= MOST.short) this.push(source);
     else this.pushAtom(source).isPure = true;
   }
 
@@ -260,7 +259,7 @@ class Builder {
     Object.assign(this.pushName(), { kind: 'readonly', isOpaque: false });
   }
 
-  // What is on the stack where reading ends early. It is needed now.
+  // What is on the stack where reading ends early. It is needed here.
   leave() {
     this.takeAll(this.stack);
     return this.stack;
