@@ -8,29 +8,40 @@ try { setFlagsFromString('--no-turbo-fast-api-calls'); } catch { /* another Node
 // A limit of memory in bytes, for the module alone.
 const most = Number(process.env.PICKLESTEP_MEMORY);
 if (most > 0) setFlagsFromString(`--wasm-max-mem-pages=${Math.floor(most / 65536)}`);
-const warn = process.emitWarning;
-process.emitWarning = () => {};
-const { WASI } = await import('node:wasi');
-process.emitWarning = warn;
-
-// Each drive of Windows is a folder of its own; elsewhere there is one root.
-const here = process.cwd();
 const windows = process.platform === 'win32';
-const drive = windows ? here.slice(0, 2) : '';
-const plain = (path) => (windows ? path.replaceAll('\\', '/').replace(/^[A-Za-z]:(?=\/)/, '') : path);
-const wasi = new WASI({
-    version: 'preview1',
-    args: ['picklestep', ...process.argv.slice(2).map(plain)],
-    env: { PWD: plain(here) },
-    preopens: { '/': windows ? `${drive}\\` : '/' },
-    returnOnExit: true,
-});
-const module = new WebAssembly.Module(readFileSync(new URL('picklestep.wasm', import.meta.url)));
+
+// Each drive of Windows is a folder of its own, and the module has that of the current folder; elsewhere there is one root.
+function plain(path, drive) {
+    if (!windows) return path;
+    const shown = path.replaceAll('\\', '/'), hasDrive = /^[A-Za-z]:\//.test(shown);
+    if (shown.startsWith('//') || (hasDrive && shown.slice(0, 2).toLowerCase() !== drive.toLowerCase())) {
+        throw new Error(`${path} is not on the drive of the current folder (${drive}), and no other is read`);
+    }
+    return hasDrive ? shown.slice(2) : shown;
+}
+
+async function run(words) {
+    const warn = process.emitWarning;
+    process.emitWarning = () => {};
+    const { WASI } = await import('node:wasi');
+    process.emitWarning = warn;
+    const here = process.cwd();
+    const drive = here.slice(0, 2);
+    const wasi = new WASI({
+        version: 'preview1',
+        args: ['picklestep', ...words.map((word) => plain(word, drive))],
+        env: { PWD: plain(here, drive) },
+        preopens: { '/': windows ? `${drive}\\` : '/' },
+        returnOnExit: true,
+    });
+    const module = new WebAssembly.Module(readFileSync(new URL('picklestep.wasm', import.meta.url)));
+    return wasi.start(new WebAssembly.Instance(module, wasi.getImportObject()));
+}
+
 try {
-    process.exitCode = wasi.start(new WebAssembly.Instance(module, wasi.getImportObject()));
+    process.exitCode = await run(process.argv.slice(2));
 } catch (error) {
-    // The module's own memory is above the limit.
-    if (!(error instanceof RangeError)) throw error;
-    console.error('picklestep: out of memory');
+    // Node's own status is 1, and that is the status of an answer. (RangeError: the module's own memory is above the limit.)
+    console.error(`picklestep: ${error instanceof RangeError ? 'out of memory' : error.message}`);
     process.exitCode = 2;
 }

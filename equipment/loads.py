@@ -75,8 +75,13 @@ class Reader:
             return [Told(reach.what, reach, target, count, may_be_missed=target is None or not count)]
         told = self._named(reach)
         if reach.number is not None:
-            self.brought[reach.number] = self.extensions.get(_code(told[-1]), told[-1]) if told[-1].what == "import" else told[-1]
+            self.brought[reach.number] = self._kept(told[-1])
         return told
+
+    def _kept(self, told: Told) -> Told:
+        """The line that brought the same thing first, where it is one that the cache of extensions keeps."""
+        name = told.reach.name
+        return self.extensions.get(name.code, told) if told.what == "import" and isinstance(name, Extension) else told
 
     def _named(self, reach: Reach) -> list[Told]:
         if reach.what == "inst":
@@ -89,10 +94,6 @@ class Reader:
         if isinstance(reach.name, Extension):
             told.may_be_missed = self.extensions.setdefault(reach.name.code, told) is not told  # (it is kept in a cache)
         return [told]
-
-
-def _code(told: Told) -> int:
-    return told.reach.name.code if isinstance(told.reach.name, Extension) else 0
 
 
 def _count(reach: Reach) -> Optional[int]:
