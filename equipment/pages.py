@@ -13,7 +13,7 @@ from pathlib import Path
 
 from trials.trial import Trial
 
-WORDS = 18200
+WORDS = 17500
 WORDS_OF_README = 900
 COLUMNS = 100
 
