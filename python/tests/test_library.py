@@ -130,7 +130,7 @@ class InProcess(unittest.TestCase):
 
     def test_the_limit_of_size_is_that_of_all_inputs(self) -> None:
         half = library.MOST_BYTES // 2
-        lines = b'where\n' * (half // 6)
+        lines = b'step\n' * (half // 5)
         self.assertIsNotNone(library.edited(['calls'], False, b'N.', lines))
         self.assertIsNone(library.edited(['calls'], False, b'N' * (half + 8) + b'.', lines))
 
