@@ -380,7 +380,7 @@ class Bytes(ScanCase):
         result = look(str(path), Options(Limits(seconds=0.5)))
         self.assertLess(time.process_time() - begin, 10)
         self.assertRegex(notes_of(result), '! t.v row [0-9]+.*: it took 0.5 seconds of processor time')
-        self.assertLess(len(result.notes), 5)
+        self.assertLess(len(result.notes), 20)  # and not one for each row
         connection = sqlite3.connect(path)
         connection.execute('UPDATE t SET v = ?', (HOSTILE,))
         connection.commit()
