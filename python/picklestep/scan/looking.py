@@ -27,7 +27,7 @@ from .canonical import Form, Member, NotCanonical, npy, streams, torch
 from .canonical import tars as strict_tars, zips as strict_zips
 from .canonical.forms import WRITERS
 from .canonical.kinds import UNREAD, asked_form, begun_form, kinds_of, without_ending
-from .canonical.layouts import Layout, alone, another_import, layout_of, of_torch_tar
+from .canonical.layouts import Layout, alone, another_import, layout_of, of_one, of_torch_tar
 from .canonical.pickles import read_pickle
 from .canonical.wide import may_lead_on, reach_of
 from .other_forms import ending, forms_of
@@ -395,10 +395,10 @@ class Looker:
         if form is None:
             self._open_odd_zip(blob, where, names, depth)
             return
-        members, layout, pickle = form.members, None, ''
+        members, reads, pickle = form.members, alone, ''
         if form.kind == 'torch':
             pickle = form.members[0].name.partition('/')[0] + '/data.pkl' if form.members else ''
-            members = self._with_numbers(blob, form, pickle, where)
+            members, reads = self._with_numbers(blob, form, pickle, where)
         for member in members:
             self.budget.member()
             if member.role == 'folder':
@@ -407,19 +407,19 @@ class Looker:
             if member.role == 'numbers':
                 self._look_at_numbers(blob.part(member.offset, member.size), inner, (member.name,), depth + 1)
             else:
-                self._look_at_member(blob, member, inner, depth + 1, alone if member.name == pickle else layout)
+                self._look_at_member(blob, member, inner, depth + 1, reads if member.name == pickle else None)
 
-    def _with_numbers(self, blob: Blob, form: Form, pickle: str, where: Place) -> Tuple[Member, ...]:
-        """The members of torch's archive, with those that are the storages of its pickle."""
+    def _with_numbers(self, blob: Blob, form: Form, pickle: str, where: Place) -> Tuple[Tuple[Member, ...], _Reads]:
+        """The members of torch's archive, with those that are the storages of its pickle, and how that is read."""
         member = next((member for member in form.members if member.name == pickle), None)
         if member is None or member.method != zips.STORED:
-            return form.members
+            return form.members, alone
         try:
             read = read_pickle(blob.part(member.offset, member.size), 0, None, self.budget)
-            return tuple(torch.with_numbers(read, form.members, pickle[:-len('data.pkl')] + 'data/'))
+            return tuple(torch.with_numbers(read, form.members, pickle[:-len('data.pkl')] + 'data/')), partial(of_one, read)
         except NotCanonical as reason:
             self._tell(where, 'torch', reason)
-            return form.members
+            return form.members, alone
 
     def _look_at_member(self, blob: Blob, member: Member, where: Place, depth: int, reads: Optional[_Reads]) -> None:
         """Looks at a member of an archive in its strict form. Its size and checksum must be those of the directory."""

@@ -63,7 +63,11 @@ def layout_of(blob: Blob, budget: Optional[Budget] = None) -> Layout:
 
 def alone(blob: Blob, budget: Optional[Budget] = None) -> Layout:
     """The one pickle that all of these bytes are, for a loader that knows no raw arrays (numpy, torch)."""
-    pickle = read_pickle(blob, 0, None, budget)
+    return of_one(read_pickle(blob, 0, None, budget), blob)
+
+
+def of_one(pickle: Pickle, blob: Blob, budget: Optional[Budget] = None) -> Layout:
+    """The same where it is read already."""
     require(pickle.end == blob.size, f'{blob.size - pickle.end:,} bytes stand behind the pickle', pickle.end)
     layout = Layout()
     layout.add(pickle)
