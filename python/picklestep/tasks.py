@@ -2,8 +2,12 @@
 
 from __future__ import annotations
 
+import operator
+import os
+import tempfile
 import time
 from collections import deque
+from contextlib import contextmanager
 from typing import Callable, Iterable, Iterator, List, Optional, Tuple, Type, TypeVar
 
 from . import library
@@ -16,6 +20,9 @@ from .texts import OFFSET_IN_BYTES
 __all__ = ['AskedOfEdits', 'calls', 'calls_of', 'listing', 'listing_of', 'objects']
 
 _Report = TypeVar('_Report', Objects, Calls)
+
+# More of them do not stand on a command line: a file has them.
+_MOST_HOLES = 1000
 
 
 def listing(source: Source, *, many: bool = False, timeout: Optional[float] = None, memory: Optional[int] = None) -> Listing:
@@ -75,10 +82,26 @@ def calls_of(asked: _Asked, first: bool, memo_kept: bool, full: bool, skip: Iter
         raise ValueError('first and memo_kept are two readings')
     options = ['--first'] if first else ['--memo', 'kept'] if memo_kept else []
     options += ['--full'] if full else []
-    holes = [word for offset, size in skip for word in ('--skip', f'{offset}:{size}')]
     # (A listing does not read on as one unpickler does, and leaves nothing out: where that was refused only the place is known.)
-    listing_words = None if memo_kept or holes else ['list', *_many(not first)]
-    return _report(Calls, ['calls', *options, *holes], asked, listing_words)
+    with _left_out(skip) as words:
+        return _report(Calls, ['calls', *options, *words], asked, None if memo_kept or words else ['list', *_many(not first)])
+
+
+@contextmanager
+def _left_out(skip: Iterable[Tuple[int, int]]) -> Iterator[List[str]]:
+    """The words for bytes that are left out."""
+    holes = [(operator.index(offset), operator.index(size)) for offset, size in skip]
+    if any(offset < 0 or size < 0 for offset, size in holes):
+        raise ValueError('skip has offsets and lengths, which are not below 0')
+    texts = [f'{offset}:{size}' for offset, size in holes]
+    if len(texts) <= _MOST_HOLES:
+        yield [word for text in texts for word in ('--skip', text)]
+        return
+    with tempfile.TemporaryDirectory() as folder:
+        path = os.path.join(folder, 'holes')
+        with open(path, 'w', encoding='ascii') as file:
+            file.writelines(f'{text}\n' for text in texts)
+        yield ['--skip', f'@{path}']
 
 
 def _report(kind: Type[_Report], words: List[str], asked: _Asked, listing_words: Optional[List[str]]) -> _Report:

@@ -133,9 +133,16 @@ class RealPickles(unittest.TestCase):
 
     def test_bytes_that_cannot_be_left_out(self) -> None:
         self.assertEqual(picklestep.calls(LIST, skip=[(0, len(LIST) + 1)]).end.how, 'refused')
-        for skip in ([(2, 1), (1, 1)], [(0, 2), (1, 1)], [(0, -1)]):
+        for skip in ([(2, 1), (1, 1)], [(0, 2), (1, 1)]):
             with self.assertRaisesRegex(picklestep.ProgramError, 'is no OFFSET:LENGTH'):
                 picklestep.calls(LIST, skip=skip)
+        for below in ([(0, -1)], [(-1, 1)]):
+            with self.assertRaises(ValueError):
+                picklestep.calls(LIST, skip=below)
+
+    def test_many_bytes_that_are_left_out(self) -> None:
+        answer = picklestep.calls(b'N0\xff' * 70_000 + b'N.', skip=[(3 * at + 2, 1) for at in range(70_000)])
+        self.assertTrue(answer.end.is_stopped)
 
     def check_number(self, reach: Reach, made: Optional[Object]) -> None:
         """The object that a line ends in is of the line's kind."""
