@@ -395,7 +395,8 @@ class Looker:
         if form is None:
             self._open_odd_zip(blob, where, names, depth)
             return
-        members, reads, pickle = form.members, alone, ''
+        members, pickle = form.members, ''
+        reads: _Reads = alone
         if form.kind == 'torch':
             pickle = form.members[0].name.partition('/')[0] + '/data.pkl' if form.members else ''
             members, reads = self._with_numbers(blob, form, pickle, where)
