@@ -38,7 +38,7 @@ CONTRASTS = '''(() => {
         .reduce((sum, part, at) => sum + part * [0.2126, 0.7152, 0.0722][at], 0);
     const behind = (each) => { const colour = getComputedStyle(each).backgroundColor;
         return (parts(colour)[3] ?? 1) === 1 ? colour : behind(each.parentElement); };
-    return [...document.querySelectorAll('body *')].filter((each) => each.checkVisibility() && !each.disabled && !each.closest('.hidden, dialog') &&
+    return [...document.querySelectorAll('body *')].filter((each) => each.checkVisibility() && !each.disabled && !each.closest('.hidden') &&
         [...each.childNodes].some((child) => child.nodeType === Node.TEXT_NODE && child.textContent.trim())).map((each) => {
             const [low, high] = [light(getComputedStyle(each).color), light(behind(each))].sort((left, right) => left - right);
             return [each.className + ' ' + each.textContent.slice(0, 40), (high + 0.05) / (low + 0.05)]; });

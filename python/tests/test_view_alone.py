@@ -388,10 +388,11 @@ class Alone(Driven):
                     self.browser.js(f"showPane('{pane}')")
                     self.assertEqual([each for each in self.browser.js(CONTRASTS) if each[1] < 4.5], [])
                     self.assertEqual(self.browser.js(ACCESSIBILITY), [])
-            for dialog in ('paste', 'edit', 'save', 'help'):
-                self.browser.js(f"document.querySelector('#{dialog}-dialog').showModal()")
-                self.assertEqual(self.browser.js(ACCESSIBILITY), [])
-                self.browser.js(f"document.querySelector('#{dialog}-dialog').close()")
+                for dialog in ('paste', 'edit', 'save', 'help'):
+                    self.browser.js(f"document.querySelector('#{dialog}-dialog').showModal()")
+                    self.assertEqual([each for each in self.browser.js(CONTRASTS) if each[1] < 4.5], [])
+                    self.assertEqual(self.browser.js(ACCESSIBILITY), [])
+                    self.browser.js(f"document.querySelector('#{dialog}-dialog').close()")
             for width in (1200, 600, 320):
                 self.browser.size(width, 800)
                 self.assertLessEqual(self.browser.js('document.documentElement.scrollWidth'), width)
