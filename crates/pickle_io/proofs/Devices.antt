@@ -7,7 +7,7 @@ use Rattle.std.proofs.lemmas.List.{append-nil, take-append-drop, take_more, take
 use Rattle.std.proofs.lemmas.List.Concat.{flat_map-append}
 use Rattle.std.proofs.lemmas.Grind.{common_steps}
 use Rattle.pickle_io.specs.Text.{◌⧺◌}
-use Rattle.pickle_io.specs.Device.{Told, AppendsPrefix, Wrote, Broke, Writes, WroteAllBut, each, each_below}
+use Rattle.pickle_io.specs.Device.{Told, NoFewer, AppendsPrefix, Wrote, Broke, Writes, WroteAllBut, each, each_below}
 
 -- ---- fronts
 
@@ -24,26 +24,40 @@ AppendsFront-more None b text more p = tt
 AppendsFront-more (Some x) None text more p = tt
 AppendsFront-more (Some x) (Some y) text more p = (p.0, (p.1.0 ++ more, ap (λ (t : List ℕ). t ++ more) p.1.1 ∙ append_assoc p.0 p.1.0 more), p.2)
 
+-- ---- what is handed on
+
+NoFewer-same : (a : Option (List ℕ)) (held : ℕ) → NoFewer a held a held
+NoFewer-same None held = tt
+NoFewer-same (Some x) held = omega arith
+
+NoFewer-then : (a b c : Option (List ℕ)) (i j k : ℕ) (text : List ℕ) → Appends a b text → NoFewer a i b j → NoFewer b j c k → NoFewer a i c k
+NoFewer-then None b c i j k text e p q = tt
+NoFewer-then (Some x) None c i j k text e p q = absurd e
+NoFewer-then (Some x) (Some y) None i j k text e p q = tt
+NoFewer-then (Some x) (Some y) (Some z) i j k text e p q = omega (arith, p, q)
+
 -- ---- one write after another, with plain lists
 
 pub Wrote-none : (a : Told) → Wrote a a []
-Wrote-none a = record { taken = Appends-nil a.taken; calm = refl }
+Wrote-none a = record { taken = Appends-nil a.taken; stays = NoFewer-same a.taken a.held; calm = refl }
 
 pub Wrote-trans : (a b c : Told) (front text : List ℕ) → Wrote a b front → Wrote b c text → Wrote a c (front ++ text)
 Wrote-trans a b c front text p q = record {
   taken = Appends-trans a.taken b.taken c.taken front text p.taken q.taken;
+  stays = NoFewer-then a.taken b.taken c.taken a.held b.held c.held front p.taken p.stays q.stays;
   calm = q.calm ∙ p.calm;
 }
 
 pub Broke-after : (a b c : Told) (front text : List ℕ) → Wrote a b front → Broke b c text → Broke a c (front ++ text)
 Broke-after a b c front text p q = record {
   front = AppendsFront-then a.taken b.taken c.taken front text p.taken q.front;
+  stays = NoFewer-then a.taken b.taken c.taken a.held b.held c.held front p.taken p.stays q.stays;
   rises = omega (arith, p.calm, q.rises);
   failed = λ h. omega (arith, p.calm, q.failed (omega (arith, p.calm, h)));
 }
 
 pub Broke-more : (a b : Told) (text more : List ℕ) → Broke a b text → Broke a b (text ++ more)
-Broke-more a b text more p = record { front = AppendsFront-more a.taken b.taken text more p.front; rises = p.rises; failed = p.failed }
+Broke-more a b text more p = record { front = AppendsFront-more a.taken b.taken text more p.front; stays = p.stays; rises = p.rises; failed = p.failed }
 
 -- ---- a text that is written piece by piece
 

@@ -22,7 +22,7 @@ pub trait Asker<K: Page> {
 
     /// Fills a beginning of the buffer with the bytes that come next, as `Source::read` does, once this page has handed on all that it took.
     fn read_after(&mut self, page: &K, buffer: &mut [u8]) -> Result<usize, Failed>
-        requires { K.held page.now ≡ 0 }
+        requires { (K.told page.now).held ≡ 0 }
         ensures within { IfOk result (λ n. n ≤ length buffer.new) }
         ensures given { IfOk result (λ n. Consumes (remaining self.old) (remaining self.new) (take n buffer.new)) }
         ensures end { IfOk result (λ n. n ≡ 0 → 0 < length buffer.new → IsAtEnd (remaining self.new)) }

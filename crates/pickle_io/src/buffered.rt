@@ -112,7 +112,7 @@ impl<S: Sink + Drop> Buffered<S> {
     pub fn new(alloc: Global, sink: S) -> Result<Buffered<S>, AllocError>
         ensures sink { IfOk result (λ b. b.sink ≡ sink) }
         ensures held { IfOk result (λ b. drop b.start (take b.len b.text.items) ≡ []) }
-        ensures none { IfOk result (λ b. b.len - b.start + S.held b.sink ≡ S.held sink) }
+        ensures none { IfOk result (λ b. (holding (S.told b.sink) (drop b.start (take b.len b.text.items))).held ≡ (S.told sink).held) }
     {
         Buffered::with_room(alloc, sink, ROOM)
     }
@@ -121,7 +121,7 @@ impl<S: Sink + Drop> Buffered<S> {
     pub fn with_room(alloc: Global, sink: S, room: usize) -> Result<Buffered<S>, AllocError>
         ensures sink { IfOk result (λ b. b.sink ≡ sink) }
         ensures held { IfOk result (λ b. drop b.start (take b.len b.text.items) ≡ []) }
-        ensures none { IfOk result (λ b. b.len - b.start + S.held b.sink ≡ S.held sink) }
+        ensures none { IfOk result (λ b. (holding (S.told b.sink) (drop b.start (take b.len b.text.items))).held ≡ (S.told sink).held) }
     {
         let mut text = Vec::new(alloc);
         text.resize(room.max(LINE), 0)?;
@@ -172,11 +172,7 @@ impl<S: Sink + Drop> Buffered<S> {
 }
 
 impl<S: Sink + Drop> Sink for Buffered<S> {
-    ghost use Rattle.std.specs.Prelude.{◌-◌, ◌+◌};
-
     ghost told = { λ b. holding (S.told b.sink) (drop b.start (take b.len b.text.items)) };
-
-    ghost held = { λ b. b.len - b.start + S.held b.sink };
 
     fn write(&mut self, bytes: &[u8]) -> Result<usize, Failed> {
         if self.len == self.text.len() {

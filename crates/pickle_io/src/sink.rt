@@ -1,6 +1,6 @@
 //! Where texts go.
 
-ghost use Rattle.std.specs.Prelude.{◌≡◌, ℕ, ◌<◌, ◌≤◌, [], List, length, take, IfOk, OnOk, OnErr};
+ghost use Rattle.std.specs.Prelude.{◌≡◌, ◌<◌, ◌≤◌, [], length, take, IfOk, OnOk, OnErr};
 ghost use Rattle.pickle_io.specs.Device.{Told, Wrote, Broke, Writes};
 
 /// A device failed.
@@ -9,12 +9,9 @@ pub struct Failed;
 
 /// What takes bytes, as a file or a terminal does.
 pub trait Sink {
-    // The bytes that it has taken, where it reports them, and how often it has failed. The count may stop at
-    // 18,446,744,073,709,551,615.
+    // The bytes that it has taken, where it reports them, how many of them it has not yet handed on to whom it writes for, and how often
+    // it has failed. That count may stop at 18,446,744,073,709,551,615.
     ghost told: { Self → Told };
-
-    // How many bytes it has taken and not yet handed on to whom it writes for.
-    ghost held: { Self → ℕ } = { λ _. 0 };
 
     /// Takes a beginning of the bytes, at least one where one is offered, and answers how many. After a failure it has
     /// taken nothing of them, or it no longer reports what it has taken.
@@ -28,7 +25,7 @@ pub trait Sink {
     /// may still hold, or have lost.
     fn flush(&mut self) -> Result<(), Failed>
         ensures writes { Writes (told self.old) (told self.new) result [] }
-        ensures handed { OnOk result (held self.new ≡ 0) };
+        ensures handed { OnOk result ((told self.new).held ≡ 0) };
 }
 
 /// Writes all of the text; after a failure a beginning of it was written, and the sink is not called again.

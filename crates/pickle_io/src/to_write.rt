@@ -69,7 +69,7 @@ impl<W> ToWrite<W> {
 }
 
 impl<W: Write> Sink for ToWrite<W> {
-    ghost told = { λ s. record { taken = W.contents (writer_of s); failures = write_failures_of s } };
+    ghost told = { λ s. record { taken = W.contents (writer_of s); held = 0; failures = write_failures_of s } };
 
     fn write(&mut self, bytes: &[u8]) -> Result<usize, Failed> {
         match write_again(&mut self.writer, bytes) {

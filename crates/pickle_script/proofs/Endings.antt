@@ -1,16 +1,17 @@
 -- How a conversation ends.
-use Rattle.std.proofs.Common.{◌≡◌, ◌≢◌, ℕ, Bool, false, ◌||◌, if◌then◌else◌, List, [], ◌∷◌, ◌++◌, take, Option, Some, None, Result, Ok, Err, refl, sym, ap, subst, ◌∙◌, append-nil, inl, inr}
+use Rattle.std.proofs.Common.{◌≡◌, ◌≢◌, ℕ, Bool, false, ◌||◌, if◌then◌else◌, List, [], ◌∷◌, ◌++◌, length, ◌≤◌, take, arith, Option, Some, None, Result, Ok, Err, refl, sym, ap, subst, ◌∙◌, append-nil, inl, inr}
 use Rattle.std.specs.Io.KnownBytes.{Consumes, IsAtEnd}
 use Rattle.std.proofs.KnownBytes.{Consumes-nil, Consumes-trans}
+use Rattle.std.proofs.lemmas.List.{length-take-le}
 use Rattle.pickle_io.specs.declared.sink.Failed.{Failed}
-use Rattle.pickle_io.specs.Device.{Told, KeepsOrForgets}
+use Rattle.pickle_io.specs.Device.{Told, KeepsOrForgets, Broke}
 use Rattle.pickle_io.proofs.Devices.{Wrote-none}
 use Rattle.pickle_session.specs.Allowed.{SessionState}
 use Rattle.pickle_script.specs.declared.line.Line.{Line}
 use Rattle.pickle_script.specs.declared.line.Syntax.{Syntax}
 use Rattle.pickle_script.specs.Script.{last_line, lines_of}
 use Rattle.pickle_script.specs.Transcript.{IsRead, PrintsAll, up_to_quit}
-use Rattle.pickle_script.specs.Conversation.{Gave, Finishes, StopsReading, StopsWriting}
+use Rattle.pickle_script.specs.Conversation.{Gave, Finishes, StopsReading, most_at_once, BrokeSince, StopsWriting}
 use Rattle.pickle_script.specs.declared.outcome.Outcome.{Outcome}
 use Rattle.pickle_script.specs.Inside.Progress.{was_refused, Pending, line_start, WritesLine, SoFar, HasQuit, BreaksInLine, HasBroken, IsComplete, IsBroken}
 use Rattle.pickle_script.proofs.Cuts.{nothing, IsCut-none}
@@ -133,8 +134,37 @@ finishes_quit s q a b sink sink' given held answer g w e = record {
   ends = inl w.quits;
 }
 
-pub breaks_at_end : (s q : SessionState) (a b : Option (List ℕ)) (sink sink' : Told) (given : List ℕ) → Consumes a b given → IsAtEnd b → IsBroken s sink given q sink' → StopsWriting s q a b sink sink'
-breaks_at_end s q a b sink sink' given g e w =
+-- the sink was asked for more when it held nothing, and failed in some text after that
+pub broke_since : (s q : SessionState) (old between new : Told) (given buffer : List ℕ) (n : ℕ) (held : Pending) → SoFar s old given q between held → between.held ≡ 0
+    → n ≤ length buffer → length buffer ≤ most_at_once → (since : List ℕ) → Broke between new since → BrokeSince s (given ++ take n buffer) old new
+broke_since s q old between new given buffer n held w none within few since k = record {
+  earlier = given;
+  latest = take n buffer;
+  parts = refl;
+  few = omega (arith, length-take-le n buffer within, few, within);
+  between = between;
+  asked = record { cut = w.cut; is_cut = w.is_cut; texts = w.texts; after = q; runs = w.runs; wrote = w.wrote; handed = none };
+  since = since;
+  broke = k;
+}
+
+-- and nothing came
+pub broke_at_end : (s q : SessionState) (old between new : Told) (given : List ℕ) (held : Pending) → SoFar s old given q between held → between.held ≡ 0 → (since : List ℕ) → Broke between new since
+    → BrokeSince s given old new
+broke_at_end s q old between new given held w none since k = record {
+  earlier = given;
+  latest = [];
+  parts = sym (append-nil given);
+  few = omega arith;
+  between = between;
+  asked = record { cut = w.cut; is_cut = w.is_cut; texts = w.texts; after = q; runs = w.runs; wrote = w.wrote; handed = none };
+  since = since;
+  broke = k;
+}
+
+pub breaks_at_end : (s q : SessionState) (a b : Option (List ℕ)) (sink sink' : Told) (given : List ℕ) → Consumes a b given → IsAtEnd b → IsBroken s sink given q sink' → BrokeSince s given sink sink'
+    → StopsWriting s q a b sink sink'
+breaks_at_end s q a b sink sink' given g e w since =
     let x = w.breaks in
     record {
       given = given;
@@ -149,11 +179,12 @@ breaks_at_end s q a b sink sink' given g e w =
       text = x.text;
       runs = x.runs;
       no_quit = x.no_quit;
-      broke = x.broke;
+      fails = (x.broke, since);
     }
 
-pub breaks_before : (s q : SessionState) (a b : Option (List ℕ)) (sink sink' : Told) (given : List ℕ) → Consumes a b given → HasBroken s sink given q sink' → StopsWriting s q a b sink sink'
-breaks_before s q a b sink sink' given g w =
+pub breaks_before : (s q : SessionState) (a b : Option (List ℕ)) (sink sink' : Told) (given : List ℕ) → Consumes a b given → HasBroken s sink given q sink' → BrokeSince s given sink sink'
+    → StopsWriting s q a b sink sink'
+breaks_before s q a b sink sink' given g w since =
     let x = w.breaks in
     record {
       given = given;
@@ -168,5 +199,5 @@ breaks_before s q a b sink sink' given g w =
       text = x.text;
       runs = x.runs;
       no_quit = x.no_quit;
-      broke = x.broke;
+      fails = (x.broke, since);
     }

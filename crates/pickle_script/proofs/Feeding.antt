@@ -3,7 +3,7 @@ use Rattle.std.proofs.Common.{◌≡◌, ◌≢◌, ℕ, ◌+◌, ◌<◌, ◌�
 use Rattle.std.specs.Prelude.{nat_le, nat_lt, if◌then◌else◌}
 use Rattle.std.specs.List.{concat, list_any}
 use Rattle.std.specs.Io.KnownBytes.{Appends}
-use Rattle.pickle_io.proofs.Devices.{Wrote-trans}
+use Rattle.pickle_io.proofs.Devices.{Wrote-trans, Broke-after}
 use Rattle.std.proofs.lemmas.Bool.{cases_lt}
 use Rattle.std.proofs.lemmas.List.{take_all, take_more, take-append-drop, take-append-le, length-take-le}
 use Rattle.std.proofs.lemmas.List.Folds.{concat-append, list_any-append}
@@ -106,6 +106,7 @@ AppendsPast-front (Some x) (Some y) (Some z) whole next p q = (q.0, q.1, q.2 ∙
 BrokePast-front : (a b c : Told) (whole next : List ℕ) → Wrote a b whole → Broke b c next → BrokePast a c whole next
 BrokePast-front a b c whole next p q = record {
   taken = AppendsPast-front a.taken b.taken c.taken whole next p.taken q.front;
+  stays = (Broke-after a b c whole next p q).stays;
   rises = omega (arith, p.calm, q.rises);
   failed = λ h. omega (arith, p.calm, q.failed (omega (arith, p.calm, h)));
 }

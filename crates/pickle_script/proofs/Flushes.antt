@@ -34,6 +34,21 @@ quit_flushed s q old a b given held w f = record {
   refused = w.refused;
 }
 
+pub so_far_flushed : (s q : SessionState) (old a b : Told) (given : List ℕ) (held : Pending) → SoFar s old given q a held → Wrote a b [] → SoFar s old given q b held
+so_far_flushed s q old a b given held w f = record {
+  cut = w.cut;
+  is_cut = w.is_cut;
+  texts = w.texts;
+  runs = w.runs;
+  no_quit = w.no_quit;
+  wrote = Wrote-flushed old a b (concat w.texts) w.wrote f;
+  holds = w.holds;
+}
+
+-- nothing more was given
+pub so_far_none : (s q : SessionState) (old a : Told) (given : List ℕ) (held : Pending) → SoFar s old given q a held → SoFar s old (given ++ []) q a held
+so_far_none s q old a given held w = subst (λ (t : List ℕ). SoFar s old t q a held) (sym (append-nil given)) w
+
 pub line_flushed : (says : Result Line Syntax) (q r : SessionState) (a b c : Told) (this : Outcome) → WritesLine says q r a b (Ok this) → Wrote b c [] → WritesLine says q r a c (Ok this)
 line_flushed says q r a b c this x f = record { text = x.text; prints = x.prints; writes = Wrote-flushed a b c x.text x.writes f; refuses = x.refuses }
 
@@ -62,6 +77,7 @@ AppendsPast-whole (Some x) (Some y) (Some z) whole text p q =
 BrokePast-whole : (a b c : Told) (whole text : List ℕ) → Wrote a b (whole ++ text) → Broke b c [] → BrokePast a c whole text
 BrokePast-whole a b c whole text p q = record {
   taken = AppendsPast-whole a.taken b.taken c.taken whole text p.taken q.front;
+  stays = (Broke-after a b c (whole ++ text) [] p q).stays;
   rises = omega (arith, p.calm, q.rises);
   failed = λ h. omega (arith, p.calm, q.failed (omega (arith, p.calm, h)));
 }

@@ -1,9 +1,9 @@
 -- What a conversation leaves: the bytes that the source gave, the session, what the sink took, and how often it failed.
 -- The bytes of a device that does not report them are not spoken of.
-use Rattle.std.specs.Prelude.{◌≡◌, ℕ, ◌≤◌, List, [], ◌∷◌, ◌++◌, true, false, ◌⊎◌, Option, None, Some, ⊤}
+use Rattle.std.specs.Prelude.{◌≡◌, ℕ, ◌≤◌, List, [], ◌∷◌, ◌++◌, length, true, false, ◌⊎◌, Option, None, Some, ⊤}
 use Rattle.std.specs.List.{concat}
 use Rattle.std.specs.Io.KnownBytes.{Consumes, IsAtEnd}
-use Rattle.pickle_io.specs.Device.{Told, IsPrefix, HasFailed, Wrote}
+use Rattle.pickle_io.specs.Device.{Told, IsPrefix, HasFailed, StaysHanded, Wrote, Broke}
 use Rattle.pickle_script.specs.Script.{Cut, IsCut, lines_of}
 use Rattle.pickle_session.specs.Allowed.{SessionState}
 use Rattle.pickle_script.specs.Transcript.{PrintsAll, IsTranscript, has_quit, status_of}
@@ -46,6 +46,7 @@ AppendsPast (Some bytes) (Some more) whole next = (front : List ℕ) × IsPrefix
 -- a whole text was written and then a front of another, and then a failure came
 pub record BrokePast (old new : Told) (whole next : List ℕ) : Type 0 where
   pub taken : AppendsPast old.taken new.taken whole next
+  pub stays : StaysHanded old new
   pub rises : old.failures ≤ new.failures
   pub failed : HasFailed old.failures new.failures
 
@@ -53,9 +54,34 @@ pub record BrokePast (old new : Told) (whole next : List ℕ) : Type 0 where
 abbrev pub AreGiven : Cut → Option (List ℕ) → List (List ℕ) → Type 0
 AreGiven cut source' lines = (lines ≡ cut.complete) ⊎ (IsAtEnd source' × (lines ≡ lines_of cut))
 
--- The sink failed in the text of some line. That line and those before it were obeyed, the texts of those before it
--- were taken whole, and none after it was obeyed.
-pub record StopsWriting (s after : SessionState) (source source' : Option (List ℕ)) (sink sink' : Told) : Type 0 where
+-- when more was read the last time: the lines that were whole by then had been obeyed, their texts taken, and none of these was held back
+pub record Asked (s : SessionState) (given : List ℕ) (old between : Told) : Type 0 where
+  pub cut : Cut
+  pub is_cut : IsCut given cut
+  pub texts : List (List ℕ)
+  pub after : SessionState
+  pub runs : PrintsAll s cut.complete texts after
+  pub wrote : Wrote old between (concat texts)
+  pub handed : between.held ≡ 0
+
+-- the most bytes that are read at once
+abbrev pub most_at_once : ℕ
+most_at_once = 65536
+
+-- the sink failed behind what it had handed on when more was read the last time
+pub record BrokeSince (s : SessionState) (given : List ℕ) (old new : Told) : Type 0 where
+  pub earlier : List ℕ
+  pub latest : List ℕ
+  pub parts : given ≡ earlier ++ latest
+  pub few : length latest ≤ most_at_once
+  pub between : Told
+  pub asked : Asked s earlier old between
+  pub since : List ℕ
+  pub broke : Broke between new since
+
+-- The sink failed in the text of some line. That line and those before it were obeyed, and none after it; `Fails` is what is left of the sink,
+-- by what was given, the texts before that of the line, and its text.
+pub record StopsInLine (Fails : List ℕ → List (List ℕ) → List ℕ → Type 0) (s after : SessionState) (source source' : Option (List ℕ)) : Type 0 where
   pub given : List ℕ
   pub gave : Consumes source source' given
   pub cut : Cut
@@ -68,4 +94,10 @@ pub record StopsWriting (s after : SessionState) (source source' : Option (List 
   pub text : List ℕ
   pub runs : PrintsAll s (before ++ last ∷ []) (texts ++ text ∷ []) after
   pub no_quit : has_quit before ≡ false
-  pub broke : BrokePast sink sink' (concat texts) text
+  pub fails : Fails given texts text
+
+-- the sink took whole the texts of the lines before that in which it failed, and held back none of those that it was to hand on before the last
+-- read
+abbrev pub StopsWriting : SessionState → SessionState → Option (List ℕ) → Option (List ℕ) → Told → Told → Type 0
+StopsWriting s after source source' sink sink' =
+    StopsInLine (λ given texts text. BrokePast sink sink' (concat texts) text × BrokeSince s given sink sink') s after source source'

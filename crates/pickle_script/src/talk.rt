@@ -6,7 +6,7 @@ ghost use Rattle.pickle_doc.specs.declared.fault.End.{End};
 ghost use Rattle.pickle_script.specs.ReplyText.{reply_text};
 ghost use Rattle.pickle_script.specs.Transcript.{is_refusal, quits};
 ghost use Rattle.pickle_script.specs.Conversation.{Finishes, StopsReading, StopsWriting};
-ghost use Rattle.pickle_script.specs.Inside.Progress.{WritesLine, Feeds, Ends, was_refused};
+ghost use Rattle.pickle_script.specs.Inside.Progress.{WritesLine, WritesSome, Feeds, Ends, was_refused};
 
 use crate::line::{Action, Line, Place, Syntax};
 use crate::outcome::{Flow, Outcome};
@@ -130,7 +130,8 @@ fn end_line<P: Past, K: Page>(
     pending: &mut Pending,
     sink: &mut K,
 ) -> Result<Flow, Failed>
-    ensures { Feeds (10 ∷ []) session.old (K.told sink.old) pending.old session.new (K.told sink.new) pending.new result }
+    ensures feeds { Feeds (10 ∷ []) session.old (K.told sink.old) pending.old session.new (K.told sink.new) pending.new result }
+    ensures writes { WritesSome (K.told sink.old) (K.told sink.new) result }
 {
     let says = pending.says(alloc);
     if quits(&says) {
@@ -150,6 +151,7 @@ fn feed_byte<P: Past, K: Page>(
     sink: &mut K,
 ) -> Result<Flow, Failed>
     ensures feeds { Feeds (byte ∷ []) session.old (K.told sink.old) pending.old session.new (K.told sink.new) pending.new result }
+    ensures writes { WritesSome (K.told sink.old) (K.told sink.new) result }
     ensures calm { byte ≢ 10 → sink.new ≡ sink.old }
 {
     if byte == b'\n' {
@@ -169,7 +171,8 @@ fn feed<P: Past, K: Page>(
     sink: &mut K,
 ) -> Result<Flow, Failed>
     ensures feeds { Feeds bytes.now session.old (K.told sink.old) pending.old session.new (K.told sink.new) pending.new result }
-    ensures handed { OnOk result (K.held sink.old ≡ 0 → K.held sink.new ≡ 0) }
+    ensures writes { WritesSome (K.told sink.old) (K.told sink.new) result }
+    ensures handed { OnOk result ((K.told sink.old).held ≡ 0 → (K.told sink.new).held ≡ 0) }
 {
     for byte in bytes {
         match feed_byte(alloc, session, pending, *byte, sink)? {
@@ -195,7 +198,8 @@ fn finish<P: Past, K: Page>(
     sink: &mut K,
 ) -> Result<u8, Failed>
     ensures ends { Ends session.old (K.told sink.old) pending.old session.new (K.told sink.new) result }
-    ensures handed { OnOk result (K.held sink.old ≡ 0 → K.held sink.new ≡ 0) }
+    ensures writes { WritesSome (K.told sink.old) (K.told sink.new) result }
+    ensures handed { OnOk result ((K.told sink.old).held ≡ 0 → (K.told sink.new).held ≡ 0) }
 {
     if pending.is_empty() {
         return Ok(pending.status());
@@ -215,14 +219,14 @@ fn go_on<P: Past, S: Asker<K>, K: Page>(
     sink: &mut K,
 ) -> Result<u8, Stop>
     requires pending { pending.old ≡ record { line = []; refused = false } }
-    requires handed { K.held sink.old ≡ 0 }
+    requires handed { (K.told sink.old).held ≡ 0 }
     ensures finishes { IfOk result (λ status. Finishes session.old session.new status (S.remaining source.old) (S.remaining source.new) (K.told sink.old) (K.told sink.new)) }
     ensures reading { result ≡ Err Stop.Read → StopsReading session.old session.new (S.remaining source.old) (S.remaining source.new) (K.told sink.old) (K.told sink.new) }
     ensures read { result ≡ Err Stop.Read → HasFailed (S.failures source.old) (S.failures source.new) }
     ensures calm { result ≢ Err Stop.Read → S.failures source.new ≡ S.failures source.old }
     ensures writing { result ≡ Err Stop.Write → StopsWriting session.old session.new (S.remaining source.old) (S.remaining source.new) (K.told sink.old) (K.told sink.new) }
     ensures others { (result ≢ Err Stop.Memory) × (result ≢ Err Stop.TooLarge) }
-    ensures handed { result ≢ Err Stop.Write → K.held sink.new ≡ 0 }
+    ensures handed { result ≢ Err Stop.Write → (K.told sink.new).held ≡ 0 }
 {
     let mut block = [0u8; BLOCK];
     'turns: loop {
@@ -246,14 +250,15 @@ fn go_on<P: Past, S: Asker<K>, K: Page>(
 ///
 /// `Memory` comes only before anything was read. `Read` and `Write` come where the source or the sink fails: the
 /// session is that of the lines obeyed so far, a line of which only a part was read is not among them, and of the text
-/// of the last line alone a part may be missing from what the sink took. What the sink has not handed on it may still hold.
+/// of the last line alone a part may be missing from what the sink took. Of that it may hold back a part, but of no answer that was whole
+/// before the last read.
 pub fn converse<P: Past, S: Asker<K>, K: Page>(
     alloc: Global,
     session: &mut Session<P>,
     source: &mut S,
     sink: &mut K,
 ) -> Result<u8, Stop>
-    requires handed { K.held sink.old ≡ 0 }
+    requires handed { (K.told sink.old).held ≡ 0 }
     ensures finishes { IfOk result (λ status. Finishes session.old session.new status (S.remaining source.old) (S.remaining source.new) (K.told sink.old) (K.told sink.new)) }
 
     // Read and Write come only where that device has failed.
@@ -267,7 +272,7 @@ pub fn converse<P: Past, S: Asker<K>, K: Page>(
     ensures no_other { result ≢ Err Stop.TooLarge }
 
     // At the end nothing is held back.
-    ensures handed { result ≢ Err Stop.Write → K.held sink.new ≡ 0 }
+    ensures handed { result ≢ Err Stop.Write → (K.told sink.new).held ≡ 0 }
 {
     let mut pending = Pending::new(alloc)?;
     go_on(alloc, session, &mut pending, source, sink)

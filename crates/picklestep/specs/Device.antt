@@ -1,18 +1,22 @@
--- What is left at the devices of the program: its input, its output, and what a session is saved in.
+-- What is left at the devices of the program: its input, and its output itself, behind the page.
 -- Source: own.
-use Rattle.std.specs.Prelude.{◌≡◌, ◌≢◌, ◌⊎◌, ℕ, List, [], Bool, true, false, Option, Result, Err, IsErr, ⊤}
-use Rattle.pickle_io.specs.Device.{Told, Wrote, Broke}
+use Rattle.std.specs.Prelude.{◌≡◌, ◌⊎◌, ℕ, List, [], Bool, true, false, Option, Result, Ok, Err, IsErr, ⊤}
+use Rattle.pickle_io.specs.Device.{Told, Wrote, Broke, WroteAllBut}
 use Rattle.pickle_io.specs.Whole.{IsWhole, StopsSo}
 use Rattle.pickle_io.specs.declared.buffered.Buffered.{Buffered}
 use Rattle.pickle_io.specs.declared.whole.ReadStop.{ReadStop}
-use Rattle.pickle_doc.specs.Document.{size_limit}
+use Rattle.pickle_doc.specs.Document.{Contents, ReadsAs, size_limit}
+use Rattle.pickle_show.specs.Output.{Output}
+use Rattle.pickle_show.specs.Listing.{listing}
+use Rattle.pickle_show.specs.Report.{IsReport}
+use Rattle.pickle_further.specs.CallsText.{IsCallsText}
 use Rattle.pickle_script.specs.declared.stop.Stop.{Stop}
 use Rattle.pickle_script.specs.declared.stop.Stop.TheVariants as stop
 use Rattle.pickle_script.specs.declared.texts.Text.{Text}
 use Rattle.pickle_script.specs.Stop.{stop_of_read}
 use Rattle.pickle_script.specs.declared.texts.Text.TheVariants as text
-use Rattle.pickle_show.specs.Manner.{manner}
-use Rattle.pickle_script.specs.Output.{AnswersText, AnswersCalls}
+use Rattle.pickle_show.specs.Manner.{manner, whole}
+use Rattle.pickle_script.specs.Output.{IsCallsOfFile}
 use Rattle.picklestep.specs.declared.task.Task.{Task}
 use Rattle.picklestep.specs.declared.task.Task.TheVariants as task
 use Rattle.picklestep.specs.declared.task.GivenFile.{GivenFile}
@@ -24,14 +28,30 @@ use Rattle.picklestep.specs.declared.task.CallsOptions.{CallsOptions}
 abbrev pub device_of : {K : Type 0} → Buffered K → K
 device_of page = page.sink
 
--- what a page holds was handed on at the end, also after a stop, or that failed; a device that has failed is not called again
-pub record HandsOn (old new : Told) (answer result : Result ℕ Stop) : Type 0 where
-  pub passed : result ≢ Err stop.Write → result ≡ answer
-  pub calm : result ≢ Err stop.Write → Wrote old new []
-  pub untouched : answer ≡ Err stop.Write → new ≡ old
-  pub failed : result ≡ Err stop.Write → answer ≢ Err stop.Write → Broke old new []
+-- ---- a text that a device is handed
+
+-- the device took all of a text, and this is its status; or a beginning, and then the device failed or memory ran out
+abbrev pub Took : Output → Told → Told → Result ℕ Stop → Type 0
+Took o old new (Ok status) = Wrote old new o.text × (status ≡ o.status)
+Took o old new (Err stop.Write) = Broke old new o.text
+Took o old new (Err stop.Memory) = (rest : List ℕ) × WroteAllBut old new o.text rest
+Took o old new (Err stop.Read) = ⊥
+Took o old new (Err stop.TooLarge) = ⊥
+
+abbrev pub nothing : Output
+nothing = record { text = []; status = 0 }
+
+-- it took so of the text that `Is` means; or there was an error, and it took nothing
+abbrev pub TookText : (Output → Type 0) → Told → Told → Result ℕ Stop → Type 0
+TookText Is old new result = ((o : Output) × Is o × Took o old new result) ⊎ (IsErr result × Took nothing old new result)
 
 -- ---- a text of an input
+
+-- this is the text of bytes: the listing or the report of the document that they read as, or what is imported and called
+abbrev pub IsTextOf : Text → Bool → List ℕ → Output → Type 0
+IsTextOf text.Listing many bytes o = (d : Contents) × ReadsAs many bytes d × (o ≡ listing d)
+IsTextOf text.Objects many bytes o = (d : Contents) × ReadsAs many bytes d × IsReport d o.text o.status
+IsTextOf (text.Calls pickles detail) many bytes o = IsCallsText (whole detail) pickles bytes o
 
 -- the source was not read whole, and nothing was written
 pub record WasNotRead (source source' : Option (List ℕ)) (old new : Told) (result : Result ℕ Stop) : Type 0 where
@@ -40,17 +60,14 @@ pub record WasNotRead (source source' : Option (List ℕ)) (old new : Told) (res
   pub stopped : StopsSo source source' size_limit why
   pub unwritten : new ≡ old
 
--- these are all bytes of the source, this was answered of them, and it was handed on; `says` is what is answered of bytes
-pub record WasAnswered (says : List ℕ → Told → Told → Result ℕ Stop → Type 0) (source source' : Option (List ℕ)) (old new : Told) (result : Result ℕ Stop) : Type 0 where
+-- these are all bytes of the source, and the device took so of their text; `Is` says which text bytes have
+pub record WasAnswered (Is : List ℕ → Output → Type 0) (source source' : Option (List ℕ)) (old new : Told) (result : Result ℕ Stop) : Type 0 where
   pub bytes : List ℕ
   pub read : IsWhole source source' size_limit bytes
-  pub between : Told
-  pub answer : Result ℕ Stop
-  pub answers : says bytes old between answer
-  pub handed : HandsOn between new answer result
+  pub took : TookText (Is bytes) old new result
 
-abbrev pub AnswersInput : (List ℕ → Told → Told → Result ℕ Stop → Type 0) → Option (List ℕ) → Option (List ℕ) → Told → Told → Result ℕ Stop → Type 0
-AnswersInput says source source' old new result = WasNotRead source source' old new result ⊎ WasAnswered says source source' old new result
+abbrev pub AnswersInput : (List ℕ → Output → Type 0) → Option (List ℕ) → Option (List ℕ) → Told → Told → Result ℕ Stop → Type 0
+AnswersInput Is source source' old new result = WasNotRead source source' old new result ⊎ WasAnswered Is source source' old new result
 
 -- ---- the text that a task asks for
 
@@ -61,25 +78,22 @@ input_of (task.Objects input) = input
 input_of (task.Calls input options) = input
 input_of (task.Debug input options) = input
 
--- a text is answered, or what is imported and called by what is left of a file
-abbrev pub answering : Text → Bool → List ℕ → Told → Told → Result ℕ Stop → Type 0
-answering text many bytes old new answer = AnswersText text many bytes (λ (t : Told). t) old new answer
-
-abbrev pub answering_calls : CallsOptions → List ℕ → Told → Told → Result ℕ Stop → Type 0
-answering_calls options bytes old new answer = AnswersCalls (manner options.detail options.holes) options.pickles bytes (λ (t : Told). t) old new answer
+-- what is imported and called by what is left of a file
+abbrev pub is_calls : CallsOptions → List ℕ → Output → Type 0
+is_calls options bytes o = IsCallsOfFile (manner options.detail options.holes) options.pickles bytes o
 
 -- a conversation asks for no text
 abbrev pub asks_for_text : Task → Bool
 asks_for_text (task.Debug input options) = false
 asks_for_text _ = true
 
--- the text that is asked for, in the mode that is asked for, was answered of all bytes of the source
+-- the device took so of the text that is asked for, in the mode that is asked for, of all bytes of the source
 abbrev pub AnswersTask : Task → Option (List ℕ) → Option (List ℕ) → Told → Told → Result ℕ Stop → Type 0
-AnswersTask (task.List input) source source' old new result = AnswersInput (answering text.Listing input.many) source source' old new result
-AnswersTask (task.Objects input) source source' old new result = AnswersInput (answering text.Objects input.many) source source' old new result
-AnswersTask (task.Calls input options) source source' old new result = AnswersInput (answering_calls options) source source' old new result
+AnswersTask (task.List input) source source' old new result = AnswersInput (IsTextOf text.Listing input.many) source source' old new result
+AnswersTask (task.Objects input) source source' old new result = AnswersInput (IsTextOf text.Objects input.many) source source' old new result
+AnswersTask (task.Calls input options) source source' old new result = AnswersInput (is_calls options) source source' old new result
 AnswersTask (task.Debug input options) source source' old new result = ⊤
 
--- it was answered of all bytes of the file; or there was an error, and nothing was written
+-- of all bytes of the file; or there was an error, and nothing was written
 abbrev pub AnswersFile : Task → Option (List ℕ) → Told → Told → Result ℕ Stop → Type 0
 AnswersFile t file old new result = (IsErr result × (new ≡ old)) ⊎ ((rest : Option (List ℕ)) × AnswersTask t file rest old new result)

@@ -1,13 +1,15 @@
--- What is left of the devices of a conversation about a file, and of the file that its document is saved to.
+-- What is left of the devices of a conversation about a file, and of the file that its document is saved to. `old` and `new` are what the
+-- output itself reports, behind the page.
 -- Source: own.
-use Rattle.std.specs.Prelude.{◌≡◌, ◌≢◌, ◌⊎◌, ℕ, Bool, List, Option, None, Some, option_map, Result, MatchResult, IsErr}
+use Rattle.std.specs.Prelude.{◌≡◌, ◌≢◌, ◌⊎◌, ◌++◌, ℕ, Bool, List, Option, None, Some, option_map, Result, MatchResult, IsErr}
+use Rattle.std.specs.List.{concat}
 use Rattle.std.specs.String.{string_bytes}
-use Rattle.pickle_io.specs.Device.{Told, Wrote}
+use Rattle.pickle_io.specs.Device.{Told, Wrote, Broke}
 use Rattle.pickle_io.specs.Whole.{IsWhole}
 use Rattle.pickle_doc.specs.Document.{size_limit, document_bytes}
 use Rattle.pickle_session.specs.Allowed.{SessionState}
 use Rattle.pickle_session.specs.Opening.{IsOpened}
-use Rattle.pickle_script.specs.Conversation.{Finishes, StopsReading, StopsWriting}
+use Rattle.pickle_script.specs.Conversation.{Finishes, StopsReading, StopsInLine, BrokeSince}
 use Rattle.pickle_script.specs.declared.stop.Stop.{Stop}
 use Rattle.pickle_script.specs.declared.stop.Stop.TheVariants as stop
 use Rattle.picklestep.specs.declared.task.GivenFile.{GivenFile}
@@ -26,10 +28,16 @@ Saves took (Some path) files files' bytes = Wrote (took files path) (took files'
 
 -- ---- a conversation with a session
 
+-- the device failed in the text of some line: what it took is a beginning of the texts up to that, with whole ones of the lines that were
+-- whole when more was read the last time
+abbrev pub StopsAtDevice : SessionState → SessionState → Option (List ℕ) → Option (List ℕ) → Told → Told → Type 0
+StopsAtDevice s after input input' old new =
+    StopsInLine (λ given texts text. Broke old new (concat texts ++ text) × BrokeSince s given old new) s after input input'
+
 -- what a stop leaves of it
 abbrev pub Cuts : SessionState → SessionState → Option (List ℕ) → Option (List ℕ) → Told → Told → Stop → Type 0
 Cuts s after input input' old new stop.Read = StopsReading s after input input' old new
-Cuts s after input input' old new stop.Write = StopsWriting s after input input' old new
+Cuts s after input input' old new stop.Write = StopsAtDevice s after input input' old new
 Cuts s after input input' old new stop.TooLarge = ⊥
 Cuts s after input input' old new stop.Memory = (after ≡ s) × (input' ≡ input) × (new ≡ old)
 

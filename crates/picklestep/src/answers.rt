@@ -1,8 +1,9 @@
-//! The answer of a task: a text of all bytes of a source, written to a device through a page that holds nothing back at the end.
+//! The answer of a task: a text of all bytes of a source, written to a device through a page that holds nothing back at the end. The contracts
+//! speak of the device.
 
 ghost use Rattle.std.specs.Prelude.{◌≡◌, ◌≢◌, true, Err};
 ghost use Rattle.std.specs.String.{string_bytes};
-ghost use Rattle.picklestep.specs.Device.{AnswersInput, AnswersTask, AnswersFile, answering, answering_calls, asks_for_text, device_of, input_of as asked_input};
+ghost use Rattle.picklestep.specs.Device.{IsTextOf, AnswersInput, AnswersTask, AnswersFile, is_calls, asks_for_text, device_of, input_of as asked_input};
 
 use crate::files::Files;
 use crate::output::write_out;
@@ -21,10 +22,9 @@ fn answer_text<R: Source, K: Sink + Drop>(
     source: &mut R,
     page: &mut Buffered<K>,
 ) -> Result<u8, Stop>
-    ensures answers { AnswersInput (answering text many) (R.remaining source.old) (R.remaining source.new) (⟦<Buffered<K> as Sink>⟧.told page.old) (⟦<Buffered<K> as Sink>⟧.told page.new) result }
-
-    // Unless the device fails the page holds nothing back, so that what it reports is what the device took.
-    ensures handed { result ≢ Err Stop.Write → ⟦<Buffered<K> as Sink>⟧.held page.old ≡ 0 → ⟦<Buffered<K> as Sink>⟧.told page.new ≡ K.told (device_of page.new) }
+    requires handed { (⟦<Buffered<K> as Sink>⟧.told page.old).held ≡ 0 }
+    ensures answers { AnswersInput (IsTextOf text many) (R.remaining source.old) (R.remaining source.new) (K.told (device_of page.old)) (K.told (device_of page.new)) result }
+    ensures handed { result ≢ Err Stop.Write → (⟦<Buffered<K> as Sink>⟧.told page.new).held ≡ 0 }
 {
     let bytes = read_limited(alloc, source, LIMIT)?;
     let written = write_text(alloc, text, many, bytes.as_slice(), page);
@@ -39,8 +39,9 @@ fn answer_calls<R: Source, K: Sink + Drop>(
     source: &mut R,
     page: &mut Buffered<K>,
 ) -> Result<u8, Stop>
-    ensures answers { AnswersInput (answering_calls options.now) (R.remaining source.old) (R.remaining source.new) (⟦<Buffered<K> as Sink>⟧.told page.old) (⟦<Buffered<K> as Sink>⟧.told page.new) result }
-    ensures handed { result ≢ Err Stop.Write → ⟦<Buffered<K> as Sink>⟧.held page.old ≡ 0 → ⟦<Buffered<K> as Sink>⟧.told page.new ≡ K.told (device_of page.new) }
+    requires handed { (⟦<Buffered<K> as Sink>⟧.told page.old).held ≡ 0 }
+    ensures answers { AnswersInput (is_calls options.now) (R.remaining source.old) (R.remaining source.new) (K.told (device_of page.old)) (K.told (device_of page.new)) result }
+    ensures handed { result ≢ Err Stop.Write → (⟦<Buffered<K> as Sink>⟧.told page.new).held ≡ 0 }
 {
     let mut bytes = read_limited(alloc, source, LIMIT)?;
     let (pickles, detail) = (options.pickles, options.detail);
@@ -72,9 +73,10 @@ fn answer_task<R: Source, K: Sink + Drop>(
     source: &mut R,
     page: &mut Buffered<K>,
 ) -> Result<u8, Stop>
-    requires { asks_for_text task.now ≡ true }
-    ensures answers { AnswersTask task.now (R.remaining source.old) (R.remaining source.new) (⟦<Buffered<K> as Sink>⟧.told page.old) (⟦<Buffered<K> as Sink>⟧.told page.new) result }
-    ensures handed { result ≢ Err Stop.Write → ⟦<Buffered<K> as Sink>⟧.held page.old ≡ 0 → ⟦<Buffered<K> as Sink>⟧.told page.new ≡ K.told (device_of page.new) }
+    requires text { asks_for_text task.now ≡ true }
+    requires handed { (⟦<Buffered<K> as Sink>⟧.told page.old).held ≡ 0 }
+    ensures answers { AnswersTask task.now (R.remaining source.old) (R.remaining source.new) (K.told (device_of page.old)) (K.told (device_of page.new)) result }
+    ensures handed { result ≢ Err Stop.Write → (⟦<Buffered<K> as Sink>⟧.told page.new).held ≡ 0 }
 {
     match task {
         Task::List(input) => answer_text(alloc, Text::Listing, input.many, source, page),
@@ -91,9 +93,10 @@ pub fn answer_file<K: Sink + Drop, F: Files>(
     files: &F,
     page: &mut Buffered<K>,
 ) -> Result<u8, Stop>
-    requires { asks_for_text task.now ≡ true }
-    ensures answers { AnswersFile task.now (F.bytes_of files.now (string_bytes (asked_input task.now).file)) (⟦<Buffered<K> as Sink>⟧.told page.old) (⟦<Buffered<K> as Sink>⟧.told page.new) result }
-    ensures handed { result ≢ Err Stop.Write → ⟦<Buffered<K> as Sink>⟧.held page.old ≡ 0 → ⟦<Buffered<K> as Sink>⟧.told page.new ≡ K.told (device_of page.new) }
+    requires text { asks_for_text task.now ≡ true }
+    requires handed { (⟦<Buffered<K> as Sink>⟧.told page.old).held ≡ 0 }
+    ensures answers { AnswersFile task.now (F.bytes_of files.now (string_bytes (asked_input task.now).file)) (K.told (device_of page.old)) (K.told (device_of page.new)) result }
+    ensures handed { result ≢ Err Stop.Write → (⟦<Buffered<K> as Sink>⟧.told page.new).held ≡ 0 }
 {
     let mut source = files.open(input_of(task).file.as_str())?;
     answer_task(alloc, task, &mut source, page)

@@ -14,8 +14,9 @@ use pickle_script::Stop;
 use std::alloc::Global;
 
 /// Does a task on the file that it names, and answers the status: writes the text that it asks for to the page; or reads commands from
-/// the source, which gives more only once the page holds no answer back, answers each on the page, and saves the document to the file that the options name, if they name one. The stops are those
-/// of `answer_file` and `debug_file`.
+/// the source, which gives more only once the page holds no answer back, answers each on the page, and saves the document to the file that
+/// the options name, if they name one. The stops are those of `answer_file` and `debug_file`. What is said of the texts is said of the
+/// device behind the page.
 pub fn carry_out<R: Asker<Buffered<K>>, K: Sink + Drop, F: Files>(
     alloc: Global,
     task: &Task,
@@ -24,11 +25,11 @@ pub fn carry_out<R: Asker<Buffered<K>>, K: Sink + Drop, F: Files>(
     files: &mut F,
 ) -> Result<u8, Stop>
     requires bounded { IsBounded task.now }
-    requires handed { ⟦<Buffered<K> as Sink>⟧.held page.old ≡ 0 }
-    ensures does { CarriesOut task.now F.bytes_of F.took files.old files.new (R.remaining source.old) (R.remaining source.new) (⟦<Buffered<K> as Sink>⟧.told page.old) (⟦<Buffered<K> as Sink>⟧.told page.new) result }
+    requires handed { (⟦<Buffered<K> as Sink>⟧.told page.old).held ≡ 0 }
+    ensures does { CarriesOut task.now F.bytes_of F.took files.old files.new (R.remaining source.old) (R.remaining source.new) (K.told (device_of page.old)) (K.told (device_of page.new)) result }
 
-    // Unless a device fails the page holds nothing back, so that what it reports is what the device took.
-    ensures handed { result ≢ Err Stop.Write → ⟦<Buffered<K> as Sink>⟧.told page.new ≡ K.told (device_of page.new) }
+    // Unless a device fails the page holds nothing back.
+    ensures handed { result ≢ Err Stop.Write → (⟦<Buffered<K> as Sink>⟧.told page.new).held ≡ 0 }
 {
     match task {
         Task::Debug(input, options) => debug_file(alloc, input, options, source, page, files),

@@ -33,7 +33,7 @@ pub trait Files {
 /// Writes all bytes of a document to a page, and hands them on. `Stop::Write` where the page fails.
 pub fn write_document<K: Page>(document: &Document, page: &mut K) -> Result<(), Stop>
     ensures writes { OnOk result ((between : Told) × Wrote (K.told page.old) between (document_bytes document.now.contents) × Wrote between (K.told page.new) []) }
-    ensures handed { OnOk result (K.held page.new ≡ 0) }
+    ensures handed { OnOk result ((K.told page.new).held ≡ 0) }
 {
     document.write_bytes(page)?;
     page.flush()?;

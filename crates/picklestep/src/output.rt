@@ -10,7 +10,7 @@ use pickle_script::Stop;
 /// `Stop::Write` nothing is tried again: a device that has failed is not called again.
 pub fn write_out<S: Sink>(sink: &mut S, answer: Result<u8, Stop>) -> Result<u8, Stop>
     ensures passed { result ≢ Err Stop.Write → result ≡ answer }
-    ensures handed { result ≢ Err Stop.Write → S.held sink.new ≡ 0 }
+    ensures handed { result ≢ Err Stop.Write → (S.told sink.new).held ≡ 0 }
     ensures calm { result ≢ Err Stop.Write → Wrote (S.told sink.old) (S.told sink.new) [] }
 
     // A write that failed is not tried again, and no other one fails without a failure of the sink.

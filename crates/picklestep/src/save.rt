@@ -191,7 +191,7 @@ impl Files for SystemFiles<'_> {
 
     ghost bytes_of = { λ _ _. None };
 
-    ghost took = { λ _ _. record { taken = None; failures = 0 } };
+    ghost took = { λ _ _. record { taken = None; held = 0; failures = 0 } };
 
     fn open(&self, path: &str) -> Result<FromRead<File>, Stop> {
         Ok(FromRead::new(open_file(self.rt, path)?))

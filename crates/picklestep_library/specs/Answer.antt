@@ -14,7 +14,7 @@ use Rattle.picklestep_library.specs.declared.fill.Written.{Written}
 
 -- a sink that has taken these bytes, and has not failed
 abbrev pub took : List ℕ → Told
-took bytes = record { taken = Some bytes; failures = 0 }
+took bytes = record { taken = Some bytes; held = 0; failures = 0 }
 
 -- these bytes are the whole text of an input, and this is its status
 abbrev pub IsTextOf : Text → Bool → List ℕ → List ℕ → ℕ → Type 0

@@ -239,7 +239,7 @@ impl Failing {
 impl Sink for Failing {
     ghost use Rattle.std.specs.Prelude.{None};
 
-    ghost told = { λ s. record { taken = None; failures = s.failures } };
+    ghost told = { λ s. record { taken = None; held = 0; failures = s.failures } };
 
     fn write(&mut self, bytes: &[u8]) -> Result<usize, Failed> {
         if self.failures > 0 {

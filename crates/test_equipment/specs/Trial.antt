@@ -31,6 +31,6 @@ sip_calls s = s.calls
 abbrev pub sip_failures : Sip → ℕ
 sip_failures s = s.failures
 
--- its bytes are reported
+-- its bytes are reported, and it holds none back
 abbrev pub sip_told : Sip → Told
-sip_told s = record { taken = Some (sip_taken s); failures = sip_failures s }
+sip_told s = record { taken = Some (sip_taken s); held = 0; failures = sip_failures s }

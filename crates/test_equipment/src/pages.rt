@@ -10,21 +10,21 @@ const ROOM: usize = 256;
 
 /// A page over a sink.
 pub fn page_over<S: Sink + Drop>(alloc: Global, sink: S) -> Result<Buffered<S>, AllocError>
-    ensures { IfOk result (λ page. ⟦<Buffered<S> as Sink>⟧.held page ≡ S.held sink) }
+    ensures { IfOk result (λ page. (⟦<Buffered<S> as Sink>⟧.told page).held ≡ (S.told sink).held) }
 {
     Buffered::with_room(alloc, sink, ROOM)
 }
 
 /// A page whose text is kept in memory.
 pub fn paper(alloc: Global) -> Result<Buffered<ToWrite<Vec<u8>>>, AllocError>
-    ensures { IfOk result (λ page. ⟦<Buffered<ToWrite<Vec<u8>>> as Sink>⟧.held page ≡ 0) }
+    ensures { IfOk result (λ page. (⟦<Buffered<ToWrite<Vec<u8>>> as Sink>⟧.told page).held ≡ 0) }
 {
     page_over(alloc, ToWrite::new(Vec::new(alloc)))
 }
 
 /// The same where one request for memory may be refused.
 pub fn insist_on_paper(alloc: Global) -> Result<Buffered<ToWrite<Vec<u8>>>, AllocError>
-    ensures { IfOk result (λ page. ⟦<Buffered<ToWrite<Vec<u8>>> as Sink>⟧.held page ≡ 0) }
+    ensures { IfOk result (λ page. (⟦<Buffered<ToWrite<Vec<u8>>> as Sink>⟧.told page).held ≡ 0) }
 {
     match paper(alloc) {
         Ok(page) => Ok(page),

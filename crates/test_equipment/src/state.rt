@@ -294,7 +294,7 @@ impl<'a> Comparison<'a> {
 impl Sink for Comparison<'_> {
     ghost use Rattle.std.specs.Prelude.{None};
 
-    ghost told = { λ _. record { taken = None; failures = 0 } };
+    ghost told = { λ _. record { taken = None; held = 0; failures = 0 } };
 
     fn write(&mut self, bytes: &[u8]) -> Result<usize, Failed> {
         self.compare(bytes);

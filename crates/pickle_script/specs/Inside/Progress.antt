@@ -51,6 +51,10 @@ pub record WritesLine (says : Result Line Syntax) (s after : SessionState) (old 
   pub writes : Writes old new r text
   pub refuses : IfOk r (λ o. was_refused o ≡ is_refusal text)
 
+-- some text was written, or after an error a beginning of it
+abbrev pub WritesSome : {A E : Type 0} → Told → Told → Result A E → Type 0
+WritesSome old new r = (text : List ℕ) × Writes old new r text
+
 -- the complete lines of what was given were obeyed, none of them quits, and of the rest as much is held as is needed
 pub record SoFar (s : SessionState) (old : Told) (given : List ℕ) (after : SessionState) (new : Told) (pending : Pending) : Type 0 where
   pub cut : Cut

@@ -1,0 +1,225 @@
+-- From what a page took to what its device did.
+use Rattle.std.proofs.Common.{◌≡◌, ◌≢◌, ◌⊎◌, inl, inr, ℕ, ◌+◌, ◌<◌, ◌≤◌, Bool, List, [], ◌∷◌, ◌++◌, length, Option, None, Some, Result, Ok, Err, refl, sym, ap, subst, ◌∙◌, append_assoc, append-nil, arith}
+use Rattle.std.specs.Prelude.{IsErr}
+use Rattle.std.specs.List.{concat}
+use Rattle.pickle_io.specs.Device.{Told, holding, AppendsPrefix, Wrote, Broke, WroteAllBut}
+use Rattle.pickle_io.specs.Whole.{IsWhole}
+use Rattle.pickle_io.proofs.Devices.{Wrote-trans, Broke-after, WroteAllBut-none, WroteAllBut-stopped}
+use Rattle.pickle_io.proofs.Holding.{Broke-below, nothing-held}
+use Rattle.pickle_doc.specs.Document.{size_limit}
+use Rattle.pickle_show.specs.Output.{Output}
+use Rattle.pickle_show.specs.Listing.{listing}
+use Rattle.pickle_show.specs.Manner.{Manner, manner}
+use Rattle.pickle_further.specs.declared.way.Pickles.{Pickles}
+use Rattle.pickle_script.specs.declared.stop.Stop.{Stop}
+use Rattle.pickle_script.specs.declared.stop.Stop.TheVariants as stop
+use Rattle.pickle_script.specs.declared.texts.Text.{Text}
+use Rattle.pickle_script.specs.declared.texts.Text.TheVariants as text
+use Rattle.pickle_script.specs.Output.{AnswersText, AnswersCalls, IsCallsOfFile}
+use Rattle.pickle_session.specs.Allowed.{SessionState}
+use Rattle.pickle_script.specs.Conversation.{AppendsPast, BrokePast, BrokeSince, StopsReading, StopsWriting}
+use Rattle.picklestep.specs.Talk.{StopsAtDevice, Cuts}
+use Rattle.picklestep.specs.declared.task.CallsOptions.{CallsOptions}
+use Rattle.picklestep.specs.Device.{Took, TookText, nothing, IsTextOf, is_calls, AnswersInput}
+
+-- ---- what was written on the page
+
+too_large : {A : Type 0} (bytes : List ℕ) → length bytes ≤ size_limit → size_limit < length bytes → A
+too_large bytes few many = absurd (omega (arith, few, many))
+
+wrote_nothing : (old new : Told) → new ≡ old → Took nothing old new (Err stop.Memory)
+wrote_nothing old new e = rw e ([], WroteAllBut-none old [])
+
+said_text : {S : Type 0} (told : S → Told) (t : Text) (many : Bool) (bytes : List ℕ) (old new : S) (answer : Result ℕ Stop) → length bytes ≤ size_limit
+    → AnswersText t many bytes told old new answer → TookText (IsTextOf t many bytes) (told old) (told new) answer
+said_text told text.Listing many bytes old new (Ok status) few p = let w = p.whole in inl (listing w.0, (w.0, w.1, refl), w.2)
+said_text told text.Objects many bytes old new (Ok status) few p = let w = p.whole in inl (record { text = w.2.0; status = status }, (w.0, w.1, w.2.1), (w.2.2, refl))
+said_text told (text.Calls pickles detail) many bytes old new (Ok status) few p = let w = p.whole in inl (w.0, w.1, (w.2, w.3))
+said_text told text.Listing many bytes old new (Err stop.Write) few p = let w = p.stopped in inl (listing w.0, (w.0, w.1, refl), w.2)
+said_text told text.Objects many bytes old new (Err stop.Write) few p = let w = p.stopped in inl (record { text = w.2.0; status = w.2.1 }, (w.0, w.1, w.2.2), w.2.3)
+said_text told (text.Calls pickles detail) many bytes old new (Err stop.Write) few p = inl p.stopped
+said_text told text.Listing many bytes old new (Err stop.Memory) few p = let w = p.stopped in inl (listing w.0, (w.0, w.1, refl), w.2)
+said_text told text.Objects many bytes old new (Err stop.Memory) few p = inr (tt, wrote_nothing (told old) (told new) p.stopped)
+said_text told (text.Calls pickles detail) many bytes old new (Err stop.Memory) few p = inl p.stopped
+said_text told text.Listing many bytes old new (Err stop.Read) few p = absurd p.stopped
+said_text told text.Objects many bytes old new (Err stop.Read) few p = absurd p.stopped
+said_text told (text.Calls pickles detail) many bytes old new (Err stop.Read) few p = absurd p.stopped
+said_text told text.Listing many bytes old new (Err stop.TooLarge) few p = too_large bytes few (p.too_large.0 refl)
+said_text told text.Objects many bytes old new (Err stop.TooLarge) few p = too_large bytes few (p.too_large.0 refl)
+said_text told (text.Calls pickles detail) many bytes old new (Err stop.TooLarge) few p = too_large bytes few (p.too_large.0 refl)
+
+said_calls : {S : Type 0} (told : S → Told) (how : Manner) (pickles : Pickles) (bytes : List ℕ) (old new : S) (answer : Result ℕ Stop) → length bytes ≤ size_limit
+    → AnswersCalls how pickles bytes told old new answer → TookText (IsCallsOfFile how pickles bytes) (told old) (told new) answer
+said_calls told how pickles bytes old new (Ok status) few p = let w = p.whole in inl (w.0, w.1, (w.2, w.3))
+said_calls told how pickles bytes old new (Err stop.Write) few p = inl p.stopped
+said_calls told how pickles bytes old new (Err stop.Memory) few p = inl p.stopped
+said_calls told how pickles bytes old new (Err stop.Read) few p = absurd p.stopped
+said_calls told how pickles bytes old new (Err stop.TooLarge) few p = too_large bytes few (p.too_large.0 refl)
+
+-- ---- what it held was handed on, or that failed
+
+Wrote-flushed : (a b c : Told) (text : List ℕ) → Wrote a b text → Wrote b c [] → Wrote a c text
+Wrote-flushed a b c text p q = subst (λ (t : List ℕ). Wrote a c t) (append-nil text) (Wrote-trans a b c text [] p q)
+
+Broke-flushed : (a b c : Told) (text : List ℕ) → Wrote a b text → Broke b c [] → Broke a c text
+Broke-flushed a b c text p q = subst (λ (t : List ℕ). Broke a c t) (append-nil text) (Broke-after a b c text [] p q)
+
+took_on : (o : Output) (a b c : Told) (r : Result ℕ Stop) → r ≢ Err stop.Write → Took o a b r → Wrote b c [] → Took o a c r
+took_on o a b c (Ok status) n w f = (Wrote-flushed a b c o.text w.0 f, w.1)
+took_on o a b c (Err stop.Write) n w f = absurd (n refl)
+took_on o a b c (Err stop.Memory) n w f = (w.0, record { front = w.1.front; parts = w.1.parts; wrote = Wrote-flushed a b c w.1.front w.1.wrote f })
+took_on o a b c (Err stop.Read) n w f = absurd w
+took_on o a b c (Err stop.TooLarge) n w f = absurd w
+
+took_broken : (o : Output) (a b c : Told) (r : Result ℕ Stop) → r ≢ Err stop.Write → Took o a b r → Broke b c [] → Took o a c (Err stop.Write)
+took_broken o a b c (Ok status) n w f = Broke-flushed a b c o.text w.0 f
+took_broken o a b c (Err stop.Write) n w f = absurd (n refl)
+took_broken o a b c (Err stop.Memory) n w f = WroteAllBut-stopped a b c o.text w.0 w.1 f
+took_broken o a b c (Err stop.Read) n w f = absurd w
+took_broken o a b c (Err stop.TooLarge) n w f = absurd w
+
+text_on : (Is : Output → Type 0) (a b c : Told) (r : Result ℕ Stop) → r ≢ Err stop.Write → TookText Is a b r → Wrote b c [] → TookText Is a c r
+text_on Is a b c r n (inl w) f = inl (w.0, w.1, took_on w.0 a b c r n w.2 f)
+text_on Is a b c r n (inr w) f = inr (w.0, took_on nothing a b c r n w.1 f)
+
+text_broken : (Is : Output → Type 0) (a b c : Told) (r : Result ℕ Stop) → r ≢ Err stop.Write → TookText Is a b r → Broke b c [] → TookText Is a c (Err stop.Write)
+text_broken Is a b c r n (inl w) f = inl (w.0, w.1, took_broken w.0 a b c r n w.2 f)
+text_broken Is a b c r n (inr w) f = inr (tt, took_broken nothing a b c r n w.1 f)
+
+-- what `write_out` makes of an answer
+record HandsOn (old new : Told) (answer result : Result ℕ Stop) : Type 0 where
+  pub passed : result ≢ Err stop.Write → result ≡ answer
+  pub calm : result ≢ Err stop.Write → Wrote old new []
+  pub untouched : answer ≡ Err stop.Write → new ≡ old
+  pub failed : result ≡ Err stop.Write → answer ≢ Err stop.Write → Broke old new []
+
+text_failed : (Is : Output → Type 0) (a b c : Told) (answer : Result ℕ Stop) → TookText Is a b answer → HandsOn b c answer (Err stop.Write) → TookText Is a c (Err stop.Write)
+text_failed Is a b c (Err stop.Write) w h = let e : c ≡ b = h.untouched refl in rw e w
+text_failed Is a b c (Ok status) w h = let n : Ok status ≢ Err stop.Write = λ e. absurd cc in text_broken Is a b c (Ok status) n w (h.failed refl n)
+text_failed Is a b c (Err stop.Memory) w h = let n : Err stop.Memory ≢ Err stop.Write = λ e. absurd cc in text_broken Is a b c (Err stop.Memory) n w (h.failed refl n)
+text_failed Is a b c (Err stop.Read) w h = let n : Err stop.Read ≢ Err stop.Write = λ e. absurd cc in text_broken Is a b c (Err stop.Read) n w (h.failed refl n)
+text_failed Is a b c (Err stop.TooLarge) w h = let n : Err stop.TooLarge ≢ Err stop.Write = λ e. absurd cc in text_broken Is a b c (Err stop.TooLarge) n w (h.failed refl n)
+
+text_passed : (Is : Output → Type 0) (a b c : Told) (answer result : Result ℕ Stop) → result ≢ Err stop.Write → TookText Is a b answer → HandsOn b c answer result → TookText Is a c result
+text_passed Is a b c answer result n w h = text_on Is a b c result n (rw (h.passed n) w) (h.calm n)
+
+text_handed : (Is : Output → Type 0) (a b c : Told) (answer result : Result ℕ Stop) → TookText Is a b answer → HandsOn b c answer result → TookText Is a c result
+text_handed Is a b c answer (Err stop.Write) w h = text_failed Is a b c answer w h
+text_handed Is a b c answer (Ok status) w h = text_passed Is a b c answer (Ok status) (λ e. absurd cc) w h
+text_handed Is a b c answer (Err stop.Memory) w h = text_passed Is a b c answer (Err stop.Memory) (λ e. absurd cc) w h
+text_handed Is a b c answer (Err stop.Read) w h = text_passed Is a b c answer (Err stop.Read) (λ e. absurd cc) w h
+text_handed Is a b c answer (Err stop.TooLarge) w h = text_passed Is a b c answer (Err stop.TooLarge) (λ e. absurd cc) w h
+
+-- ---- behind the page
+
+took_below : (o : Output) (d e : Told) (held : List ℕ) (r : Result ℕ Stop) → d.held ≡ 0 → (r ≢ Err stop.Write → (holding e held).held ≡ 0) → Took o d (holding e held) r → Took o d e r
+took_below o d e held (Ok status) none all w = subst (λ (t : Told). Took o d t (Ok status)) (nothing-held e held (all (λ x. absurd cc))) w
+took_below o d e held (Err stop.Write) none all w = Broke-below d e held o.text none w
+took_below o d e held (Err stop.Memory) none all w = subst (λ (t : Told). Took o d t (Err stop.Memory)) (nothing-held e held (all (λ x. absurd cc))) w
+took_below o d e held (Err stop.Read) none all w = absurd w
+took_below o d e held (Err stop.TooLarge) none all w = absurd w
+
+none_below : (d : Told) (held : List ℕ) → (holding d held).held ≡ 0 → d.held ≡ 0
+none_below d held e = omega (arith, e)
+
+-- the page held nothing at first
+text_below : (Is : Output → Type 0) (d e : Told) (first held : List ℕ) (r : Result ℕ Stop) → (holding d first).held ≡ 0 → (r ≢ Err stop.Write → (holding e held).held ≡ 0)
+    → TookText Is (holding d first) (holding e held) r → TookText Is d e r
+text_below Is d e first held r none all (inl w) = inl (w.0, w.1, took_below w.0 d e held r (none_below d first none) all (subst (λ (t : Told). Took w.0 t (holding e held) r) (nothing-held d first none) w.2))
+text_below Is d e first held r none all (inr w) = inr (w.0, took_below nothing d e held r (none_below d first none) all (subst (λ (t : Told). Took nothing t (holding e held) r) (nothing-held d first none) w.1))
+
+-- a source was read whole, a text of its bytes written, and what the page held handed on
+pub answers_text : {S : Type 0} (told : S → Told) (t : Text) (many : Bool) (source source' : Option (List ℕ)) (whole bytes : List ℕ) (old mid new : S) (d e : Told) (first held : List ℕ) (answer result : Result ℕ Stop)
+    → IsWhole source source' size_limit whole → bytes ≡ whole → AnswersText t many bytes told old mid answer
+    → (result ≢ Err stop.Write → result ≡ answer) → (result ≢ Err stop.Write → Wrote (told mid) (told new) []) → (answer ≡ Err stop.Write → new ≡ mid)
+    → (result ≡ Err stop.Write → answer ≢ Err stop.Write → Broke (told mid) (told new) [])
+    → told old ≡ holding d first → told new ≡ holding e held → (holding d first).held ≡ 0 → (result ≢ Err stop.Write → (holding e held).held ≡ 0)
+    → AnswersInput (IsTextOf t many) source source' d e result
+answers_text told t many source source' whole bytes old mid new d e first held answer result read same w passed calm untouched failed before after none all =
+    let few : length bytes ≤ size_limit = rw same read.within in
+    let h : HandsOn (told mid) (told new) answer result = record { passed = passed; calm = calm; untouched = λ e. ap told (untouched e); failed = failed } in
+    let said = text_handed (IsTextOf t many bytes) (told old) (told mid) (told new) answer result (said_text told t many bytes old mid answer few w) h in
+    let from : TookText (IsTextOf t many bytes) (holding d first) (told new) result = subst (λ (x : Told). TookText (IsTextOf t many bytes) x (told new) result) before said in
+    let to : TookText (IsTextOf t many bytes) (holding d first) (holding e held) result = subst (λ (x : Told). TookText (IsTextOf t many bytes) (holding d first) x result) after from in
+    let took : TookText (IsTextOf t many bytes) d e result = text_below (IsTextOf t many bytes) d e first held result none all to in
+    inr (record { bytes = whole; read = read; took = subst (λ (b : List ℕ). TookText (IsTextOf t many b) d e result) same took })
+
+pub answers_calls : {S : Type 0} (told : S → Told) (options : CallsOptions) (source source' : Option (List ℕ)) (whole bytes : List ℕ) (old mid new : S) (d e : Told) (first held : List ℕ) (answer result : Result ℕ Stop)
+    → IsWhole source source' size_limit whole → bytes ≡ whole → AnswersCalls (manner options.detail options.holes) options.pickles bytes told old mid answer
+    → (result ≢ Err stop.Write → result ≡ answer) → (result ≢ Err stop.Write → Wrote (told mid) (told new) []) → (answer ≡ Err stop.Write → new ≡ mid)
+    → (result ≡ Err stop.Write → answer ≢ Err stop.Write → Broke (told mid) (told new) [])
+    → told old ≡ holding d first → told new ≡ holding e held → (holding d first).held ≡ 0 → (result ≢ Err stop.Write → (holding e held).held ≡ 0)
+    → AnswersInput (is_calls options) source source' d e result
+answers_calls told options source source' whole bytes old mid new d e first held answer result read same w passed calm untouched failed before after none all =
+    let few : length bytes ≤ size_limit = rw same read.within in
+    let h : HandsOn (told mid) (told new) answer result = record { passed = passed; calm = calm; untouched = λ e. ap told (untouched e); failed = failed } in
+    let said = text_handed (is_calls options bytes) (told old) (told mid) (told new) answer result (said_calls told (manner options.detail options.holes) options.pickles bytes old mid answer few w) h in
+    let from : TookText (is_calls options bytes) (holding d first) (told new) result = subst (λ (x : Told). TookText (is_calls options bytes) x (told new) result) before said in
+    let to : TookText (is_calls options bytes) (holding d first) (holding e held) result = subst (λ (x : Told). TookText (is_calls options bytes) (holding d first) x result) after from in
+    let took : TookText (is_calls options bytes) d e result = text_below (is_calls options bytes) d e first held result none all to in
+    inr (record { bytes = whole; read = read; took = subst (λ (b : List ℕ). TookText (is_calls options b) d e result) same took })
+
+-- ---- a conversation
+
+front_whole : (a b : Option (List ℕ)) (whole next : List ℕ) → AppendsPast a b whole next → AppendsPrefix a b (whole ++ next)
+front_whole None b whole next p = tt
+front_whole (Some x) None whole next p = tt
+front_whole (Some x) (Some y) whole next p = (whole ++ p.0, (p.1.0, ap (λ (t : List ℕ). whole ++ t) p.1.1 ∙ sym (append_assoc whole p.0 p.1.0)), p.2)
+
+broke_whole : (a b : Told) (whole next : List ℕ) → BrokePast a b whole next → Broke a b (whole ++ next)
+broke_whole a b whole next p = record { front = front_whole a.taken b.taken whole next p.taken; stays = p.stays; rises = p.rises; failed = p.failed }
+
+since_below : (s : SessionState) (given : List ℕ) (d e : Told) (held : List ℕ) → BrokeSince s given d (holding e held) → BrokeSince s given d e
+since_below s given d e held w = record {
+  earlier = w.earlier;
+  latest = w.latest;
+  parts = w.parts;
+  few = w.few;
+  between = w.between;
+  asked = w.asked;
+  since = w.since;
+  broke = Broke-below w.between e held w.since w.asked.handed w.broke;
+}
+
+fails_below : (s after : SessionState) (a b : Option (List ℕ)) (d e : Told) (held : List ℕ) → d.held ≡ 0 → StopsWriting s after a b d (holding e held) → StopsAtDevice s after a b d e
+fails_below s after a b d e held none w = record {
+  given = w.given;
+  gave = w.gave;
+  cut = w.cut;
+  is_cut = w.is_cut;
+  before = w.before;
+  last = w.last;
+  later = w.later;
+  are_given = w.are_given;
+  texts = w.texts;
+  text = w.text;
+  runs = w.runs;
+  no_quit = w.no_quit;
+  fails = (Broke-below d e held (concat w.texts ++ w.text) none (broke_whole d (holding e held) (concat w.texts) w.text w.fails.0), since_below s w.given d e held w.fails.1);
+}
+
+pub stops_below : (s after : SessionState) (a b : Option (List ℕ)) (d e : Told) (first held : List ℕ) → (holding d first).held ≡ 0 → StopsWriting s after a b (holding d first) (holding e held)
+    → StopsAtDevice s after a b d e
+stops_below s after a b d e first held none w =
+    fails_below s after a b d e held (none_below d first none) (subst (λ (t : Told). StopsWriting s after a b t (holding e held)) (nothing-held d first none) w)
+
+-- all that was taken was handed on
+pub same_below : (P : Told → Told → Type 0) (d e : Told) (first held : List ℕ) → (holding d first).held ≡ 0 → (holding e held).held ≡ 0 → P (holding d first) (holding e held) → P d e
+same_below P d e first held none last w = subst (λ (t : Told). P t e) (nothing-held d first none) (subst (λ (t : Told). P (holding d first) t) (nothing-held e held last) w)
+
+-- what a stop of a conversation leaves, by what is promised of it
+pub cuts_below : (s after : SessionState) (a b : Option (List ℕ)) (d e : Told) (first held : List ℕ) (x : Stop) (r : Result ℕ Stop) → r ≡ Err x → (holding d first).held ≡ 0
+    → (r ≢ Err stop.Write → (holding e held).held ≡ 0)
+    → (r ≡ Err stop.Read → StopsReading s after a b (holding d first) (holding e held))
+    → (r ≡ Err stop.Write → StopsWriting s after a b (holding d first) (holding e held))
+    → (r ≡ Err stop.Memory → (after ≡ s) × (b ≡ a) × (holding e held ≡ holding d first))
+    → r ≢ Err stop.TooLarge → Cuts s after a b d e x
+cuts_below s after a b d e first held stop.Read r is none all reading writing memory no_other =
+    let n : r ≢ Err stop.Write = λ w. let c : Err stop.Read ≡ Err stop.Write = sym is ∙ w in absurd cc in
+    same_below (StopsReading s after a b) d e first held none (all n) (reading is)
+cuts_below s after a b d e first held stop.Write r is none all reading writing memory no_other = stops_below s after a b d e first held none (writing is)
+cuts_below s after a b d e first held stop.TooLarge r is none all reading writing memory no_other = absurd (no_other is)
+cuts_below s after a b d e first held stop.Memory r is none all reading writing memory no_other =
+    let n : r ≢ Err stop.Write = λ w. let c : Err stop.Memory ≡ Err stop.Write = sym is ∙ w in absurd cc in
+    let m = memory is in
+    (m.0, m.1, sym (nothing-held e held (all n)) ∙ m.2 ∙ nothing-held d first none)

@@ -1,0 +1,9 @@
+use Rattle.std.proofs.Common.{refl}
+use Rattle.picklestep.proofs.AtDevice.{answers_text}
+use Rattle.picklestep.proofs.answers.answer_text.Goals as goal
+
+pub returns-clause-answers : goal.returns-clause-answers
+returns-clause-answers g c =
+    let h = c.write_out.ensures in
+    answers_text _ _ _ _ _ _ _ _ _ _ _ _ _ _ _ _ c.in_ok-bytes.ensures.whole c.as_slice.ensures.value c.write_text-written.ensures
+    h.passed h.calm h.untouched h.failed refl refl c.requires.handed h.handed
