@@ -59,6 +59,7 @@ abbrev pub input_of : Task → GivenFile
 input_of (task.List input) = input
 input_of (task.Objects input) = input
 input_of (task.Calls input options) = input
+input_of (task.Form input) = input
 input_of (task.Debug input options) = input
 
 -- a text is answered, or what is imported and called by what is left of a file
@@ -78,6 +79,7 @@ abbrev pub AnswersTask : Task → Option (List ℕ) → Option (List ℕ) → To
 AnswersTask (task.List input) source source' old new result = AnswersInput (answering text.Listing input.many) source source' old new result
 AnswersTask (task.Objects input) source source' old new result = AnswersInput (answering text.Objects input.many) source source' old new result
 AnswersTask (task.Calls input options) source source' old new result = AnswersInput (answering_calls options) source source' old new result
+AnswersTask (task.Form input) source source' old new result = AnswersInput (answering text.Form false) source source' old new result
 AnswersTask (task.Debug input options) source source' old new result = ⊤
 
 -- it was answered of all bytes of the file; or there was an error, and nothing was written
