@@ -2,8 +2,6 @@
 use Rattle.std.proofs.Common.{◌≡◌, ℕ, zero, suc, ◌+◌, ◌<◌, ◌≤◌, Bool, true, false, List, [], ◌∷◌, ◌++◌, length, drop, Option, Some, None, refl, sym, ap, subst, ◌∙◌, add-one, arith, length-append}
 use Rattle.std.specs.Prelude.{slice_get, nat_lt, if◌then◌else◌, ◌||◌, MatchBool}
 use Rattle.std.proofs.lemmas.List.{drop_all, length-drop}
-use Rattle.std.proofs.lemmas.Option.{slice_get_within}
-use Rattle.std.proofs.lemmas.Bool.{lt-ltb}
 use Rattle.pickle_ops.specs.Spelling.{Operation, spelling, size_of}
 use Rattle.pickle_doc.specs.declared.fault.TailFault.{TailFault}
 use Rattle.pickle_doc.specs.DocUnit.{is_stop, ends_reading}
@@ -94,7 +92,7 @@ size_at : (rest : List ℕ) (left : ℕ) (o : Operation) → IsNextItem left res
 size_at rest left o n = omega (arith, length-drop (size_of o) rest, ap length n.spelled, length-append (spelling o) n.rest)
 
 loose_grows : (o : Operation) (r : Run) → loose_after o r ≤ r.loose + size_of o
-loose_grows o r = by (is_frame o.opcode || (is_proto o.opcode || (is_large (size_of o) || nat_lt 0 r.left)))
+loose_grows o r = by (is_frame o.opcode || is_proto o.opcode || is_large (size_of o) || nat_lt 0 r.left)
   where
     by : (b : Bool) → (if b then 0 else r.loose + size_of o) ≤ r.loose + size_of o
     by true = omega arith
@@ -105,11 +103,11 @@ pub goes_on : (bytes rest : List ℕ) (left k offset : ℕ) (b : Before) (o : Op
     → is_stop o.opcode ≡ false → Going bytes (drop (size_of o) rest) (left_behind left o) (k + 1) (offset + size_of o) (after o b)
 goes_on bytes rest left k offset b o w n e go =
     let i = item_is w.d k left rest o (size_of o) w.stands n in
-    let open : ends_reading w.d.many o.opcode ≡ false = rw go refl in
+    let more : ends_reading w.d.many o.opcode ≡ false = rw go refl in
     record {
       d = w.d;
       reads = w.reads;
-      stands = rw open at i.goes;
+      stands = rw more at i.goes;
       same = behind bytes rest left k offset b o w n e;
       size = omega (arith, w.size, size_at rest left o n);
       small = w.small;
@@ -132,9 +130,9 @@ ended_at bytes rest left k offset b o w n e hit =
     ∙ done_at w.d (after o b) (k + 1) (offset + size_of o) (drop (size_of o) rest) None (done_behind bytes rest left k offset b o w n hit)
 
 pub at_end : (bytes rest : List ℕ) (left k offset : ℕ) (b : Before) (o : Operation) → Going bytes rest left k offset b → IsNextItem left rest o (size_of o) → None ≡ reason_of o b
-    → is_stop o.opcode ≡ true → length (drop (size_of o) rest) ≡ 0 → IsFirstOther bytes None
+    → is_stop o.opcode ≡ true → nat_lt 0 (length (drop (size_of o) rest)) ≡ false → IsFirstOther bytes None
 at_end bytes rest left k offset b o w n e hit none = (w.d, w.reads, sym (ended_at bytes rest left k offset b o w n e hit ∙ rw none refl))
 
 pub at_bytes : (bytes rest : List ℕ) (left k offset : ℕ) (b : Before) (o : Operation) → Going bytes rest left k offset b → IsNextItem left rest o (size_of o) → None ≡ reason_of o b
-    → is_stop o.opcode ≡ true → 0 < length (drop (size_of o) rest) → IsFirstOther bytes (Some (at_place (k + 1) (offset + size_of o) reason.Behind))
-at_bytes bytes rest left k offset b o w n e hit some = (w.d, w.reads, sym (ended_at bytes rest left k offset b o w n e hit ∙ rw (lt-ltb 0 (length (drop (size_of o) rest)) some) refl))
+    → is_stop o.opcode ≡ true → nat_lt 0 (length (drop (size_of o) rest)) ≡ true → IsFirstOther bytes (Some (at_place (k + 1) (offset + size_of o) reason.Behind))
+at_bytes bytes rest left k offset b o w n e hit some = (w.d, w.reads, sym (ended_at bytes rest left k offset b o w n e hit ∙ rw some refl))

@@ -140,7 +140,7 @@ loose_after o r =
 -- fewer than four bytes have no frame; below protocol 4 there are none
 abbrev pub other_frame : Operation → Run → Option Reason
 other_frame o r =
-    or_else (unless (nat_lt (first_here o r) 4 || nat_lt (loose_after o r) 4) reason.Unframed)
+    or_else (unless (nat_lt (first_here o r) 4 || nat_lt (loose_after o r) 4) reason.NoFrame)
     (unless (not (is_stop o.opcode) || nat_le r.left 1) reason.StopInFrame)
 
 -- what was dropped comes back from the memo: a tuple that holds itself

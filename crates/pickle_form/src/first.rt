@@ -1,6 +1,6 @@
 //! The first place at which a pickle is in no pickler's form.
 
-ghost use Rattle.std.specs.Prelude.{◌≡◌, ◌≤◌, ◌<◌, ◌^◌, ◌+◌, length, IfOk, Some};
+ghost use Rattle.std.specs.Prelude.{◌≡◌, ◌≤◌, ◌<◌, ◌^◌, ◌+◌, nat_lt, length, IfOk};
 ghost use Rattle.pickle_ops.specs.Spelling.{size_of};
 ghost use Rattle.pickle_ops.specs.Row.{row_of};
 ghost use Rattle.pickle_doc.specs.Document.{size_limit};
@@ -54,6 +54,13 @@ fn at_place(place: usize, offset: u64, reason: Reason) -> Other
     }
 }
 
+/// Whether bytes are left.
+fn has_more(left: u64) -> bool
+    ensures { result ≡ nat_lt 0 left }
+{
+    0 < left
+}
+
 /// The first place at which the pickle that the bytes are is not as picklers write it: none where it is in their form. There are to be no
 /// more bytes than the limit. It fails only where memory runs out: it needs a byte for each object on the stack and in the memo.
 pub fn first_other(alloc: Global, bytes: &[u8]) -> Result<Option<Other>, AllocError>
@@ -82,10 +89,10 @@ pub fn first_other(alloc: Global, bytes: &[u8]) -> Result<Option<Other>, AllocEr
                 if !is_stop(op.opcode()) {
                     continue;
                 }
-                if reader.rest().is_empty() {
-                    return Ok(None);
+                if has_more(reader.unread_len()) {
+                    return Ok(Some(at_place(place, offset, Reason::Behind)));
                 }
-                return Ok(Some(at_place(place, offset, Reason::Behind)));
+                return Ok(None);
             }
         }
     }

@@ -1,9 +1,9 @@
 //! The texts of numbers.
 
-ghost use Rattle.std.specs.Prelude.{◌≡◌, ◌==◌, ◌&&◌, ◌||◌, ◌-◌, not, nat_lt, position, get_or, length, take, drop};
+ghost use Rattle.std.specs.Prelude.{◌≡◌, ◌||◌, ◌<◌, position, length, IfSome};
 ghost use Rattle.std.specs.List.{list_all};
 ghost use Rattle.pickle_ops.specs.Shape.{is_digit};
-ghost use Rattle.pickle_form.specs.Numeral.{starts_with, is_natural, unsigned, is_integer, is_truth, is_int_line, is_long_line, is_point, is_letter_e, are_digits, is_mantissa_to, is_mantissa, is_exponent, is_finite_to, is_finite, is_float_line};
+ghost use Rattle.pickle_form.specs.Numeral.{starts_with, is_natural, unsigned, is_integer, is_truth, is_int_line, is_long_line, is_point, is_letter_e, are_digits, is_mantissa, is_exponent, is_finite, is_float_line};
 
 use crate::name::is_digit;
 
@@ -91,11 +91,27 @@ fn are_digits(text: &[u8]) -> bool
     !text.is_empty() && all_digits(text)
 }
 
+/// Where the first point is.
+fn point(text: &[u8]) -> Option<usize>
+    ensures at { result ≡ position is_point text.now }
+    ensures within { IfSome result (λ n. n < length text.now) }
+{
+    text.iter().position(|b| *b == b'.')
+}
+
+/// Where the first `e` is.
+fn letter_e(text: &[u8]) -> Option<usize>
+    ensures at { result ≡ position is_letter_e text.now }
+    ensures within { IfSome result (λ n. n < length text.now) }
+{
+    text.iter().position(|b| *b == b'e')
+}
+
 /// Whether a text is digits, of which a part may be behind a point.
 fn is_mantissa(text: &[u8]) -> bool
     ensures { result ≡ is_mantissa text.now }
 {
-    match text.iter().position(|b| *b == b'.') {
+    match point(text) {
         None => is_natural(text),
         Some(n) => is_natural(&text[..n]) && are_digits(&text[n + 1..]),
     }
@@ -128,7 +144,7 @@ fn is_exponent(text: &[u8]) -> bool
 fn is_finite(text: &[u8]) -> bool
     ensures { result ≡ is_finite text.now }
 {
-    match text.iter().position(|b| *b == b'e') {
+    match letter_e(text) {
         None => is_mantissa(text),
         Some(n) => is_mantissa(&text[..n]) && is_exponent(&text[n + 1..]),
     }

@@ -14,7 +14,7 @@ pub enum Reason {
     /// A frame has no bytes.
     EmptyFrame,
     /// Four bytes or more have no frame, in protocol 4 or 5.
-    Unframed,
+    NoFrame,
     /// STOP does not end its frame.
     StopInFrame,
     /// PROTO has another number than 2 to 5.
@@ -84,7 +84,7 @@ impl Reason {
             Reason::FramePastEnd => "a frame that ends behind the last byte",
             Reason::FrameCrossed => "an opcode that ends behind its frame",
             Reason::EmptyFrame => "a frame of no bytes",
-            Reason::Unframed => "four bytes or more without a frame",
+            Reason::NoFrame => "four bytes or more without a frame",
             Reason::StopInFrame => "STOP before the end of its frame",
             Reason::Protocol => "PROTO of another number than 2 to 5",
             Reason::SecondProtocol => "PROTO that does not stand first",

@@ -283,7 +283,7 @@ impl Run {
         ensures { result ≡ other_frame op.now self.now }
     {
         if 4 <= self.first_here(op) && 4 <= self.loose_after(op) {
-            return Some(Reason::Unframed);
+            return Some(Reason::NoFrame);
         }
         if is_stop(op.opcode()) && 1 < self.left {
             return Some(Reason::StopInFrame);

@@ -57,11 +57,7 @@ fn form_status(first: Option<Other>) -> u8
 /// Answers the status: 0 where it is, else 1. There are to be no more bytes than the limit.
 ///
 /// `Memory` (M) where memory runs out: nothing was written. `Failed` where the sink fails: what was written then is a beginning of the text.
-pub(crate) fn write_form<S: Page>(
-    alloc: Global,
-    bytes: &[u8],
-    sink: &mut S,
-) -> Result<u8, TextStop>
+pub(crate) fn write_form<S: Page>(alloc: Global, bytes: &[u8], sink: &mut S) -> Result<u8, TextStop>
     requires { length bytes.now ≤ size_limit }
     ensures ok { IfOk result (Completes form_output false bytes.now (S.told sink.old) (S.told sink.new)) }
     ensures err { IfErr result (Cuts form_output false bytes.now (S.told sink.old) (S.told sink.new)) }
