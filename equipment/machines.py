@@ -26,7 +26,7 @@ SCRIPT = (
     b"where\nstep\nstep\nstack\nmemo\nshow 0\nrun\nwhere\nback\nback\nbreak 3\ngoto 2\nrun\nnext\nshow 2\ndelete 0\nundo\nredo\nundo\n"
     b"goto 0\nrun\ninsert 0 4e\nbytes\nlist\nnonsense\nquit\n"
 )
-TASKS = (("list",), ("objects",), ("calls",), ("list", "--many"), ("debug",), ("debug", "--window", "3"))
+TASKS = (("list",), ("objects",), ("calls",), ("form",), ("list", "--many"), ("debug",), ("debug", "--window", "3"))
 CASES = 2000
 SEED = 1
 AT_ONCE = 4
