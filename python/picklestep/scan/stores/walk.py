@@ -107,7 +107,8 @@ class Walk:
     """How far a loader may go from a place on.
 
     `end` is where it ends: behind a STOP if `stops`. `imports` and `calls` say what it comes to. `lacks` says that an opcode takes more
-    from the stack than the walk has put there, so that the pickle, if it is one, begins before; `goes_on`, that it met its limit.
+    from the stack than the walk has put there, so that the pickle, if it is one, begins before; `goes_on`, that it met its limit. `needs` is
+    how many bytes there must be for the opcode whose argument reaches out of them, or 0.
     """
 
     def __init__(self) -> None:
@@ -118,6 +119,7 @@ class Walk:
         self.is_called = False
         self.lacks = False
         self.goes_on = False
+        self.needs = 0
         self.opcodes = 0
 
     @property
@@ -162,6 +164,7 @@ def walk(content: bytes, at: int, until: Optional[int] = None, most: int = MOST,
         if step < 0:
             step = _variable(content, at, step)
         if step <= 0 or at + step > size:
+            found.needs = at + step if step > 0 else size + 1 if _STEPS[code] in (_PAIR, _LINE) else 0
             break
         depth = _depth_after(code, depth, marks)
         if depth < 0:
