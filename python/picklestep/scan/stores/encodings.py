@@ -9,14 +9,15 @@ import binascii
 import re
 import zlib
 from collections import defaultdict
-from typing import Dict, Iterable, Iterator, List, Tuple
+from typing import Dict, Iterable, Iterator, List, Set, Tuple
 
+from ..begins import MAY_BE_KNOWN
 from ..blobs import LimitMet
 from .anywhere import BEGINS_PICKLE
 from .telling import LEAST, LEAST_RUN, SIGNS, holding, may_hold, runs
-from .walk import walk
+from .walk import may_begin, walk
 
-__all__ = ['decoded', 'prefixes']
+__all__ = ['decoded', 'is_word', 'prefixes']
 
 # From where to where a run is.
 _Span = Tuple[int, int]
@@ -40,7 +41,7 @@ _SHORT_RUN = 512
 _FEW = 4
 
 # Where base64 that begins inside a run gives PROTO, or the beginning of zlib and gzip. (One pattern of all of them would be slower.)
-_INSIDE = tuple(map(re.compile, (rb'gA(?=[I-X])', rb'eJ(?=[wxyz0-3])', rb'eN(?=[o-r])', rb'eA(?=[EF])', rb'H4sI')))
+_INSIDE = tuple(re.compile(signs) for signs in (rb'gA(?=[I-X])', rb'eJ(?=[wxyz0-3])', rb'eN(?=[o-r])', rb'eA(?=[EF])', rb'H4sI'))
 # So many signs from there show whether it is one, and it may be so many places: some, and one of so many.
 _PIECE = 4096
 _PLACES = 256
@@ -50,6 +51,11 @@ _ZLIB_OR_GZIP = 47
 _ESCAPE = re.compile(rb'\\(?:u00([0-7][0-9a-fA-F])|([/"\\nrt]))')
 _ESCAPED = {b'n': b'\n', b'r': b'\r', b't': b'\t'}
 _STANDARD = bytes.maketrans(b'-_', b'+/')
+
+# What the bytes of a short text are.
+_PRINTABLE = re.compile(rb'[ -~]+')
+_STOP = ord('.')
+_ONE_RUN = b'a' * LEAST_RUN
 
 # So many bytes may be before a pickle: a sign of the library, a time, a checksum in hexadecimal with a colon.
 PREFIX = 80
@@ -181,10 +187,10 @@ def _telling_base64(texts: List[bytes], joined: bytes) -> Iterable[int]:
     length = len(texts[0])
     if len(texts) < _FEW or length > _SHORT_RUN:
         return [number for number, text in enumerate(texts) if text.translate(None, _CHECKSUM)]
-    found = {match.start() // (length + 1) for begin in _INSIDE for match in begin.finditer(joined)}
+    found: Set[int] = {match.start() // (length + 1) for begin in _INSIDE for match in begin.finditer(joined)}
     used = length - (length % 4 == 1)
     fill = b'A' * (-used % 4)
-    whole = b''.join([text[:used] + fill for text in texts] if length % 4 else texts)
+    whole = b''.join([text[:used] + fill for text in texts]) if length % 4 else b''.join(texts)
     size = (used + len(fill)) // 4 * 3
     return found | holding(binascii.a2b_base64(whole.translate(_STANDARD)), size, used * 3 // 4)
 
@@ -224,6 +230,16 @@ def _begins(piece: bytes, size: int) -> bool:
         return bool(zlib.decompressobj(_ZLIB_OR_GZIP).decompress(piece, _PIECE))
     except zlib.error:
         return False
+
+
+def is_word(content: bytes) -> bool:
+    """Whether bytes are a short text in one line, such as a key, in which nothing can be: no name of an import, no container, no run of signs.
+
+    >>> is_word(b'user:17'), is_word(b'N.'), is_word(b'gASVAgAAAAAAAABOLg==')
+    (True, False, False)
+    """
+    return (_PRINTABLE.fullmatch(content) is not None and content[-1] != _STOP and MAY_BE_KNOWN.match(content) is None
+            and not may_begin(content[0]) and content.translate(_IS_SIGN).find(_ONE_RUN) < 0)
 
 
 def prefixes(content: bytes) -> Iterator[int]:

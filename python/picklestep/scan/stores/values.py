@@ -16,7 +16,7 @@ from ..reading import Summary
 from ..results import Place
 from . import anywhere
 from .asking import MOST_BYTES, MOST_PICKLES, NOTHING, answers
-from .encodings import decoded, prefixes
+from .encodings import decoded, is_word, prefixes
 from .framed import framing_of
 from .walk import is_opcode, stops_at_end, walk
 
@@ -131,11 +131,11 @@ class Values:
             self._nothing.add((content, depth))
 
     def _is_quick(self, content: bytes, where: Place, depth: int) -> bool:
-        """Takes a value that begins and ends as a pickle: the program says whether it is one. Takes a short one that held nothing before.
+        """Takes a value that begins and ends as a pickle: the program says whether it is one. Takes a short one that holds nothing.
 
         Raises LimitMet as `begin`.
         """
-        if len(content) <= _SHORT and (content, depth) in self._nothing:
+        if len(content) <= _SHORT and content and ((content, depth) in self._nothing or is_word(content)):
             is_pickle = False
         elif self._trusts and content[:1] == b'\x80' and content[-1] == _STOP and content[1] <= 5 and content[_TAR:_TAR + 5] != b'ustar':
             is_pickle = True

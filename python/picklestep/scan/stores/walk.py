@@ -10,7 +10,7 @@ import pickletools
 import re
 from typing import List, Optional, Set, Tuple
 
-__all__ = ['MOST', 'Walk', 'is_opcode', 'stops_at_end', 'walk']
+__all__ = ['MOST', 'Walk', 'is_opcode', 'may_begin', 'stops_at_end', 'walk']
 
 _PAIR, _LINE, _ONE, _FOUR, _EIGHT, _UNKNOWN = -1, -2, -3, -4, -5, -6
 
@@ -76,6 +76,15 @@ def is_opcode(byte: int) -> bool:
     (True, False)
     """
     return _STEPS[byte] != _UNKNOWN
+
+
+def may_begin(byte: int) -> bool:
+    """Whether a byte is an opcode that takes nothing from the stack, as the first one of a pickle.
+
+    >>> may_begin(ord('N')), may_begin(ord('R'))
+    (True, False)
+    """
+    return is_opcode(byte) and not _NEEDS[byte][0] and not _NEEDS[byte][1]
 
 
 def stops_at_end(content: bytes) -> bool:
