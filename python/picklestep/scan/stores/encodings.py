@@ -17,7 +17,10 @@ from .anywhere import BEGINS_PICKLE
 from .telling import LEAST, LEAST_RUN, SIGNS, holding, may_hold, runs
 from .walk import may_begin, walk
 
-__all__ = ['decoded', 'is_word', 'prefixes']
+__all__ = ['UNFINISHED', 'decoded', 'is_word', 'prefixes']
+
+# In the place of how bytes are written: what they stand for goes on behind what is at hand.
+UNFINISHED = ''
 
 # From where to where a run is.
 _Span = Tuple[int, int]
@@ -35,6 +38,8 @@ _BREAK = re.compile(rb'\r?\n[ \t]*(?=[A-Za-z0-9+/_-])')
 _SIGNS_ALONE = re.compile(rb'[A-Za-z0-9+/_-]+')
 _BLANKS = b'\r\n\t '
 _ENDS = (b'\n', b'\r')
+# (a line may end, and the next one have begun with blanks, where a window of bytes ends)
+_MOST_BREAK = 80
 
 # Runs up to this length are asked at once, where at least a few have the same.
 _SHORT_RUN = 512
@@ -62,8 +67,10 @@ PREFIX = 80
 _PROTO = re.compile(rb'\x80[\x02-\x05]')
 
 
-def decoded(content: bytes) -> Iterator[Tuple[int, str, bytes]]:
+def decoded(content: bytes, goes_on: bool = False) -> Iterator[Tuple[int, str, bytes]]:
     """The bytes that runs of signs may stand for, where something may be in them: where each begins, how it is written, and the bytes.
+
+    Where the content goes on behind these bytes, a run that reaches their end is UNFINISHED.
 
     Raises LimitMet where a run has so many places at which a pickle may begin that looking would not end in time.
 
@@ -78,7 +85,9 @@ def decoded(content: bytes) -> Iterator[Tuple[int, str, bytes]]:
     found += ((start, -end, name) for start, end, name in _telling(content, alone))
     last = -1
     for start, end, name in sorted(found):
-        if name == 'hexadecimal':
+        if goes_on and -end >= len(content) - _MOST_BREAK:
+            yield start, UNFINISHED, b''
+        elif name == 'hexadecimal':
             yield start, name, binascii.unhexlify(content[start:-end])
         elif start != last:  # (the first line of what was found over several lines is no run alone)
             for each in _read(content[start:-end], start):

@@ -16,8 +16,9 @@ from ..reading import Summary
 from ..results import Place
 from . import anywhere
 from .asking import MOST_BYTES, MOST_PICKLES, NOTHING, answers
-from .encodings import decoded, is_word, prefixes
+from .encodings import UNFINISHED, decoded, is_word, prefixes
 from .framed import framing_of
+from .long_texts import LongText
 from .walk import is_opcode, stops_at_end, walk
 
 if TYPE_CHECKING:
@@ -161,6 +162,8 @@ class Values:
         found, others = len(self.looker.pickles), self.looker.others
         try:
             self.looker.look_at(blob, where, (), depth)
+            if len(self.looker.pickles) == found and not self.looker.options.everywhere:
+                self.look_at_texts(blob, where, depth)
         except LimitMet as limit:
             self._met(limit)
         if len(self.looker.pickles) > found:
@@ -369,10 +372,29 @@ class Values:
 
     def look_at_texts(self, blob: Blob, where: Place, depth: int) -> None:
         """Looks at what texts in these bytes stand for."""
-        for start in range(0, blob.size, SMALL):
-            for offset, name, inner in decoded(blob.read(start, SMALL + (SMALL >> 3))):
-                if offset < SMALL:
+        start = 0
+        while start < blob.size:
+            window = blob.read(start, SMALL + (SMALL >> 3))
+            following = start + SMALL
+            for offset, name, inner in decoded(window, start + len(window) < blob.size):
+                if offset >= SMALL or start + offset < following - SMALL:
+                    continue
+                if name != UNFINISHED:
                     self._look(inner, where + (f'({name} at {start + offset})',), depth + 1, guessed=True)
+                else:
+                    following = max(following, self._look_at_long(blob, start + offset, where, depth))
+            start = following
+
+    def _look_at_long(self, blob: Blob, at: int, where: Place, depth: int) -> int:
+        """Looks at what a long text stands for, and answers where it ends."""
+        text = LongText(blob, at)
+        if depth < self.looker.options.limits.depth:
+            before = len(self.looker.pickles), self.looker.others
+            self.looker.look_at_pieces(text.pieces(), where + (f'({text.name} at {at})',), depth + 1)
+            if len(self.looker.pickles) > before[0]:
+                self._found.add(self.count)
+            self.looker.others = before[1]
+        return text.end
 
     def look_everywhere(self, blob: Blob, where: Place, shift: int = 0) -> bool:
         """Looks at each offset at which a pickle may begin."""
