@@ -169,8 +169,8 @@ def redis_server(port: str, password: str, count: str) -> None:
     client.hset('dramatiq:default.msgs', 'message', pickle.dumps({'queue_name': 'default', 'args': (Hostile(),)}))
     client.set('flask_cache', b'!' + evil)
     client.set(b'long \x1b[2J' + b'k' * 1_000_000, evil)
-    # (512 MB that are no pickle)
-    client.setrange('large', (512 << 20) - 1, b'x')
+    # (that is no pickle: 512 MB where there are many values, else more than what is read at once)
+    client.setrange('large', (512 << 20 if int(count) > 10_000 else 16 << 20) - 1, b'x')
 
 
 def redis_values(url: str) -> None:
