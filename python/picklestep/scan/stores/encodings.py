@@ -47,10 +47,9 @@ _FEW = 4
 
 # Where base64 that begins inside a run gives PROTO, or the beginning of zlib and gzip. (One pattern of all of them would be slower.)
 _INSIDE = tuple(re.compile(signs) for signs in (rb'gA(?=[I-X])', rb'eJ(?=[wxyz0-3])', rb'eN(?=[o-r])', rb'eA(?=[EF])', rb'H4sI'))
-# So many signs from there show whether it is one, and it may be so many places: some, and one of so many.
+# So many signs from there show whether it is one. All that is decoded so may be so many times what there is, and some more.
 _PIECE = 4096
-_PLACES = 256
-_SIGNS_OF_A_PLACE = 512
+_MOST_TIMES = 16
 _ZLIB_OR_GZIP = 47
 
 _ESCAPE = re.compile(rb'\\(?:u00([0-7][0-9a-fA-F])|([/"\\nrt]))')
@@ -147,6 +146,10 @@ def _close(content: bytes, lines: List[_Span], last: int, folded: List[_Span]) -
     alone. Where the first has another length, such as a heading, it is no part of a run that is kept, too."""
     match = _SIGNS_ALONE.match(content, last)
     end = match.end() if match is not None and last > lines[-1][1] else lines[-1][1]
+    if content[end:end + 1] in (b' ', b'\t'):  # (words of a text are no last line)
+        end = lines[-1][1]
+        if len(lines) == 1:
+            return lines
     if not content.startswith(b'---', lines[0][1] - 3):
         folded.append((lines[0][0], end))
     lengths = [end - start for start, end in lines]
@@ -222,23 +225,33 @@ def _base64(signs: bytes) -> Iterator[Tuple[int, bytes]]:
     """What a run is as base64, from its beginning and from places inside at which something known begins."""
     yield 0, _bytes_of(signs)
     places = sorted(match.start() for each in _INSIDE for match in each.finditer(signs, 1))
-    for number, start in enumerate(places):
-        if number > _PLACES + len(signs) // _SIGNS_OF_A_PLACE:
-            raise LimitMet('base64 in it has too many places at which a pickle may begin: they are not all looked at')
+    left = _MOST_TIMES * len(signs) + _PIECE * _PIECE
+    for start in places:
         piece = _bytes_of(signs[start:start + _PIECE])
-        if _begins(piece, (len(signs) - start) * 3 // 4):
-            yield start, _bytes_of(signs[start:])
+        whole = (len(signs) - start) * 3 // 4
+        used = _used(piece, whole)
+        left -= _PIECE if not used else used
+        if left < 0:
+            raise LimitMet('base64 in it has too many places at which a pickle may begin: they are not all looked at')
+        if used:
+            yield start, piece[:used] if used <= len(piece) else _bytes_of(signs[start:])
 
 
-def _begins(piece: bytes, size: int) -> bool:
-    """Whether a pickle or what zlib or gzip packed begins with this piece, and may be whole in so many bytes."""
+def _used(piece: bytes, whole: int) -> int:
+    """How many bytes a pickle has, or what zlib or gzip packed, that begins with this piece of so many: all where it does not end in the piece,
+    and 0 where none begins so."""
     if BEGINS_PICKLE.match(piece):
         way = walk(piece, 0)
-        return way.is_likely or not way.lacks and (way.stops or len(piece) < way.needs <= size)
+        if way.stops and not way.lacks:
+            return way.end
+        return whole if way.is_likely or not way.lacks and len(piece) < way.needs <= whole else 0
+    stream = zlib.decompressobj(_ZLIB_OR_GZIP)
     try:
-        return bool(zlib.decompressobj(_ZLIB_OR_GZIP).decompress(piece, _PIECE))
+        if not stream.decompress(piece, _PIECE):
+            return 0
     except zlib.error:
-        return False
+        return 0
+    return len(piece) - len(stream.unused_data) if stream.eof else whole
 
 
 def is_word(content: bytes) -> bool:

@@ -15,8 +15,9 @@ _BLANKS = b'\r\n\t '
 _DIGITS = b'0123456789abcdefABCDEF'
 _STANDARD = bytes.maketrans(b'-_', b'+/')
 _FIRST = 65_536
-# Where such a text ends: at another sign, a blank behind a sign, or an empty line.
+# Where such a text ends: at another sign, a blank behind a sign, or an empty line. (Most of it has nothing of these, which is seen quickly.)
 _END = rb'[^%b\r\n\t ]|(?<=[^\r\n\t ])[ \t]|\n[ \t]*\r?\n'
+_MAY_END = (b' ', b'\t', b'\n\n', b'\n\r')
 
 
 class LongText:
@@ -35,7 +36,8 @@ class LongText:
         unit = 2 if self._signs is _DIGITS else 4
         left = b''
         for chunk in self._blob.chunks(self._at):
-            match = end.search(chunk)
+            may_end = chunk.translate(None, self._signs + _BLANKS) or any(sign in chunk for sign in _MAY_END)
+            match = end.search(chunk) if may_end else None
             text = chunk if match is None else chunk[:match.start()]
             self.end += len(text)
             signs = left + text.translate(_STANDARD, _BLANKS)

@@ -29,6 +29,9 @@ __all__ = ['SMALL', 'Values', 'key_name']
 # Values up to this size, packed or not, are looked at in memory; larger ones as files are.
 SMALL = 8 << 20
 
+# Texts are looked at in windows of this size, each with so much of the next. What is longer and goes on is decoded piece by piece.
+_OVERLAP = 128 << 10
+
 # All values together may be unpacked to so many times their size.
 _MOST_TIMES = 100
 
@@ -374,7 +377,7 @@ class Values:
         """Looks at what texts in these bytes stand for."""
         start = 0
         while start < blob.size:
-            window = blob.read(start, SMALL + (SMALL >> 3))
+            window = blob.read(start, SMALL + _OVERLAP)
             following = start + SMALL
             for offset, name, inner in decoded(window, start + len(window) < blob.size):
                 if offset >= SMALL or start + offset < following - SMALL:
