@@ -268,6 +268,23 @@ class Bytes(ScanCase):
             with self.subTest(name):
                 self.assertIn('posix.system', names_of(self.look_in_value(value)))
 
+    def test_long_texts(self) -> None:
+        """What is larger than one window, alone and inside other text, is decoded to its end."""
+        large = b'cposix\nsystem\n(X' + struct.pack('<I', 7_000_000) + b'x' * 7_000_000 + b'tR.'
+        encoded = base64.b64encode(large)
+        for how, value in (('base64 at 0', encoded), ('base64 at 2', b'["' + base64.urlsafe_b64encode(large).rstrip(b'=') + b'"]'),
+                           ('base64 at 0', base64.encodebytes(large)), ('hexadecimal at 1', b"'" + large.hex().encode() + b"'"),
+                           ('base64 at 9000000', b'-- ' * 3_000_000 + base64.b64encode(HOSTILE))):
+            with self.subTest(how):
+                result = self.look_in_value(value)
+                self.assertEqual((names_of(result), places_of(result)), (['posix.system'], [f't.v row 1 > ({how})']))
+
+    def test_many_places_inside_are_told(self) -> None:
+        """Texts that are made to be slow are read to an end, or told."""
+        for text in (b'gAI' * 400_000, b'eJw' * 400_000, base64.b64encode(b'\x78\x01\x00\xff\xff\x00\x00\x00\x00') * 40_000):
+            with self.subTest(text[:12]):
+                self.assertIn('too many places', notes_of(self.look_in_value(text)))
+
     def test_runs_of_one_length_are_read_as_one_alone(self) -> None:
         """All of one length are asked at once: what is among them is found as if each were asked for itself."""
         chosen = random.Random(5)
