@@ -15,7 +15,7 @@ from typing import Iterator, Optional, Set, Tuple
 from ..blobs import Blob, LimitMet
 from .walk import MOST, Walk, walk
 
-__all__ = ['BEGINS_PICKLE', 'candidates', 'may_end_text']
+__all__ = ['BEGINS_PICKLE', 'candidates', 'may_end_text', 'may_have_candidates']
 
 # The bytes are read in such windows, each with this much of the next.
 _WINDOW = 4 << 20
@@ -72,6 +72,22 @@ def candidates(blob: Blob) -> Iterator[Tuple[int, bytes]]:
         if is_last or not window:
             return
         start += _WINDOW
+
+
+def may_have_candidates(content: bytes) -> bool:
+    """Whether one of the three places may be in these bytes: a quick test of a few, which never says no too often.
+
+    >>> may_have_candidates(b'cos\\nsystem\\n)R.'), may_have_candidates(bytes(range(32, 64)))
+    (True, False)
+    """
+    if BEGINS_PICKLE.search(content) or _SECOND_LINE.search(content):
+        return True
+    at = content.find(b'\x93')
+    while at >= 0:
+        if may_end_text(content, at):
+            return True
+        at = content.find(b'\x93', at + 1)
+    return False
 
 
 class _Search:

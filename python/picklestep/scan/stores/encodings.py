@@ -31,7 +31,6 @@ _DIGITS = b'0123456789abcdefABCDEF'
 _IS_DIGIT = bytes(97 if each in _DIGITS else 46 for each in range(256))
 # As base64 these alone stand for no opcode that imports, no PROTO, no STOP at the end, and no container begins so.
 _CHECKSUM = b'0123456789abcdef'
-_CHECKSUM_OR_BETWEEN = _CHECKSUM + b'.'
 
 # Where a run goes on in the next line, which may begin with blanks, as those of YAML and LDIF do.
 _BREAK = re.compile(rb'\r?\n[ \t]*(?=[A-Za-z0-9+/_-])')
@@ -168,12 +167,12 @@ def _telling(content: bytes, spans: Iterable[_Span]) -> Iterator[Tuple[int, int,
     digits: Dict[int, List[int]] = defaultdict(list)  # (where so many begin)
     for length, starts in alike.items():
         texts = [content[start:start + length] for start in starts]
-        joined = b'.'.join(texts)
-        if not joined.translate(None, _CHECKSUM_OR_BETWEEN):
+        whole = b''.join(texts)
+        if not whole.translate(None, _CHECKSUM):
             digits[length] += starts
             continue
-        yield from ((starts[number], starts[number] + length, 'base64') for number in _telling_base64(texts, joined))
-        for begin, end in runs(joined.translate(_IS_DIGIT), 2 * LEAST):
+        yield from ((starts[number], starts[number] + length, 'base64') for number in _telling_base64(texts, whole))
+        for begin, end in runs(b'.'.join(texts).translate(_IS_DIGIT), 2 * LEAST):
             number, at = divmod(begin, length + 1)
             digits[end - begin].append(starts[number] + at)
     for length, starts in digits.items():
@@ -194,15 +193,17 @@ def _telling_digits(content: bytes, length: int, starts: List[int]) -> Iterator[
         yield from (starts[number] + shift for number in telling)
 
 
-def _telling_base64(texts: List[bytes], joined: bytes) -> Iterable[int]:
+def _telling_base64(texts: List[bytes], whole: bytes) -> Iterable[int]:
     """The numbers of those among runs of one length that may hold something as base64, or have a place at which something known begins."""
     length = len(texts[0])
     if len(texts) < _FEW or length > _SHORT_RUN:
         return [number for number, text in enumerate(texts) if text.translate(None, _CHECKSUM)]
-    found: Set[int] = {match.start() // (length + 1) for begin in _INSIDE for match in begin.finditer(joined)}
+    # (what begins at the end of one and goes on in the next is looked at for nothing)
+    found: Set[int] = {match.start() // length for begin in _INSIDE for match in begin.finditer(whole)}
     used = length - (length % 4 == 1)
     fill = b'A' * (-used % 4)
-    whole = b''.join([text[:used] + fill for text in texts]) if length % 4 else b''.join(texts)
+    if length % 4:
+        whole = b''.join([text[:used] + fill for text in texts])
     size = (used + len(fill)) // 4 * 3
     return found | holding(binascii.a2b_base64(whole.translate(_STANDARD)), size, used * 3 // 4)
 

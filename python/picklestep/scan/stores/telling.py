@@ -10,7 +10,7 @@ from typing import Iterator, Set, Tuple
 
 from ..begins import MAY_BE_KNOWN, kind_of, unread_kind_of
 from ..blobs import BytesBlob, LimitMet
-from .anywhere import BEGINS_PICKLE, candidates, may_end_text
+from .anywhere import BEGINS_PICKLE, candidates, may_end_text, may_have_candidates
 from .framed import framing_of, may_be_framed
 from .walk import is_opcode, stops_at_end, walk
 
@@ -66,8 +66,10 @@ def may_hold(inner: bytes) -> bool:
         return True
     if is_opcode(inner[0]) and walk(inner, 0).is_likely or BEGINS_PICKLE.search(inner):
         return True
+    if inner.isascii() and _RUN.search(inner) is not None:
+        return True
     try:
-        return any(True for _ in candidates(BytesBlob(inner))) or inner.isascii() and _RUN.search(inner) is not None
+        return may_have_candidates(inner) and any(True for _ in candidates(BytesBlob(inner)))
     except LimitMet:
         return True
 
