@@ -128,7 +128,7 @@ class Summary:
             budget.lines -= 1
             if budget.lines < 0:
                 raise Enough(f'the answers about the file have more than {budget.limits.lines:,} lines')
-            found = again.get(match.group(3, 4))
+            found = again.get((match[3], match[4]))
             if found is None:
                 self._line(match)
             else:
