@@ -5,7 +5,7 @@ from __future__ import annotations
 import re
 import signal
 from contextlib import closing
-from dataclasses import dataclass, replace
+from dataclasses import dataclass
 from functools import lru_cache
 from itertools import islice
 from typing import Callable, Dict, Iterable, List, Optional, Tuple
@@ -205,18 +205,19 @@ class Summary:
 
     def pickle(self, where: Place, size: int) -> Pickle:
         """What was found, by names, in the order in which they come first."""
-        imports: Dict[Tuple[str, str], Import] = {}
-        done: Dict[Tuple[str, str, str], Call] = {}
+        imports: Dict[Tuple[str, str], Tuple[_Found, int]] = {}
+        done: Dict[Tuple[str, str, str], Tuple[_Found, int]] = {}
         for found in self._found.values():
             name, part = found.name, found.part
             if found.what in _IMPORTS:
-                before = imports.get((name, part), Import(name, 0, found.offset, part))
-                imports[name, part] = replace(before, count=before.count + found.count)
+                first, count = imports.get((name, part), (found, 0))
+                imports[name, part] = first, count + found.count
             if found.what != 'import':
-                key = (found.what, name, part)
-                first = done.get(key, Call(found.what, name, 0, found.offset, found.text, part))
-                done[key] = replace(first, count=first.count + found.count)
-        return Pickle(where, size, tuple(imports.values()), tuple(done.values()), self.end, tuple(self._lines or ()))
+                first, count = done.get((found.what, name, part), (found, 0))
+                done[found.what, name, part] = first, count + found.count
+        return Pickle(where, size, tuple(Import(first.name, count, first.offset, first.part) for first, count in imports.values()),
+                      tuple(Call(first.what, first.name, count, first.offset, first.text, first.part) for first, count in done.values()),
+                      self.end, tuple(self._lines or ()))
 
 
 @dataclass

@@ -30,6 +30,8 @@ _LONGEST_LINE = 1 << 26
 # The longest opcode whose argument has a fixed length, in bytes; and after how many bytes of opcodes the time is looked at.
 _LONGEST_FIXED = 9
 _TURN = 4 * STEPS
+# So much is read at first: there may be many pickles in a row, each of a few bytes.
+_FIRST = 1 << 13
 # This many values in lists and dictionaries are kept, and this many in the memo: a hostile pickle can have millions.
 _MOST_VALUES = 1 << 19
 _MOST_IN_MEMO = 1 << 22
@@ -187,7 +189,8 @@ class Reader:
         if at + count > self.blob.size:
             self.fail('it is cut short')
         self._begin += self._base - at
-        self._base, self._window, self._next = at, self.blob.read(at, max(count, CHUNK)), 0
+        most = CHUNK if self._window else _FIRST
+        self._base, self._window, self._next = at, self.blob.read(at, max(count, most)), 0
         self._stop = 0
 
     def take(self, count: int) -> bytes:
