@@ -705,9 +705,11 @@ class Reader:
 def _with_number(width: int, do: Callable[[Reader, int], None]) -> Callable[[Reader], None]:
     """Does something with the number in the next bytes."""
     def read(reader: Reader) -> None:
-        at = reader._next
-        reader._next = at + width
-        do(reader, int.from_bytes(reader._window[at:at + width], 'little'))
+        argument = reader._window[reader._next:reader._next + width]
+        if len(argument) < width:
+            reader.fail('it is cut short')
+        reader._next += width
+        do(reader, int.from_bytes(argument, 'little'))
     return read
 
 
