@@ -280,11 +280,15 @@ def size_of_all(machines: Machines) -> str:
 
 
 def heap(machines: Machines) -> str:
-    """The C of the heap and of the moves of blocks, under a load of random sizes."""
+    """The C of the heap and of the moves of blocks, under a load of random sizes: on Linux, and as in a module."""
+    c = machines.root / "targets/c"
+    return tried_heap(machines, c / "heap.c", c / "blocks.c") or tried_heap(machines, "-DMODULE", f"-I{c}")
+
+
+def tried_heap(machines: Machines, *more: str | Path) -> str:
     made = machines.folder / "try_heap"
     machines.folder.mkdir(parents=True, exist_ok=True)
-    c = machines.root / "targets/c"
-    words = ["cc", "-O2", "-fno-builtin", "-o", made, machines.root / "equipment/try_heap.c", c / "heap.c", c / "blocks.c"]
+    words = ["cc", "-O2", "-fno-builtin", "-o", made, machines.root / "equipment/try_heap.c", *more]
     done = subprocess.run([str(word) for word in words], capture_output=True, check=False)
     if done.returncode != 0:
         return f"it does not compile: {beginning(done.stderr)}"
