@@ -95,6 +95,8 @@ def of_object(pickle: Opened, number: int, text: str) -> Edit:
 
 def renaming(pickle: Opened, old: str, new: str) -> List[Edit]:
     """The edits that rename a module, with what is in it, wherever the pickle imports from it. `module:name` renames one name alone."""
+    if pickle.reaches.is_part:
+        raise EditError(pickle.reaches.behind[0])
     found: Dict[int, Edit] = {}
     for number in range(len(pickle.reaches.offsets)):
         if pickle.reaches.kinds[number] not in ('import', 'inst'):

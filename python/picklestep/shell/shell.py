@@ -286,6 +286,8 @@ class Shell:
         rows = [f'{offsets[at]:>7}: {answer[at].text}' for at in range(first, min(len(offsets), first + _MOST_LINES))]
         if first + _MOST_LINES < len(offsets):
             rows.append(f'.. {len(offsets) - first - _MOST_LINES} more: calls {first + _MOST_LINES + 1}')
+        if self.pickle.reaches.is_part:
+            return '\n'.join(rows + self.pickle.reaches.behind)
         rows.append(f'{answer.imports} imports, {answer.calls} calls, {answer.end.text}')
         for part in answer.parts:
             rows.append(f'{part.heading}:')

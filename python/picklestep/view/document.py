@@ -15,7 +15,7 @@ from ..python_source import source
 from ..session import Session
 from ..sources import Input, Source
 from ..texts import BROKEN, HELD, MADE, holding
-from .lines import Lines, add_items, lines_of, read_all, silent
+from .lines import Lines, add_items, cut_text, lines_of, read_all, silent
 
 __all__ = ['Document', 'Done', 'Fields']
 
@@ -35,6 +35,8 @@ _MOST_ARGUMENT = 1 << 16
 _MOST_SOURCE = 1_000_000
 _MOST_SOURCE_BYTES = 1 << 26
 _MOST_SOURCE_LINES = 1000
+# The most letters of a line of `calls` that are shown.
+_MOST_SAID = 4000
 _IMPORTS = ('import', 'inst')
 _CALLS = ('inst', 'call', 'new', 'state', 'append', 'set', 'add')
 _PLACES = {'replace': 0, 'insert': 1, 'delete': -1, 'frame': 1, 'unframe': -1}
@@ -43,8 +45,10 @@ _PLACES = {'replace': 0, 'insert': 1, 'delete': -1, 'frame': 1, 'unframe': -1}
 class Reaches:
     """What the pickle imports and calls, by the offsets of the opcodes."""
 
-    def __init__(self, answer: Calls) -> None:
+    def __init__(self, answer: Calls, is_part: bool = False) -> None:
+        """Takes the answer of `calls`; with `is_part` its first lines, of which there are more that were too long to be read."""
         self.answer = answer
+        self.is_part = is_part
         self.offsets = array('Q')
         self.kinds: List[str] = []
         self._made = array('Q')  # the objects that lines name, which go up, and where these lines are
@@ -62,9 +66,16 @@ class Reaches:
     @property
     def behind(self) -> List[str]:
         """The container that the bytes begin like, and a line for each part: what loaders may reach where this reading has ended."""
+        if self.is_part:
+            return [f'imports and calls: the first {len(self.kinds):,} alone, long as they are (picklestep calls shows all)']
         container = self.answer.container
         within = [f'begins like a container: {container} (picklestep scan looks into it)'] if container else []
         return within + [f'{part.heading}: {part.imports} imports, {part.calls} calls (picklestep calls shows them)' for part in self.answer.parts]
+
+    @property
+    def counts(self) -> Tuple[int, int]:
+        """How many imports and calls there are."""
+        return _counted(self.kinds) if self.is_part else (self.answer.imports, self.answer.calls)
 
     def kind_at(self, offset: int) -> str:
         """How the line at an offset is coloured: 'call', 'import', 'other' or ''."""
@@ -77,9 +88,9 @@ class Reaches:
         return 'other' if kinds else ''
 
     def text(self, at: int) -> str:
-        """A line, without its offset."""
+        """A line, without its offset; with its beginning alone where it is long."""
         start = self._places[at]
-        return self.answer.text[start:self.answer.text.index('\n', start)]
+        return cut_text(self.answer.text[start:self.answer.text.index('\n', start)], _MOST_SAID)
 
     def text_at(self, offset: int) -> str:
         """What the opcode at an offset imports or calls, or ''."""
@@ -93,8 +104,7 @@ class Reaches:
 
     def before(self, offset: int) -> Tuple[int, int]:
         """How many imports and calls are before an offset."""
-        kinds = self.kinds[:bisect_left(self.offsets, offset)]
-        return sum(map(_IMPORTS_COUNT, kinds)), sum(map(_CALLS_COUNT, kinds))
+        return _counted(self.kinds[:bisect_left(self.offsets, offset)])
 
     def next_call(self, offset: int, direction: int) -> Optional[int]:
         """The offset of the next call behind an offset, or before it."""
@@ -106,8 +116,8 @@ class Reaches:
         return None
 
 
-_IMPORTS_COUNT = _IMPORTS.__contains__
-_CALLS_COUNT = _CALLS.__contains__
+def _counted(kinds: List[str]) -> Tuple[int, int]:
+    return sum(map(_IMPORTS.__contains__, kinds)), sum(map(_CALLS.__contains__, kinds))
 
 
 class Done(NamedTuple):
@@ -164,10 +174,10 @@ class Document:
             self.breaks = {int(match[1]) for match in BROKEN.finditer(self.session.items().text)}
 
     def _read_from(self, given: Input) -> None:
-        self.lines, self._final, calls = read_all(given, self._options, self._told)
+        self.lines, self._final, calls, is_part = read_all(given, self._options, self._told)
         if len(self.lines) < self.session.where().places:
             add_items(self.lines, given, self._options)
-        self.reaches = Reaches(Calls(calls))
+        self.reaches = Reaches(Calls(calls), is_part)
         self.lines.closing += self.reaches.behind
         here = self.session.where().place
         self._makers = self.lines.makers
@@ -203,8 +213,8 @@ class Document:
         return {
             'version': self.version, 'name': self.name, 'place': where.place, 'places': where.places, 'offset': where.offset,
             'results': list(where.results[-_MOST_RESULTS:]), 'results_before': max(0, len(where.results) - _MOST_RESULTS),
-            'end': where.end.text, 'imports': [imports, self.reaches.answer.imports],
-            'calls': [calls_before, self.reaches.answer.calls], 'reaches': len(self.reaches.offsets),
+            'end': where.end.text, 'imports': [imports, self.reaches.counts[0]],
+            'calls': [calls_before, self.reaches.counts[1]], 'reaches': len(self.reaches.offsets),
             'stack': _last(self.session.ask('stack')), 'memo': _last(self.session.ask('memo')), 'made': self._made(),
             'exact': self._is_exact(), 'undo': _latest(self._edits), 'redo': _latest(self._undone), 'breaks': len(self.breaks),
             'closing': self.lines.closing}
@@ -287,7 +297,7 @@ class Document:
     def source(self) -> Fields:
         """The pickle as Python source, as much of it as is shown, and how many lines more there are."""
         content = self.content()
-        if len(self.lines) > _MOST_SOURCE or len(content) > _MOST_SOURCE_BYTES:
+        if len(self.lines) > _MOST_SOURCE or len(content) > _MOST_SOURCE_BYTES or self.reaches.is_part:
             return {'source': [], 'more': 0, 'isLong': True}
         lines = list(source(content, full=False, many=bool(self._options)))
         return {'source': lines[:_MOST_SOURCE_LINES], 'more': max(0, len(lines) - _MOST_SOURCE_LINES), 'isLong': False}

@@ -17,11 +17,16 @@ from ..program import Process
 from ..sources import Input
 from ..texts import ITEM, OFFSET, OPCODE, READONLY
 
-__all__ = ['CUT', 'Line', 'Lines', 'OpcodeLines', 'add_items', 'read_all', 'shown_code', 'silent']
+__all__ = ['CUT', 'Line', 'Lines', 'OpcodeLines', 'add_items', 'cut_text', 'lines_of', 'read_all', 'shown_code', 'silent']
 
 # The most bytes that are kept of a text.
 CUT = 500
 _BLOCK = 1 << 20
+# So many bytes has a line besides texts and the blanks for open marks, and so many all these blanks.
+_MOST_LINE = 100
+_MOST_DEEP = 1 << 28
+# So many bytes are read of `calls`, in which a long name may stand again and again.
+_MOST_CALLS = 1 << 26
 # An input of at most so many bytes is read by three runs of the program at once.
 _MOST_AT_ONCE = 1 << 26
 
@@ -151,16 +156,25 @@ class _Cutter:
             del self._head[CUT:last if last > CUT else len(self._head) - _BLOCK]
 
 
-def _cut(line: bytes, dropped: int = 0) -> bytes:
+def _cut(line: bytes, dropped: int = 0, most: int = CUT) -> bytes:
     """A line whose texts are cut. What comes after the last quote is kept, since it is the program's own."""
-    if len(line) + dropped <= CUT:
+    if len(line) + dropped <= most:
         return line
-    if b"'" not in line[:CUT]:
+    if b"'" not in line[:most]:
         return line
     last = line.rindex(b"'")
-    if last <= CUT:
+    if last <= most:
         return line
-    return b"%s .. %d bytes more%s" % (line[:CUT], dropped + last - CUT, line[last:])
+    return b"%s .. %d bytes more%s" % (line[:most], dropped + last - most, line[last:])
+
+
+def cut_text(text: str, most: int) -> str:
+    """A line of the program, with its beginning alone where it has more bytes.
+
+    >>> cut_text("import 'os' 'getcwdgetcwd' as #0", 20)
+    "import 'os' 'getcwdg .. 5 bytes more' as #0"
+    """
+    return _cut(text.encode('ascii'), most=most).decode('ascii') if len(text) > most else text
 
 
 def silent(text: str) -> None:
@@ -175,9 +189,9 @@ def _read(into: Lines, process: Process, told: Callable[[str], None] = silent, w
         told(f'{word}: {len(into):,} lines')
 
 
-def read_all(given: Input, options: Sequence[str] = (), told: Callable[[str], None] = silent) -> 'Tuple[OpcodeLines, Lines, str]':
-    """The lines of `list`, those of `objects` without its closing lines, and the text of `calls`. The program works on all of them at once
-    where the input is not large."""
+def read_all(given: Input, options: Sequence[str] = (), told: Callable[[str], None] = silent) -> 'Tuple[OpcodeLines, Lines, str, bool]':
+    """The lines of `list`, those of `objects` without its closing lines, the text of `calls`, and whether this is only its first lines. The
+    program works on all of them at once where the input is not large."""
     tasks = [['list', *options], ['objects', *options], ['calls', *([] if options else ['--first'])]]
     with contextlib.ExitStack() as running:
         def start(words: List[str]) -> Process:
@@ -186,16 +200,20 @@ def read_all(given: Input, options: Sequence[str] = (), told: Callable[[str], No
             return process
         started = map(start, tasks)  # (it starts each where it is asked for)
         processes = iter(list(started)) if os.stat(given.path).st_size <= _MOST_AT_ONCE else started
-        listing = _read_listing(next(processes), told)
+        listing = _read_listing(next(processes), told, os.stat(given.path).st_size)
         objects = _read_objects(next(processes), told)
         told('calls ..')
-        calls = b''.join(next(processes).blocks()).decode('ascii')
-    return listing, objects, calls
+        return listing, objects, *_read_calls(next(processes))
 
 
-def _read_listing(process: Process, told: Callable[[str], None]) -> OpcodeLines:
+def _read_listing(process: Process, told: Callable[[str], None], size: int) -> OpcodeLines:
     listing = OpcodeLines()
-    _read(listing, process, told, 'list')
+
+    def check(text: str) -> None:
+        if listing.whole > 4 * size + _MOST_LINE * len(listing) + _MOST_DEEP:  # (a byte of a text has up to four letters)
+            raise ProgramError('too many marks are open at once to be shown')
+        told(text)
+    _read(listing, process, check, 'list')
     while len(listing) and not OFFSET.match(listing.raw(len(listing) - 1)):
         listing.closing.insert(0, listing.drop_last())
     if not listing.closing:
@@ -206,6 +224,16 @@ def _read_listing(process: Process, told: Callable[[str], None]) -> OpcodeLines:
         whole.whole, whole.closing = listing.whole, listing.closing
         return whole
     return listing
+
+
+def _read_calls(process: Process) -> Tuple[str, bool]:
+    """The text of `calls`, or its first lines where these are very long, and whether it is cut so."""
+    text = bytearray()
+    for block in process.blocks():
+        text += block
+        if len(text) > _MOST_CALLS:
+            return text[:text.rfind(b'\n') + 1].decode('ascii'), True
+    return text.decode('ascii'), False
 
 
 def add_items(listing: OpcodeLines, given: Input, options: Sequence[str] = ()) -> None:

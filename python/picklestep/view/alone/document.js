@@ -15,6 +15,9 @@ const MOST_SOURCE_BYTES = 1 << 26; // and its bytes,
 const MOST_SOURCE_LINES = 1000; // of which so many lines are shown
 const MOST_FIRST = 300000; // opcodes that are shown while the rest is read (or up to the last frame that is whole in them),
 const MOST_READ = 8000000; // where these are not more
+const MOST_LINE = 100; // bytes of a line besides texts and the blanks for open marks,
+const MOST_DEEP = 1 << 28; // and of all these blanks
+const MOST_CALLS = 1 << 26; // bytes that are read of `calls`, in which a long name may stand again and again
 const SHIFTS = { replace: 0, insert: 1, delete: -1, frame: 1, unframe: -1 };
 const HOW = { '+': 'append', '&': 'add', '!': 'state', '[': 'key', '=': 'value' };
 
@@ -22,13 +25,16 @@ let versions = 0; // (of all documents, so that the page never shows the lines o
 
 // That a listing has as many lines as are wanted. `offset` is that of the next opcode.
 class Enough extends Error {
-  constructor(lines, most) {
-    super(`more than ${most.toLocaleString('en')} opcodes are not read here (picklestep view shows them)`);
+  constructor(said, lines, most) {
+    super(said);
+    this.most = most;
     let at = most;
     while (at > 0 && !/^ *\d+: /.test(lines.raw(at))) at -= 1; // (what a STOP left has a line too)
     this.offset = lines.offset(at);
   }
 }
+
+class TooLong extends Error {}
 
 class Document {
   // Opens a pickle. Where it has many opcodes, only the first of them are opened unless it is `isWhole`: the document is a part.
@@ -49,21 +55,28 @@ class Document {
   }
 
   list(most = Infinity) {
-    return readListing((words, into) => this.run(words, into, most), this.options);
+    const least = 4 * this.content.length + MOST_DEEP; // (a byte of a text has up to four letters)
+    const check = (lines) => {
+      if (lines.length > most) throw new Enough(`more than ${most.toLocaleString('en')} opcodes are not read here (picklestep view shows them)`, lines, most);
+      if (lines.whole > least + MOST_LINE * lines.length) throw new Enough('too many marks are open at once to be shown', lines, Math.floor(0.7 * lines.length));
+    };
+    return readListing((words, into) => this.run(words, into, check), this.options);
   }
 
   // The listing. Where it has more lines than are shown first, what is behind these is taken off the bytes, unless a frame holds all of them:
   // there is no reading on to the cut within a frame.
   listFirst() {
     const whole = this.content;
+    let most = 0;
     try {
       return this.list(MOST_FIRST);
     } catch (error) {
       if (!(error instanceof Enough)) throw error;
       this.content = whole.slice(0, error.offset);
+      most = error.most;
     }
     const first = this.list();
-    if (first.length > MOST_FIRST / 2) return first;
+    if (first.length > most / 2) return first;
     this.content = whole;
     return this.list(MOST_READ);
   }
@@ -79,9 +92,7 @@ class Document {
     this.listed = this.lines.length;
     if (this.listed < places) await this.readItems();
     this.final = readObjects((words, into) => this.run(words, into), this.options);
-    const calls = new Lines(Infinity);
-    this.run(['calls', ...(this.options.length ? [] : ['--first'])], calls);
-    this.reaches = new Reaches(calls);
+    this.reaches = this.readReaches();
     this.lines.closing.push(...this.reaches.behind);
     await this.findMakers();
     await this.session.ask(`goto ${place}`);
@@ -91,12 +102,25 @@ class Document {
     if (this.hasBreaks) this.breaks = new Set([...(await this.session.ask('items')).matchAll(/^[> ]\* *(\d+) /gm)].map((match) => Number(match[1])));
   }
 
-  // Runs a task over the pickle as it is, and says how far it is.
-  run(words, into, most = Infinity) {
+  // What is imported and called; of very long lines only the first are read.
+  readReaches() {
+    const calls = new Lines(Infinity);
+    const check = ({ whole }) => { if (whole > MOST_CALLS) throw new TooLong(); };
+    try {
+      this.run(['calls', ...(this.options.length ? [] : ['--first'])], calls, check);
+    } catch (error) {
+      if (!(error instanceof TooLong)) throw error;
+      return new Reaches(calls, true);
+    }
+    return new Reaches(calls, false);
+  }
+
+  // Runs a task over the pickle as it is, and says how far it is. `check` may throw to end it.
+  run(words, into, check = () => {}) {
     let told = 0;
     runTask(this.module, [words[0], 'file', ...words.slice(1)], this.content, (bytes) => {
       into.feed(bytes);
-      if (into.length > most) throw new Enough(into, most);
+      check(into);
       if (into.length - told < 200000) return;
       told = into.length;
       this.progress(`${words[0]}: ${told.toLocaleString('en')} lines`);
@@ -254,10 +278,11 @@ class Document {
 
   // The pickle as Python source, as much of it as is shown, and how many lines more there are.
   source() {
-    if (this.lines.length > MOST_SOURCE || this.content.length > MOST_SOURCE_BYTES) return { source: [], more: 0, isLong: true };
+    const isLong = this.lines.length > MOST_SOURCE || this.content.length > MOST_SOURCE_BYTES || this.reaches.isPart;
+    if (isLong) return { source: [], more: 0, isLong: true };
     const offsets = new Numbers();
     for (let place = 0; place < this.listed; place += 1) offsets.add(this.lines.offset(place));
-    const { opcodes, facts } = this, saidAt = (offset) => this.reaches.textAt(offset);
+    const { opcodes, facts } = this, saidAt = (offset) => this.reaches.saidAt(offset);
     const lines = sourceOf(this.content, offsets, this.lines.closing, { opcodes, facts, saidAt }).split('\n').slice(0, -1);
     const shown = lines.slice(0, MOST_SOURCE_LINES);
     if (this.isPart) shown.push('# The rest of the pickle is not read.');
