@@ -143,6 +143,7 @@ class Words(unittest.TestCase):
             self.assertEqual(found, wanted, opcode.name)
 
     def place(self, shell: Shell) -> int:
+        shell.pickle.settle()
         return shell.pickle.session.where().place
 
     def test_breaks(self) -> None:

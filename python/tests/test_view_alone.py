@@ -19,11 +19,12 @@ import time
 import unittest
 import zipfile
 from pathlib import Path
-from typing import Any, Dict, List, Union
+from typing import Any, Dict, List, Tuple, Union
 
 import firefox
 from chromium import ACCESSIBILITY, CONTRASTS, PROGRAM, Browser
 from pickles import REAL, ROOT, known_opcodes, real_pickles
+from picklestep.python_source import source
 from picklestep.view.document import Document
 from picklestep.view.server import Viewer
 
@@ -55,6 +56,34 @@ KEYS = ['n', '#tab-result', 'ArrowRight', 'p', 'ArrowDown', 'b', ' ', 'End', '#o
 
 # What the page with a server shows of the pickles that were driven, after each key.
 SERVED: Dict[Path, List[Dict[str, Any]]] = {}
+
+
+def with_memory(module: bytes, pages: int) -> bytes:
+    """A module whose memory cannot grow beyond so many pages."""
+    at = 8
+    while module[at] != _MEMORY:
+        size, at = _number_at(module, at + 1)
+        at += size
+    size, body = _number_at(module, at + 1)
+    least, _ = _number_at(module, body + 2)
+    limits = b'\1\1' + _number(least) + _number(max(least, pages))
+    return module[:at] + bytes([_MEMORY, len(limits)]) + limits + module[body + size:]
+
+
+_MEMORY = 5  # (the section of a module that says how much memory it has)
+
+
+def _number_at(module: bytes, at: int) -> Tuple[int, int]:
+    """A number of seven bits a byte, the lowest first, and where it ends."""
+    number = shift = 0
+    while module[at] > 127:
+        number |= (module[at] & 127) << shift
+        at, shift = at + 1, shift + 7
+    return number | module[at] << shift, at + 1
+
+
+def _number(number: int) -> bytes:
+    return b''.join(bytes([number >> shift & 127 | (128 if number >> shift > 127 else 0)]) for shift in range(0, max(1, number.bit_length()), 7))
 
 
 class Driven(unittest.TestCase):
@@ -494,6 +523,58 @@ class Alone(Driven):
         self.assertIn('# The rest of the pickle is not read.', self.texts('#source')[0])
         self.give(self.file('a.pickle', SYSTEM))
         self.assertEqual((self.texts('#rest'), self.texts('#where')), ([''], ['at 0 of 6, offset 0, end stopped']))
+
+    def limit_memory(self, pages: int) -> None:
+        """Gives the module no more than so many pages of 65,536 bytes."""
+        module = base64.b64encode(with_memory((PAGE.parent / 'picklestep.wasm').read_bytes(), pages)).decode('ascii')
+        self.browser.js(f"""(async () => {{ worker.program.module = await WebAssembly.compile(latin(atob('{module}')));
+            endThread(worker.thread); worker.thread = newThread(); }})()""")
+
+    def test_out_of_memory(self) -> None:
+        """It is said, and the page goes on: where nothing was opened, in a step, in an edit, and while the rest is read."""
+        self.load()
+        self.limit_memory(600)
+        large = b'(' + b'K\x01' * 200_000 + b't.'
+        self.choose(self.file('largest.pickle', b'(' + b'K\x01' * 2_000_000 + b't.'))
+        self.said('not done: out of memory')
+        self.give(self.file('large.pickle', large))
+        self.browser.key('Delete')
+        self.said('edited 0')
+        self.limit_memory(310)
+        self.give(self.file('large.pickle', large))
+        for key, said in (('End', 'refused: M out of memory'), ('Delete', 'not done: out of memory'), ('ArrowRight', 'at 1')):
+            self.browser.key(key)
+            self.said(said)
+            self.assertRegex(self.texts('#where')[0], '^at [01] of 200003, ')
+        self.assertEqual(self.browser.js("document.querySelector('#undo').disabled"), True)
+        self.limit_memory(1200)
+        self.choose(self.file('largest.pickle', b'(' + b'K\x01' * 2_000_000 + b't.'))
+        self.browser.wait("document.querySelector('#rest').textContent === 'The first part is shown alone: out of memory'")
+        self.give(self.file('a.pickle', SYSTEM))
+        self.assertEqual((self.texts('#rest'), self.texts('#where')), ([''], ['at 0 of 6, offset 0, end stopped']))
+        self.assertEqual(self.browser.errors(), [])
+
+    def test_what_is_longer_than_its_square_root(self) -> None:
+        """A name that is imported again and again, and marks within marks, of which the program writes as much as the pickle's size squared."""
+        self.load()
+        name = b'X' + (500_000).to_bytes(4, 'little') + b'n' * 500_000 + b'q\0'
+        self.give(self.file('names.pickle', name + b'(' + b'h\0h\0\x93' * 1000 + b't.'))
+        self.assertIn('imports and calls: the first 67 alone, long as they are (picklestep calls shows all)', self.texts('#closing')[0])
+        self.assertLess(max(map(len, self.texts('.row .reach'))), 5000)
+        self.browser.js("showPane('result')")
+        self.browser.js(SETTLED)
+        self.assertEqual(self.texts('#source')[0], '# Too long for this page: picklestep source FILE writes it.')
+        one = b'\x80\x04X\2\0\0\0osX\xd0\7\0\0' + b'n' * 2000 + b'\x93q\1(' + b'h\1' * 10_000 + b't.'
+        self.give(self.file('one.pickle', one))
+        self.browser.js("showPane('result')")
+        self.browser.js(SETTLED)
+        self.assertEqual(self.texts('#source'), [source(one, full=False).text])
+        self.assertLess(len(self.texts('#source')[0]), 3000)
+        self.give(self.file('marks.pickle', b'(' * 300_000 + b'N' + b't' * 300_000 + b'.'))
+        self.browser.wait("document.querySelector('#rest').textContent === 'The first part is shown alone: too many marks are open at once to be shown'")
+        self.choose(self.file('frame.pickle', b'\x80\x04\x95' + (600_002).to_bytes(8, 'little') + b'(' * 300_000 + b'N' + b't' * 300_000 + b'.'))
+        self.said('not done: too many marks are open at once to be shown')
+        self.assertEqual(self.browser.errors(), [])
 
     def test_many_opcodes_in_frames(self) -> None:
         """The first part ends where a frame ends. Where one frame holds all, there is none."""

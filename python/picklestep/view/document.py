@@ -163,7 +163,8 @@ class Document:
     def _read(self) -> None:
         """Reads the listing, the objects, and what is imported and called."""
         if self._edits or self.version:
-            with Input(self.session.bytes()) as given:
+            self._content = self.version + 1, self.session.bytes()
+            with Input(self._content[1]) as given:
                 self._read_from(given)
         else:
             self._read_from(self.session._input)
@@ -175,7 +176,8 @@ class Document:
 
     def _read_from(self, given: Input) -> None:
         self.lines, self._final, calls, is_part = read_all(given, self._options, self._told)
-        if len(self.lines) < self.session.where().places:
+        self.listed = len(self.lines)
+        if self.listed < self.session.where().places:
             add_items(self.lines, given, self._options)
         self.reaches = Reaches(Calls(calls), is_part)
         self.lines.closing += self.reaches.behind
@@ -380,33 +382,38 @@ class Document:
             done = self.session.delete(place) if what == 'delete' else self.session.unframe(place)
         else:
             raise ValueError('this is no edit')
-        self._edits.append(Done(what, done, name if puts else ''))
-        self._undone.clear()
-        self._read()
+        self._changed([*self._edits, Done(what, done, name if puts else '')], [], self.session.undo)
         return f'edited {done}'
 
     def undo(self) -> str:
         """Takes the latest edit back."""
-        place = self.session.undo()
-        self._undone.append(self._edits.pop())
-        self._read()
-        return f'undone {place}: {self._undone[-1]}'
+        place, edit = self.session.undo(), self._edits[-1]
+        self._changed(self._edits[:-1], [*self._undone, edit], self.session.redo)
+        return f'undone {place}: {edit}'
 
     def redo(self) -> str:
         """Makes the edit again that was taken back last."""
-        place = self.session.redo()
-        self._edits.append(self._undone.pop())
-        self._read()
-        return f'redone {place}: {self._edits[-1]}'
+        place, edit = self.session.redo(), self._undone[-1]
+        self._changed([*self._edits, edit], self._undone[:-1], self.session.undo)
+        return f'redone {place}: {edit}'
+
+    def _changed(self, edits: List[Done], undone: List[Done], back: Callable[[], object]) -> None:
+        """Reads the pickle after the session's edits became these. Where that fails, `back` is called, and all is as it was."""
+        before = dict(vars(self))
+        self._edits, self._undone = edits, undone
+        try:
+            self._read()
+        except BaseException:
+            vars(self).update(before)
+            back()
+            raise
 
     def read_on(self) -> str:
         """Reads all pickles of the file, as it is, from its start. What was edited cannot be undone any more."""
         session = Session(self.session.bytes(), many=True)
         self.session.close()
         self.session, self._options, self.place = session, ['--many'], 0
-        self._edits.clear()
-        self._undone.clear()
-        self.breaks.clear()
+        self._edits, self._undone, self.breaks = [], [], set()
         self._read()
         return 'open'
 

@@ -8,7 +8,7 @@ import pickletools
 from array import array
 from bisect import bisect_right
 from dataclasses import dataclass
-from itertools import accumulate, compress, islice
+from itertools import accumulate, islice
 from typing import Callable, Dict, Iterator, List, Optional, Sequence, Tuple
 
 from ..errors import ProgramError
@@ -17,7 +17,7 @@ from ..program import Process
 from ..sources import Input
 from ..texts import ITEM, OFFSET, OPCODE, READONLY
 
-__all__ = ['CUT', 'Line', 'Lines', 'OpcodeLines', 'add_items', 'cut_text', 'lines_of', 'read_all', 'shown_code', 'silent']
+__all__ = ['CUT', 'Line', 'Lines', 'OpcodeLines', 'add_items', 'cut_text', 'line_of', 'lines_of', 'read_all', 'shown_code', 'silent']
 
 # The most bytes that are kept of a text.
 CUT = 500
@@ -40,6 +40,18 @@ class Line:
     name: str
     argument: str
     marks: int
+
+
+def line_of(line: str) -> Line:
+    """The opcode that a line of a listing shows.
+
+    >>> line_of("   11: c        GLOBAL     'os' 'getcwd'").marks
+    1
+    """
+    match = OPCODE.match(line)
+    assert match is not None
+    offset, code, name, number, argument = match.groups()
+    return Line(int(offset), code, name, number or argument or '', max(0, (match.start(3) - match.end(1) - 7) >> 2))
 
 
 class Lines:
@@ -96,15 +108,17 @@ class OpcodeLines(Lines):
 
     def at(self, place: int) -> Line:
         """The opcode at a place."""
-        match = OPCODE.match(self.raw(place))
-        assert match is not None
-        offset, code, name, number, argument = match.groups()
-        return Line(int(offset), code, name, number or argument or '', max(0, (match.start(3) - match.end(1) - 7) >> 2))
+        return line_of(self.raw(place))
 
     def offset(self, place: int) -> int:
         """The offset of the opcode at a place."""
         start = self.starts[place]
         return int(self.text[start:self.text.index(b':', start)])
+
+    def number_of(self, place: int) -> int:
+        """The number that is the argument of the opcode at a place."""
+        end = self.starts[place + 1] - 1
+        return int(self.text[self.text.rindex(b' ', self.starts[place], end) + 1:end])
 
     def place_of(self, offset: int) -> int:
         """The place of the opcode that holds an offset."""
@@ -278,26 +292,31 @@ MAKE_NONE = frozenset(
     'PROTO FRAME STOP MARK POP POP_MARK DUP PUT BINPUT LONG_BINPUT MEMOIZE GET BINGET LONG_BINGET APPEND APPENDS SETITEM SETITEMS '
     'ADDITEMS BUILD'.split())
 
-# What an opcode makes, by its code as it stands in a line with the blanks behind it: none, an object, or perhaps one.
+# The codes of opcodes, as they stand in a line with the blanks behind them.
+_CODE_OF: Dict[bytes, int] = {f'{shown_code(opcode.code):4}'.encode('ascii'): ord(opcode.code) for opcode in pickletools.opcodes}
+# What an opcode makes, by its code: none, an object, or perhaps one.
 _NONE, _ONE, _PERHAPS = range(3)
-_MAKES: Dict[bytes, int] = {f'{code:4}'.encode('ascii'): _NONE if name in MAKE_NONE else _PERHAPS if name == 'READONLY_BUFFER' else _ONE
-                            for name, code in _CODES.items()}
+_MAKES = bytearray(256)
+for _opcode in pickletools.opcodes:
+    _MAKES[ord(_opcode.code)] = _NONE if _opcode.name in MAKE_NONE else _PERHAPS if _opcode.name == 'READONLY_BUFFER' else _ONE
 _STEP = 256  # places, of which it is known how many are before them
 
 
 class Makers:
-    """Which opcodes make objects, of a listing whose lines come in batches. The objects have their numbers in the order of these."""
+    """Which opcodes make objects, of a listing whose lines come in batches. The objects have their numbers in the order of these. `codes` has
+    the codes of all opcodes."""
 
     def __init__(self) -> None:
+        self.codes = bytearray()
         self._makes = bytearray()  # by the places
         self._sums: List[int] = []
 
     def take(self, lines: List[bytes]) -> None:
         """Takes the next lines of a listing. Those that show no opcode have no place."""
         try:
-            self._makes += bytes(map(_MAKES.__getitem__, _codes_of(lines)))
+            self.codes += bytes(map(_CODE_OF.__getitem__, _codes_of(lines)))
         except KeyError:
-            self._makes += bytes(map(_MAKES.__getitem__, _codes_of([line for line in lines if not line[:1].isalpha()])))
+            self.codes += bytes(map(_CODE_OF.__getitem__, _codes_of([line for line in lines if not line[:1].isalpha()])))
 
     def finish(self, objects: Lines, makes_view: Callable[[int, int], bool]) -> None:
         """Settles what is open when all lines were taken.
@@ -305,7 +324,9 @@ class Makers:
         READONLY_BUFFER makes no object where its own can only be read already. Where some do not, `makes_view` is given the place of each
         and the number that an object would have there, and answers whether it makes one.
         """
-        are_all = self._makes.count(_PERHAPS) == len(READONLY.findall(objects.text))
+        self._makes = self.codes.translate(_MAKES)
+        count = self._makes.count(_PERHAPS)
+        are_all = bool(count) and count == len(READONLY.findall(objects.text))
         number = begin = 0
         for place in _found(self._makes, _PERHAPS):
             number += self._makes.count(_ONE, begin, place)
@@ -315,6 +336,10 @@ class Makers:
 
     def __len__(self) -> int:
         return self._sums[-1] if self._sums else 0
+
+    def makes(self, place: int) -> bool:
+        """Whether the opcode at a place makes an object."""
+        return self._makes[place] == _ONE
 
     def before(self, place: int) -> int:
         """How many objects are made before a place."""
@@ -326,10 +351,6 @@ class Makers:
         step = bisect_right(self._sums, number)
         left = number - (self._sums[step - 1] if step else 0)
         return next(islice(_found(self._makes, _ONE, step * _STEP), left, None))
-
-    def places(self) -> 'array[int]':
-        """The places of all of them."""
-        return array('Q', compress(range(len(self._makes)), self._makes))
 
 
 def _found(data: bytearray, byte: int, begin: int = 0) -> Iterator[int]:

@@ -330,25 +330,37 @@ class Document {
     if (this.isPart) throw new Error('edits wait until the rest is read');
     if (!(what in SHIFTS)) throw new Error('this is no edit');
     const puts = what === 'replace' || what === 'insert';
+    const before = { ...this };
     const done = await this.session.edit(what, place, ...(puts ? [name, raw] : what === 'frame' ? [String(count)] : []));
-    this.edits.push([what, done, puts ? name : '']);
+    this.edits = [...this.edits, [what, done, puts ? name : '']];
     this.undone = [];
-    await this.read();
+    await this.readOr(() => this.session.undo(), before);
     return `edited ${done}`;
   }
 
   async undo() {
-    const place = await this.session.undo();
-    this.undone.push(this.edits.pop());
-    await this.read();
-    return `undone ${place}: ${describeEdit(this.undone.at(-1))}`;
+    const before = { ...this }, place = await this.session.undo(), edit = this.edits.at(-1);
+    [this.edits, this.undone] = [this.edits.slice(0, -1), [...this.undone, edit]];
+    await this.readOr(() => this.session.redo(), before);
+    return `undone ${place}: ${describeEdit(edit)}`;
   }
 
   async redo() {
-    const place = await this.session.redo();
-    this.edits.push(this.undone.pop());
-    await this.read();
-    return `redone ${place}: ${describeEdit(this.edits.at(-1))}`;
+    const before = { ...this }, place = await this.session.redo(), edit = this.undone.at(-1);
+    [this.edits, this.undone] = [[...this.edits, edit], this.undone.slice(0, -1)];
+    await this.readOr(() => this.session.undo(), before);
+    return `redone ${place}: ${describeEdit(edit)}`;
+  }
+
+  // Reads the pickle after an edit. Where that fails (memory runs out), all is as it was before.
+  async readOr(back, before) {
+    try {
+      await this.read();
+    } catch (error) {
+      await back();
+      Object.assign(this, before);
+      throw error;
+    }
   }
 }
 
