@@ -34,6 +34,7 @@ SYSTEM = b'cposix\nsystem\n(X\x02\x00\x00\x00idtR.'
 # Of all real pickles of the repository every so many, with those of libraries: twenty.
 SHOWN = [*REAL[::max(1, len(REAL) // 15)][:15], *sorted(MODELS.glob('sklearn_*.pkl'))[:5]]
 READY = "document.querySelector('#opening')?.dataset.ready === 'yes'"
+UNKNOWN = 'what the rest imports and calls is not known'
 # Everything that was asked for is shown.
 SETTLED = '''(async () => {
     do {
@@ -495,6 +496,7 @@ class Alone(Driven):
         self.choose(self.file('large.pickle', b'\x80\x04](' + b'K\x01' * 2_500_000 + b'e.'))
         self.browser.wait("document.querySelector('#where').textContent === 'at 0 of 300000, offset 0, end not read yet'")
         self.assertEqual(self.texts('#closing'), ['the first 300,000 opcodes: the rest is not read'])
+        self.assertEqual((self.texts('#reached'), self.texts('#reaches li')), ([f'imports 0 of 0, calls 0 of 0 in this part: {UNKNOWN} yet'], [f'{UNKNOWN} yet']))
         self.browser.key('ArrowRight')
         self.browser.wait("document.querySelector('#where').textContent.startsWith('at 1 of 300000,')")
         self.browser.js("toggle(7)")
@@ -512,12 +514,21 @@ class Alone(Driven):
         self.assertEqual((self.requests(), self.browser.errors()), ([], []))
 
     def test_more_opcodes_than_are_read(self) -> None:
-        """It says what it shows, and another pickle opens as before."""
+        """It says what it shows, what all of it imports and calls, and another pickle opens as before."""
         self.load()
-        self.give(self.file('larger.pickle', b'(' + b'N' * 8_100_000 + b'1N.'))
+        self.give(self.file('larger.pickle', SYSTEM[:-1] + b'(' + b'N' * 8_100_000 + b'1' + SYSTEM))
+        self.browser.wait("document.querySelector('#reached').textContent === 'imports 0 of 2, calls 0 of 2'")
+        self.browser.wait("document.querySelectorAll('#reaches .thing').length === 4")
+        self.assertEqual(self.texts('#reaches .thing'), ['0 import posix.system', "23 posix.system('id')", '8100026 import posix.system',
+                                                         "8100049 posix.system('id')"])
+        for key, said in (('n', 'at 4'), ('n', 'the next call is at offset 8100049, which is not read')):
+            self.browser.key(key)
+            self.said(said)
+        self.browser.js("document.querySelectorAll('#reaches .thing')[2].click()")
+        self.said('offset 8100026 is not read: it cannot be shown')
         self.browser.wait("document.querySelector('#rest').textContent === 'The first part is shown alone: more than 8,000,000 opcodes are not "
                           "read here (picklestep view shows them)'")
-        self.assertTrue(self.texts('#where')[0].startswith('at 0 of 300000,'))
+        self.assertTrue(self.texts('#where')[0].startswith('at 4 of 300000,'))
         self.browser.js("showPane('result')")
         self.browser.js(SETTLED)
         self.assertIn('# The rest of the pickle is not read.', self.texts('#source')[0])
@@ -550,6 +561,7 @@ class Alone(Driven):
         self.limit_memory(1200)
         self.choose(self.file('largest.pickle', b'(' + b'K\x01' * 2_000_000 + b't.'))
         self.browser.wait("document.querySelector('#rest').textContent === 'The first part is shown alone: out of memory'")
+        self.browser.wait(f"document.querySelector('#reached').textContent === 'imports 0 of 0, calls 0 of 0 in this part: {UNKNOWN}: out of memory'")
         self.give(self.file('a.pickle', SYSTEM))
         self.assertEqual((self.texts('#rest'), self.texts('#where')), ([''], ['at 0 of 6, offset 0, end stopped']))
         self.assertEqual(self.browser.errors(), [])

@@ -79,7 +79,8 @@ function showHeader(state) {
   by('where').textContent = `at ${state.place} of ${state.places}, offset ${state.offset}, end ${state.end}` +
     (state.results.length ? ', result ' + state.results.map((number) => '#' + number).join(' ') : '') +
     (state.results_before ? ` after ${state.results_before} others` : '');
-  by('reached').textContent = `imports ${state.imports[0]} of ${state.imports[1]}, calls ${state.calls[0]} of ${state.calls[1]}`;
+  by('reached').textContent = `imports ${state.imports[0]} of ${state.imports[1]}, calls ${state.calls[0]} of ${state.calls[1]}` +
+    (state.unknown ? ` in this part: ${state.unknown}` : '');
   by('closing').textContent = state.closing.join('; ');
   by('read-on').hidden = !state.closing.some((line) => line.startsWith('kept: '));
   by('edit').disabled = by('save').disabled = Boolean(state.part);

@@ -40,7 +40,7 @@ async function showSource() {
 
 // What is imported and called: asked for again only where it may be other than before. What is before the cursor is done.
 async function reaches() {
-  const state = view.state, key = `${state.version} ${view.reaches}`;
+  const state = view.state, key = [state.version, state.reaches, state.unknown, view.reaches].join(' ');
   if (view.reachesShown !== key) {
     const answer = await ask('reached', { start: view.reaches, count: PAGE });
     if (state !== view.state || !answer.reached) return;
@@ -68,10 +68,10 @@ function showReaches(reached) {
     button.append(element('span', 'key', `${offset} `), document.createTextNode((kind === 'import' ? 'import ' : '') + reachOfRow(text)));
     button.dataset.place = place;
     button.title = button.textContent;
-    button.addEventListener('click', () => select(place));
+    button.addEventListener('click', () => (place === null ? say(`offset ${offset} is not read: it cannot be shown`, true) : select(place)));
     made.append(button);
     return made;
-  }));
+  }), state.unknown && [state.unknown, 'after']);
   by('reaches-shown').textContent = reached.length ? `${view.reaches + 1} to ${last} of ${state.reaches}` : '';
   by('reaches-back').disabled = view.reaches === 0;
   by('reaches-on').disabled = last >= state.reaches;

@@ -38,20 +38,42 @@ class TooLong extends Error {}
 
 class Document {
   // Opens a pickle. Where it has many opcodes, only the first of them are opened unless it is `isWhole`: the document is a part.
-  static async open({ module, opcodes, facts, isLive }, file, name, many, isWhole, progress) {
-    const document = new Document();
-    const options = many ? ['--many'] : [];
-    Object.assign(document, { module, opcodes, facts, name, options, progress, breaks: new Set(), edits: [], undone: [], version: 0, place: 0 });
+  static async open(program, file, name, many, isWhole, progress, reaches) {
+    const document = Document.of(program, file, many, progress), { module, isLive } = program;
+    Object.assign(document, { name, reaches, breaks: new Set(), edits: [], undone: [], version: 0, place: 0 });
     progress('opening');
-    document.content = file;
     document.lines = isWhole ? document.list(MOST_READ) : document.listFirst();
     document.isPart = document.content.length < file.length;
+    document.unknown = document.isPart ? 'what the rest imports and calls is not known yet' : '';
     progress('debug: reading the opcodes');
     document.session = await Session.open(module, document.content, many, isLive);
     await document.read().catch((error) => { document.session.close(); throw error; });
     document.pickle = document.version; // (its edits have others)
-    if (document.isPart) document.lines.closing = [`the first ${document.lines.length.toLocaleString('en')} opcodes: the rest is not read`];
+    if (document.isPart) document.lines.closing = [document.said()];
     return document;
+  }
+
+  static of({ module, opcodes, facts }, content, many, progress) {
+    return Object.assign(new Document(), { module, opcodes, facts, content, options: many ? ['--many'] : [], progress });
+  }
+
+  // What the whole of a pickle imports and calls.
+  static reachesOf(program, content, many, progress) {
+    progress('calls');
+    return Document.of(program, content, many, progress).readReaches();
+  }
+
+  said() {
+    return `the first ${this.lines.length.toLocaleString('en')} opcodes: the rest is not read`;
+  }
+
+  // Takes what the whole of the pickle imports and calls, of which this is a part; or why that is not known.
+  takeReaches(reaches, why) {
+    if (!this.unknown) return;
+    this.unknown = reaches ? '' : `what the rest imports and calls is not known: ${why}`;
+    if (!reaches) return;
+    this.reaches = reaches;
+    this.lines.closing = [this.said(), ...reaches.behind];
   }
 
   list(most = Infinity) {
@@ -92,7 +114,7 @@ class Document {
     this.listed = this.lines.length;
     if (this.listed < places) await this.readItems();
     this.final = readObjects((words, into) => this.run(words, into), this.options);
-    this.reaches = this.readReaches();
+    if (this.version || !this.reaches) this.reaches = this.readReaches();
     this.lines.closing.push(...this.reaches.behind);
     await this.findMakers();
     await this.session.ask(`goto ${place}`);
@@ -186,8 +208,8 @@ class Document {
     return {
       version: this.version, name: this.name, place: where.place, places: where.places, offset: where.offset,
       results: where.results.slice(-MOST_RESULTS), results_before: Math.max(0, where.results.length - MOST_RESULTS), end: this.isPart ? 'not read yet' : where.end,
-      imports: [imports, this.reaches.counts[0]], calls: [calls, this.reaches.counts[1]], reaches: this.reaches.length, stack: lastWords(stack),
-      memo: lastWords(memo), pickle: this.pickle, part: this.isPart, made: this.made(), exact: this.isExact(), edits: this.edits.length, undone: this.undone.length,
+      imports: [imports, this.reaches.counts[0]], calls: [calls, this.reaches.counts[1]], reaches: this.reaches.length, unknown: this.unknown,
+      stack: lastWords(stack), memo: lastWords(memo), pickle: this.pickle, part: this.isPart, made: this.made(), exact: this.isExact(), edits: this.edits.length, undone: this.undone.length,
       undo: describeEdit(this.edits.at(-1)), redo: describeEdit(this.undone.at(-1)), breaks: this.breaks.size, closing: this.lines.closing };
   }
 
@@ -267,13 +289,18 @@ class Document {
 
   // --- What is imported and called ---
 
+  // Each with its place, or none where that is not read.
   reached(start, count) {
     const end = Math.min(this.reaches.length, start + Math.min(count, MOST_LINES)), rows = [];
     for (let at = start; at < end; at += 1) {
       const offset = this.reaches.offsets.at(at);
-      rows.push([this.lines.placeOf(offset), offset, this.reaches.kindAt(offset), this.reaches.text(at)]);
+      rows.push([this.isRead(offset) ? this.lines.placeOf(offset) : null, offset, this.reaches.kindAt(offset), this.reaches.text(at)]);
     }
     return rows;
+  }
+
+  isRead(offset) {
+    return !this.isPart || offset < this.content.length;
   }
 
   // The pickle as Python source, as much of it as is shown, and how many lines more there are.
@@ -299,6 +326,7 @@ class Document {
 
   async toCall(direction) {
     const { offset } = await this.session.where(), call = this.reaches.nextCall(offset, direction);
+    if (call !== null && !this.isRead(call)) return `the next call is at offset ${call}, which is not read`;
     return call === null ? 'no call there' : `at ${await this.session.placeAfter(`goto ${this.lines.placeOf(call)}`)}`;
   }
 

@@ -21,6 +21,17 @@ class Reaches {
     this.read();
   }
 
+  // As another worker can take it.
+  packed() {
+    return { text: this.lines.text.all().slice(), isPart: this.isPart };
+  }
+
+  static unpacked({ text, isPart }) {
+    const lines = new Lines(Infinity);
+    lines.feed(text);
+    return new Reaches(lines, isPart);
+  }
+
   read() {
     const sums = [0, 0];
     let at = 0;
