@@ -30,6 +30,7 @@ _MOST_PARTS = 500
 _MOST_ENTRIES = 500
 _MOST_HOLDERS = 20
 _MOST_RESULTS = 5
+_MOST_BRIEFS = 2 * _MOST_ENTRIES + _MOST_RESULTS  # (of a stack, a memo and results)
 _MOST_ARGUMENT = 1 << 16
 # Of up to so many opcodes and bytes the Python source is written, of which so many lines are shown.
 _MOST_SOURCE = 1_000_000
@@ -254,7 +255,7 @@ class Document:
 
     def briefs(self, numbers: List[int]) -> Dict[str, Tuple[str, str]]:
         """Some objects."""
-        return {str(number): self.thing(number) for number in numbers[:_MOST_ENTRIES]}
+        return {str(number): self.thing(number) for number in numbers[:_MOST_BRIEFS]}
 
     def reached(self, start: int, count: int) -> List[List[Any]]:
         """What is imported and called: the place and the offset of each opcode that does it, how its line is coloured, and what it does."""

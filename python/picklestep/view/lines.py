@@ -217,7 +217,8 @@ def read_all(given: Input, options: Sequence[str] = (), told: Callable[[str], No
         listing = _read_listing(next(processes), told, os.stat(given.path).st_size)
         objects = _read_objects(next(processes), told)
         told('calls ..')
-        return listing, objects, *_read_calls(next(processes))
+        calls, is_part = _read_calls(next(processes))
+    return listing, objects, calls, is_part
 
 
 def _read_listing(process: Process, told: Callable[[str], None], size: int) -> OpcodeLines:

@@ -8,7 +8,7 @@ const described = (thing) => (thing ? shownObject(thing[0], thing[1]) : '');
 
 async function things() {
   const state = view.state;
-  const numbers = [...numbersIn([...state.stack.words, ...state.memo.words]).slice(-490), ...state.results];
+  const numbers = [...new Set([...numbersIn([...state.stack.words, ...state.memo.words]), ...state.results])];
   const [named, made] = await Promise.all([ask('briefs', { numbers }), ask('objects', { start: view.objects, count: PAGE }), reaches()]);
   if (state !== view.state || !named.briefs || !made.objects) return;
   const stack = state.stack.words.map((word) => word[0] === '(' ? mark(word.slice(1)) : item('', Number(word.slice(1)), described(named.briefs[word.slice(1)])));

@@ -9,6 +9,7 @@ const MOST_PARTS = 500;
 const MOST_ENTRIES = 500;
 const MOST_HOLDERS = 20;
 const MOST_RESULTS = 5;
+const MOST_BRIEFS = 2 * MOST_ENTRIES + MOST_RESULTS; // of a stack, a memo and results
 const MOST_ARGUMENT = 1 << 16;
 const MOST_SOURCE = 1000000; // opcodes of a pickle that is written as Python source,
 const MOST_SOURCE_BYTES = 1 << 26; // and its bytes,
@@ -247,7 +248,7 @@ class Document {
   }
 
   briefs(numbers) {
-    return Object.fromEntries(numbers.slice(0, MOST_ENTRIES).map((number) => [number, this.thing(number)]));
+    return Object.fromEntries(numbers.slice(0, MOST_BRIEFS).map((number) => [number, this.thing(number)]));
   }
 
   // What an object holds: each with what it is to the object.

@@ -241,6 +241,7 @@ function wireOpening() {
     if (event.key === 'o') by('file').click();
     else if (event.key === 'v') { event.preventDefault(); openPaste(); }
   });
+  by('help-dialog').querySelector('dl').append(element('dt', '', 'o, v'), element('dd', '', 'open a file; paste hexadecimal or base64'));
   by('save-over-label').hidden = true;
 }
 
