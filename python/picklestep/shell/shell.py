@@ -27,6 +27,7 @@ _AROUND = 3
 _MOST_LINES = 20
 _MOST_STACK = 3
 _MOST_BYTES = 256
+_OF_FRAMES = ('F6', 'F7', 'F8')
 _FILLS = ('APPEND', 'APPENDS', 'SETITEM', 'SETITEMS', 'ADDITEMS', 'BUILD')
 _STORES = ('MEMOIZE', 'PUT', 'BINPUT', 'LONG_BINPUT')
 
@@ -134,6 +135,8 @@ class Shell:
         rows = self._rows(where.place - _AROUND, where.place + _AROUND, where.place)
         if where.place == where.places:
             rows.append(f'>  {where.place:>6} {where.offset:>5}: the end: {where.end.text}')
+            if where.end.code in _OF_FRAMES:
+                rows.append('(What is in that frame is not read: `picklestep mend FILE OUT` keeps it.)')
         rows.append(f'stack: {self._top()}')
         made = self.pickle.made_before(where.place)[0]
         if before is not None and made > before[1]:
