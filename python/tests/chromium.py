@@ -217,6 +217,11 @@ class Browser:
                 texts.append(str(told['params']['entry']['text']))
         return texts
 
+    @property
+    def process(self) -> int:
+        """The number of its first process."""
+        return self._process.pid
+
     def close(self) -> None:
         """Ends the browser, and takes its files away."""
         for file in (self._write, self._read):

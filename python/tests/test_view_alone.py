@@ -156,8 +156,8 @@ class Driven(unittest.TestCase):
         for key in keys:
             if key[0] == '#' and '=' in key:
                 field, _, value = key.partition('=')
-                self.browser.js(f'{{ const field = document.querySelector({json.dumps(field)}); field.value = {json.dumps(value)};'
-                                "for (const name of ['input', 'change']) field.dispatchEvent(new Event(name)); field.focus(); }")
+                self.browser.js(f'(() => {{ const field = document.querySelector({json.dumps(field)}); field.value = {json.dumps(value)};'
+                                "for (const name of ['input', 'change']) field.dispatchEvent(new Event(name)); field.focus(); })()")
             elif key[0] == '#':
                 self.browser.js(f'document.querySelector({json.dumps(key)})?.click()')
             else:

@@ -108,8 +108,9 @@ class Opened(Document):
             for _ in done:
                 self.session.undo()
         try:
-            if edits and min(edit.place for edit in edits) < here:
-                self.session.goto(0)
+            first = min((edit.place for edit in edits), default=here)
+            if first < here:
+                self.session.goto(first)
             for edit in edits:
                 done.append(Done(edit.word, self._edit_one(edit), edit.name))
                 self._here += _SHIFTS.get(edit.word, 0) if edit.place < self._here else 0
@@ -154,7 +155,8 @@ class Opened(Document):
     def undo_back(self, is_redo: bool) -> str:
         """Undoes or makes again an edit, from before its place where the cursor is behind it."""
         self._here = self.session.where().place
-        self.session.goto(0)
+        done = self._undone if is_redo else self._edits
+        self.session.goto(min(self._here, done[-1].place if done else self._here))
         try:
             return self.redo() if is_redo else self.undo()
         except Refused:
