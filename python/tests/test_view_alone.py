@@ -393,6 +393,21 @@ class Alone(Driven):
             self.browser.wait(f"document.querySelector('#where').textContent.startsWith('at {places} of ')")
         self.assertEqual(self.browser.errors(), [])
 
+    def test_about_says_what_stands_on_the_stack_before_and_after(self) -> None:
+        self.load()
+        self.pasted((SYSTEM[:-1] + b']K\x07ah\x05.').hex(), 10)
+        here = ['nothing → #0 posix.system', 'nothing → mark', "nothing → #1 text 'id'", "mark, #1 text 'id' → #2 tuple (#1)",
+                "#0 posix.system, #2 tuple (#1) → #3 posix.system('id')", 'nothing → #4 list', 'nothing → #5 int 7', '#4 list, #5 int 7 → #4 list',
+                'refused, C3 item 8: S3 no memo entry 5']
+        for place, wanted in enumerate(here):
+            self.browser.js(f'void go({place})')
+            self.browser.js(SETTLED)
+            self.assertEqual(self.texts('#opcode .effect')[1:], [f'here: {wanted}'])
+        self.browser.js('void select(0)')
+        self.browser.js(SETTLED)
+        self.assertEqual(self.texts('#opcode .effect'), ['stack: nothing → what is imported'])
+        self.assertEqual(self.browser.errors(), [])
+
     # --- Values ---
 
     def test_values_are_those_of_python(self) -> None:

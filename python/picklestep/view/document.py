@@ -3,6 +3,7 @@
 from __future__ import annotations
 
 import os
+import re
 from array import array
 from bisect import bisect_left, bisect_right
 from itertools import islice
@@ -30,6 +31,7 @@ _MOST_PARTS = 500
 _MOST_ENTRIES = 500
 _MOST_HOLDERS = 20
 _MOST_RESULTS = 5
+_MOST_TOP = 6
 _MOST_BRIEFS = 2 * _MOST_ENTRIES + _MOST_RESULTS  # (of a stack, a memo and results)
 _MOST_ARGUMENT = 1 << 16
 # Of up to so many opcodes and bytes the Python source is written, of which so many lines are shown.
@@ -284,6 +286,31 @@ class Document:
         return {'maker': maker, 'line': None if maker is None else self.lines.raw(maker).strip(), 'stack': stack[:_MOST_HOLDERS],
                 'memo': memo[:_MOST_HOLDERS], 'held': self._holders(number)}
 
+    def effect(self) -> Fields:
+        """The top of the stack before the opcode at the cursor and after it, as far as they differ; or why it is refused."""
+        before = self.session.ask('stack').split()[1:]
+        try:
+            self.session.step()
+        except Refused as error:
+            return {'place': self.place, 'refused': error.text}
+        after = self.session.ask('stack').split()[1:]
+        self.session.back()
+        kept = len(os.path.commonprefix([before, after]))
+        kept -= int(kept == len(after) > 0)  # (what is on top then may have changed)
+        return {'place': self.place, 'before': self._top(before[kept:]), 'after': self._top(after[kept:])}
+
+    def _top(self, words: List[str]) -> Fields:
+        shown = [(word, *(self._thing_then(int(word[1:])) if word[0] == '#' else ('', ''))) for word in words[-_MOST_TOP:]]
+        return {'things': shown, 'more': len(words) - len(shown)}
+
+    def _thing_then(self, number: int) -> Tuple[str, str]:
+        """An object at the cursor, or the one that the opcode there makes, before anything is put into it."""
+        if number < self._made() or number >= len(self._final):
+            return self.thing(number)
+        text = self._final.brief(number).partition(' ')[2]
+        at = text.rfind("'") + 1
+        return text[:at] + _PUT_IN.sub('', text[at:]), self.reaches.text_of(number)
+
     def _holders(self, number: int) -> List[int]:
         """The objects that hold an object, the first of them."""
         heap, made = self._objects(), self._made()
@@ -456,6 +483,7 @@ def _last(answer: str) -> Fields:
     return {'words': shown, 'more': first.count(' ')}
 
 
+_PUT_IN = re.compile(r' (?:[+&!]#|\[#).*')  # what an object's line says of what was put into it
 _HOW = {b'+': 'append', b'&': 'add', b'!': 'state', b'[': 'key', b'=': 'value'}
 
 

@@ -2,6 +2,8 @@
 // Stack, memo and objects, what is imported and called, the result, and what the page says about an opcode and an object.
 
 const PAGE = 200;
+const MOST_DEEP_STACK = 20000; // words of a stack, above which it is not asked for once more at each step
+const MOST_HERE = 60; // letters of an object in About
 
 const numbersIn = (words) => words.map((word) => /#([0-9]+)$/.exec(word)).filter(Boolean).map((match) => Number(match[1]));
 const described = (thing) => (thing ? shownObject(thing[0], thing[1]) : '');
@@ -161,7 +163,8 @@ async function reveal(number) {
 // What the selected opcode does, takes and makes.
 function explain() {
   const line = lineAt(view.selected), state = view.state;
-  const key = line && state.places ? `${view.selected} ${line[2]} ${line[8]}` : '';
+  const isAt = view.selected === state.place && state.stack.more < MOST_DEEP_STACK;
+  const key = line && state.places ? [state.version, view.selected, isAt, line[2], line[8]].join(' ') : '';
   if (by('opcode').dataset.key === key) return;
   by('opcode').dataset.key = key;
   if (!key) { by('opcode').replaceChildren(); return; }
@@ -170,8 +173,23 @@ function explain() {
   first.append(element('span', 'word', line[2]), document.createTextNode(` ${says}`));
   const effect = element('p', 'effect');
   effect.append(element('span', 'key', 'stack: '), takes || 'nothing', element('span', 'key', ' → '), leaves || 'nothing');
-  by('opcode').replaceChildren(first, effect, ...(line[8] ? [element('p', 'reach', '→ ' + reachOfRow(line[8]))] : []));
+  const here = isAt ? [element('p', 'effect', 'here: ..')] : [];
+  by('opcode').replaceChildren(first, effect, ...here, ...(line[8] ? [element('p', 'reach', '→ ' + reachOfRow(line[8]))] : []));
+  if (isAt) showEffect(here[0], key);
 }
+
+// What the opcode at the cursor takes from the stack as it is, and what it leaves there.
+async function showEffect(into, key) {
+  const answer = await ask('effect');
+  if (by('opcode').dataset.key !== key) return;
+  if (answer.refused) into.textContent = `here: refused, ${answer.refused}`;
+  else if (answer.before) into.replaceChildren(element('span', 'key', 'here: '), shownTop(answer.before), element('span', 'key', ' → '), shownTop(answer.after));
+  else into.remove();
+}
+
+const cutShort = (text) => (text.length > MOST_HERE ? text.slice(0, MOST_HERE) + '..' : text);
+const shownTop = ({ things, more }) => [...(more ? [`${more} more`] : []),
+  ...things.map(([word, ...thing]) => (word[0] === '(' ? 'mark' : cutShort(`${word} ${described(thing)}`)))].join(', ') || 'nothing';
 
 // Which opcode made an object, and where else it is.
 async function point(number) {

@@ -9,6 +9,7 @@ const MOST_PARTS = 500;
 const MOST_ENTRIES = 500;
 const MOST_HOLDERS = 20;
 const MOST_RESULTS = 5;
+const MOST_TOP = 6;
 const MOST_BRIEFS = 2 * MOST_ENTRIES + MOST_RESULTS; // of a stack, a memo and results
 const MOST_ARGUMENT = 1 << 16;
 const MOST_SOURCE = 1000000; // opcodes of a pickle that is written as Python source,
@@ -272,6 +273,35 @@ class Document {
     return { maker, line: maker === null ? null : this.lines.raw(maker).trim(),
       stack: stack.flatMap((word, at) => (word === `#${number}` ? [at] : [])).slice(0, MOST_HOLDERS),
       memo: memo.filter(([, other]) => Number(other) === number).map(([key]) => Number(key)).slice(0, MOST_HOLDERS), held: this.holders(number) };
+  }
+
+  // The top of the stack before the opcode at the cursor and after it, as far as they differ; or why it is refused.
+  async effect() {
+    const { place } = this, words = async () => (await this.session.ask('stack')).trimEnd().split(' ').slice(1), before = await words();
+    try {
+      await this.session.ask('step');
+    } catch (error) {
+      if (error instanceof Refused) return { place, refused: error.message };
+      throw error;
+    }
+    const after = await words();
+    await this.session.ask('back');
+    let kept = 0;
+    while (kept < before.length && before[kept] === after[kept]) kept += 1;
+    if (kept === after.length && kept) kept -= 1; // (what is on top then may have changed)
+    return { place, before: this.top(before.slice(kept)), after: this.top(after.slice(kept)) };
+  }
+
+  top(words) {
+    const things = words.slice(-MOST_TOP).map((word) => [word, ...(word[0] === '#' ? this.thingThen(Number(word.slice(1))) : ['', ''])]);
+    return { things, more: words.length - things.length };
+  }
+
+  // An object at the cursor, or the one that the opcode there makes, before anything is put into it.
+  thingThen(number) {
+    if (number < this.made() || number >= this.final.length) return this.thing(number);
+    const text = this.final.brief(number).replace(/^\S+ /, ''), at = text.lastIndexOf("'") + 1;
+    return [text.slice(0, at) + text.slice(at).replace(/ (?:[+&!]#|\[#).*/, ''), this.reaches.textOf(number)];
   }
 
   // The objects that hold an object, the first of them.

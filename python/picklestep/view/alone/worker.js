@@ -43,6 +43,7 @@ const ANSWERS = {
   briefs: ({ numbers }) => ({ briefs: page.document.briefs(numbers) }),
   reached: ({ start, count }) => ({ reached: page.document.reached(start, count) }),
   holds: ({ number }) => page.document.holds(number),
+  effect: () => page.document.effect(),
   about: ({ number }) => page.document.about(number),
   source: () => page.document.source(),
   argument: ({ place }) => page.document.argument(place),
