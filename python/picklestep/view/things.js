@@ -3,7 +3,7 @@
 
 const PAGE = 200;
 const MOST_DEEP_STACK = 20000; // words of a stack, above which it is not asked for once more at each step
-const MOST_HERE = 60; // letters of an object in About
+const MOST_HERE = 28; // letters of an object in About
 
 const numbersIn = (words) => words.map((word) => /#([0-9]+)$/.exec(word)).filter(Boolean).map((match) => Number(match[1]));
 const described = (thing) => (thing ? shownObject(thing[0], thing[1]) : '');
