@@ -88,7 +88,8 @@ def holding(joined: bytes, stride: int, size: int) -> Set[int]:
     known = MAY_BE_KNOWN.match
     firsts = joined[::stride]
     likely = {match.start() for match in _BEGINS.finditer(firsts) if known(joined, match.start() * stride)}
-    likely.update(match.start() for match in _ZLIB.finditer(firsts) if not int.from_bytes(joined[match.start() * stride:match.start() * stride + 2], 'big') % 31)
+    starts = ((match.start(), match.start() * stride) for match in _ZLIB.finditer(firsts))
+    likely.update(number for number, start in starts if not int.from_bytes(joined[start:start + 2], 'big') % 31)
     likely.update(match.start() for match in _STOP.finditer(joined[size - 1::stride]) if is_opcode(firsts[match.start()]))
     for first, second in ((0, 1), (3, 2)):
         likely.update(match.start() for match in _ZERO.finditer(joined[first::stride]) if not joined[match.start() * stride + second])
@@ -111,7 +112,7 @@ def _naming(joined: bytes, stride: int, firsts: bytes) -> Set[int]:
         number = match.start() // stride
         start = number * stride
         if texts.find(b'T', start, match.start()) >= 0 and (is_opcode(firsts[number]) or firsts[number] == _SIGN or may_end_text(
-                joined, match.start()) or joined.find(b':', start, start + PREFIX + 1) >= 0):
+                joined, match.start()) or joined.find(b':', start, start + min(stride, PREFIX + 1)) >= 0):
             found.add(number)
     return found
 
