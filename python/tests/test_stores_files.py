@@ -258,7 +258,8 @@ class Bytes(ScanCase):
                     cases[f'{how} in lines of {width} behind {before}'] = f'{before}{lines}\n'.encode()
         noise = random.Random(3).randbytes(500)
         for text in (base64.b64encode(OLD), OLD.hex().encode()):
-            cases.update({f'{text[:8]!r} behind {around[:8]!r}': around + text + around[::-1] for around in ('sch\xf6n: '.encode(), noise + b'\xff', b'\xd9\x28')})
+            for around in ('sch\xf6n: '.encode(), noise + b'\xff', b'\xd9\x28'):
+                cases[f'{text[:8]!r} behind {around[:8]!r}'] = around + text + around[::-1]
         for width, order in ((4, 'big'), (4, 'little'), (8, 'big'), (8, 'little')):
             one = len(HOSTILE).to_bytes(width, order) + HOSTILE  # type: ignore[arg-type]
             other = len(HARMLESS).to_bytes(width, order) + HARMLESS  # type: ignore[arg-type]

@@ -17,7 +17,7 @@ from .anywhere import BEGINS_PICKLE
 from .telling import LEAST, LEAST_RUN, SIGNS, holding, may_hold, runs
 from .walk import may_begin, walk
 
-__all__ = ['UNFINISHED', 'decoded', 'is_word', 'prefixes']
+__all__ = ['UNFINISHED', 'decoded', 'is_word']
 
 # In the place of how bytes are written: what they stand for goes on behind what is at hand.
 UNFINISHED = ''
@@ -59,10 +59,6 @@ _STANDARD = bytes.maketrans(b'-_', b'+/')
 _PRINTABLE = re.compile(rb'[ -~]+')
 _STOP = ord('.')
 _ONE_RUN = b'a' * LEAST_RUN
-
-# So many bytes may be before a pickle: a sign of the library, a time, a checksum in hexadecimal with a colon.
-PREFIX = 80
-_PROTO = re.compile(rb'\x80[\x02-\x05]')
 
 
 def decoded(content: bytes, goes_on: bool = False) -> Iterator[Tuple[int, str, bytes]]:
@@ -154,7 +150,9 @@ def _close(content: bytes, lines: List[_Span], last: int, folded: List[_Span]) -
     lengths = [end - start for start, end in lines]
     if len(lines) > 1 and lengths[0] != lengths[1]:
         folded.append((lines[1][0], end))
-    return lines if len(set(lengths[1:-1])) > 1 or len(lines) < 4 else lines[:1] + lines[-1:]
+    if len(set(lengths[1:-1])) > 1 or len(lines) < 4:
+        return lines
+    return [lines[0], *(line for line in lines[1:-1] if not content[line[0]:line[1]].translate(None, _DIGITS)), lines[-1]]
 
 
 # --- Which of them may hold something ---
@@ -263,20 +261,3 @@ def is_word(content: bytes) -> bool:
     """
     return (_PRINTABLE.fullmatch(content) is not None and content[-1] != _STOP and MAY_BE_KNOWN.match(content) is None
             and not may_begin(content[0]) and content.translate(_IS_SIGN).find(_ONE_RUN) < 0)
-
-
-def prefixes(content: bytes) -> Iterator[int]:
-    """Offsets behind a few bytes at which a pickle may begin: PROTO, or what is after a sign or a checksum of a library.
-
-    >>> list(prefixes(b'!N.')), list(prefixes(b'1234567\\x80\\x04N.'))
-    ([1], [7])
-    """
-    head = content[:PREFIX + 2]
-    if head[:1] == b'!':
-        yield 1  # cachelib
-    colon = head.find(b':')
-    if colon > 0:
-        yield colon + 1  # Django: the checksum of a session
-    for match in _PROTO.finditer(head, 1):
-        if match.start() != colon + 1 and (match.start(), head[:1]) != (1, b'!'):
-            yield match.start()

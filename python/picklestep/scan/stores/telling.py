@@ -14,7 +14,7 @@ from .anywhere import BEGINS_PICKLE, candidates, may_end_text, may_have_candidat
 from .framed import framing_of, may_be_framed
 from .walk import is_opcode, stops_at_end, walk
 
-__all__ = ['LEAST', 'LEAST_RUN', 'SIGNS', 'holding', 'may_hold', 'runs']
+__all__ = ['LEAST', 'LEAST_RUN', 'SIGNS', 'holding', 'may_hold', 'prefixes', 'runs']
 
 # Fewer bytes hold nothing. More are looked at without a question.
 LEAST = 8
@@ -37,6 +37,11 @@ _ZLIB = re.compile(rb'[\x08\x18(8HXhx]')
 _STOP = re.compile(rb'\.')
 _ZERO = re.compile(rb'\0')
 _ALL_SIGNS = bytes(97 if each in SIGNS else 46 for each in range(256))
+
+# So many bytes may be before a pickle: a sign of the library, a time, a checksum in hexadecimal with a colon.
+PREFIX = 80
+_SIGN = ord('!')
+_PROTO = re.compile(rb'\x80[\x02-\x05]')
 
 
 def runs(marked: bytes, least: int) -> Iterator[Tuple[int, int]]:
@@ -66,7 +71,7 @@ def may_hold(inner: bytes) -> bool:
         return True
     if is_opcode(inner[0]) and walk(inner, 0).is_likely or BEGINS_PICKLE.search(inner):
         return True
-    if inner.isascii() and _RUN.search(inner) is not None:
+    if inner.isascii() and _RUN.search(inner) is not None or any(walk(inner, at).is_likely for at in prefixes(inner)):
         return True
     try:
         return may_have_candidates(inner) and any(True for _ in candidates(BytesBlob(inner)))
@@ -83,7 +88,8 @@ def holding(joined: bytes, stride: int, size: int) -> Set[int]:
     known = MAY_BE_KNOWN.match
     firsts = joined[::stride]
     likely = {match.start() for match in _BEGINS.finditer(firsts) if known(joined, match.start() * stride)}
-    likely.update(match.start() for match in _ZLIB.finditer(firsts) if not int.from_bytes(joined[match.start() * stride:match.start() * stride + 2], 'big') % 31)
+    starts = ((match.start(), match.start() * stride) for match in _ZLIB.finditer(firsts))
+    likely.update(number for number, start in starts if not int.from_bytes(joined[start:start + 2], 'big') % 31)
     likely.update(match.start() for match in _STOP.finditer(joined[size - 1::stride]) if is_opcode(firsts[match.start()]))
     for first, second in ((0, 1), (3, 2)):
         likely.update(match.start() for match in _ZERO.finditer(joined[first::stride]) if not joined[match.start() * stride + second])
@@ -104,6 +110,25 @@ def _naming(joined: bytes, stride: int, firsts: bytes) -> Set[int]:
     texts = joined.translate(_TEXTS)
     for match in _STACK_GLOBAL.finditer(joined):
         number = match.start() // stride
-        if texts.find(b'T', number * stride, match.start()) >= 0 and (is_opcode(firsts[number]) or may_end_text(joined, match.start())):
+        start = number * stride
+        if texts.find(b'T', start, match.start()) >= 0 and (is_opcode(firsts[number]) or firsts[number] == _SIGN or may_end_text(
+                joined, match.start()) or joined.find(b':', start, start + min(stride, PREFIX + 1)) >= 0):
             found.add(number)
     return found
+
+
+def prefixes(content: bytes) -> Iterator[int]:
+    """Offsets behind a few bytes at which a pickle may begin: PROTO, or what is after a sign or a checksum of a library.
+
+    >>> list(prefixes(b'!N.')), list(prefixes(b'1234567\\x80\\x04N.'))
+    ([1], [7])
+    """
+    head = content[:PREFIX + 2]
+    if head[:1] == b'!':
+        yield 1  # cachelib
+    colon = head.find(b':')
+    if colon > 0:
+        yield colon + 1  # Django: the checksum of a session
+    for match in _PROTO.finditer(head, 1):
+        if match.start() != colon + 1 and (match.start(), head[:1]) != (1, b'!'):
+            yield match.start()

@@ -16,9 +16,10 @@ from ..reading import Summary
 from ..results import Place
 from . import anywhere
 from .asking import MOST_BYTES, MOST_PICKLES, NOTHING, answers
-from .encodings import UNFINISHED, decoded, is_word, prefixes
+from .encodings import UNFINISHED, decoded, is_word
 from .framed import framing_of
 from .long_texts import LongText
+from .telling import prefixes
 from .walk import is_opcode, stops_at_end, walk
 
 if TYPE_CHECKING:
