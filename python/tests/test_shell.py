@@ -294,6 +294,9 @@ class Words(unittest.TestCase):
                 done = subprocess.run(words, env=path, capture_output=True, text=True, timeout=300, check=False)
                 self.assertEqual((done.returncode, done.stderr), (status, errors))
             self.assertEqual(pickled.read_bytes(), SAMPLE.replace(b'K\x03', b'K\x04'))
+            piped = subprocess.run([*words[:4], str(pickled)], input='run\nback\nlist\n', env={**path, 'TERM': 'xterm-256color', 'FORCE_COLOR': '1'},
+                                   capture_output=True, text=True, timeout=300, check=False)
+            self.assertEqual((piped.returncode, '\x1b' in piped.stdout, 'the end: stopped' in piped.stdout), (0, False, True))
             done = subprocess.run([*words[:-1], os.path.join(folder, 'none')], env=path, capture_output=True, text=True, timeout=300, check=False)
             self.assertEqual(done.returncode, 2)
 

@@ -62,7 +62,16 @@ const sayOfRest = (text) => { by('rest').textContent = text; };
 function failRest(said) {
   const why = said.replace('not done: ', '');
   sayOfRest(`The first part is shown alone: ${why}`);
-  command('found', { pickle: worker.shown, why });
+  tellReaches({ why });
+}
+
+// Shows in the first part what all of the pickle imports and calls, or why that is not known.
+function tellReaches(found) {
+  const asked = { pickle: worker.shown, ...found };
+  view.busy = view.busy.then(async () => {
+    const state = await host.ask('found', asked);
+    if (view.state && state.version !== undefined) await show(state);
+  }).catch(() => undefined);
 }
 
 // A worker with the program in it.
@@ -99,12 +108,12 @@ function endThread(thread) {
 // Reads the whole of a pickle of which the first part is shown, in a worker of its own, and goes on with that: first what it imports and
 // calls, which is shown as soon as it is known, and also where the whole is too long to be shown.
 async function readRest() {
-  const reader = worker.reader = newThread(), pickle = worker.shown;
+  const reader = worker.reader = newThread();
   const { bytes, name, many } = await host.ask('whole');
   const reaches = await askThread(reader, 'reach', { bytes, name, many }, [bytes.buffer]);
   if (worker.reader !== reader) return; // (another pickle was opened)
   if (reaches.failed) { failRest(reaches.said); return; }
-  command('found', { pickle, reaches });
+  tellReaches({ reaches });
   const answer = await askThread(reader, 'rest');
   if (worker.reader !== reader) return;
   if (answer.failed) failRest(answer.said);
