@@ -1,6 +1,6 @@
 -- The texts that are written of an input, and what is left of one that is not finished.
 -- Source: own.
-use Rattle.std.specs.Prelude.{◌≡◌, ◌<◌, ◌↔◌, ℕ, Bool, List, length, codes, decimal, Option, Some, None, Result, Err, IfOk, IfErr}
+use Rattle.std.specs.Prelude.{◌≡◌, ◌<◌, ◌↔◌, ℕ, Bool, false, List, length, codes, decimal, Option, Some, None, Result, Err, IfOk, IfErr}
 use Rattle.pickle_io.specs.Text.{◌⧺◌}
 use Rattle.pickle_io.specs.Device.{Told, Wrote}
 use Rattle.pickle_doc.specs.Document.{Contents, size_limit}

@@ -16,7 +16,7 @@ use std::alloc::Global;
 fn write_place<S: Page>(place: usize, offset: u64, sink: &mut S) -> Result<(), Failed>
     ensures { Writes (S.told sink.old) (S.told sink.new) result (place_text place offset) }
 {
-    write_all(sink, b"not in form: item ")?;
+    write_all(sink, b"item ")?;
     write_decimal(place as u64, sink)?;
     write_all(sink, b" at ")?;
     write_decimal(offset, sink)?;
@@ -28,6 +28,7 @@ fn write_place<S: Page>(place: usize, offset: u64, sink: &mut S) -> Result<(), F
 fn write_other<S: Page>(other: Other, sink: &mut S) -> Result<(), Failed>
     ensures { Writes (S.told sink.old) (S.told sink.new) result (other_line other) }
 {
+    write_all(sink, b"not in form: ")?;
     write_place(other.place, other.offset, sink)?;
     write_all(sink, other.reason.sentence().as_bytes())?;
     write_all(sink, b"\n")
