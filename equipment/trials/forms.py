@@ -91,7 +91,7 @@ def optimized(value: object, protocol: int) -> bytes:
 WAYS: dict[str, Callable[[object, int], bytes]] = {
     "in C": pickle.dumps,
     "in C to a file": functools.partial(written, pickle.Pickler),
-    "in Python": functools.partial(written, pickle._Pickler),  # type: ignore[attr-defined]
+    "in Python": functools.partial(written, pickle._Pickler),
     "that pickletools.optimize makes": optimized,
 }
 
