@@ -9,12 +9,12 @@ use Rattle.pickle_form.specs.declared.reason.Other.{Other}
 use Rattle.pickle_form.specs.Sentence.{sentence_of}
 use Rattle.pickle_form.specs.Form.{first_other}
 
-unfoldable pub other_words : List ℕ
-other_words = codes "not in form: "
-
 -- the opcode, and where it begins
 unfoldable pub place_text : ℕ → ℕ → List ℕ
 place_text place offset = codes "item " ⧺ decimal place ⧺ codes " at " ⧺ decimal offset ⧺ codes ": "
+
+unfoldable pub other_words : List ℕ
+other_words = codes "not in form: "
 
 -- the first place at which it is not, and why no pickler writes that
 unfoldable pub other_line : Other → List ℕ

@@ -4,20 +4,12 @@ ghost use Rattle.std.specs.Prelude.{◌≡◌, ◌≤◌, false, length, IfOk, I
 ghost use Rattle.pickle_io.specs.Device.{Writes};
 ghost use Rattle.pickle_doc.specs.Document.{size_limit};
 ghost use Rattle.pickle_show.specs.Output.{Completes, Cuts};
-ghost use Rattle.pickle_script.specs.FormText.{other_words, place_text, other_line, form_text, form_status, form_output};
+ghost use Rattle.pickle_script.specs.FormText.{place_text, other_words, other_line, form_text, form_status, form_output};
 
 use pickle_form::{Other, first_other};
 use pickle_ops::{Failed, Page, write_all, write_decimal};
 use pickle_show::TextStop;
 use std::alloc::Global;
-
-/// The first words of the line.
-#[tactic(auto, unfolding(crate::specs::FormText::other_words))]
-fn other_words() -> &'static str
-    ensures { result.now ≡ other_words }
-{
-    "not in form: "
-}
 
 /// Writes the place of an opcode.
 #[tactic(auto, using(pickle_io::proofs::Devices::text_steps), unfolding(crate::specs::FormText::place_text))]
@@ -29,6 +21,14 @@ fn write_place<S: Page>(place: usize, offset: u64, sink: &mut S) -> Result<(), F
     write_all(sink, b" at ")?;
     write_decimal(offset, sink)?;
     write_all(sink, b": ")
+}
+
+/// Words of a line.
+#[tactic(auto, unfolding(crate::specs::FormText::other_words))]
+fn other_words() -> &'static str
+    ensures { result.now ≡ other_words }
+{
+    "not in form: "
 }
 
 /// Writes the line of the first place.
