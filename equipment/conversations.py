@@ -2,8 +2,8 @@
 
 A conversation on the page is a block of lines, indented or not, that begins with `pickle` and the bytes of a pickle in
 hexadecimal. After `pickles` they are of several pickles, and every command has the option --many. Then comes a line of the
-script after `debug> `, then the lines that answer it, and so on. `$ list`, `$ objects` or `$ calls` (with options: `$ calls --first`) comes before what
-that command writes. A last line `saved` has the bytes that the pickle is saved as. The block ends at an empty line, or at the end of the page.
+script after `debug> `, then the lines that answer it, and so on. `$ list`, `$ objects`, `$ calls` (with options: `$ calls --first`) or `$ form` comes
+before what that command writes. A last line `saved` has the bytes that the pickle is saved as. The block ends at an empty line, or at the end of the page.
 
 Each script is run with all records and in windows of 1 and 2. The status has to be 1 just where an answer refuses. What is shown of one
 pickle is also tried with --many, where no byte is after its STOP: the answers are the same then.
@@ -27,7 +27,7 @@ START = re.compile(r" *(pickles?)((?: [0-9a-f]+)*)")
 OPTIONS: dict[str, list[str]] = {"pickle": [], "pickles": ["--many"]}
 # the lines with which a command has status 1
 REFUSED = ("refused: ", "fault: ")
-REFUSALS: dict[str, tuple[str, ...]] = {"list": REFUSED, "objects": REFUSED, "calls": (*REFUSED, "kept: ", "unsure: ")}
+REFUSALS: dict[str, tuple[str, ...]] = {"list": REFUSED, "objects": REFUSED, "calls": (*REFUSED, "kept: ", "unsure: "), "form": ("not in form: ",)}
 
 
 @dataclass

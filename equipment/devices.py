@@ -29,6 +29,7 @@ LISTING = (
 )
 OBJECTS = "#0 list +#0 +#0\nresult #0\n"
 CALLS = "0 imports, 0 calls\n"
+FORM = "not in form: item 2 at 2: STOP where the stack has not one object\n"
 # Two pickles in one input, of which the first leaves a mark.
 SEVERAL = (
     bytes.fromhex("284e2e4e2e"),
@@ -51,6 +52,7 @@ TASKS = (
     (["list"], BY_MEMO[0], LISTING),
     (["objects"], BY_MEMO[0], OBJECTS),
     (["calls"], BY_MEMO[0], CALLS),
+    (["form"], SEVERAL[0], FORM),
     (["list", "--many"], SEVERAL[0], SEVERAL_LISTING),
     (["objects", "--many"], SEVERAL[0], SEVERAL_OBJECTS),
     (["calls", "--many"], SEVERAL[0], CALLS),

@@ -26,7 +26,7 @@ SCRIPT = (
     b"where\nstep\nstep\nstack\nmemo\nshow 0\nrun\nwhere\nback\nback\nbreak 3\ngoto 2\nrun\nnext\nshow 2\ndelete 0\nundo\nredo\nundo\n"
     b"goto 0\nrun\ninsert 0 4e\nbytes\nlist\nnonsense\nquit\n"
 )
-TASKS = (("list",), ("objects",), ("calls",), ("list", "--many"), ("debug",), ("debug", "--window", "3"))
+TASKS = (("list",), ("objects",), ("calls",), ("form",), ("list", "--many"), ("debug",), ("debug", "--window", "3"))
 CASES = 2000
 SEED = 1
 AT_ONCE = 4
@@ -280,11 +280,15 @@ def size_of_all(machines: Machines) -> str:
 
 
 def heap(machines: Machines) -> str:
-    """The C of the heap and of the moves of blocks, under a load of random sizes."""
+    """The C of the heap and of the moves of blocks, under a load of random sizes: on Linux, and as in a module."""
+    c = machines.root / "targets/c"
+    return tried_heap(machines, c / "heap.c", c / "blocks.c") or tried_heap(machines, "-DMODULE", f"-I{c}")
+
+
+def tried_heap(machines: Machines, *more: str | Path) -> str:
     made = machines.folder / "try_heap"
     machines.folder.mkdir(parents=True, exist_ok=True)
-    c = machines.root / "targets/c"
-    words = ["cc", "-O2", "-fno-builtin", "-o", made, machines.root / "equipment/try_heap.c", c / "heap.c", c / "blocks.c"]
+    words = ["cc", "-O2", "-fno-builtin", "-o", made, machines.root / "equipment/try_heap.c", *more]
     done = subprocess.run([str(word) for word in words], capture_output=True, check=False)
     if done.returncode != 0:
         return f"it does not compile: {beginning(done.stderr)}"

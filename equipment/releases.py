@@ -470,7 +470,7 @@ def manual(releases: Releases) -> str:
 def options_told(releases: Releases) -> str:
     """Each word has its options in its manual page and in both completions."""
     shells = {name: (releases.clone / name).read_text() for name in (BASH, ZSH)}
-    others = ("list", "objects", "calls", "debug", "shell", "source", "diff", "mend")
+    others = ("list", "objects", "calls", "form", "debug", "shell", "source", "diff", "mend")
     for word, name in (("scan", PAGES[1]), ("view", PAGES[2]), *((word, PAGES[0]) for word in others)):
         run = releases.run("./picklestep", word, "--help", PYTHONDONTWRITEBYTECODE="1")
         options = set(re.findall(r"--([a-z][a-z-]*)", run.output)) - {"help"}
@@ -503,7 +503,7 @@ def completions(releases: Releases) -> str:
     (at / "two words").write_text("")
     page = str(releases.clone / BASH)
     for words, wanted in (
-        ([""], ["--help", "--version", "calls", "debug", "diff", "list", "mend", "objects", "scan", "shell", "source", "view"]),
+        ([""], ["--help", "--version", "calls", "debug", "diff", "form", "list", "mend", "objects", "scan", "shell", "source", "view"]),
         (["ob"], ["objects"]),
         (["one"], ["one.pickle"]),
         (["list", "--"], ["--help", "--many"]),

@@ -1,10 +1,31 @@
-// Tries targets/c/heap.c and targets/c/blocks.c under a load of random sizes. The status is 0 where every byte was found again.
+// Tries targets/c/heap.c and targets/c/blocks.c under a load of random sizes. The status is 0 where every byte was found again. With
+// -DMODULE it is the heap of a module, over a memory that stands in for the module's.
 #include <stddef.h>
 #include <stdint.h>
 #include <stdio.h>
 #include <stdlib.h>
 #include <string.h>
 
+#ifdef MODULE
+#include <sys/mman.h>
+static uint8_t *memory;
+static unsigned long pages = 17, most_pages = 65536;
+
+static unsigned long grow(unsigned long n) {
+    if (n > most_pages - pages)
+        return (unsigned long)-1;
+    pages += n;
+    return pages - n;
+}
+
+#define MEMORY ((unsigned long)memory)
+#define HEAP_BASE (MEMORY + 1000)
+#define __builtin_wasm_memory_grow(which, n) grow(n)
+#define __builtin_wasm_memory_size(which) pages
+#define __wasm__ 1
+#include "heap.c"
+#undef __wasm__
+#else
 typedef struct {
     uint64_t ok;
     uint8_t *p;
@@ -12,6 +33,7 @@ typedef struct {
 tried rattle_alloc(uint64_t n, uint64_t align);
 tried rattle_realloc(uint8_t *p, uint64_t kept, uint64_t n, uint64_t align);
 void rattle_dealloc(uint8_t *p);
+#endif
 
 enum { BLOCKS = 4000, ROUNDS = 300000, MOST = 300 };
 
@@ -36,7 +58,7 @@ static void fail(const char *what) {
     exit(1);
 }
 
-static void take(size_t i, tried t) {
+static void keep(size_t i, tried t) {
     if (!t.ok)
         fail("out of memory");
     if ((uintptr_t)t.p & 15)
@@ -61,12 +83,12 @@ static void try_heap(void) {
         size_t i = next() % BLOCKS;
         if (!blocks[i]) {
             sizes[i] = size();
-            take(i, rattle_alloc(sizes[i], 1));
+            keep(i, rattle_alloc(sizes[i], 1));
             mark(i);
         } else if (next() % 3 == 0) {
             uint64_t n = size(), least = n < sizes[i] ? n : sizes[i];
             check(i, sizes[i]);
-            take(i, rattle_realloc(blocks[i], sizes[i], n, 1));
+            keep(i, rattle_realloc(blocks[i], sizes[i], n, 1));
             check(i, least);
             sizes[i] = n;
             mark(i);
@@ -77,6 +99,45 @@ static void try_heap(void) {
         }
     }
 }
+
+#ifdef MODULE
+// Blocks that grow in turn lie where they are once they have room. What is too much for the memory is refused, and all rooms can be had.
+static void try_rooms(void) {
+    enum { GROWING = 4, LAST = 1 << 26 };
+    int moves[GROWING] = {0};
+    for (size_t i = 0; i < GROWING; i++) {
+        keep(i, rattle_alloc(sizes[i] = 1 << 10, 1));
+        mark(i);
+    }
+    for (uint64_t n = 1 << 11; n <= LAST; n *= 2)
+        for (size_t i = 0; i < GROWING; i++) {
+            uint8_t *was = blocks[i];
+            keep(i, rattle_realloc(was, sizes[i], n, 1));
+            check(i, sizes[i]);
+            if (n > 1 << 20 && blocks[i] != was && moves[i]++)
+                fail("a block that had room was moved");
+            sizes[i] = n;
+            mark(i);
+        }
+    most_pages = pages;
+    uint64_t whole = (uint64_t)pages << 16, most = whole;
+    tried t;
+    while (!(t = rattle_alloc(most, 1)).ok)
+        most -= 1 << 16;
+    if (most < whole / 5)
+        fail("the rooms were not given up");
+    for (size_t i = 0; i < GROWING; i++) {
+        check(i, sizes[i]);
+        rattle_dealloc(blocks[i]);
+        blocks[i] = NULL;
+    }
+    rattle_dealloc(t.p);
+    t = rattle_alloc(whole - (1 << 21), 1);
+    if (!t.ok)
+        fail("what was freed was not joined");
+    rattle_dealloc(t.p);
+}
+#endif
 
 // Every length up to MOST, and every distance of two places that overlap or not, against a copy byte by byte.
 static void try_moves(void) {
@@ -103,6 +164,12 @@ static void try_moves(void) {
 }
 
 int main(void) {
+#ifdef MODULE
+    memory = mmap(0, (size_t)1 << 32, PROT_READ | PROT_WRITE, MAP_PRIVATE | MAP_ANONYMOUS | MAP_NORESERVE, -1, 0);
+    if (memory == MAP_FAILED)
+        fail("no memory");
+    try_rooms();
+#endif
     try_heap();
     try_moves();
     return 0;

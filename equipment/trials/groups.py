@@ -23,7 +23,7 @@ import several
 import try_definition
 import wheels
 
-from . import begins, examples, large, listings, memory, options, program
+from . import begins, examples, forms, large, listings, memory, options, program
 from .room import Room, Word
 from .trial import Group, Noted, Trial, Verdict
 
@@ -72,6 +72,7 @@ def of_program(room: Room) -> list[AnyGroup]:
         Group("readme", functools.partial(examples.of_readme, room)),
         Group("conversations", functools.partial(examples.of_pages, room)),
         Group("begins", functools.partial(begins.trials, room)),
+        Group("forms", functools.partial(forms.trials, room)),
         Group("opcodes", functools.partial(opcodes.trials, room.root)),
         Group("pages", functools.partial(pages.trials, room.root, str(room.program), room.folder / "pages")),
     ]

@@ -23,7 +23,7 @@ _ASKS_HELP = ('--help', '-h')
 def main(words: 'list[str]') -> int:
     """Does what the words say, and answers the status. A word of the program never comes back."""
     if sys.version_info < (3, 9):
-        return _complain('python3 is older than 3.9: only list, objects, calls and debug work with it')
+        return _complain('python3 is older than 3.9: only list, objects, calls, form and debug work with it')
     if not words or words[0] in _ASKS_HELP:
         return _print_page('picklestep', to_output=bool(words))
     first, rest = words[0], words[1:]

@@ -1,4 +1,4 @@
-"""`picklestep mend FILE`: what can be kept of a pickle that is cut off or damaged. Nothing of it is run."""
+"""`picklestep mend FILE [OUT]`: what can be kept of a pickle that is cut off or damaged. Nothing of it is run."""
 
 from __future__ import annotations
 
@@ -22,18 +22,22 @@ def main(arguments: List[str]) -> int:
         prog='picklestep mend', description='Makes a pickle that reads to its STOP of one that is cut off or damaged; nothing of it is run.',
         epilog='Status: 0 if the pickle was whole, 1 if it was mended, 2 if there is no result.')
     parser.add_argument('file', metavar='FILE', help='the pickle, which stays as it is')
-    parser.add_argument('--save', metavar='OUT', help='write the result to this file, which cannot be FILE')
+    parser.add_argument('out', metavar='OUT', nargs='?', help='write the result to this file, which cannot be FILE')
+    parser.add_argument('--save', metavar='OUT', help='the same')
     options = parser.parse_args(arguments)
-    if _is_same(options.file, options.save):
+    if options.out is not None and options.save is not None:
+        parser.error('OUT is given twice')
+    out = options.save if options.out is None else options.out
+    if _is_same(options.file, out):
         print('picklestep: OUT is FILE, which stays as it is', file=sys.stderr)
         return 2
     try:
         answer = mended(options.file)
         print_text(''.join(f'{step}\n' for step in answer.steps) or 'it is whole\n')
-        if options.save is not None:
+        if out is not None:
             with Session(answer.content) as session:
-                session.save(options.save)
-            print_text(f'saved {ascii(options.save)[1:-1]}\n')
+                session.save(out)
+            print_text(f'saved {ascii(out)[1:-1]}\n')
     except (OSError, PicklestepError) as error:
         print(f'picklestep: {reason(error)}', file=sys.stderr)
         return 2

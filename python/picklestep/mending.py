@@ -140,7 +140,7 @@ class _Closing:
                 self.sections.append([])
             else:
                 self.sections[-1].append(entry.number)
-        self.made = len(self.heap)
+        self.added: List[Object] = []  # (the numbers of these come after those of the heap)
 
     def close(self) -> bool:
         """Answers whether one object is on the stack then; else there is none."""
@@ -162,15 +162,13 @@ class _Closing:
             self._add('POP_MARK', 'nothing stands above the mark')
         elif filler is None:
             self._add('TUPLE', f'{_objects(len(items))} above the mark')
-            below.append(self._new())
+            below.append(self._new(items))
         else:
             self._fill(items, filler, target)
 
     def _filler(self, number: int) -> Tuple[Optional[str], str]:
-        """The opcode by which a pickler fills the object below a mark. None where that is no container, or it cannot be known."""
+        """The opcode by which a pickler fills the object below a mark. None where that is no container."""
         made = self._object(number)
-        if made is None:
-            return None, ''
         ways = [change.how if change.key is None else 'set in' for change in made.changes if change.how in ('append', 'add', 'set')]
         way = made.kind if made.kind in ('list', 'set', 'dict') else ways[-1] if ways else ''
         return _FILLERS.get(way), f'{made.kind} #{number}'
@@ -213,13 +211,15 @@ class _Closing:
         self.place += 1
         self.steps.append(f'{offset}: {name} added: {why}')
 
-    def _new(self) -> int:
-        """The number of the object that was made last."""
-        self.made += 1
-        return self.made - 1
+    def _new(self, items: List[int]) -> int:
+        """The number of the tuple of these items that was made last."""
+        number = len(self.heap) + len(self.added)
+        self.added.append(Object(number, 'tuple', None, tuple(items), ()))
+        return number
 
-    def _object(self, number: int) -> Optional[Object]:
-        return self.heap[number] if number < len(self.heap) else None
+    def _object(self, number: int) -> Object:
+        made = len(self.heap)
+        return self.heap[number] if number < made else self.added[number - made]
 
     def _can_be_key(self, number: int) -> bool:
         """Whether an object can be a key or a member of a set, as far as the pickle shows it."""
@@ -228,7 +228,7 @@ class _Closing:
             if not waiting:
                 return True
             made = self._object(waiting.pop())
-            if made is None or made.kind in _UNHASHABLE:
+            if made.kind in _UNHASHABLE:
                 return False
             if made.kind in ('tuple', 'frozenset'):
                 waiting.extend(made.parts)

@@ -308,7 +308,7 @@ class _Units:
         items: List[Brief] = []
         while self.peek()[:1] not in (')', '+'):
             items.append(self.brief())
-        more = self.more()
+        more = self._number_after(_MORE)
         if self.take() != ')':
             raise LinesError(self.text)
         return Briefs(tuple(items), more)
@@ -348,8 +348,11 @@ class _Units:
         return Brief(kind, bytes.fromhex(text[3:]) if more else number_of(text), more)
 
     def more(self) -> int:
-        """How much was cut off here. A blank before it would make it the next item."""
-        match = _MORE.match(self.text, self.at)
+        """How many bytes were cut off a value: right behind it, as behind a comma are those of the list."""
+        return self._number_after(_CUT)
+
+    def _number_after(self, sign: 're.Pattern[str]') -> int:
+        match = sign.match(self.text, self.at)
         if match is None:
             return 0
         self.at = match.end()
@@ -357,7 +360,9 @@ class _Units:
 
 
 _TEXT_NEXT = re.compile(" (?:raw )?'")
-_MORE = re.compile(r'(?:, )?\+([0-9]+)')
+# What was cut off: bytes of a value, values of a list.
+_CUT = re.compile(r'\+([0-9]+)')
+_MORE = re.compile(r', \+([0-9]+)')
 _CONSTANTS: Dict[str, Optional[bool]] = {'none': None, 'true': True, 'false': False}
 
 

@@ -13,7 +13,7 @@ import tempfile
 import time
 from pathlib import Path
 from select import select
-from typing import Any, Dict, List, Optional
+from typing import Any, Dict, List, Optional, Tuple
 
 PROGRAM = next((path for path in map(shutil.which, ('chromium', 'chromium-browser', 'google-chrome')) if path), None)
 _FLAGS = ['--headless=new', '--no-sandbox', '--disable-gpu', '--disable-dev-shm-usage', '--no-first-run', '--disable-extensions',
@@ -26,7 +26,7 @@ for end, wanted in zip(ends, (3, 4)):
     os.dup2(end, wanted)
     os.close(end)
 os.execv(sys.argv[3], sys.argv[3:])'''
-KEYS = {'ArrowRight': 39, 'ArrowLeft': 37, 'ArrowDown': 40, 'ArrowUp': 38, 'Home': 36, 'End': 35, 'Enter': 13, ' ': 32, 'Tab': 9, 'Escape': 27}
+KEYS = {'ArrowRight': 39, 'ArrowLeft': 37, 'ArrowDown': 40, 'ArrowUp': 38, 'Home': 36, 'End': 35, 'PageUp': 33, 'PageDown': 34, 'Delete': 46, 'Enter': 13, ' ': 32, 'Tab': 9, 'Escape': 27}
 
 # A script whose value are the faults that some people could not use the page for.
 ACCESSIBILITY = (Path(__file__).parent / 'accessibility.js').read_text(encoding='utf-8')
@@ -42,6 +42,22 @@ CONTRASTS = '''(() => {
         [...each.childNodes].some((child) => child.nodeType === Node.TEXT_NODE && child.textContent.trim())).map((each) => {
             const [low, high] = [light(getComputedStyle(each).color), light(behind(each))].sort((left, right) => left - right);
             return [each.className + ' ' + each.textContent.slice(0, 40), (high + 0.05) / (low + 0.05)]; });
+})()'''
+
+
+# How much of the line around what has the focus is cut off by what it is in, in pixels, with what that is.
+FOCUS_LINE = '''(() => {
+    const each = document.activeElement, style = getComputedStyle(each), box = each.getBoundingClientRect();
+    const inner = getComputedStyle(each, '::after');
+    const drawn = style.outlineStyle !== 'none' ? parseFloat(style.outlineWidth) : inner.borderStyle === 'solid' ? parseFloat(inner.borderTopWidth) : 0;
+    const out = style.outlineStyle === 'none' ? 0 : drawn + parseFloat(style.outlineOffset);
+    let cut = Math.max(-Math.min(box.left, box.top) + out, box.right + out - innerWidth, box.bottom + out - innerHeight);
+    for (let at = each.parentElement; at && at !== document.documentElement; at = at.parentElement) {
+        if (getComputedStyle(at).overflow === 'visible') continue;
+        const hull = at.getBoundingClientRect();
+        cut = Math.max(cut, hull.left - box.left + out, hull.top - box.top + out, box.right + out - hull.right, box.bottom + out - hull.bottom);
+    }
+    return [each.tagName + ' ' + each.id + ' ' + each.className, drawn, cut];
 })()'''
 
 
@@ -148,11 +164,15 @@ class Browser:
 
     def click(self, selector: str, count: int = 1) -> None:
         """Clicks in the middle of an element."""
-        x, y = self.js(f'(() => {{ const r = document.querySelector({json.dumps(selector)}).getBoundingClientRect();'
-                       'return [r.left + r.width / 2, r.top + r.height / 2]; })()')
+        x, y = self._middle(selector)
         self.pointer(x, y)
         for kind in ('mousePressed', 'mouseReleased'):
             self.mouse(kind, x, y, count)
+
+    def _middle(self, selector: str) -> Tuple[float, float]:
+        x, y = self.js(f'(() => {{ const r = document.querySelector({json.dumps(selector)}).getBoundingClientRect();'
+                       'return [r.left + r.width / 2, r.top + r.height / 2]; })()')
+        return float(x), float(y)
 
     def mouse(self, kind: str, x: float, y: float, count: int = 1) -> None:
         """Presses, moves or releases the left button."""
@@ -166,6 +186,18 @@ class Browser:
         """Chooses a file."""
         field = self.call('Runtime.evaluate', expression=f'document.querySelector({json.dumps(selector)})')['result']['objectId']
         self.call('DOM.setFileInputFiles', files=[str(path)], objectId=field)
+
+    def tap(self, selector: str) -> None:
+        """Touches the middle of an element, as a finger does."""
+        self.drag_finger(selector, 0)
+
+    def drag_finger(self, selector: str, distance: float) -> None:
+        """Touches the middle of an element, and moves down before the finger is lifted."""
+        x, y = self._middle(selector)
+        self.call('Input.dispatchTouchEvent', type='touchStart', touchPoints=[{'x': x, 'y': y}])
+        for part in (1, 2, 3, 4) if distance else ():
+            self.call('Input.dispatchTouchEvent', type='touchMove', touchPoints=[{'x': x, 'y': y + distance * part / 4}])
+        self.call('Input.dispatchTouchEvent', type='touchEnd', touchPoints=[])
 
     def screenshot(self, path: Path) -> None:
         """Writes what the page looks like."""
@@ -184,6 +216,11 @@ class Browser:
             elif told.get('method') == 'Log.entryAdded' and told['params']['entry']['level'] == 'error':
                 texts.append(str(told['params']['entry']['text']))
         return texts
+
+    @property
+    def process(self) -> int:
+        """The number of its first process."""
+        return self._process.pid
 
     def close(self) -> None:
         """Ends the browser, and takes its files away."""

@@ -169,8 +169,8 @@ def redis_server(port: str, password: str, count: str) -> None:
     client.hset('dramatiq:default.msgs', 'message', pickle.dumps({'queue_name': 'default', 'args': (Hostile(),)}))
     client.set('flask_cache', b'!' + evil)
     client.set(b'long \x1b[2J' + b'k' * 1_000_000, evil)
-    # (512 MB that are no pickle)
-    client.setrange('large', (512 << 20) - 1, b'x')
+    # (that is no pickle: 512 MB where there are many values, else more than what is read at once)
+    client.setrange('large', (512 << 20 if int(count) > 10_000 else 16 << 20) - 1, b'x')
 
 
 def redis_values(url: str) -> None:
@@ -308,8 +308,14 @@ def mysql_server(path: str, count: str) -> None:
                   'USE stores'):
         cursor.execute(words, ())
     sql(cursor, lambda cursor, words, rows: cursor.executemany(f'{words} (%s, %s, %s)', rows), count, 'LONGBLOB')
+    # A table whose key is a text and a number, and one without a key.
+    cursor.execute('CREATE TABLE pairs (owner VARCHAR(40), part INT, content LONGBLOB, PRIMARY KEY (owner, part))')
+    cursor.execute('CREATE TABLE loose (moment DATETIME NOT NULL, content LONGBLOB, INDEX (moment))')
+    rows = [(f'Owner {number % 700}\xe9', number, b'x' * 500) for number in range(2_000)] + [('M', -1, pickle.dumps(Hostile()))]
+    cursor.executemany('INSERT INTO pairs VALUES (%s, %s, %s)', rows)
+    cursor.executemany('INSERT INTO loose VALUES (%s, %s)', [(f'2026-01-{1 + number % 28:02} 10:00:00', each[2]) for number, each in enumerate(rows)])
     connection.commit()
-    cursor.execute('ANALYZE TABLE jobs')  # (by which the server reckons how large it is)
+    cursor.execute('ANALYZE TABLE jobs, pairs, loose')  # (by which the server reckons how large they are)
     connection.close()
 
 

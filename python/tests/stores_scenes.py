@@ -10,6 +10,7 @@ import os
 import signal
 import sys
 import time
+from pathlib import Path
 from typing import Any, Callable, Dict, List
 
 from picklestep.scan import Options
@@ -78,12 +79,19 @@ def postgresql_vanishes(url: str) -> List[Dict[str, Any]]:
     return looked(url, between)
 
 
+def _stop(process: int) -> None:
+    """Stops a process, and waits until each of its threads stands still."""
+    os.kill(process, signal.SIGSTOP)
+    while any(state.read_text().rpartition(')')[2].split()[0] != 'T' for state in Path(f'/proc/{process}/task').glob('*/stat')):
+        time.sleep(0.01)
+
+
 def stopped(url: str, process: str) -> List[Dict[str, Any]]:
     """A process of the server stops after the first task, and says nothing any more."""
     def between(number: int) -> None:
         if number == 1:
             held: Any = server_of(Address(url))
-            os.kill(int(process) or held.connection.info.backend_pid, signal.SIGSTOP)
+            _stop(int(process) or held.connection.info.backend_pid)
     return looked(url, between)
 
 

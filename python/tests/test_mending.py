@@ -17,6 +17,7 @@ from collections import Counter
 from pathlib import Path
 from typing import Any, Iterator, List
 
+import cut_pickles
 import picklestep
 from pickles import real_pickles
 from picklestep.mending import TooCrooked, mended
@@ -106,6 +107,15 @@ class Cuts(unittest.TestCase):
                     found = [reach.text for reach in answer if not reach.text.startswith(_FILLS)]
                     self.assertEqual(found, [text for text in whole if not text.startswith(_FILLS)][:len(found)])
 
+    def test_loaded_is_what_was_built(self) -> None:
+        """Real pickles, each cut at some places, are loaded with harmless stand-ins."""
+        random.seed(4)
+        found = cut_pickles.whole_pickles()
+        self.assertGreater(len(found), 100)
+        for name, data in found.items():
+            for cut in random.sample(range(len(data)), min(4, len(data))):
+                with self.subTest(name, cut=cut):
+                    self.assertEqual(cut_pickles.fault_of(data[:cut]), '')
 
     def test_real_pickles(self) -> None:
         """The kept ones, each cut at two places."""
@@ -159,6 +169,10 @@ class Words(unittest.TestCase):
             done = run('cut.pickle', '--save', 'out.pickle')
             self.assertEqual((done.returncode, done.stdout), (1, '4: STOP added: F1 ended at 4\nsaved out.pickle\n'))
             self.assertEqual(Path(folder, 'out.pickle').read_bytes(), b']K\x01a.')
+            path.with_name('out.pickle').unlink()
+            done = run('cut.pickle', 'out.pickle')
+            self.assertEqual((done.returncode, done.stdout), (1, '4: STOP added: F1 ended at 4\nsaved out.pickle\n'))
+            self.assertEqual((run('cut.pickle', 'a', '--save', 'b').returncode, run('cut.pickle', 'cut.pickle').returncode), (2, 2))
             done = run('out.pickle')
             self.assertEqual((done.returncode, done.stdout), (0, 'it is whole\n'))
             os.link(path, Path(folder, 'same'))

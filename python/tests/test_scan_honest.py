@@ -12,6 +12,7 @@ import random
 import subprocess
 import tarfile
 import unittest
+import unittest.mock
 import zipfile
 import zlib
 from pathlib import Path
@@ -20,7 +21,7 @@ from typing import Any, Callable, Dict, List, Sequence, Tuple, Type
 from picklestep.scan import Judge, look
 from picklestep.scan.allow import SETS, read_names
 from picklestep.scan.blobs import BytesBlob
-from picklestep.scan.canonical import NotCanonical, npy, streams, tars, zips
+from picklestep.scan.canonical import NotCanonical, npy, pickles, streams, tars, zips
 from picklestep.scan.canonical.layouts import layout_of
 from picklestep.scan.packed import METHODS, Unpacking
 from picklestep.scan.zips import unpacker_of
@@ -251,6 +252,30 @@ class Changes(ScanCase):
             # (joblib's arrays are raw numbers to an unpickler that does not know them, and that is told elsewhere.)
             self.assertLessEqual(set(seen) if not layout.raw else set(), layout.imports, content)
         return True
+
+class CommonOpcodes(unittest.TestCase):
+    """The commonest opcodes are done without a call where nothing can be said against them: that comes to what their functions come to."""
+
+    def answer(self, content: bytes) -> Tuple[Any, ...]:
+        try:
+            found = pickles.read_pickle(BytesBlob(content))
+        except NotCanonical as reason:
+            return reason.offset, reason.reason
+        return found.end, found.imports, len(found.persistent), found.counts, repr(found.value)[:20]
+
+    def test_changed_pickles(self) -> None:
+        chance = random.Random(49)
+        values = [{'a': [1.5, 2, 'text', None]}, [(n, str(n)) for n in range(300)], {'x' * 300: b'y'}, ['\xe9', '\udc80'] * 3]
+        seeds = [pickle.dumps(value, protocol) for value in values for protocol in range(6)]
+        slow = {name: -2 for name in ('_BINGET', '_BININT1', '_MEMOIZE', '_BINPUT', '_SHORT_BINUNICODE', '_BINFLOAT')}
+        taken = 0
+        for _ in range(1500):
+            content = changed(chance, chance.choice(seeds), chance.choice(seeds))
+            at_once = self.answer(content)
+            with unittest.mock.patch.multiple(pickles, **slow):
+                self.assertEqual(self.answer(content), at_once, content)
+            taken += len(at_once) == 5
+        self.assertGreater(taken, 50)
 
 
 if __name__ == '__main__':

@@ -23,7 +23,7 @@ from typing import Sequence
 from unittest import mock
 
 from picklestep.records import End
-from picklestep.scan import Options, look
+from picklestep.scan import Options, blobs, look
 from picklestep.scan.blobs import Budget, Limits
 from picklestep.scan.reading import Summary
 from scan_support import (HARMLESS, HOSTILE, MODELS, Made, ScanCase, closing, entry, local, names_of, notes_of, places_of,
@@ -562,7 +562,7 @@ class HostileFolders(ScanCase):
         path = self.file('a.pkl', HOSTILE)
         with mock.patch('picklestep.scan.looking.os.open', side_effect=PermissionError(13, 'Permission denied')):
             self.assertEqual(look(str(path)).error, 'Permission denied')
-        with mock.patch('picklestep.scan.blobs.os.pread', side_effect=OSError(5, 'Input/output error')):
+        with mock.patch('picklestep.scan.blobs._read_at', side_effect=OSError(5, 'Input/output error')):
             self.assertEqual(look(str(path)).error, 'Input/output error')
 
     def test_a_file_that_changes(self) -> None:
@@ -586,7 +586,7 @@ class HostileFolders(ScanCase):
 
     def test_a_file_that_becomes_shorter(self) -> None:
         path = self.file('a.zip', zip_of([Made(b'a.pkl', HOSTILE), Made(b'b.pkl', HARMLESS)]))
-        read = os.pread
+        read = blobs._read_at
         calls = iter(range(1000))
 
         def shrinking(descriptor: int, count: int, offset: int) -> bytes:
@@ -594,7 +594,7 @@ class HostileFolders(ScanCase):
                 os.truncate(path, 60)
             return read(descriptor, count, offset)
 
-        with mock.patch('picklestep.scan.blobs.os.pread', side_effect=shrinking):
+        with mock.patch('picklestep.scan.blobs._read_at', side_effect=shrinking):
             result = look(str(path))
         self.assertIn('! : it changed while it was looked at', notes_of(result))
 

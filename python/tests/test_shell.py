@@ -108,6 +108,18 @@ class AtATerminal(unittest.TestCase):
         self.assertIn('bogus', Path(self.folder, 'picklestep', 'shell_history').read_text(encoding='utf-8'))
         self.assertEqual(os.stat(Path(self.folder, 'picklestep', 'shell_history')).st_mode & 0o077, 0)
 
+    def test_tab_and_lines_of_the_run_before(self) -> None:
+        """By readline: a word and a name are completed, and a key brings back what was typed before the shell was opened again."""
+        terminal = self.opened(SAMPLE)
+        self.assertIn('>       2 ', terminal.type('unt\t 2'))
+        self.assertIn('call oldapp.tasks.send', terminal.type('break call old\t'))
+        self.assertEqual((terminal.type('quit'), terminal.close()), ('', 0))
+        history = Path(self.folder, 'picklestep', 'shell_history').read_text(encoding='utf-8').splitlines()
+        self.assertEqual(history[-3:], ['until 2', 'break call oldapp.tasks.send', 'quit'])
+        terminal = self.opened(SAMPLE)
+        self.assertIn('>       2 ', terminal.type('\x10\x10\x10'))
+        self.assertEqual((terminal.type('quit'), terminal.close()), ('', 0))
+
     def test_prompt_toolkit(self) -> None:
         if subprocess.run([sys.executable, '-c', 'import prompt_toolkit'], stderr=subprocess.DEVNULL, check=False).returncode:
             self.skipTest('there is no prompt_toolkit')
@@ -143,6 +155,7 @@ class Words(unittest.TestCase):
             self.assertEqual(found, wanted, opcode.name)
 
     def place(self, shell: Shell) -> int:
+        shell.pickle.settle()
         return shell.pickle.session.where().place
 
     def test_breaks(self) -> None:
@@ -252,6 +265,9 @@ class Words(unittest.TestCase):
         self.assertEqual(self.place(shell), 2)
         self.assertIn('the end: F1', self.shell(b'(K\x01').obey('run'))
         self.assertIn('the end: F1', self.shell(b'').obey('w'))
+        for frame in (b'\x95\x07\0\0\0\0\0\0\0NN.', b'\x95\x01\0\0\0\0\0\0\0K\x01.', b'\x95\x03\0\0\0\0\0\0\0N\x95\1\0\0\0\0\0\0\0..'):
+            with self.subTest(frame):
+                self.assertRegex(self.shell(b'\x80\x04' + frame).obey('run'), r'the end: F[678] .*\n\(What is .*`picklestep mend FILE OUT`')
 
     def test_save(self) -> None:
         with tempfile.TemporaryDirectory() as folder:
@@ -278,6 +294,9 @@ class Words(unittest.TestCase):
                 done = subprocess.run(words, env=path, capture_output=True, text=True, timeout=300, check=False)
                 self.assertEqual((done.returncode, done.stderr), (status, errors))
             self.assertEqual(pickled.read_bytes(), SAMPLE.replace(b'K\x03', b'K\x04'))
+            piped = subprocess.run([*words[:4], str(pickled)], input='run\nback\nlist\n', env={**path, 'TERM': 'xterm-256color', 'FORCE_COLOR': '1'},
+                                   capture_output=True, text=True, timeout=300, check=False)
+            self.assertEqual((piped.returncode, '\x1b' in piped.stdout, 'the end: stopped' in piped.stdout), (0, False, True))
             done = subprocess.run([*words[:-1], os.path.join(folder, 'none')], env=path, capture_output=True, text=True, timeout=300, check=False)
             self.assertEqual(done.returncode, 2)
 

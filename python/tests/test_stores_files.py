@@ -220,6 +220,10 @@ class SqliteFiles(ScanCase):
         self.assertIn('t.value row 2', found)
 
 
+# Without PROTO, which would be found inside.
+OLD = b'cposix\nsystem\n(X\x60\x00\x00\x00' + b'id; ' * 24 + b'tR.'
+
+
 class Bytes(ScanCase):
     """Bytes made one by one: encodings, lengths, and files that lie."""
 
@@ -245,6 +249,17 @@ class Bytes(ScanCase):
             'signed': base64.urlsafe_b64encode(HOSTILE).rstrip(b'=') + b':1sIgNa:TuRe_of_it', 'packed and signed': b'.' + base64.urlsafe_b64encode(
                 zlib.compress(HOSTILE)).rstrip(b'=') + b':1sIgNa:TuRe_of_it',
         }
+        # Over several lines, as MIME, PEM, YAML, LDIF and `xxd -p` write it, and beside bytes that are no text.
+        for ends, before in (('\n', ''), ('\r\n', 'Content-Transfer-Encoding: base64\r\n\r\n'), ('\n    ', 'key: !!binary |\n    '), ('\n ', 'dn: x\nvalue:: '),
+                             ('\n', '-----BEGIN PICKLE-----\n'), ('\\n', '{"body": "')):
+            for width in (20, 64, 76):
+                for how, text in (('base64', base64.b64encode(OLD * 2).decode()), ('hexadecimal', OLD.hex())):
+                    lines = ends.join(text[at:at + width] for at in range(0, len(text), width))
+                    cases[f'{how} in lines of {width} behind {before}'] = f'{before}{lines}\n'.encode()
+        noise = random.Random(3).randbytes(500)
+        for text in (base64.b64encode(OLD), OLD.hex().encode()):
+            for around in ('sch\xf6n: '.encode(), noise + b'\xff', b'\xd9\x28'):
+                cases[f'{text[:8]!r} behind {around[:8]!r}'] = around + text + around[::-1]
         for width, order in ((4, 'big'), (4, 'little'), (8, 'big'), (8, 'little')):
             one = len(HOSTILE).to_bytes(width, order) + HOSTILE  # type: ignore[arg-type]
             other = len(HARMLESS).to_bytes(width, order) + HARMLESS  # type: ignore[arg-type]
@@ -254,11 +269,28 @@ class Bytes(ScanCase):
             with self.subTest(name):
                 self.assertIn('posix.system', names_of(self.look_in_value(value)))
 
+    def test_long_texts(self) -> None:
+        """What is larger than one window, alone and inside other text, is decoded to its end."""
+        large = b'cposix\nsystem\n(X' + struct.pack('<I', 7_000_000) + b'x' * 7_000_000 + b'tR.'
+        encoded = base64.b64encode(large)
+        for how, value in (('base64 at 0', encoded), ('base64 at 2', b'["' + base64.urlsafe_b64encode(large).rstrip(b'=') + b'"]'),
+                           ('base64 at 0', base64.encodebytes(large)), ('hexadecimal at 1', b"'" + large.hex().encode() + b"'"),
+                           ('base64 at 9000000', b'-- ' * 3_000_000 + base64.b64encode(HOSTILE))):
+            with self.subTest(how):
+                result = self.look_in_value(value)
+                self.assertEqual((names_of(result), places_of(result)), (['posix.system'], [f't.v row 1 > ({how})']))
+
+    def test_many_places_inside_are_told(self) -> None:
+        """Texts that are made to be slow are read to an end, or told."""
+        for text in (b'gAI' * 400_000, b'eJw' * 400_000, base64.b64encode(b'\x78\x01\x00\xff\xff\x00\x00\x00\x00') * 40_000):
+            with self.subTest(text[:12]):
+                self.assertIn('too many places', notes_of(self.look_in_value(text)))
+
     def test_runs_of_one_length_are_read_as_one_alone(self) -> None:
         """All of one length are asked at once: what is among them is found as if each were asked for itself."""
         chosen = random.Random(5)
-        held = [HOSTILE, zlib.compress(HOSTILE), b'\x80\x04N.123456', b'\0\0\0\5K\1K\2.', b'\x8c\2os\x8c\6system\x93)R', bytes(12) + b'\x62\x31\x05\0',
-                b'x' * 16 + b'\xde\xc0\xef\xbe', base64.b64encode(HOSTILE), b'PK\3\4abcdefg']
+        held = [HOSTILE, zlib.compress(HOSTILE), b'\x80\x04N.123456', b'\0\0\0\5K\1K\2.', b'\x8c\2os\x8c\6system\x93)R', b'LZIP\1\2345678', b'BZh9abcdef',
+                b'7z\xbc\xaf\x27\x1c12345', base64.b64encode(HOSTILE), b'PK\3\4abcdefg']
         words = [made for each in held for made in (each.hex().encode(), base64.b64encode(each).rstrip(b'='), b'x' + each.hex().encode(),
                                                     b'key-' + base64.urlsafe_b64encode(each).rstrip(b'='))]
         words += [chosen.randbytes(size).hex().encode() for size in (8, 16, 20, 32) for _ in range(200)]
@@ -266,7 +298,7 @@ class Bytes(ScanCase):
         words += [bytes(chosen.choices(b'abcdefghijklmnopqrstuvwxyz_-0', k=size)) for size in range(12, 40) for _ in range(20)]
         words *= 2  # (so that each has others of its length)
         chosen.shuffle(words)
-        for between in (b' ', b'\n ', b'", "', b'\r\n\t'):
+        for between in (b' ', b'\n\n', b'", "', b'\r\n\t. '):
             text = between.join(words)
             alone = []
             at = 0
@@ -274,7 +306,7 @@ class Bytes(ScanCase):
                 alone += [(at + offset, how, inner) for offset, how, inner in encodings.decoded(word)]
                 at += len(word) + len(between)
             self.assertEqual(list(encodings.decoded(text)), alone)
-            self.assertGreater(len(alone), 100)
+            self.assertGreater(len(alone), 60)
 
     def test_a_checksum_that_begins_as_a_stream_leaves_no_note(self) -> None:
         begun = zlib.compress(bytes(range(200)), 0)[:32]

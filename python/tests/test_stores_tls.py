@@ -63,7 +63,7 @@ class Tls(StoreCase):
         python = python_with('pymysql')
         port = self.mysql(tls=True)
         self.fill(python, 'mysql_server', f'{self.home}/s', str(FEW))
-        self.check(python, f'mysql://tester@localhost:{port}/stores?ssl=true', 3, MYSQL_PWD=SECRET)
+        self.check(python, f'mysql://tester@localhost:{port}/stores?ssl=true', 5, MYSQL_PWD=SECRET)
         found = self.told(f'mysql://tester@localhost:{port}/stores', python=python, MYSQL_PWD=SECRET)
         self.assertIn('cannot be read: ', found[0])
 

@@ -4,6 +4,7 @@ from __future__ import annotations
 
 import ast
 import base64
+import contextlib
 import copy
 import gzip
 import hashlib
@@ -19,11 +20,12 @@ import time
 import unittest
 import zipfile
 from pathlib import Path
-from typing import Any, Dict, List, Union
+from typing import Any, Dict, Iterator, List, Tuple, Union
 
 import firefox
-from chromium import ACCESSIBILITY, CONTRASTS, PROGRAM, Browser
+from chromium import ACCESSIBILITY, CONTRASTS, FOCUS_LINE, PROGRAM, Browser
 from pickles import REAL, ROOT, known_opcodes, real_pickles
+from picklestep.python_source import source
 from picklestep.view.document import Document
 from picklestep.view.server import Viewer
 
@@ -32,7 +34,10 @@ MODELS = Path(__file__).resolve().parent / 'data' / 'models'
 SYSTEM = b'cposix\nsystem\n(X\x02\x00\x00\x00idtR.'
 # Of all real pickles of the repository every so many, with those of libraries: twenty.
 SHOWN = [*REAL[::max(1, len(REAL) // 15)][:15], *sorted(MODELS.glob('sklearn_*.pkl'))[:5]]
+HOSTILE = ['</script><img src=x onerror="document.title=1">', '<b>bold</b>', '\u202eevil', '\u05d0\u05d1', '\x1b[31m\r\n', '\u200b\ufeff\u2028', '\0']
+HOSTILE_NAMES = b''.join(b'c%s\n%s\n0' % (text.encode('utf-8').replace(b'\n', b' '), b'<i>x</i>') for text in HOSTILE)
 READY = "document.querySelector('#opening')?.dataset.ready === 'yes'"
+UNKNOWN = 'what the rest imports and calls is not known'
 # Everything that was asked for is shown.
 SETTLED = '''(async () => {
     do {
@@ -47,14 +52,51 @@ SEEN = '''(() => {
         title: document.title, ...Object.fromEntries(['#name', '#where', '#reached', '#closing', '#said', '#stack li', '#memo li', '#objects .thing',
             '#objects-shown', '#reaches li', '#reaches-shown', '#result .thing', '#result .note', '#source', '#opcode', '#about', '#undo', '#redo']
             .map((selector) => [selector, texts(selector)])), titles: ['undo', 'redo'].map((id) => document.getElementById(id).title),
-        readOn: document.querySelector('#read-on').hidden }; })()'''
-# The same keys for both pages. What begins with a sharp is clicked.
+        readOn: document.querySelector('#read-on').hidden, focus: document.activeElement.id,
+        open: [...document.querySelectorAll('dialog[open]')].map((dialog) => [dialog.id, ...[...dialog.querySelectorAll('input, select, [role=alert]')]
+            .filter((each) => each.checkVisibility() && each.id !== 'save-over').map((each) => [each.id, each.checked, each.value ?? each.textContent])]),
+        slow: document.querySelector('#slow').checked, bar: document.querySelector('#bar').value }; })()'''
+# The same keys for both pages. What begins with a sharp is clicked, with an equals sign in it it is written there; a key behind `>` is pressed
+# where the focus is, the others in the listing.
 KEYS = ['n', '#tab-result', 'ArrowRight', 'p', 'ArrowDown', 'b', ' ', 'End', '#objects .thing', '#result .thing', 'Home', 'Delete', 'u', 'r',
         '#read-on:not([hidden])']
+OTHER_KEYS = ['PageDown', 'PageDown', 'PageUp', 'ArrowUp', 'Enter', 'ArrowLeft', '#bar=3', '#there', 'w', 'w', '/', '#sought=MARK', '>Enter', '>Enter', '>Escape',
+              '?', '#help-dialog .close', 's', '#save-dialog .close', 'Home', 'ArrowDown', 'e', '>Enter', 'u', 'e', '#edit-what=insert', '#edit-name=EMPTY_LIST',
+              '>Enter', 'u', 'e', '#edit-what=frame', '#edit-count=2', '>Enter', '#edit-dialog .close', 'e', '#edit-what=unframe', '#edit-place=1', '>Enter',
+              '#edit-dialog .close', 'e', '#edit-as=hex', '#edit-argument=zz', '>Enter', '#edit-dialog .close', 'r']
 
 
-# What the page with a server shows of the pickles that were driven, after each key.
-SERVED: Dict[Path, List[Dict[str, Any]]] = {}
+# What the page with a server shows of the pickles that were driven with so many keys, after each key. (A file is saved there over another too:
+# that field is not looked at.)
+SERVED: Dict[Tuple[Path, int], List[Dict[str, Any]]] = {}
+
+
+def with_memory(module: bytes, pages: int) -> bytes:
+    """A module whose memory cannot grow beyond so many pages."""
+    at = 8
+    while module[at] != _MEMORY:
+        size, at = _number_at(module, at + 1)
+        at += size
+    size, body = _number_at(module, at + 1)
+    least, _ = _number_at(module, body + 2)
+    limits = b'\1\1' + _number(least) + _number(max(least, pages))
+    return module[:at] + bytes([_MEMORY, len(limits)]) + limits + module[body + size:]
+
+
+_MEMORY = 5  # (the section of a module that says how much memory it has)
+
+
+def _number_at(module: bytes, at: int) -> Tuple[int, int]:
+    """A number of seven bits a byte, the lowest first, and where it ends."""
+    number = shift = 0
+    while module[at] > 127:
+        number |= (module[at] & 127) << shift
+        at, shift = at + 1, shift + 7
+    return number | module[at] << shift, at + 1
+
+
+def _number(number: int) -> bytes:
+    return b''.join(bytes([number >> shift & 127 | (128 if number >> shift > 127 else 0)]) for shift in range(0, max(1, number.bit_length()), 7))
 
 
 class Driven(unittest.TestCase):
@@ -103,26 +145,38 @@ class Driven(unittest.TestCase):
 
     # --- The same in both pages ---
 
-    def drive(self) -> List[Dict[str, Any]]:
-        """What is seen after each key. No frame of the screen is waited for."""
+    def drive(self, keys: List[str]) -> List[Dict[str, Any]]:
+        """What is seen after each key, where the listing has as many rows on both pages. No frame of the screen is waited for."""
         self.browser.js('void (window.requestAnimationFrame = (draw) => setTimeout(draw))')
-        seen = [self.browser.js(SEEN)]
-        for key in KEYS:
-            if key[0] == '#':
+        height = 600
+        for _ in range(3):
+            height += 200 - self.browser.js("document.querySelector('#listing').clientHeight")
+            self.browser.size(900, height)
+        seen = [self.browser.js(f'{SETTLED}.then(() => {SEEN})')]
+        for key in keys:
+            if key[0] == '#' and '=' in key:
+                field, _, value = key.partition('=')
+                self.browser.js(f'(() => {{ const field = document.querySelector({json.dumps(field)}); field.value = {json.dumps(value)};'
+                                "for (const name of ['input', 'change']) field.dispatchEvent(new Event(name)); field.focus(); })()")
+            elif key[0] == '#':
                 self.browser.js(f'document.querySelector({json.dumps(key)})?.click()')
             else:
-                self.browser.js("document.querySelector('#listing').focus()")
-                self.browser.key(key)
+                if key[0] != '>':
+                    self.browser.js("document.querySelector('#listing').focus()")
+                self.browser.key(key.lstrip('>'))
             seen.append(self.browser.js(f'{SETTLED}.then(() => {SEEN})'))
         return seen
 
-    def with_server(self, path: Path) -> List[Dict[str, Any]]:
+    def with_server(self, path: Path, keys: List[str]) -> List[Dict[str, Any]]:
         """What the page with a server shows. A second browser shows only the page without one, where the first has shown both."""
-        if path not in SERVED:
-            SERVED[path] = self.drive_served(path)
-        return copy.deepcopy(SERVED[path])
+        if (path, len(keys)) not in SERVED:
+            with self.served(path):
+                SERVED[path, len(keys)] = self.drive(keys)
+        return copy.deepcopy(SERVED[path, len(keys)])
 
-    def drive_served(self, path: Path) -> List[Dict[str, Any]]:
+    @contextlib.contextmanager
+    def served(self, path: Path) -> Iterator[None]:
+        """Opens a pickle in the page with a server."""
         document = Document(path, path.name)
         viewer = Viewer(document)
         thread = threading.Thread(target=viewer.serve, daemon=True)
@@ -131,7 +185,7 @@ class Driven(unittest.TestCase):
             self.browser.go(viewer.address)
             self.browser.wait("document.querySelector('#where')?.textContent.startsWith('at ')")
             self.browser.js(SETTLED)
-            return self.drive()
+            yield
         finally:
             self.browser.go('about:blank')
             viewer.stop()
@@ -140,20 +194,21 @@ class Driven(unittest.TestCase):
             document.close()
 
     def compare(self, paths: List[Path]) -> None:
-        """Drives both pages over pickles, in a small window: fewer rows are drawn."""
+        """Drives both pages over pickles, in a small window: fewer rows are drawn. Every fourth gets all keys."""
+        keys = [KEYS if at % 4 else KEYS + OTHER_KEYS for at in range(len(paths))]
         self.browser.size(900, 500)
-        wanted = [self.with_server(path) for path in paths]
+        wanted = [self.with_server(path, each) for path, each in zip(paths, keys)]
         self.load()
-        self.browser.size(900, 500)
-        for path, seen in zip(paths, wanted):
+        for path, each, seen in zip(paths, keys, wanted):
+            self.browser.size(900, 500)
             self.give(path)
-            for at, (here, there) in enumerate(zip(self.drive(), seen)):
-                self.equal(here, there, f'{path.name} after {KEYS[:at]}')
+            for at, (here, there) in enumerate(zip(self.drive(each), seen)):
+                self.equal(here, there, f'{path.name} after {each[:at]}')
         # (the page with a server says that it is closed, and a browser may send that late)
         self.assertEqual(([url for url in self.requests() if not url.endswith('/closed')], self.browser.errors()), ([], []))
 
     def equal(self, here: Dict[str, Any], there: Dict[str, Any], what: str) -> None:
-        """Compares what two pages show. One has a bar more, and so some rows less: those count that both show."""
+        """Compares what two pages show. A page that was just resized may not have drawn a row at its lower edge: those count that both show."""
         rows, others = here.pop('rows'), there.pop('rows')
         both = rows.keys() & others.keys()
         self.assertGreaterEqual(len(both), min(8, len(others)), what)
@@ -338,6 +393,21 @@ class Alone(Driven):
             self.browser.wait(f"document.querySelector('#where').textContent.startsWith('at {places} of ')")
         self.assertEqual(self.browser.errors(), [])
 
+    def test_about_says_what_stands_on_the_stack_before_and_after(self) -> None:
+        self.load()
+        self.pasted((SYSTEM[:-1] + b']K\x07ah\x05.').hex(), 10)
+        here = ['nothing → #0 posix.system', 'nothing → mark', "nothing → #1 text 'id'", "mark, #1 text 'id' → #2 tuple (#1)",
+                "#0 posix.system, #2 tuple (#1) → #3 posix.system('id')", 'nothing → #4 list', 'nothing → #5 int 7', '#4 list, #5 int 7 → #4 list',
+                'refused, C3 item 8: S3 no memo entry 5']
+        for place, wanted in enumerate(here):
+            self.browser.js(f'void go({place})')
+            self.browser.js(SETTLED)
+            self.assertEqual(self.texts('#opcode .effect')[1:], [f'here: {wanted}'])
+        self.browser.js('void select(0)')
+        self.browser.js(SETTLED)
+        self.assertEqual(self.texts('#opcode .effect'), ['stack: nothing → what is imported'])
+        self.assertEqual(self.browser.errors(), [])
+
     # --- Values ---
 
     def test_values_are_those_of_python(self) -> None:
@@ -413,15 +483,68 @@ class Alone(Driven):
         self.browser.wait("document.querySelectorAll('.flying').length === 0")
         self.assertEqual(self.texts('#where')[0][:9], 'at 5 of 6')
 
+    def test_the_line_around_the_focus_is_whole(self) -> None:
+        """On all sides, for all that Tab reaches, at each width."""
+        self.load()
+        self.pasted(SYSTEM.hex(), 6)
+        self.browser.js("void go(6)")
+        self.browser.js(SETTLED)
+        for width in (1200, 320):
+            self.browser.size(width, 800)
+            for pane in ('objects', 'reached', 'result'):
+                self.browser.js(f"showPane('{pane}')")
+                self.browser.js(SETTLED)
+                self.browser.key('Tab')
+                self.browser.js("document.querySelector('#listing').focus()")
+                reached = []
+                for _ in range(40):
+                    reached.append(self.browser.js(FOCUS_LINE))
+                    self.browser.key('Tab')
+                reached = [each for each in reached if each[0].strip() != 'BODY']
+                self.assertEqual([each for each in reached if each[1] < 2 or each[2] > 0.5], [], (width, pane))
+                self.assertGreater(len({each[0] for each in reached}), 8)
+
+    def test_long_stack_and_memo(self) -> None:
+        self.load()
+        self.pasted((b''.join(b'Nr' + at.to_bytes(4, 'little') for at in range(600)) + b'.').hex(), 1201)
+        self.browser.js('void go(1200)')
+        self.browser.js(SETTLED)
+        stack, memo = self.texts('#stack li'), self.texts('#memo li')
+        self.assertEqual((len(stack), stack[0], stack[-2:]), (501, '#599 none', ['#100 none', '100 more below']))
+        self.assertEqual((len(memo), memo[:2], memo[-1]), (501, ['100 more before', '100 = #100 none'], '599 = #599 none'))
+
+    def test_a_finger(self) -> None:
+        """It selects a line, goes there, sets a breakpoint, and moves the lines."""
+        self.browser.call('Emulation.setTouchEmulationEnabled', enabled=True)
+        self.addCleanup(self.browser.call, 'Emulation.setTouchEmulationEnabled', enabled=False)
+        self.load()
+        self.browser.size(320, 800)
+        self.pasted((b'N' * 50 + b'.').hex(), 51)
+        self.browser.tap('.row[data-place="4"] .name')
+        self.browser.wait("document.querySelector('.row.selected').dataset.place === '4'")
+        self.browser.tap('#there')
+        self.browser.wait("document.querySelector('#where').textContent.startsWith('at 4 of 51')")
+        self.browser.tap('.row[data-place="6"] .offset')
+        self.browser.wait("document.querySelector('.row[data-place=\"6\"]').classList.contains('broken')")
+        self.browser.drag_finger('.row[data-place="6"] .name', -80)
+        self.browser.wait('view.top > 2')
+
     # --- What is hostile stays text ---
 
     def test_hostile_texts_stay_text(self) -> None:
+        """On both pages."""
+        path = self.file('<img src=x>\u202e\x1b.pickle', b'\x80\x04' + HOSTILE_NAMES + pickle.dumps(HOSTILE, 4)[2:])
+        self.browser.told.clear()
+        with self.served(path):
+            self.hostile_texts_stay_text()
+            self.assertEqual(self.browser.errors(), [])
         self.load()
-        hostile = ['</script><img src=x onerror="document.title=1">', '<b>bold</b>', '\u202eevil',
-                   '\u05d0\u05d1', '\x1b[31m\r\n', '\u200b\ufeff\u2028', '\0']
-        shown = [repr(text) if text != '\u05d0\u05d1' else r"'\u05d0\u05d1'" for text in hostile]
-        names = b''.join(b'c%s\n%s\n0' % (text.encode('utf-8').replace(b'\n', b' '), b'<i>x</i>') for text in hostile)
-        self.give(self.file('<img src=x>.pickle', b'\x80\x04' + names + pickle.dumps(hostile, 4)[2:]))
+        self.give(path)
+        self.hostile_texts_stay_text()
+        self.assertEqual((self.requests(), self.browser.errors()), ([], []))
+
+    def hostile_texts_stay_text(self) -> None:
+        shown = [repr(text) if text != '\u05d0\u05d1' else r"'\u05d0\u05d1'" for text in HOSTILE]
         self.browser.key('End')
         self.browser.js(SETTLED)
         values = self.texts('.row .value')
@@ -439,8 +562,7 @@ class Alone(Driven):
                                      '[...document.querySelectorAll("[title], [aria-label]")].map((each) => each.title + each.ariaLabel)')
         self.assertNotRegex(everything, '[\u0590-\u08ff\u200b-\u200f\u202a-\u202e\u2028\u2066-\u2069\ufeff\x1b\0]')
         self.assertEqual(self.browser.js("document.querySelectorAll('img, b, i').length"), 0)
-        self.assertEqual(self.texts('#name'), ['<img src=x>.pickle'])
-        self.assertEqual((self.requests(), self.browser.errors()), ([], []))
+        self.assertEqual(self.texts('#name'), ['<img src=x>\\u202e\\x1b.pickle'])
 
     def test_the_policy_lets_nothing_out(self) -> None:
         self.load()
@@ -466,6 +588,7 @@ class Alone(Driven):
         self.choose(self.file('large.pickle', b'\x80\x04](' + b'K\x01' * 2_500_000 + b'e.'))
         self.browser.wait("document.querySelector('#where').textContent === 'at 0 of 300000, offset 0, end not read yet'")
         self.assertEqual(self.texts('#closing'), ['the first 300,000 opcodes: the rest is not read'])
+        self.assertEqual((self.texts('#reached'), self.texts('#reaches li')), ([f'imports 0 of 0, calls 0 of 0 in this part: {UNKNOWN} yet'], [f'{UNKNOWN} yet']))
         self.browser.key('ArrowRight')
         self.browser.wait("document.querySelector('#where').textContent.startsWith('at 1 of 300000,')")
         self.browser.js("toggle(7)")
@@ -483,17 +606,79 @@ class Alone(Driven):
         self.assertEqual((self.requests(), self.browser.errors()), ([], []))
 
     def test_more_opcodes_than_are_read(self) -> None:
-        """It says what it shows, and another pickle opens as before."""
+        """It says what it shows, what all of it imports and calls, and another pickle opens as before."""
         self.load()
-        self.give(self.file('larger.pickle', b'(' + b'N' * 8_100_000 + b'1N.'))
+        self.give(self.file('larger.pickle', SYSTEM[:-1] + b'(' + b'N' * 8_100_000 + b'1' + SYSTEM))
+        self.browser.wait("document.querySelector('#reached').textContent === 'imports 0 of 2, calls 0 of 2'")
+        self.browser.wait("document.querySelectorAll('#reaches .thing').length === 4")
+        self.assertEqual(self.texts('#reaches .thing'), ['0 import posix.system', "23 posix.system('id')", '8100026 import posix.system',
+                                                         "8100049 posix.system('id')"])
+        for key, said in (('n', 'at 4'), ('n', 'the next call is at offset 8100049, which is not read')):
+            self.browser.key(key)
+            self.said(said)
+        self.browser.js("document.querySelectorAll('#reaches .thing')[2].click()")
+        self.said('offset 8100026 is not read: it cannot be shown')
         self.browser.wait("document.querySelector('#rest').textContent === 'The first part is shown alone: more than 8,000,000 opcodes are not "
                           "read here (picklestep view shows them)'")
-        self.assertTrue(self.texts('#where')[0].startswith('at 0 of 300000,'))
+        self.assertTrue(self.texts('#where')[0].startswith('at 4 of 300000,'))
         self.browser.js("showPane('result')")
         self.browser.js(SETTLED)
         self.assertIn('# The rest of the pickle is not read.', self.texts('#source')[0])
         self.give(self.file('a.pickle', SYSTEM))
         self.assertEqual((self.texts('#rest'), self.texts('#where')), ([''], ['at 0 of 6, offset 0, end stopped']))
+
+    def limit_memory(self, pages: int) -> None:
+        """Gives the module no more than so many pages of 65,536 bytes."""
+        module = base64.b64encode(with_memory((PAGE.parent / 'picklestep.wasm').read_bytes(), pages)).decode('ascii')
+        self.browser.js(f"""(async () => {{ worker.program.module = await WebAssembly.compile(latin(atob('{module}')));
+            endThread(worker.thread); worker.thread = newThread(); }})()""")
+
+    def test_out_of_memory(self) -> None:
+        """It is said, and the page goes on: where nothing was opened, in a step, in an edit, and while the rest is read."""
+        self.load()
+        self.limit_memory(600)
+        large = b'(' + b'K\x01' * 200_000 + b't.'
+        self.choose(self.file('largest.pickle', b'(' + b'K\x01' * 2_000_000 + b't.'))
+        self.said('not done: out of memory')
+        self.give(self.file('large.pickle', large))
+        self.browser.key('Delete')
+        self.said('edited 0')
+        self.limit_memory(310)
+        self.give(self.file('large.pickle', large))
+        for key, said in (('End', 'refused: M out of memory'), ('Delete', 'not done: out of memory'), ('ArrowRight', 'at 1')):
+            self.browser.key(key)
+            self.said(said)
+            self.assertRegex(self.texts('#where')[0], '^at [01] of 200003, ')
+        self.assertEqual(self.browser.js("document.querySelector('#undo').disabled"), True)
+        self.limit_memory(1200)
+        self.choose(self.file('largest.pickle', b'(' + b'K\x01' * 2_000_000 + b't.'))
+        self.browser.wait("document.querySelector('#rest').textContent === 'The first part is shown alone: out of memory'")
+        self.browser.wait(f"document.querySelector('#reached').textContent === 'imports 0 of 0, calls 0 of 0 in this part: {UNKNOWN}: out of memory'")
+        self.give(self.file('a.pickle', SYSTEM))
+        self.assertEqual((self.texts('#rest'), self.texts('#where')), ([''], ['at 0 of 6, offset 0, end stopped']))
+        self.assertEqual(self.browser.errors(), [])
+
+    def test_what_is_longer_than_its_square_root(self) -> None:
+        """A name that is imported again and again, and marks within marks, of which the program writes as much as the pickle's size squared."""
+        self.load()
+        name = b'X' + (500_000).to_bytes(4, 'little') + b'n' * 500_000 + b'q\0'
+        self.give(self.file('names.pickle', name + b'(' + b'h\0h\0\x93' * 1000 + b't.'))
+        self.assertIn('imports and calls: the first 67 alone, long as they are (picklestep calls shows all)', self.texts('#closing')[0])
+        self.assertLess(max(map(len, self.texts('.row .reach'))), 5000)
+        self.browser.js("showPane('result')")
+        self.browser.js(SETTLED)
+        self.assertEqual(self.texts('#source')[0], '# Too long for this page: picklestep source FILE writes it.')
+        one = b'\x80\x04X\2\0\0\0osX\xd0\7\0\0' + b'n' * 2000 + b'\x93q\1(' + b'h\1' * 10_000 + b't.'
+        self.give(self.file('one.pickle', one))
+        self.browser.js("showPane('result')")
+        self.browser.js(SETTLED)
+        self.assertEqual(self.texts('#source'), [source(one, full=False).text])
+        self.assertLess(len(self.texts('#source')[0]), 3000)
+        self.give(self.file('marks.pickle', b'(' * 300_000 + b'N' + b't' * 300_000 + b'.'))
+        self.browser.wait("document.querySelector('#rest').textContent === 'The first part is shown alone: too many marks are open at once to be shown'")
+        self.choose(self.file('frame.pickle', b'\x80\x04\x95' + (600_002).to_bytes(8, 'little') + b'(' * 300_000 + b'N' + b't' * 300_000 + b'.'))
+        self.said('not done: too many marks are open at once to be shown')
+        self.assertEqual(self.browser.errors(), [])
 
     def test_many_opcodes_in_frames(self) -> None:
         """The first part ends where a frame ends. Where one frame holds all, there is none."""

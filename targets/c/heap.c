@@ -6,7 +6,8 @@
 // glibc's malloc, stand short lists of small blocks that were just freed.
 //
 // Memory comes in one piece that grows at its end: a module's memory, or on Linux what brk gives. There a large block is a mapping of
-// its own, which mremap grows without a copy.
+// its own, which mremap grows without a copy. In a module's memory a large block that grows gets room behind it: what nobody has written
+// takes none of the machine's memory, and a block that moves leaves a hole that the next larger one does not fit into.
 #include "heap.h"
 
 enum {
@@ -19,16 +20,17 @@ enum {
     CLASSES = SMALL + ROWS * 40,
     RECENT = 64,        // lists of blocks that were just freed: of up to 1,024 bytes
     KEPT = 32,          // blocks in each
+    MOST_ROOMS = 16,
 };
 
 // A block: its size in bytes, a multiple of 16 and 8 more, with two flags in the low bits; the program's bytes follow. Where the block
-// before it is free, the word before `head` is its address.
+// before it is free, the word before `head` is its address. A room is in no list; it is for the block before it, as long as that lives.
 typedef struct block {
     u64 head;
     struct block *next, *previous; // while it is free
 } block;
 
-enum { FREE = 1, AFTER_FREE = 2, FLAGS = 7 };
+enum { FREE = 1, AFTER_FREE = 2, ROOM = 4, FLAGS = 7 };
 
 typedef struct {
     block *first;
@@ -38,6 +40,7 @@ typedef struct {
 static block *lists[CLASSES];
 static u64 filled[(CLASSES + 63) / 64];
 static recent recents[RECENT];
+static block *rooms[MOST_ROOMS];
 static u8 *end;   // of the piece: a head with size 0 stands before it
 static u8 nothing;
 
@@ -107,8 +110,27 @@ static block *find(u64 size) {
     return b;
 }
 
+static void set_room(block *was, block *room) {
+    for (u32 k = 0; k < MOST_ROOMS; k++)
+        if (rooms[k] == was) {
+            rooms[k] = room;
+            return;
+        }
+}
+
+static void join(block *b);
+
+// Lets all have what is room.
+static void give_up(block *room) {
+    set_room(room, 0);
+    room->head &= ~(u64)ROOM;
+    join(room);
+}
+
 // Frees a block, joined with the free blocks on both sides of it.
 static void join(block *b) {
+    if (after(b)->head & ROOM)
+        give_up(after(b));
     block *next = after(b);
     if (next->head & FREE) {
         unfill(next);
@@ -134,6 +156,21 @@ static void cut(block *b, u64 size) {
     join(other);
 }
 
+// Keeps this size of a block, and the rest as room behind it, where it makes a block and there are not too many rooms.
+static void cut_to_room(block *b, u64 size) {
+    u64 rest = size_of(b) - size;
+    u32 k = 0;
+    while (k < MOST_ROOMS && rooms[k])
+        k++;
+    if (k == MOST_ROOMS || rest < WORD + LEAST) {
+        cut(b, size);
+        return;
+    }
+    b->head -= rest;
+    rooms[k] = after(b);
+    rooms[k]->head = (rest - WORD) | ROOM;
+}
+
 // Joins all that was just freed.
 static void settle(void) {
     for (u32 k = 0; k < RECENT; k++) {
@@ -145,6 +182,14 @@ static void settle(void) {
             b = next;
         }
     }
+}
+
+// Joins all that was just freed, and gives up all rooms.
+static void settle_all(void) {
+    settle();
+    for (u32 k = 0; k < MOST_ROOMS; k++)
+        if (rooms[k])
+            give_up(rooms[k]);
 }
 
 // Lets the piece grow so that a free block of this size stands at its end.
@@ -190,13 +235,27 @@ static u8 *take(u64 n) {
     }
     if (!b) {
         if (!extend(size))
-            return 0;
+            settle_all();
         b = find(size);
         if (!b)
             return 0;
     }
     cut(b, size);
     return bytes_of(b);
+}
+
+// A block for so many bytes, with room behind it where the memory can grow by that.
+static u8 *take_with_room(u64 n) {
+    u64 size = rounded(n);
+    for (u64 whole = heap_room(); is_roomy(size) && whole > 2 * size; whole = whole / 2 & ~(u64)(STEP - 1))
+        if (extend(whole)) {
+            block *b = find(whole);
+            if (!b)
+                break;
+            cut_to_room(b, size);
+            return bytes_of(b);
+        }
+    return take(n);
 }
 
 static void give(u8 *p) {
@@ -218,6 +277,15 @@ static void give(u8 *p) {
 // Lets a block have room for this size where it lies. The piece grows where the block is its last.
 static bool stretch(block *b, u64 size) {
     block *next = after(b);
+    if (next->head & ROOM) {
+        if (size_of(b) + WORD + size_of(next) >= size) {
+            set_room(next, 0);
+            b->head += WORD + size_of(next);
+            return 1;
+        }
+        give_up(next);
+        next = after(b);
+    }
     u64 there = size_of(b) + (next->head & FREE ? WORD + size_of(next) : 0);
     if (there < size) {
         block *last = next->head & FREE ? after(next) : next;
@@ -251,10 +319,13 @@ tried rattle_realloc(u8 *p, u64 kept, u64 n, u64 align) {
         if (is_large(size))
             return answer(large_move(p, n));
     } else if (!is_large(size) && stretch(block_of(p), size)) {
-        cut(block_of(p), size);
+        if (is_roomy(size))
+            cut_to_room(block_of(p), size);
+        else
+            cut(block_of(p), size);
         return answer(p);
     }
-    u8 *q = take(n);
+    u8 *q = take_with_room(n);
     if (q) {
         __builtin_memcpy(q, p, kept < n ? kept : n);
         give(p);

@@ -5,7 +5,13 @@ typedef unsigned long u64; // 64 bits on wasm64 too
 typedef _Bool bool;
 
 #ifdef __wasm__
+// Where the memory begins, and where the heap may. (try_heap.c has a memory of its own.)
+#ifndef MEMORY
 extern u8 __heap_base;
+#define MEMORY ((u64)0)
+#define HEAP_BASE ((u64)&__heap_base)
+#endif
+
 static u64 heap_end;
 
 // Binaryen 108 lowers the answer -1 of a failed growth to 32 bits, without the sign.
@@ -16,8 +22,8 @@ static bool heap_pages(u64 n) {
 
 // Where the piece starts: 8 bytes before a multiple of 16.
 static u8 *heap_start(void) {
-    heap_end = __builtin_wasm_memory_size(0) << 16;
-    u64 at = (((u64)&__heap_base + 15) & ~(u64)15) + 8;
+    heap_end = MEMORY + (__builtin_wasm_memory_size(0) << 16);
+    u64 at = ((HEAP_BASE + 15) & ~(u64)15) + 8;
     if (at + 8 > heap_end && !(heap_pages(1) && (heap_end += 65536)))
         return 0;
     return (u8 *)at;
@@ -27,10 +33,10 @@ static u8 *heap_start(void) {
 static u64 heap_used;
 
 static u64 heap_grow(u64 n) {
-    u64 at = (((u64)&__heap_base + 15) & ~(u64)15) + 16 + heap_used;
+    u64 at = ((HEAP_BASE + 15) & ~(u64)15) + 16 + heap_used;
     u64 there = (heap_end - at) & ~(u64)15;
     if (there < n) {
-        u64 pages = (n - there + 65535) >> 16, more = heap_end >> 20;
+        u64 pages = (n - there + 65535) >> 16, more = (heap_end - MEMORY) >> 20;
         if (more > pages && heap_pages(more))
             heap_end += more << 16;
         else if (heap_pages(pages))
@@ -43,6 +49,9 @@ static u64 heap_grow(u64 n) {
     return there;
 }
 
+// A block of so many bytes that grows gets room behind it: with that a quarter of what a memory of 32 bits can still have.
+static bool is_roomy(u64 n) { return n >= 1 << 20; }
+static u64 heap_room(void) { return (MEMORY + ((u64)1 << 32) - heap_end) / 4 & ~(u64)15; }
 static bool is_large(u64 n) { (void)n; return 0; }
 static bool is_large_at(const u8 *p) { (void)p; return 0; }
 static u8 *large_take(u64 n) { (void)n; return 0; }
@@ -50,10 +59,15 @@ static void large_give(u8 *p) { (void)p; }
 static u8 *large_move(u8 *p, u64 n) { (void)p; (void)n; return 0; }
 
 #else
+#ifndef _GNU_SOURCE
 #define _GNU_SOURCE
+#endif
 #include <sys/mman.h>
 #include <sys/syscall.h>
 #include <unistd.h>
+
+static bool is_roomy(u64 n) { (void)n; return 0; }
+static u64 heap_room(void) { return 0; }
 
 enum { PAGE = 4096, LARGE = 1 << 18, ADVANCE = 1 << 17 };
 

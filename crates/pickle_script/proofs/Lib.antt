@@ -6,6 +6,7 @@ pub mod Cuts
 pub mod Feeding
 pub mod Endings
 pub mod Outputs
+pub mod FormTexts
 pub mod Flushes
 pub mod WordLemmas
 pub mod HexWords

@@ -6,6 +6,7 @@ pub mod Script
 pub mod Query
 pub mod Transcript
 pub mod Conversation
+pub mod FormText
 pub mod Grammar
 pub mod FaultText
 pub mod ReplyText

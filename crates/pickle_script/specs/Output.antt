@@ -1,10 +1,10 @@
 -- The texts that are written of an input, and what is left of one that is not finished.
 -- Source: own.
-use Rattle.std.specs.Prelude.{◌≡◌, ◌<◌, ◌↔◌, ℕ, Bool, List, length, codes, decimal, Option, Some, None, Result, Err, IfOk, IfErr}
+use Rattle.std.specs.Prelude.{◌≡◌, ◌<◌, ◌↔◌, ℕ, Bool, false, List, length, codes, decimal, Option, Some, None, Result, Err, IfOk, IfErr}
 use Rattle.pickle_io.specs.Text.{◌⧺◌}
 use Rattle.pickle_io.specs.Device.{Told, Wrote}
 use Rattle.pickle_doc.specs.Document.{Contents, size_limit}
-use Rattle.pickle_show.specs.Output.{Output, Breaks, Begins}
+use Rattle.pickle_show.specs.Output.{Output, Completes, Breaks, Begins}
 use Rattle.pickle_show.specs.Listing.{listing}
 use Rattle.pickle_show.specs.Written.{IsListed}
 use Rattle.pickle_show.specs.Report.{IsReported, BreaksReport}
@@ -16,6 +16,7 @@ use Rattle.pickle_show.specs.declared.stop.TextStop.{TextStop}
 use Rattle.pickle_show.specs.declared.stop.TextStop.TheVariants as cut
 use Rattle.pickle_further.specs.declared.way.Pickles.{Pickles}
 use Rattle.pickle_further.specs.CallsText as further
+use Rattle.pickle_script.specs.FormText.{form_output}
 use Rattle.pickle_script.specs.declared.stop.Stop.{Stop}
 use Rattle.pickle_script.specs.declared.stop.Stop.TheVariants as stop
 use Rattle.pickle_script.specs.declared.texts.Text.{Text}
@@ -27,6 +28,7 @@ use Rattle.pickle_script.specs.declared.texts.Text.TheVariants as text
 abbrev pub CompletesText : Text → Bool → List ℕ → Told → Told → ℕ → Type 0
 CompletesText text.Listing many bytes old new status = IsListed many bytes old new status
 CompletesText text.Objects many bytes old new status = IsReported many bytes old new status
+CompletesText text.Form many bytes old new status = Completes form_output false bytes old new status
 CompletesText (text.Calls pickles detail) many bytes old new status = further.CompletesText (whole detail) pickles bytes old new status
 
 -- ---- not finished
@@ -55,6 +57,7 @@ StopsCalls how pickles bytes old new stop.Memory = further.CutsCallsText how pic
 abbrev pub StopsText : Text → Bool → List ℕ → Told → Told → Stop → Type 0
 StopsText text.Listing many bytes old new e = Stops listing many bytes old new e
 StopsText text.Objects many bytes old new e = StopsReport many bytes old new e
+StopsText text.Form many bytes old new e = Stops form_output false bytes old new e
 StopsText (text.Calls pickles detail) many bytes old new e = StopsCalls (whole detail) pickles bytes old new e
 
 -- ---- the answer

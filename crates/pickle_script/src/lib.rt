@@ -7,6 +7,7 @@
 mod edited;
 mod fault_text;
 mod file_calls;
+mod form_text;
 mod grammar;
 mod items;
 mod keyword;
@@ -36,4 +37,4 @@ pub use reply::write_reply;
 pub use stop::{Stop, line_of};
 pub use syntax::{write_no_item_at, write_no_such_object, write_syntax};
 pub use talk::converse;
-pub use texts::{Text, calls, list, list_many, objects, objects_many, write_text};
+pub use texts::{Text, calls, form, list, list_many, objects, objects_many, write_text};

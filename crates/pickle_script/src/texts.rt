@@ -1,8 +1,10 @@
-//! The texts that are written of an input: its listing, the report of its objects, and what it would import and call.
+//! The texts that are written of an input: its listing, the report of its objects, what it would import and call, and whether it is in
+//! the form that picklers write.
 
 ghost use Rattle.std.specs.Prelude.{true, false};
 ghost use Rattle.pickle_script.specs.Output.{AnswersText};
 
+use crate::form_text::write_form;
 use crate::stop::Stop;
 use pickle_doc::LIMIT;
 use pickle_further::Pickles;
@@ -22,11 +24,15 @@ pub enum Text {
     /// What they would import and call in this reading, whatever the mode: a line for each step that does so, how many imports and calls
     /// these are, and behind an end at which loaders part what those may do that go on; arguments are cut, or shown in full.
     Calls(Pickles, Detail),
+    /// Whether the first pickle, whatever the mode, is in the form that picklers write, with nothing behind it; else the first place at
+    /// which it is not, and why.
+    Form,
 }
 
 /// Writes a text of the pickle that the bytes are, or where `many` holds of several pickles that follow one another, and answers its
 /// status: 1 where an item is refused or the bytes have a fault, else 0. What is imported and called has a reading of its own and does
-/// not depend on `many`; its status is 0 where the reading ends with the bytes, right behind a STOP, else 1.
+/// not depend on `many`; its status is 0 where the reading ends with the bytes, right behind a STOP, else 1. Nor does the form, whose status
+/// is 0 where the pickle is in it, else 1.
 /// `Stop::TooLarge` where there are more bytes than `LIMIT`: nothing was written then. `Stop::Memory` where memory runs out,
 /// `Stop::Write` where the sink fails: what was written then is a beginning of the text, and of a report nothing where memory ran out.
 /// The sink may still hold a part of what was written: the caller flushes it.
@@ -45,6 +51,7 @@ pub fn write_text<S: Page>(
     match text {
         Text::Listing => Ok(list_bytes(alloc, many, bytes, sink)?),
         Text::Objects => Ok(report_of_bytes(alloc, many, bytes, sink)?),
+        Text::Form => Ok(write_form(alloc, bytes, sink)?),
         Text::Calls(pickles, detail) => {
             let holes = Holes::new(alloc);
             Ok(pickle_further::calls(alloc, detail, &holes, pickles, bytes, sink)?)
@@ -78,6 +85,13 @@ pub fn objects_many<S: Page>(alloc: Global, bytes: &[u8], sink: &mut S) -> Resul
     ensures { AnswersText Text.Objects true bytes.now S.told sink.old sink.new result }
 {
     write_text(alloc, Text::Objects, true, bytes, sink)
+}
+
+/// Writes whether the pickle is in the form that picklers write, as `write_text` does.
+pub fn form<S: Page>(alloc: Global, bytes: &[u8], sink: &mut S) -> Result<u8, Stop>
+    ensures { AnswersText Text.Form false bytes.now S.told sink.old sink.new result }
+{
+    write_text(alloc, Text::Form, false, bytes, sink)
 }
 
 /// Writes what the pickles would import and call in this reading, as `write_text` does: the lines of all of them, with arguments cut or in

@@ -15,6 +15,7 @@ use Rattle.pickle_script.specs.declared.stop.Stop.{Stop}
 use Rattle.pickle_script.specs.declared.stop.Stop.TheVariants as stop
 use Rattle.pickle_script.specs.declared.texts.Text.{Text}
 use Rattle.pickle_script.specs.declared.texts.Text.TheVariants as text
+use Rattle.pickle_script.specs.FormText.{form_output}
 use Rattle.pickle_script.specs.Output.{AnswersText, AnswersCalls, IsCallsOfFile}
 use Rattle.pickle_session.specs.Allowed.{SessionState}
 use Rattle.pickle_script.specs.Conversation.{AppendsPast, BrokePast, BrokeSince, StopsReading, StopsWriting}
@@ -33,18 +34,23 @@ wrote_nothing old new e = rw e ([], WroteAllBut-none old [])
 said_text : {S : Type 0} (told : S → Told) (t : Text) (many : Bool) (bytes : List ℕ) (old new : S) (answer : Result ℕ Stop) → length bytes ≤ size_limit
     → AnswersText t many bytes told old new answer → TookText (IsTextOf t many bytes) (told old) (told new) answer
 said_text told text.Listing many bytes old new (Ok status) few p = let w = p.whole in inl (listing w.0, (w.0, w.1, refl), w.2)
+said_text told text.Form many bytes old new (Ok status) few p = let w = p.whole in inl (form_output w.0, (w.0, w.1, refl), w.2)
 said_text told text.Objects many bytes old new (Ok status) few p = let w = p.whole in inl (record { text = w.2.0; status = status }, (w.0, w.1, w.2.1), (w.2.2, refl))
 said_text told (text.Calls pickles detail) many bytes old new (Ok status) few p = let w = p.whole in inl (w.0, w.1, (w.2, w.3))
 said_text told text.Listing many bytes old new (Err stop.Write) few p = let w = p.stopped in inl (listing w.0, (w.0, w.1, refl), w.2)
+said_text told text.Form many bytes old new (Err stop.Write) few p = let w = p.stopped in inl (form_output w.0, (w.0, w.1, refl), w.2)
 said_text told text.Objects many bytes old new (Err stop.Write) few p = let w = p.stopped in inl (record { text = w.2.0; status = w.2.1 }, (w.0, w.1, w.2.2), w.2.3)
 said_text told (text.Calls pickles detail) many bytes old new (Err stop.Write) few p = inl p.stopped
 said_text told text.Listing many bytes old new (Err stop.Memory) few p = let w = p.stopped in inl (listing w.0, (w.0, w.1, refl), w.2)
+said_text told text.Form many bytes old new (Err stop.Memory) few p = let w = p.stopped in inl (form_output w.0, (w.0, w.1, refl), w.2)
 said_text told text.Objects many bytes old new (Err stop.Memory) few p = inr (refl, wrote_nothing (told old) (told new) p.stopped)
 said_text told (text.Calls pickles detail) many bytes old new (Err stop.Memory) few p = inl p.stopped
 said_text told text.Listing many bytes old new (Err stop.Read) few p = absurd p.stopped
+said_text told text.Form many bytes old new (Err stop.Read) few p = absurd p.stopped
 said_text told text.Objects many bytes old new (Err stop.Read) few p = absurd p.stopped
 said_text told (text.Calls pickles detail) many bytes old new (Err stop.Read) few p = absurd p.stopped
 said_text told text.Listing many bytes old new (Err stop.TooLarge) few p = too_large bytes few (p.too_large.0 refl)
+said_text told text.Form many bytes old new (Err stop.TooLarge) few p = too_large bytes few (p.too_large.0 refl)
 said_text told text.Objects many bytes old new (Err stop.TooLarge) few p = too_large bytes few (p.too_large.0 refl)
 said_text told (text.Calls pickles detail) many bytes old new (Err stop.TooLarge) few p = too_large bytes few (p.too_large.0 refl)
 

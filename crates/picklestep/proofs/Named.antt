@@ -47,6 +47,7 @@ pub no_task : (matches : Matches) (name : Text) (rows : List Row) (t : Task) →
 no_task matches name rows (task.List input) p n u = no_file matches name rows u.rows _ _ p n u.used u.file_is
 no_task matches name rows (task.Objects input) p n u = no_file matches name rows u.rows _ _ p n u.used u.file_is
 no_task matches name rows (task.Calls input options) p n u = no_file matches name rows u.0.rows _ _ p n u.0.used u.0.file_is
+no_task matches name rows (task.Form input) p n u = no_file matches name rows u.rows _ _ p n u.used u.file_is
 no_task matches name rows (task.Debug input options) p n u = no_file matches name rows u.0.rows _ _ p n u.0.used u.0.file_is
 
 -- ---- a window
@@ -138,6 +139,7 @@ unfolding letter
 no_reading matches rows (task.List input) e out u = let bad : 99 ≡ 108 = ap letter (sym e ∙ u.used) in omega (arith, bad)
 no_reading matches rows (task.Objects input) e out u = let bad : 99 ≡ 111 = ap letter (sym e ∙ u.used) in omega (arith, bad)
 no_reading matches rows (task.Calls input options) e out u = out options (subst (λ r. HasCallsOptions r options) (sym (not_used matches _ _ rows u.0.rows e u.0.used)) u.1)
+no_reading matches rows (task.Form input) e out u = let bad : 99 ≡ 102 = ap letter (sym e ∙ u.used) in omega (arith, bad)
 no_reading matches rows (task.Debug input options) e out u = let bad : 99 ≡ 100 = ap letter (sym e ∙ u.0.used) in omega (arith, bad)
 
 -- ---- the matches of the program's words

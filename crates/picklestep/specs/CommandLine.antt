@@ -67,7 +67,7 @@ wants_subcommand a = record a { top = record a.top { subcommand_required = true 
 
 abbrev pub program : App
 program =
-    with_subcommand (with_subcommand (with_subcommand (with_subcommand (wants_subcommand (new_app (codes "picklestep"))) (on_file (codes "list")).top) (on_file (codes "objects")).top) calls_app.top) debug_app.top
+    with_subcommand (with_subcommand (with_subcommand (with_subcommand (with_subcommand (wants_subcommand (new_app (codes "picklestep"))) (on_file (codes "list")).top) (on_file (codes "objects")).top) calls_app.top) debug_app.top) (on_file (codes "form")).top
 
 -- ---- the task that matches name
 
@@ -135,6 +135,7 @@ abbrev pub IsNamed : Matches → Task → Type 0
 IsNamed matches (task.List input) = IsUsed (codes "list") matches input
 IsNamed matches (task.Objects input) = IsUsed (codes "objects") matches input
 IsNamed matches (task.Calls input options) = (u : IsUsed (codes "calls") matches input) × HasCallsOptions u.rows options
+IsNamed matches (task.Form input) = IsUsed (codes "form") matches input
 IsNamed matches (task.Debug input options) = (u : IsUsed (codes "debug") matches input) × HasOptions u.rows options
 
 -- a number of step records is within the bounds
@@ -142,6 +143,7 @@ abbrev pub IsBounded : Task → Type 0
 IsBounded (task.List input) = ⊤
 IsBounded (task.Objects input) = ⊤
 IsBounded (task.Calls input options) = ⊤
+IsBounded (task.Form input) = ⊤
 IsBounded (task.Debug input options) = IfSome options.window (λ n. (1 ≤ n) × (n ≤ most_records))
 
 -- the words are refused where memory runs out

@@ -16,6 +16,7 @@ use Rattle.pickle_script.specs.declared.texts.Text.{Text}
 use Rattle.pickle_script.specs.Stop.{stop_of_read}
 use Rattle.pickle_script.specs.declared.texts.Text.TheVariants as text
 use Rattle.pickle_show.specs.Manner.{manner, whole}
+use Rattle.pickle_script.specs.FormText.{form_output}
 use Rattle.pickle_script.specs.Output.{IsCallsOfFile}
 use Rattle.picklestep.specs.declared.task.Task.{Task}
 use Rattle.picklestep.specs.declared.task.Task.TheVariants as task
@@ -47,9 +48,11 @@ TookText Is old new result = ((o : Output) × Is o × Took o old new result) ⊎
 
 -- ---- a text of an input
 
--- this is the text of bytes: the listing or the report of the document that they read as, or what is imported and called
+-- this is the text of bytes: the listing or the report of the document that they read as, what is imported and called, or whether the one
+-- pickle that they are is in the form that picklers write
 abbrev pub IsTextOf : Text → Bool → List ℕ → Output → Type 0
 IsTextOf text.Listing many bytes o = (d : Contents) × ReadsAs many bytes d × (o ≡ listing d)
+IsTextOf text.Form many bytes o = (d : Contents) × ReadsAs false bytes d × (o ≡ form_output d)
 IsTextOf text.Objects many bytes o = (d : Contents) × ReadsAs many bytes d × IsReport d o.text o.status
 IsTextOf (text.Calls pickles detail) many bytes o = IsCallsText (whole detail) pickles bytes o
 
@@ -76,6 +79,7 @@ abbrev pub input_of : Task → GivenFile
 input_of (task.List input) = input
 input_of (task.Objects input) = input
 input_of (task.Calls input options) = input
+input_of (task.Form input) = input
 input_of (task.Debug input options) = input
 
 -- what is imported and called by what is left of a file
@@ -92,6 +96,7 @@ abbrev pub AnswersTask : Task → Option (List ℕ) → Option (List ℕ) → To
 AnswersTask (task.List input) source source' old new result = AnswersInput (IsTextOf text.Listing input.many) source source' old new result
 AnswersTask (task.Objects input) source source' old new result = AnswersInput (IsTextOf text.Objects input.many) source source' old new result
 AnswersTask (task.Calls input options) source source' old new result = AnswersInput (is_calls options) source source' old new result
+AnswersTask (task.Form input) source source' old new result = AnswersInput (IsTextOf text.Form false) source source' old new result
 AnswersTask (task.Debug input options) source source' old new result = ⊤
 
 -- of all bytes of the file; or there was an error, and nothing was written

@@ -111,4 +111,5 @@ abbrev pub CarriesOut : Task → {F : Type 0} → (F → List ℕ → Option (Li
 CarriesOut (task.List input) bytes_of took files files' source source' old new result = WritesText (task.List input) bytes_of files files' source source' old new result
 CarriesOut (task.Objects input) bytes_of took files files' source source' old new result = WritesText (task.Objects input) bytes_of files files' source source' old new result
 CarriesOut (task.Calls input pickles) bytes_of took files files' source source' old new result = WritesText (task.Calls input pickles) bytes_of files files' source source' old new result
+CarriesOut (task.Form input) bytes_of took files files' source source' old new result = WritesText (task.Form input) bytes_of files files' source source' old new result
 CarriesOut (task.Debug input options) bytes_of took files files' source source' old new result = TalksOfFile input options bytes_of took files files' source source' old new result

@@ -58,6 +58,7 @@ fn input_of(task: &Task) -> &GivenFile
         Task::List(input) => input,
         Task::Objects(input) => input,
         Task::Calls(input, _) => input,
+        Task::Form(input) => input,
         Task::Debug(input, _) => input,
     }
 }
@@ -82,6 +83,7 @@ fn answer_task<R: Source, K: Sink + Drop>(
         Task::List(input) => answer_text(alloc, Text::Listing, input.many, source, page),
         Task::Objects(input) => answer_text(alloc, Text::Objects, input.many, source, page),
         Task::Calls(_, options) => answer_calls(alloc, options, source, page),
+        Task::Form(_) => answer_text(alloc, Text::Form, false, source, page),
         Task::Debug(_, _) => unreachable!(),
     }
 }

@@ -36,5 +36,6 @@ pub fn carry_out<R: Asker<Buffered<K>>, K: Sink + Drop, F: Files>(
         Task::List(_) => answer_file(alloc, task, files, page),
         Task::Objects(_) => answer_file(alloc, task, files, page),
         Task::Calls(_, _) => answer_file(alloc, task, files, page),
+        Task::Form(_) => answer_file(alloc, task, files, page),
     }
 }

@@ -16,6 +16,9 @@ const MANY: &str = "read FILE as pickles that follow one another: go on after ea
 /// What it does for `calls`.
 const MANY_OF_CALLS: &str = "changes nothing: all pickles of FILE are read without it too";
 
+/// What it does for `form`.
+const MANY_OF_FORM: &str = "changes nothing: FILE is to be one pickle";
+
 /// The argument of a task that is done on one file.
 fn file_argument<'a>(alloc: Global) -> Arg<'a>
     ensures rule { rule_of result ≡ file_rule }
@@ -174,11 +177,18 @@ pub fn command_line<'a>(alloc: Global) -> Result<Command<'a>, AllocError>
     )?;
     let calling = calls_command(alloc)?;
     let debugging = debug_command(alloc)?;
+    let forming = on_file(
+        alloc,
+        "form",
+        "Says whether FILE is a pickle in the form that picklers write, else where it is not and why",
+        MANY_OF_FORM,
+    )?;
     Command::new(alloc, "picklestep")
         .about("Shows what a Python pickle would import, call and build, and runs nothing of it")
         .subcommand_required(true)
         .subcommand(listing)?
         .subcommand(reporting)?
         .subcommand(calling)?
-        .subcommand(debugging)
+        .subcommand(debugging)?
+        .subcommand(forming)
 }

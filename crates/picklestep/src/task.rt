@@ -34,6 +34,8 @@ pub enum Task {
     Objects(GivenFile),
     /// Print what pickles would import and call. Whether the file is read as several pickles changes nothing.
     Calls(GivenFile, CallsOptions),
+    /// Print whether the first pickle is in the form that picklers write. Whether the file is read as several pickles changes nothing.
+    Form(GivenFile),
     /// Read commands from standard input and answer each.
     Debug(GivenFile, Options),
 }
@@ -264,6 +266,9 @@ fn named(alloc: Global, matches: &ArgMatches<'_>) -> Result<Option<Task>, AllocE
         };
         let file = String::from_str(alloc, file)?;
         Ok(Some(Task::Debug(GivenFile { file, many }, options)))
+    } else if name == "form" {
+        let file = String::from_str(alloc, file)?;
+        Ok(Some(Task::Form(GivenFile { file, many })))
     } else {
         Ok(None)
     }

@@ -21,6 +21,6 @@ enter() {
     elif command -v python3 >/dev/null; then
         exec python3 -I ${PYTHONDONTWRITEBYTECODE:+-B} "$package/entrance.py" "$@"
     fi
-    echo 'picklestep: python3 (3.9 or later) is not there: only list, objects, calls and debug work without it' >&2
+    echo 'picklestep: python3 (3.9 or later) is not there: only list, objects, calls, form and debug work without it' >&2
     exit 2
 }

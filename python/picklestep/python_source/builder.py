@@ -25,6 +25,13 @@ MOST_SHORT = 80
 
 _Handler = Callable[[str], None]
 
+# Codes as a listing shows them: of opcodes with a number, of those that take from the memo, of texts, and two others.
+_NUMBERS = frozenset(('K   ', 'M   ', 'J   '))
+_GETS = frozenset(('h   ', 'j   '))
+_TEXTS = frozenset(('\\x8c', 'X   ', '\\x8d'))
+_MEMOIZE, _MARK = '\\x94', '(   '
+_READ = _NUMBERS | _GETS | _TEXTS | {_MEMOIZE, _MARK}
+
 
 class Builder:
     """What the opcodes that were read so far have built. `events` is what happens, `needs` the helpers that this takes."""
@@ -47,17 +54,48 @@ class Builder:
         self._protocol = 0
 
     def read(self, column: int, lines: Iterable[str]) -> None:
-        """Reads lines whose codes begin in this column."""
-        handlers, end = self._handlers, column + 4
+        """Reads lines whose codes begin in this column.
+
+        What there is most of is done here and not by a handler, which would take twice the time.
+        """
+        handlers, end, stack, memo, marks, made = self._handlers, column + 4, self.stack, self._memo, self._marks, self._made
+        argument = column + 16 + 4 * len(marks)  # (where numbers begin: before each name are four blanks for each open mark)
         for line in lines:
-            handlers[line[column:end]](line)
+            code = line[column:end]
+            if code in _NUMBERS:
+                stack.append(line[argument:])
+                made += 1
+            elif code in _GETS:
+                stack.append(memo[int(line[argument:])])
+            elif code == _MEMOIZE:
+                memo[len(memo)] = stack[-1]
+            elif code in _TEXTS:
+                text = line[line.index("'"):]
+                stack.append(text if len(text) <= MOST_SHORT and '\\' not in text else self._text(text, made))
+                made += 1
+            elif code == _MARK:
+                marks.append(len(stack))
+                argument += 4
+            else:
+                self._made = made
+                handlers[code](line)
+                memo, marks, made = self._memo, self._marks, self._made
+                argument = column + 16 + 4 * len(marks)
+        self._made = made
+
+    @staticmethod
+    def _text(quoted: str, number: int) -> Entry:
+        """A text as its source, or as a node where that is long."""
+        text = of_text(quoted) if '\\' in quoted else quoted
+        return text if len(text) <= MOST_SHORT else Node('atom', number, [], text, is_pure=True)
 
     def _handlers_by_code(self) -> Dict[str, _Handler]:
-        """What reads each opcode, by its code as a listing shows it."""
+        """What reads each other opcode, by its code as a listing shows it."""
         handlers: Dict[str, _Handler] = {}
         for opcode in pickletools.opcodes:
             shown = opcode.code if '!' <= opcode.code <= '~' else f'\\x{ord(opcode.code):02x}'
-            handlers[f'{shown:4}'] = self._handler(opcode)
+            if f'{shown:4}' not in _READ:
+                handlers[f'{shown:4}'] = self._handler(opcode)
         return handlers
 
     def _handler(self, opcode: pickletools.OpcodeInfo) -> _Handler:
@@ -77,12 +115,8 @@ class Builder:
 
     def _pusher(self, name: str, form: str) -> _Handler:
         """A handler for an opcode whose argument is a plain value, or that makes one without an argument."""
-        if form in ('uint1', 'uint2', 'int4'):
-            return self._on_number
         if form in ('long1', 'long4', 'float8'):
             return self._number_pusher(of_float if form == 'float8' else of_integer)
-        if form.startswith('unicodestring') and form != 'unicodestringnl':
-            return self._on_text
         if form in ('bytes1', 'bytes4', 'bytes8'):
             return lambda line: self._push_value(of_bytes(line[line.index("'"):]))
         if form:
@@ -90,19 +124,8 @@ class Builder:
         value = {'NONE': 'None', 'NEWTRUE': 'True', 'NEWFALSE': 'False'}[name]
         return lambda line: self._push_value(value)
 
-    def _on_number(self, line: str) -> None:
-        self.stack.append(line[line.rindex(' ') + 1:])
-        self._made += 1
-
     def _number_pusher(self, shown: Callable[[str], str]) -> _Handler:
         return lambda line: self._push_value(shown(line[line.rindex(' ') + 1:]))
-
-    def _on_text(self, line: str) -> None:
-        text = line[line.index("'"):]
-        if '\\' in text:
-            text = of_text(text)
-        self.stack.append(text if len(text) <= MOST_SHORT else Node('atom', self._made, [], text, is_pure=True))
-        self._made += 1
 
     def _push_value(self, text: str) -> None:
         self.stack.append(text if len(text) <= MOST_SHORT else Node('atom', self._made, [], text, is_pure=True))
@@ -130,9 +153,6 @@ class Builder:
     def _on_frame(self, line: str) -> None:
         """A frame builds nothing."""
 
-    def _on_mark(self, line: str) -> None:
-        self._marks.append(len(self.stack))
-
     def _on_pop(self, line: str) -> None:
         if self._marks and self._marks[-1] == len(self.stack):
             self._marks.pop()
@@ -147,10 +167,6 @@ class Builder:
 
     def _on_put(self, line: str) -> None:
         self._memo[int(line[line.rindex(' ') + 1:])] = self.stack[-1]
-
-    def _on_memoize(self, line: str) -> None:
-        memo = self._memo
-        memo[len(memo)] = self.stack[-1]
 
     def _on_get(self, line: str) -> None:
         self.stack.append(self._memo[int(line[line.rindex(' ') + 1:])])
@@ -175,10 +191,13 @@ class Builder:
 
     def _take_all(self, entries: List[Entry]) -> List[Node]:
         """Objects are needed. Answers those of them that are nodes."""
-        nodes = [entry for entry in entries if type(entry) is not str]
+        nodes: List[Node] = [entry for entry in entries if type(entry) is not str]  # type: ignore[misc]
         for node in nodes:
-            self._take(node)
-        return nodes  # type: ignore[return-value]
+            node.uses += 1
+            if not node.is_taken:
+                node.is_taken = True
+                self.events.append(node)
+        return nodes
 
     def _name_now(self, node: Node) -> None:
         """The object is made here and not later."""
@@ -228,9 +247,14 @@ class Builder:
         if target.is_taken:
             target.uses += 1
             return target
-        target.items += items
+        if target.items:
+            target.items += items
+        else:
+            target.items = items
+        if not nodes:
+            return None
         target.inner += nodes
-        if nodes and target.kind != 'list' and not is_pure(keys):
+        if target.kind != 'list' and not is_pure(keys):
             self._name_now(target)
         return None
 

@@ -11,6 +11,8 @@ from _compat_pickle import IMPORT_MAPPING, NAME_MAPPING
 __all__ = ['Names', 'TAKEN', 'is_identifier', 'python3_name']
 
 _IDENTIFIER = re.compile(r'[A-Za-z_][A-Za-z0-9_]*', re.ASCII)
+# The most letters of a name that stands wherever it is used.
+_MOST_NAME = 1000
 _OWN = re.compile(r'_[0-9]+')
 
 # What Python 3.9 to 3.14 have without an import. One list, so that a source is the same whichever of them writes it.
@@ -63,6 +65,9 @@ class Names:
         parts = [*module.split('.'), first, *rest]
         if not all(map(is_identifier, parts)) or module == '__future__':
             return f'_{number} = getattr(import_module({module!r}), {name!r})', f'_{number}'
+        if len(name) > _MOST_NAME:
+            more = f'; _{number} = _{number}.{".".join(rest)}' if rest else ''
+            return f'from {module} import {first} as _{number}{more}', f'_{number}'
         known = self._taken.setdefault(first, (module, first))
         if known == (module, first) and not _OWN.fullmatch(first):
             return f'from {module} import {first}', '.'.join([first, *rest])

@@ -11,6 +11,7 @@ from bisect import bisect_right
 from contextlib import contextmanager, suppress
 from copy import copy
 from dataclasses import dataclass
+from functools import lru_cache
 from typing import BinaryIO, Iterable, Iterator, List, Optional, Sequence, Tuple, cast
 
 from ..sources import opens_descriptors
@@ -148,10 +149,15 @@ class Budget:
 def _own_size() -> int:
     """Bytes of memory that this process has."""
     try:
-        with open('/proc/self/statm', 'rb', buffering=0) as file:
-            return int(file.read(200).split()[1]) * _PAGE
-    except (OSError, ValueError, IndexError):
+        return int(os.pread(_statm(os.getpid()), 200, 0).split()[1]) * _PAGE
+    except (OSError, ValueError, IndexError, AttributeError):  # (only Linux has that file)
         return 0
+
+
+@lru_cache(maxsize=1)
+def _statm(process: int) -> int:
+    """What tells the size of this process, which stays open: opening it takes longer than reading it."""
+    return os.open(f'/proc/{process}/statm', os.O_RDONLY | os.O_CLOEXEC)
 
 
 def _processor_time() -> float:

@@ -581,6 +581,15 @@ class Looker:
         else:
             self._count_other(where)
 
+    def look_at_pieces(self, pieces: Iterator[bytes], where: Place, depth: int) -> None:
+        """Looks at bytes that come piece by piece, and counts them as unpacked ones. Raises LimitMet."""
+        def counted() -> Iterator[bytes]:
+            for piece in pieces:
+                self.budget.unpack(len(piece))
+                yield piece
+        self.at = where
+        self._look_at_held(counted(), where, (), depth, _Unpacked())
+
     def _look_at_held(self, pieces: Iterator[bytes], where: Place, names: Tuple[str, ...], depth: int, holder: '_Unpacked') -> None:
         """Looks at unpacked bytes. Where they are more than may be held, the first of them."""
         copy = spooled(holder.first(pieces, self.budget.most_held()))

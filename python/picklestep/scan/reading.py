@@ -5,12 +5,13 @@ from __future__ import annotations
 import re
 import signal
 from contextlib import closing
-from dataclasses import dataclass, replace
+from dataclasses import dataclass
+from functools import lru_cache
 from itertools import islice
 from typing import Callable, Dict, Iterable, List, Optional, Tuple
 
 from .. import library
-from ..answers import Calls
+from ..answers import Reached
 from ..errors import OutOfMemory, PicklestepError, ProgramError, TimedOut
 from ..program import Process
 from ..records import End, Extension, Global, Name, Ref
@@ -53,6 +54,10 @@ WAITING = 5
 # With less processor time left, in seconds, nothing is asked in this process, which cannot be stopped.
 _LITTLE_TIME = 1
 
+# Of a name with at most so many letters it is kept what it means, and of so many of them: most files have the same.
+_SHORT = 200
+_MOST_NAMES = 4096
+
 _LEGACY_TORCH = b'\x80\x02\x8a\x0al\xfc\x9cF\xf9 j\xa8P\x19.'
 
 
@@ -76,7 +81,7 @@ class Summary:
         self._budget = budget
         self._offset_of = offset_of
         self._found: Dict[Tuple[str, str, str], _Found] = {}
-        self._names: Dict[str, Optional[Name]] = {}
+        self._again: Dict[Tuple[str, str], _Found] = {}
         self._imported: Dict[str, str] = {}
         self._lines: Optional[List[str]] = [] if keep_lines else None
         self._count = 0
@@ -116,9 +121,18 @@ class Summary:
             self._take_end(tail)
 
     def _take_lines(self, text: str, start: int, end: int, tail: str) -> str:
-        """Counts lines, and answers the last ones."""
+        """Counts lines, and answers the last ones. A pickle may have a hundred thousand lines and few names."""
+        again, budget = self._again, self._budget
         for match in REACHED.finditer(text, start, end):
-            self._line(match)
+            self._count += 1
+            budget.lines -= 1
+            if budget.lines < 0:
+                raise Enough(f'the answers about the file have more than {budget.limits.lines:,} lines')
+            found = again.get((match[3], match[4]))
+            if found is None:
+                self._line(match)
+            else:
+                found.count += 1
         return (tail + text[start:end])[-_CLOSING:]
 
     def _begin_part(self, heading: str, tail: str) -> None:
@@ -127,28 +141,25 @@ class Summary:
             self._take_end(tail)
             self._leads_nowhere = False
         self._part = heading
+        self._again.clear()
         if self._lines is not None:
             self._lines.append(f'{heading}:')
 
     def _take_end(self, tail: str) -> None:
         """Keeps how the strict reading ended."""
-        self.end = Calls(tail).end
+        self.end = Reached(tail).end
         if self._offset_of is not None and self.end.offset is not None:
             self.end = with_offset(self.end, self._offset_of(self.end.offset))
 
     def _line(self, match: 're.Match[str]') -> None:
-        """Counts a line. A pickle may have a hundred thousand lines and few names, so a name is read once."""
-        self._count += 1
-        self._budget.lines -= 1
-        if self._budget.lines < 0:
-            raise Enough(f'the answers about the file have more than {self._budget.limits.lines:,} lines')
+        """Counts a line that is not the same as one before, as far as it counts."""
         offset, text, what, quoted = match.groups()
         name = self._imported.get(_number_of(text), '') if what in _CHANGES else quoted or ''
         has_other_name = quoted is None and what in _WITH_NAME  # one that is no text: a number, or an object of the pickle
         found = None if has_other_name else self._found.get((what, name, self._part))
         if found is None:
-            known = self._name(match[0], what, quoted)
-            shown = name if what in _CHANGES else shown_name(known)
+            known = _name_in(match[0], quoted) if what in _WITH_NAME else _NO_NAME
+            shown = name if what in _CHANGES else known.shown
             key = (what, name or shown, self._part)
             if key not in self._found:
                 self._keep(text)
@@ -158,30 +169,22 @@ class Summary:
         found.count += 1
         if what == 'import':
             self._imported[_number_of(text)] = found.name
+        elif quoted is not None and self._lines is None:
+            self._again[what, quoted] = found
         if self._lines is not None:
             line = match[0] if self._offset_of is None else f'{self._place(offset):>5}: {text}'
             self._keep(line)
             self._lines.append(line)
 
-    def _shows_pickle(self, what: str, name: Optional[Name]) -> bool:
+    def _shows_pickle(self, what: str, name: '_Known') -> bool:
         """Whether a line shows that the bytes are a pickle. Loaders that go on raise at an import that cannot be there."""
         if what == 'import':
-            self._leads_nowhere = self._leads_nowhere or self._part != '' and not _can_be_there(name)
-            return _can_be_there(name) and not self._leads_nowhere
+            self._leads_nowhere = self._leads_nowhere or self._part != '' and not name.can_be_there
+            return name.can_be_there and not self._leads_nowhere
         return what not in _WEAK and not self._leads_nowhere
 
     def _place(self, offset: str) -> int:
         return int(offset) if self._offset_of is None else self._offset_of(int(offset))
-
-    def _name(self, line: str, what: str, quoted: Optional[str]) -> Optional[Name]:
-        """What a line imports or calls."""
-        if what not in _WITH_NAME:
-            return None
-        if quoted is None:
-            return reach_of(line).name
-        if quoted not in self._names:
-            self._names[quoted] = reach_of(line).name
-        return self._names[quoted]
 
     def _keep(self, text: str) -> None:
         self._kept += len(text)
@@ -202,18 +205,19 @@ class Summary:
 
     def pickle(self, where: Place, size: int) -> Pickle:
         """What was found, by names, in the order in which they come first."""
-        imports: Dict[Tuple[str, str], Import] = {}
-        done: Dict[Tuple[str, str, str], Call] = {}
+        imports: Dict[Tuple[str, str], Tuple[_Found, int]] = {}
+        done: Dict[Tuple[str, str, str], Tuple[_Found, int]] = {}
         for found in self._found.values():
             name, part = found.name, found.part
             if found.what in _IMPORTS:
-                before = imports.get((name, part), Import(name, 0, found.offset, part))
-                imports[name, part] = replace(before, count=before.count + found.count)
+                first, count = imports.get((name, part), (found, 0))
+                imports[name, part] = first, count + found.count
             if found.what != 'import':
-                key = (found.what, name, part)
-                first = done.get(key, Call(found.what, name, 0, found.offset, found.text, part))
-                done[key] = replace(first, count=first.count + found.count)
-        return Pickle(where, size, tuple(imports.values()), tuple(done.values()), self.end, tuple(self._lines or ()))
+                first, count = done.get((found.what, name, part), (found, 0))
+                done[found.what, name, part] = first, count + found.count
+        return Pickle(where, size, tuple(Import(first.name, count, first.offset, first.part) for first, count in imports.values()),
+                      tuple(Call(first.what, first.name, count, first.offset, first.text, first.part) for first, count in done.values()),
+                      self.end, tuple(self._lines or ()))
 
 
 @dataclass
@@ -234,12 +238,34 @@ def _number_of(text: str) -> str:
     return found[1] if found else ''
 
 
-def _can_be_there(name: Optional[Name]) -> bool:
-    """Whether an import shows that the bytes are a pickle: its module can have this name, or the pickle works it out.
+@dataclass(frozen=True)
+class _Known:
+    """What is known of a name: how it is shown, and whether its import shows that the bytes are a pickle."""
+
+    shown: str
+    can_be_there: bool
+
+
+def _known(name: Optional[Name]) -> _Known:
+    """A name shows a pickle where its module can have this name, or the pickle works it out.
 
     A number of copyreg's alone does not: one of a hundred files of raw numbers begins with its opcode.
     """
-    return isinstance(name, Global) and (not isinstance(name.module, bytes) or is_dotted(name.module))
+    return _Known(shown_name(name), isinstance(name, Global) and (not isinstance(name.module, bytes) or is_dotted(name.module)))
+
+
+_NO_NAME = _Known('', False)
+
+
+@lru_cache(maxsize=_MOST_NAMES)
+def _known_by(quoted: str) -> _Known:
+    """What is known of a name whose module is in quotes."""
+    return _known(reach_of(f'0: import {quoted} as #0').name)
+
+
+def _name_in(line: str, quoted: Optional[str]) -> _Known:
+    """What is known of what a line imports or calls."""
+    return _known_by(quoted) if quoted is not None and len(quoted) <= _SHORT else _known(reach_of(line).name)
 
 
 def calls_words(full: bool) -> List[str]:

@@ -8,9 +8,11 @@ from typing import Dict, Iterator, List, Sequence, Tuple
 
 from ..arguments import ArgumentValue, encoded
 from ..records import Global
+from ..tasks import listing
+from ..view.lines import lines_of
 from .opened import Edit, Opened
 
-__all__ = ['EditError', 'of_object', 'of_value', 'of_words', 'renaming']
+__all__ = ['EditError', 'line_put', 'of_object', 'of_value', 'of_words', 'renaming']
 
 OPCODES: Dict[str, pickletools.OpcodeInfo] = {opcode.name: opcode for opcode in pickletools.opcodes}
 
@@ -85,6 +87,13 @@ def _protocol(pickle: Opened) -> int:
     return int(first.argument) if first is not None and first.name == 'PROTO' else 1
 
 
+def line_put(edit: Edit) -> str:
+    """The opcode that `replace` or `insert` puts, with its argument, as a listing shows it."""
+    code = OPCODES[edit.name].code.encode('latin-1')
+    argument = encoded(edit.name, edit.values) if edit.raw is None else edit.raw
+    return lines_of(listing(code + argument).text).raw(0)
+
+
 def of_object(pickle: Opened, number: int, text: str) -> Edit:
     """The edit of the opcode that made an object."""
     maker = pickle.maker(number)
@@ -95,6 +104,8 @@ def of_object(pickle: Opened, number: int, text: str) -> Edit:
 
 def renaming(pickle: Opened, old: str, new: str) -> List[Edit]:
     """The edits that rename a module, with what is in it, wherever the pickle imports from it. `module:name` renames one name alone."""
+    if pickle.reaches.is_part:
+        raise EditError(pickle.reaches.behind[0])
     found: Dict[int, Edit] = {}
     for number in range(len(pickle.reaches.offsets)):
         if pickle.reaches.kinds[number] not in ('import', 'inst'):

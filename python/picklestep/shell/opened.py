@@ -3,15 +3,17 @@
 from __future__ import annotations
 
 from bisect import bisect_left
-from typing import Dict, List, NamedTuple, Optional, Sequence, Tuple
+from typing import Callable, Dict, List, NamedTuple, Optional, Sequence, Tuple
 
 from ..arguments import ArgumentValue
 from ..comparing import shown_value
+from ..errors import Refused
 from ..records import Global, Object
 from ..texts import LinesError, object_of
 from ..values import PLAIN_KINDS, kind_value
 from ..view.document import Document, Done
 from .history import History
+from .later import Later
 
 __all__ = ['Edit', 'Opened']
 
@@ -30,11 +32,53 @@ class Edit(NamedTuple):
 
 
 class Opened(Document):
-    """A document whose objects can be described by their values, and that is edited at any place."""
+    """A document whose objects can be described by their values, and that is edited at any place.
 
-    _history: Tuple[int, Dict[int, List[int]]] = (0, {})
+    After an edit the pickle is read while the prompt waits for a line: call `settle` before anything else.
+    """
+
+    _reading: Optional[Later[None]] = None
+    _here = 0  # where the cursor goes back to after an edit
+    _history: Later[History]
 
     # --- The pickle ---
+
+    def _read(self) -> None:
+        super()._read()
+        lines, until = self.lines, self.listed - any(line.startswith('refused') for line in self.lines.closing)
+        self._history = Later(lambda: History(lines, until))
+
+    def close(self) -> None:
+        """Ends the session, which nobody uses any more then."""
+        if self._reading is not None:
+            self._reading.wait()
+        super().close()
+
+    def settle(self) -> None:
+        """Waits until the pickle is read after an edit. Where that failed, the edits were taken back, and it is raised why."""
+        reading = self._reading
+        if reading is not None:
+            reading.wait()
+            self._reading = None
+            reading.result()
+
+    def content(self) -> bytes:
+        """The bytes of the pickle as it is."""
+        self.settle()
+        return super().content()
+
+    def _changed(self, edits: List[Done], undone: List[Done], back: Callable[[], object]) -> None:
+        here = self._here
+
+        def back_and_return() -> None:
+            self.session.goto(0)
+            back()
+            self._return(here)
+
+        def read() -> None:
+            self._return(here)
+            Document._changed(self, edits, undone, back_and_return)
+        self._reading = Later(read)
 
     def maker(self, number: int) -> Optional[int]:
         """The place of the opcode that makes an object, if there is such an object."""
@@ -45,11 +89,7 @@ class Opened(Document):
         made = self.final_object(number)
         if made is not None and not made.changes:
             return []
-        if self._history[0] != self.version:
-            end = self.reaches.answer.end
-            until = end.item if end.item is not None else len(self.lines)
-            self._history = self.version, History(self.lines, self._makers.places()[:len(self._final)], until).changes
-        return self._history[1].get(number, [])
+        return self._history.result().changers(number)
 
     def reaches_at(self, offset: int) -> List[str]:
         """What `calls` says of the opcode at an offset."""
@@ -61,20 +101,25 @@ class Opened(Document):
 
     def edit_all(self, edits: Sequence[Edit]) -> List[int]:
         """Makes edits, with the cursor before all of them, and goes back to the opcode where it was. Answers their places."""
-        here = self.session.where().place
-        done: List[int] = []
+        here = self._here = self.session.where().place
+        done: List[Done] = []
+
+        def back() -> None:
+            for _ in done:
+                self.session.undo()
         try:
-            if edits and min(edit.place for edit in edits) < here:
-                self.session.goto(0)
+            first = min((edit.place for edit in edits), default=here)
+            if first < here:
+                self.session.goto(first)
             for edit in edits:
-                done.append(self._edit_one(edit))
-                here += _SHIFTS.get(edit.word, 0) if edit.place < here else 0
+                done.append(Done(edit.word, self._edit_one(edit), edit.name))
+                self._here += _SHIFTS.get(edit.word, 0) if edit.place < self._here else 0
         finally:
             if done:
-                self._undone.clear()
-                self._read()
-            self._return(here)
-        return done
+                self._changed([*self._edits, *done], [], back)
+            else:
+                self._return(here)
+        return [edit.place for edit in done]
 
     def _return(self, here: int) -> None:
         """Goes back to a place, or as near to it as the pickle can be stepped."""
@@ -105,17 +150,18 @@ class Opened(Document):
             place = session.frame(edit.place, edit.members)
         else:
             place = session.delete(edit.place) if edit.word == 'delete' else session.unframe(edit.place)
-        self._edits.append(Done(edit.word, place, edit.name))
         return place
 
     def undo_back(self, is_redo: bool) -> str:
         """Undoes or makes again an edit, from before its place where the cursor is behind it."""
-        here = self.session.where().place
-        self.session.goto(0)
+        self._here = self.session.where().place
+        done = self._undone if is_redo else self._edits
+        self.session.goto(min(self._here, done[-1].place if done else self._here))
         try:
             return self.redo() if is_redo else self.undo()
-        finally:
-            self._return(here)
+        except Refused:
+            self._return(self._here)
+            raise
 
     @property
     def edits_made(self) -> Tuple[Done, ...]:

@@ -14,8 +14,9 @@ from ..python_source import source
 from ..sources import Source
 from ..texts import LinesError, opcode_of, stored_under
 from ..view.document import Done
+from ..view.lines import line_of
 from .breaks import BREAKS, Break, next_break
-from .edits import OPCODES, EditError, of_object, of_value, of_words, renaming
+from .edits import OPCODES, EditError, line_put, of_object, of_value, of_words, renaming
 from .explain import EXPLAINED
 from .opened import Edit, Opened
 from .words import WORDS, help_page, help_pages, whole_word
@@ -26,6 +27,7 @@ _AROUND = 3
 _MOST_LINES = 20
 _MOST_STACK = 3
 _MOST_BYTES = 256
+_OF_FRAMES = ('F6', 'F7', 'F8')
 _FILLS = ('APPEND', 'APPENDS', 'SETITEM', 'SETITEMS', 'ADDITEMS', 'BUILD')
 _STORES = ('MEMOIZE', 'PUT', 'BINPUT', 'LONG_BINPUT')
 
@@ -67,6 +69,7 @@ class Shell:
     @property
     def is_unsaved(self) -> bool:
         """Whether there are edits that were not saved."""
+        self.pickle.settle()
         return self.pickle.edits_made != self._saved and self.pickle.content() != self._saved_bytes
 
     def obey(self, line: str) -> str:
@@ -80,6 +83,7 @@ class Shell:
             raise WordError(f'there is no word {word[:40]!r}; `help` shows them')
         self._last = line if WORDS[name].is_again else ''
         try:
+            self.pickle.settle()
             return self._words[name](f'{before} {rest}'.strip())
         except Refused as error:
             raise WordError(f'refused: {error.text}') from error
@@ -118,17 +122,8 @@ class Shell:
         line = self.pickle.lines.at(place)
         marks = '>' if place == here else ' ', '*' if any(point.is_on and point.what == 'at' and int(point.text) == place for point in self._breaks) else ' '
         reached = ''.join(f'   <- {text}' for text in self.pickle.reaches_at(line.offset))
-        argument = f' {self._argument(place, line.argument)}' if line.argument else ''
+        argument = f' {_argument(self.pickle.lines.raw(place), line.argument)}' if line.argument else ''
         return f'{"".join(marks)} {place:>6} {line.offset:>5}: {"  " * line.marks}{line.name}{argument}{reached}'
-
-    def _argument(self, place: int, shown: str) -> str:
-        """An opcode's argument as a value of Python, where it is one and was kept whole."""
-        try:
-            opcode = opcode_of(self.pickle.lines.raw(place))
-        except LinesError:
-            return shown
-        is_value = not opcode.note and opcode.argument is not None and not isinstance(opcode.argument, tuple) and ' bytes more' not in shown
-        return shown_value(opcode.value) if is_value else shown
 
     def _rows(self, first: int, last: int, here: int) -> List[str]:
         return [self._row(place, here) for place in range(max(0, first), min(len(self.pickle.lines), last))]
@@ -140,6 +135,8 @@ class Shell:
         rows = self._rows(where.place - _AROUND, where.place + _AROUND, where.place)
         if where.place == where.places:
             rows.append(f'>  {where.place:>6} {where.offset:>5}: the end: {where.end.text}')
+            if where.end.code in _OF_FRAMES:
+                rows.append('(What is in that frame is not read: `picklestep mend FILE OUT` keeps it.)')
         rows.append(f'stack: {self._top()}')
         made = self.pickle.made_before(where.place)[0]
         if before is not None and made > before[1]:
@@ -286,6 +283,8 @@ class Shell:
         rows = [f'{offsets[at]:>7}: {answer[at].text}' for at in range(first, min(len(offsets), first + _MOST_LINES))]
         if first + _MOST_LINES < len(offsets):
             rows.append(f'.. {len(offsets) - first - _MOST_LINES} more: calls {first + _MOST_LINES + 1}')
+        if self.pickle.reaches.is_part:
+            return '\n'.join(rows + self.pickle.reaches.behind)
         rows.append(f'{answer.imports} imports, {answer.calls} calls, {answer.end.text}')
         for part in answer.parts:
             rows.append(f'{part.heading}:')
@@ -382,8 +381,7 @@ class Shell:
     # --- Edits ---
 
     def _was(self, place: int) -> str:
-        line = self.pickle.lines.at(place)
-        return f'{line.name} {self._argument(place, line.argument)}'.rstrip()
+        return _shown(self.pickle.lines.raw(place))
 
     def _edited(self, edits: List[Edit]) -> str:
         """Makes edits, and says what each replaced."""
@@ -401,7 +399,10 @@ class Shell:
     def _echo(self, edit: Edit, place: int, old: str) -> str:
         if edit.word in ('delete', 'unframe'):
             return f'{place}: {old} is gone'
-        return f'{place}: {self._was(place)}' + (f' (was {old})' if old else ' is new')
+        if edit.word == 'frame':
+            self.pickle.settle()
+        now = self._was(place) if edit.word == 'frame' else edit.name if OPCODES[edit.name].arg is None else _shown(line_put(edit))
+        return f'{place}: {now}' + (f' (was {old})' if old else ' is new')
 
     def _move_breaks(self, edits: List[Edit]) -> None:
         """Breaks on a place stay with their opcodes."""
@@ -453,6 +454,7 @@ class Shell:
         if not edits:
             raise WordError(f'nothing is imported from {words[0][:60]!r}')
         said = self._edited(edits)
+        self.pickle.settle()
         left = renaming(self.pickle, *words)
         return said + (f'\n{len(left)} names could not be changed alone' if left and not words[1].startswith(words[0]) else '')
 
@@ -496,6 +498,22 @@ class Shell:
         if name not in WORDS:
             raise WordError(f'there is no word {text[:40]!r}; `help` shows them')
         return help_page(name)
+
+
+def _shown(line: str) -> str:
+    """The opcode that a line of a listing shows, with its argument."""
+    shown = line_of(line)
+    return f'{shown.name} {_argument(line, shown.argument)}'.rstrip()
+
+
+def _argument(line: str, shown: str) -> str:
+    """The argument in a line of a listing as a value of Python, where it is one and was kept whole."""
+    try:
+        opcode = opcode_of(line)
+    except LinesError:
+        return shown
+    is_value = not opcode.note and opcode.argument is not None and not isinstance(opcode.argument, tuple) and ' bytes more' not in shown
+    return shown_value(opcode.value) if is_value else shown
 
 
 def _letters(data: bytes) -> str:

@@ -3,6 +3,7 @@
 from __future__ import annotations
 
 import os
+import re
 from array import array
 from bisect import bisect_left, bisect_right
 from itertools import islice
@@ -15,7 +16,7 @@ from ..python_source import source
 from ..session import Session
 from ..sources import Input, Source
 from ..texts import BROKEN, HELD, MADE, holding
-from .lines import Lines, add_items, lines_of, read_all, silent
+from .lines import Lines, add_items, cut_text, lines_of, read_all, silent
 
 __all__ = ['Document', 'Done', 'Fields']
 
@@ -30,11 +31,15 @@ _MOST_PARTS = 500
 _MOST_ENTRIES = 500
 _MOST_HOLDERS = 20
 _MOST_RESULTS = 5
+_MOST_TOP = 6
+_MOST_BRIEFS = 2 * _MOST_ENTRIES + _MOST_RESULTS  # (of a stack, a memo and results)
 _MOST_ARGUMENT = 1 << 16
 # Of up to so many opcodes and bytes the Python source is written, of which so many lines are shown.
 _MOST_SOURCE = 1_000_000
 _MOST_SOURCE_BYTES = 1 << 26
 _MOST_SOURCE_LINES = 1000
+# The most letters of a line of `calls` that are shown.
+_MOST_SAID = 4000
 _IMPORTS = ('import', 'inst')
 _CALLS = ('inst', 'call', 'new', 'state', 'append', 'set', 'add')
 _PLACES = {'replace': 0, 'insert': 1, 'delete': -1, 'frame': 1, 'unframe': -1}
@@ -43,8 +48,10 @@ _PLACES = {'replace': 0, 'insert': 1, 'delete': -1, 'frame': 1, 'unframe': -1}
 class Reaches:
     """What the pickle imports and calls, by the offsets of the opcodes."""
 
-    def __init__(self, answer: Calls) -> None:
+    def __init__(self, answer: Calls, is_part: bool = False) -> None:
+        """Takes the answer of `calls`; with `is_part` its first lines, of which there are more that were too long to be read."""
         self.answer = answer
+        self.is_part = is_part
         self.offsets = array('Q')
         self.kinds: List[str] = []
         self._made = array('Q')  # the objects that lines name, which go up, and where these lines are
@@ -62,9 +69,16 @@ class Reaches:
     @property
     def behind(self) -> List[str]:
         """The container that the bytes begin like, and a line for each part: what loaders may reach where this reading has ended."""
+        if self.is_part:
+            return [f'imports and calls: the first {len(self.kinds):,} alone, long as they are (picklestep calls shows all)']
         container = self.answer.container
         within = [f'begins like a container: {container} (picklestep scan looks into it)'] if container else []
         return within + [f'{part.heading}: {part.imports} imports, {part.calls} calls (picklestep calls shows them)' for part in self.answer.parts]
+
+    @property
+    def counts(self) -> Tuple[int, int]:
+        """How many imports and calls there are."""
+        return _counted(self.kinds) if self.is_part else (self.answer.imports, self.answer.calls)
 
     def kind_at(self, offset: int) -> str:
         """How the line at an offset is coloured: 'call', 'import', 'other' or ''."""
@@ -77,9 +91,9 @@ class Reaches:
         return 'other' if kinds else ''
 
     def text(self, at: int) -> str:
-        """A line, without its offset."""
+        """A line, without its offset; with its beginning alone where it is long."""
         start = self._places[at]
-        return self.answer.text[start:self.answer.text.index('\n', start)]
+        return cut_text(self.answer.text[start:self.answer.text.index('\n', start)], _MOST_SAID)
 
     def text_at(self, offset: int) -> str:
         """What the opcode at an offset imports or calls, or ''."""
@@ -93,8 +107,7 @@ class Reaches:
 
     def before(self, offset: int) -> Tuple[int, int]:
         """How many imports and calls are before an offset."""
-        kinds = self.kinds[:bisect_left(self.offsets, offset)]
-        return sum(map(_IMPORTS_COUNT, kinds)), sum(map(_CALLS_COUNT, kinds))
+        return _counted(self.kinds[:bisect_left(self.offsets, offset)])
 
     def next_call(self, offset: int, direction: int) -> Optional[int]:
         """The offset of the next call behind an offset, or before it."""
@@ -106,8 +119,8 @@ class Reaches:
         return None
 
 
-_IMPORTS_COUNT = _IMPORTS.__contains__
-_CALLS_COUNT = _CALLS.__contains__
+def _counted(kinds: List[str]) -> Tuple[int, int]:
+    return sum(map(_IMPORTS.__contains__, kinds)), sum(map(_CALLS.__contains__, kinds))
 
 
 class Done(NamedTuple):
@@ -153,7 +166,8 @@ class Document:
     def _read(self) -> None:
         """Reads the listing, the objects, and what is imported and called."""
         if self._edits or self.version:
-            with Input(self.session.bytes()) as given:
+            self._content = self.version + 1, self.session.bytes()
+            with Input(self._content[1]) as given:
                 self._read_from(given)
         else:
             self._read_from(self.session._input)
@@ -164,10 +178,11 @@ class Document:
             self.breaks = {int(match[1]) for match in BROKEN.finditer(self.session.items().text)}
 
     def _read_from(self, given: Input) -> None:
-        self.lines, self._final, calls = read_all(given, self._options, self._told)
-        if len(self.lines) < self.session.where().places:
+        self.lines, self._final, calls, is_part = read_all(given, self._options, self._told)
+        self.listed = len(self.lines)
+        if self.listed < self.session.where().places:
             add_items(self.lines, given, self._options)
-        self.reaches = Reaches(Calls(calls))
+        self.reaches = Reaches(Calls(calls), is_part)
         self.lines.closing += self.reaches.behind
         here = self.session.where().place
         self._makers = self.lines.makers
@@ -203,8 +218,8 @@ class Document:
         return {
             'version': self.version, 'name': self.name, 'place': where.place, 'places': where.places, 'offset': where.offset,
             'results': list(where.results[-_MOST_RESULTS:]), 'results_before': max(0, len(where.results) - _MOST_RESULTS),
-            'end': where.end.text, 'imports': [imports, self.reaches.answer.imports],
-            'calls': [calls_before, self.reaches.answer.calls], 'reaches': len(self.reaches.offsets),
+            'end': where.end.text, 'imports': [imports, self.reaches.counts[0]],
+            'calls': [calls_before, self.reaches.counts[1]], 'reaches': len(self.reaches.offsets),
             'stack': _last(self.session.ask('stack')), 'memo': _last(self.session.ask('memo')), 'made': self._made(),
             'exact': self._is_exact(), 'undo': _latest(self._edits), 'redo': _latest(self._undone), 'breaks': len(self.breaks),
             'closing': self.lines.closing}
@@ -242,7 +257,7 @@ class Document:
 
     def briefs(self, numbers: List[int]) -> Dict[str, Tuple[str, str]]:
         """Some objects."""
-        return {str(number): self.thing(number) for number in numbers[:_MOST_ENTRIES]}
+        return {str(number): self.thing(number) for number in numbers[:_MOST_BRIEFS]}
 
     def reached(self, start: int, count: int) -> List[List[Any]]:
         """What is imported and called: the place and the offset of each opcode that does it, how its line is coloured, and what it does."""
@@ -271,6 +286,31 @@ class Document:
         return {'maker': maker, 'line': None if maker is None else self.lines.raw(maker).strip(), 'stack': stack[:_MOST_HOLDERS],
                 'memo': memo[:_MOST_HOLDERS], 'held': self._holders(number)}
 
+    def effect(self) -> Fields:
+        """The top of the stack before the opcode at the cursor and after it, as far as they differ; or why it is refused."""
+        before = self.session.ask('stack').split()[1:]
+        try:
+            self.session.step()
+        except Refused as error:
+            return {'place': self.place, 'refused': error.text}
+        after = self.session.ask('stack').split()[1:]
+        self.session.back()
+        kept = len(os.path.commonprefix([before, after]))
+        kept -= int(kept == len(after) > 0)  # (what is on top then may have changed)
+        return {'place': self.place, 'before': self._top(before[kept:]), 'after': self._top(after[kept:])}
+
+    def _top(self, words: List[str]) -> Fields:
+        shown = [(word, *(self._thing_then(int(word[1:])) if word[0] == '#' else ('', ''))) for word in words[-_MOST_TOP:]]
+        return {'things': shown, 'more': len(words) - len(shown)}
+
+    def _thing_then(self, number: int) -> Tuple[str, str]:
+        """An object at the cursor, or the one that the opcode there makes, before anything is put into it."""
+        if number < self._made() or number >= len(self._final):
+            return self.thing(number)
+        text = self._final.brief(number).partition(' ')[2]
+        at = text.rfind("'") + 1
+        return text[:at] + _PUT_IN.sub('', text[at:]), self.reaches.text_of(number)
+
     def _holders(self, number: int) -> List[int]:
         """The objects that hold an object, the first of them."""
         heap, made = self._objects(), self._made()
@@ -287,7 +327,7 @@ class Document:
     def source(self) -> Fields:
         """The pickle as Python source, as much of it as is shown, and how many lines more there are."""
         content = self.content()
-        if len(self.lines) > _MOST_SOURCE or len(content) > _MOST_SOURCE_BYTES:
+        if len(self.lines) > _MOST_SOURCE or len(content) > _MOST_SOURCE_BYTES or self.reaches.is_part:
             return {'source': [], 'more': 0, 'isLong': True}
         lines = list(source(content, full=False, many=bool(self._options)))
         return {'source': lines[:_MOST_SOURCE_LINES], 'more': max(0, len(lines) - _MOST_SOURCE_LINES), 'isLong': False}
@@ -370,33 +410,38 @@ class Document:
             done = self.session.delete(place) if what == 'delete' else self.session.unframe(place)
         else:
             raise ValueError('this is no edit')
-        self._edits.append(Done(what, done, name if puts else ''))
-        self._undone.clear()
-        self._read()
+        self._changed([*self._edits, Done(what, done, name if puts else '')], [], self.session.undo)
         return f'edited {done}'
 
     def undo(self) -> str:
         """Takes the latest edit back."""
-        place = self.session.undo()
-        self._undone.append(self._edits.pop())
-        self._read()
-        return f'undone {place}: {self._undone[-1]}'
+        place, edit = self.session.undo(), self._edits[-1]
+        self._changed(self._edits[:-1], [*self._undone, edit], self.session.redo)
+        return f'undone {place}: {edit}'
 
     def redo(self) -> str:
         """Makes the edit again that was taken back last."""
-        place = self.session.redo()
-        self._edits.append(self._undone.pop())
-        self._read()
-        return f'redone {place}: {self._edits[-1]}'
+        place, edit = self.session.redo(), self._undone[-1]
+        self._changed([*self._edits, edit], self._undone[:-1], self.session.undo)
+        return f'redone {place}: {edit}'
+
+    def _changed(self, edits: List[Done], undone: List[Done], back: Callable[[], object]) -> None:
+        """Reads the pickle after the session's edits became these. Where that fails, `back` is called, and all is as it was."""
+        before = dict(vars(self))
+        self._edits, self._undone = edits, undone
+        try:
+            self._read()
+        except BaseException:
+            vars(self).update(before)
+            back()
+            raise
 
     def read_on(self) -> str:
         """Reads all pickles of the file, as it is, from its start. What was edited cannot be undone any more."""
         session = Session(self.session.bytes(), many=True)
         self.session.close()
         self.session, self._options, self.place = session, ['--many'], 0
-        self._edits.clear()
-        self._undone.clear()
-        self.breaks.clear()
+        self._edits, self._undone, self.breaks = [], [], set()
         self._read()
         return 'open'
 
@@ -438,6 +483,7 @@ def _last(answer: str) -> Fields:
     return {'words': shown, 'more': first.count(' ')}
 
 
+_PUT_IN = re.compile(r' (?:[+&!]#|\[#).*')  # what an object's line says of what was put into it
 _HOW = {b'+': 'append', b'&': 'add', b'!': 'state', b'[': 'key', b'=': 'value'}
 
 

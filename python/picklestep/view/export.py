@@ -73,8 +73,8 @@ def _calls(document: Document) -> Iterator[str]:
 def write_report(document: Document, file: IO[str]) -> Tuple[int, int]:
     """Writes the report, and answers how many opcodes it shows and how many there are."""
     count = min(len(document.lines), MOST)
-    answer = document.reaches.answer
-    counts = f'{len(document.lines):,} opcodes, {answer.imports:,} imports, {answer.calls:,} calls'
+    imports, calls = document.reaches.counts
+    counts = f'{len(document.lines):,} opcodes, {imports:,} imports, {calls:,} calls'
     summary = f'{counts}. {"; ".join(document.lines.closing)}.'
     file.write(_HEAD.format(hash=_HASH, style=_STYLE, name=escape(document.name), summary=escape(summary)))
     for part in (_calls(document), _listing(document, count), _objects(document, count)):

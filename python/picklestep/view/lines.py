@@ -8,7 +8,7 @@ import pickletools
 from array import array
 from bisect import bisect_right
 from dataclasses import dataclass
-from itertools import accumulate, compress, islice
+from itertools import accumulate, islice
 from typing import Callable, Dict, Iterator, List, Optional, Sequence, Tuple
 
 from ..errors import ProgramError
@@ -17,11 +17,16 @@ from ..program import Process
 from ..sources import Input
 from ..texts import ITEM, OFFSET, OPCODE, READONLY
 
-__all__ = ['CUT', 'Line', 'Lines', 'OpcodeLines', 'add_items', 'read_all', 'shown_code', 'silent']
+__all__ = ['CUT', 'Line', 'Lines', 'OpcodeLines', 'add_items', 'cut_text', 'line_of', 'lines_of', 'read_all', 'shown_code', 'silent']
 
 # The most bytes that are kept of a text.
 CUT = 500
 _BLOCK = 1 << 20
+# So many bytes has a line besides texts and the blanks for open marks, and so many all these blanks.
+_MOST_LINE = 100
+_MOST_DEEP = 1 << 28
+# So many bytes are read of `calls`, in which a long name may stand again and again.
+_MOST_CALLS = 1 << 26
 # An input of at most so many bytes is read by three runs of the program at once.
 _MOST_AT_ONCE = 1 << 26
 
@@ -35,6 +40,18 @@ class Line:
     name: str
     argument: str
     marks: int
+
+
+def line_of(line: str) -> Line:
+    """The opcode that a line of a listing shows.
+
+    >>> line_of("   11: c        GLOBAL     'os' 'getcwd'").marks
+    1
+    """
+    match = OPCODE.match(line)
+    assert match is not None
+    offset, code, name, number, argument = match.groups()
+    return Line(int(offset), code, name, number or argument or '', max(0, (match.start(3) - match.end(1) - 7) >> 2))
 
 
 class Lines:
@@ -91,15 +108,17 @@ class OpcodeLines(Lines):
 
     def at(self, place: int) -> Line:
         """The opcode at a place."""
-        match = OPCODE.match(self.raw(place))
-        assert match is not None
-        offset, code, name, number, argument = match.groups()
-        return Line(int(offset), code, name, number or argument or '', max(0, (match.start(3) - match.end(1) - 7) >> 2))
+        return line_of(self.raw(place))
 
     def offset(self, place: int) -> int:
         """The offset of the opcode at a place."""
         start = self.starts[place]
         return int(self.text[start:self.text.index(b':', start)])
+
+    def number_of(self, place: int) -> int:
+        """The number that is the argument of the opcode at a place."""
+        end = self.starts[place + 1] - 1
+        return int(self.text[self.text.rindex(b' ', self.starts[place], end) + 1:end])
 
     def place_of(self, offset: int) -> int:
         """The place of the opcode that holds an offset."""
@@ -151,16 +170,25 @@ class _Cutter:
             del self._head[CUT:last if last > CUT else len(self._head) - _BLOCK]
 
 
-def _cut(line: bytes, dropped: int = 0) -> bytes:
+def _cut(line: bytes, dropped: int = 0, most: int = CUT) -> bytes:
     """A line whose texts are cut. What comes after the last quote is kept, since it is the program's own."""
-    if len(line) + dropped <= CUT:
+    if len(line) + dropped <= most:
         return line
-    if b"'" not in line[:CUT]:
+    if b"'" not in line[:most]:
         return line
     last = line.rindex(b"'")
-    if last <= CUT:
+    if last <= most:
         return line
-    return b"%s .. %d bytes more%s" % (line[:CUT], dropped + last - CUT, line[last:])
+    return b"%s .. %d bytes more%s" % (line[:most], dropped + last - most, line[last:])
+
+
+def cut_text(text: str, most: int) -> str:
+    """A line of the program, with its beginning alone where it has more bytes.
+
+    >>> cut_text("import 'os' 'getcwdgetcwd' as #0", 20)
+    "import 'os' 'getcwdg .. 5 bytes more' as #0"
+    """
+    return _cut(text.encode('ascii'), most=most).decode('ascii') if len(text) > most else text
 
 
 def silent(text: str) -> None:
@@ -175,9 +203,9 @@ def _read(into: Lines, process: Process, told: Callable[[str], None] = silent, w
         told(f'{word}: {len(into):,} lines')
 
 
-def read_all(given: Input, options: Sequence[str] = (), told: Callable[[str], None] = silent) -> 'Tuple[OpcodeLines, Lines, str]':
-    """The lines of `list`, those of `objects` without its closing lines, and the text of `calls`. The program works on all of them at once
-    where the input is not large."""
+def read_all(given: Input, options: Sequence[str] = (), told: Callable[[str], None] = silent) -> 'Tuple[OpcodeLines, Lines, str, bool]':
+    """The lines of `list`, those of `objects` without its closing lines, the text of `calls`, and whether this is only its first lines. The
+    program works on all of them at once where the input is not large."""
     tasks = [['list', *options], ['objects', *options], ['calls', *([] if options else ['--first'])]]
     with contextlib.ExitStack() as running:
         def start(words: List[str]) -> Process:
@@ -186,16 +214,21 @@ def read_all(given: Input, options: Sequence[str] = (), told: Callable[[str], No
             return process
         started = map(start, tasks)  # (it starts each where it is asked for)
         processes = iter(list(started)) if os.stat(given.path).st_size <= _MOST_AT_ONCE else started
-        listing = _read_listing(next(processes), told)
+        listing = _read_listing(next(processes), told, os.stat(given.path).st_size)
         objects = _read_objects(next(processes), told)
         told('calls ..')
-        calls = b''.join(next(processes).blocks()).decode('ascii')
-    return listing, objects, calls
+        calls, is_part = _read_calls(next(processes))
+    return listing, objects, calls, is_part
 
 
-def _read_listing(process: Process, told: Callable[[str], None]) -> OpcodeLines:
+def _read_listing(process: Process, told: Callable[[str], None], size: int) -> OpcodeLines:
     listing = OpcodeLines()
-    _read(listing, process, told, 'list')
+
+    def check(text: str) -> None:
+        if listing.whole > 4 * size + _MOST_LINE * len(listing) + _MOST_DEEP:  # (a byte of a text has up to four letters)
+            raise ProgramError('too many marks are open at once to be shown')
+        told(text)
+    _read(listing, process, check, 'list')
     while len(listing) and not OFFSET.match(listing.raw(len(listing) - 1)):
         listing.closing.insert(0, listing.drop_last())
     if not listing.closing:
@@ -206,6 +239,16 @@ def _read_listing(process: Process, told: Callable[[str], None]) -> OpcodeLines:
         whole.whole, whole.closing = listing.whole, listing.closing
         return whole
     return listing
+
+
+def _read_calls(process: Process) -> Tuple[str, bool]:
+    """The text of `calls`, or its first lines where these are very long, and whether it is cut so."""
+    text = bytearray()
+    for block in process.blocks():
+        text += block
+        if len(text) > _MOST_CALLS:
+            return text[:text.rfind(b'\n') + 1].decode('ascii'), True
+    return text.decode('ascii'), False
 
 
 def add_items(listing: OpcodeLines, given: Input, options: Sequence[str] = ()) -> None:
@@ -250,26 +293,31 @@ MAKE_NONE = frozenset(
     'PROTO FRAME STOP MARK POP POP_MARK DUP PUT BINPUT LONG_BINPUT MEMOIZE GET BINGET LONG_BINGET APPEND APPENDS SETITEM SETITEMS '
     'ADDITEMS BUILD'.split())
 
-# What an opcode makes, by its code as it stands in a line with the blanks behind it: none, an object, or perhaps one.
+# The codes of opcodes, as they stand in a line with the blanks behind them.
+_CODE_OF: Dict[bytes, int] = {f'{shown_code(opcode.code):4}'.encode('ascii'): ord(opcode.code) for opcode in pickletools.opcodes}
+# What an opcode makes, by its code: none, an object, or perhaps one.
 _NONE, _ONE, _PERHAPS = range(3)
-_MAKES: Dict[bytes, int] = {f'{code:4}'.encode('ascii'): _NONE if name in MAKE_NONE else _PERHAPS if name == 'READONLY_BUFFER' else _ONE
-                            for name, code in _CODES.items()}
+_MAKES = bytearray(256)
+for _opcode in pickletools.opcodes:
+    _MAKES[ord(_opcode.code)] = _NONE if _opcode.name in MAKE_NONE else _PERHAPS if _opcode.name == 'READONLY_BUFFER' else _ONE
 _STEP = 256  # places, of which it is known how many are before them
 
 
 class Makers:
-    """Which opcodes make objects, of a listing whose lines come in batches. The objects have their numbers in the order of these."""
+    """Which opcodes make objects, of a listing whose lines come in batches. The objects have their numbers in the order of these. `codes` has
+    the codes of all opcodes."""
 
     def __init__(self) -> None:
+        self.codes = bytearray()
         self._makes = bytearray()  # by the places
         self._sums: List[int] = []
 
     def take(self, lines: List[bytes]) -> None:
         """Takes the next lines of a listing. Those that show no opcode have no place."""
         try:
-            self._makes += bytes(map(_MAKES.__getitem__, _codes_of(lines)))
+            self.codes += bytes(map(_CODE_OF.__getitem__, _codes_of(lines)))
         except KeyError:
-            self._makes += bytes(map(_MAKES.__getitem__, _codes_of([line for line in lines if not line[:1].isalpha()])))
+            self.codes += bytes(map(_CODE_OF.__getitem__, _codes_of([line for line in lines if not line[:1].isalpha()])))
 
     def finish(self, objects: Lines, makes_view: Callable[[int, int], bool]) -> None:
         """Settles what is open when all lines were taken.
@@ -277,7 +325,9 @@ class Makers:
         READONLY_BUFFER makes no object where its own can only be read already. Where some do not, `makes_view` is given the place of each
         and the number that an object would have there, and answers whether it makes one.
         """
-        are_all = self._makes.count(_PERHAPS) == len(READONLY.findall(objects.text))
+        self._makes = self.codes.translate(_MAKES)
+        count = self._makes.count(_PERHAPS)
+        are_all = bool(count) and count == len(READONLY.findall(objects.text))
         number = begin = 0
         for place in _found(self._makes, _PERHAPS):
             number += self._makes.count(_ONE, begin, place)
@@ -287,6 +337,10 @@ class Makers:
 
     def __len__(self) -> int:
         return self._sums[-1] if self._sums else 0
+
+    def makes(self, place: int) -> bool:
+        """Whether the opcode at a place makes an object."""
+        return self._makes[place] == _ONE
 
     def before(self, place: int) -> int:
         """How many objects are made before a place."""
@@ -298,10 +352,6 @@ class Makers:
         step = bisect_right(self._sums, number)
         left = number - (self._sums[step - 1] if step else 0)
         return next(islice(_found(self._makes, _ONE, step * _STEP), left, None))
-
-    def places(self) -> 'array[int]':
-        """The places of all of them."""
-        return array('Q', compress(range(len(self._makes)), self._makes))
 
 
 def _found(data: bytearray, byte: int, begin: int = 0) -> Iterator[int]:

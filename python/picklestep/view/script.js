@@ -79,7 +79,8 @@ function showHeader(state) {
   by('where').textContent = `at ${state.place} of ${state.places}, offset ${state.offset}, end ${state.end}` +
     (state.results.length ? ', result ' + state.results.map((number) => '#' + number).join(' ') : '') +
     (state.results_before ? ` after ${state.results_before} others` : '');
-  by('reached').textContent = `imports ${state.imports[0]} of ${state.imports[1]}, calls ${state.calls[0]} of ${state.calls[1]}`;
+  by('reached').textContent = `imports ${state.imports[0]} of ${state.imports[1]}, calls ${state.calls[0]} of ${state.calls[1]}` +
+    (state.unknown ? ` in this part: ${state.unknown}` : '');
   by('closing').textContent = state.closing.join('; ');
   by('read-on').hidden = !state.closing.some((line) => line.startsWith('kept: '));
   by('edit').disabled = by('save').disabled = Boolean(state.part);
@@ -108,6 +109,7 @@ async function find(text) {
 async function openEdit(what) {
   by('edit-what').value = what || 'replace';
   by('edit-place').value = view.selected;
+  by('edit-count').value = 1;
   by('edit-error').textContent = '';
   by('edit-dialog').showModal();
   by('edit-name').focus();
@@ -216,7 +218,7 @@ function turn(name, count) {
 
 function wire() {
   const clicks = {
-    home: KEYS.Home, back: KEYS.ArrowLeft, step: KEYS.ArrowRight, run: KEYS[' '], end: KEYS.End, previous: KEYS.p, next: KEYS.n, undo: KEYS.u,
+    home: KEYS.Home, back: KEYS.ArrowLeft, step: KEYS.ArrowRight, run: KEYS[' '], end: KEYS.End, there: LIST_KEYS.Enter, previous: KEYS.p, next: KEYS.n, undo: KEYS.u,
     redo: KEYS.r, edit: KEYS.e, save: KEYS.s, help: KEYS['?'], 'read-on': () => command('again', { many: true }),
     'objects-back': () => turn('objects', -PAGE), 'objects-on': () => turn('objects', PAGE),
     'reaches-back': () => turn('reaches', -PAGE), 'reaches-on': () => turn('reaches', PAGE),

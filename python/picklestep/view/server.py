@@ -243,6 +243,7 @@ def _edit(document: Document, asked: Fields) -> Fields:
 _ANSWERS: Dict[str, Callable[[Document, Fields], Fields]] = {
     'open': _open, 'lines': _lines, 'objects': _objects, 'briefs': _briefs, 'move': _move, 'find': _find, 'edit': _edit,
     'holds': lambda document, asked: document.holds(_number(asked, 'number')),
+    'effect': lambda document, asked: document.effect(),
     'about': lambda document, asked: document.about(_number(asked, 'number')),
     'reached': lambda document, asked: {'reached': document.reached(_number(asked, 'start'), _number(asked, 'count'))},
     'source': lambda document, asked: document.source(),

@@ -2,13 +2,15 @@
 // Stack, memo and objects, what is imported and called, the result, and what the page says about an opcode and an object.
 
 const PAGE = 200;
+const MOST_DEEP_STACK = 20000; // words of a stack, above which it is not asked for once more at each step
+const MOST_HERE = 28; // letters of an object in About
 
 const numbersIn = (words) => words.map((word) => /#([0-9]+)$/.exec(word)).filter(Boolean).map((match) => Number(match[1]));
 const described = (thing) => (thing ? shownObject(thing[0], thing[1]) : '');
 
 async function things() {
   const state = view.state;
-  const numbers = [...numbersIn([...state.stack.words, ...state.memo.words]).slice(-490), ...state.results];
+  const numbers = [...new Set([...numbersIn([...state.stack.words, ...state.memo.words]), ...state.results])];
   const [named, made] = await Promise.all([ask('briefs', { numbers }), ask('objects', { start: view.objects, count: PAGE }), reaches()]);
   if (state !== view.state || !named.briefs || !made.objects) return;
   const stack = state.stack.words.map((word) => word[0] === '(' ? mark(word.slice(1)) : item('', Number(word.slice(1)), described(named.briefs[word.slice(1)])));
@@ -40,7 +42,7 @@ async function showSource() {
 
 // What is imported and called: asked for again only where it may be other than before. What is before the cursor is done.
 async function reaches() {
-  const state = view.state, key = `${state.version} ${view.reaches}`;
+  const state = view.state, key = [state.version, state.reaches, state.unknown, view.reaches].join(' ');
   if (view.reachesShown !== key) {
     const answer = await ask('reached', { start: view.reaches, count: PAGE });
     if (state !== view.state || !answer.reached) return;
@@ -68,10 +70,10 @@ function showReaches(reached) {
     button.append(element('span', 'key', `${offset} `), document.createTextNode((kind === 'import' ? 'import ' : '') + reachOfRow(text)));
     button.dataset.place = place;
     button.title = button.textContent;
-    button.addEventListener('click', () => select(place));
+    button.addEventListener('click', () => (place === null ? say(`offset ${offset} is not read: it cannot be shown`, true) : select(place)));
     made.append(button);
     return made;
-  }));
+  }), state.unknown && [state.unknown, 'after']);
   by('reaches-shown').textContent = reached.length ? `${view.reaches + 1} to ${last} of ${state.reaches}` : '';
   by('reaches-back').disabled = view.reaches === 0;
   by('reaches-on').disabled = last >= state.reaches;
@@ -161,7 +163,8 @@ async function reveal(number) {
 // What the selected opcode does, takes and makes.
 function explain() {
   const line = lineAt(view.selected), state = view.state;
-  const key = line && state.places ? `${view.selected} ${line[2]} ${line[8]}` : '';
+  const isAt = view.selected === state.place && state.stack.more < MOST_DEEP_STACK;
+  const key = line && state.places ? [state.version, view.selected, isAt, line[2], line[8]].join(' ') : '';
   if (by('opcode').dataset.key === key) return;
   by('opcode').dataset.key = key;
   if (!key) { by('opcode').replaceChildren(); return; }
@@ -170,8 +173,23 @@ function explain() {
   first.append(element('span', 'word', line[2]), document.createTextNode(` ${says}`));
   const effect = element('p', 'effect');
   effect.append(element('span', 'key', 'stack: '), takes || 'nothing', element('span', 'key', ' → '), leaves || 'nothing');
-  by('opcode').replaceChildren(first, effect, ...(line[8] ? [element('p', 'reach', '→ ' + reachOfRow(line[8]))] : []));
+  const here = isAt ? [element('p', 'effect', 'here: ..')] : [];
+  by('opcode').replaceChildren(first, effect, ...here, ...(line[8] ? [element('p', 'reach', '→ ' + reachOfRow(line[8]))] : []));
+  if (isAt) showEffect(here[0], key);
 }
+
+// What the opcode at the cursor takes from the stack as it is, and what it leaves there.
+async function showEffect(into, key) {
+  const answer = await ask('effect');
+  if (by('opcode').dataset.key !== key) return;
+  if (answer.refused) into.textContent = `here: refused, ${answer.refused}`;
+  else if (answer.before) into.replaceChildren(element('span', 'key', 'here: '), shownTop(answer.before), element('span', 'key', ' → '), shownTop(answer.after));
+  else into.remove();
+}
+
+const cutShort = (text) => (text.length > MOST_HERE ? text.slice(0, MOST_HERE) + '..' : text);
+const shownTop = ({ things, more }) => [...(more ? [`${more} more`] : []),
+  ...things.map(([word, ...thing]) => (word[0] === '(' ? 'mark' : cutShort(`${word} ${described(thing)}`)))].join(', ') || 'nothing';
 
 // Which opcode made an object, and where else it is.
 async function point(number) {

@@ -55,8 +55,8 @@ def _told(reader: Reader, target: Made) -> Dict[str, Any]:
     if not isinstance(target.state, PDict) or target.arguments != ():
         reader.fail('an array whose state is no dictionary')
     told = target.state.by_text()
-    is_whole = _KEYS <= set(told) <= _KEYS | {_ALIGNMENT} and target.state.count == 2 * len(told)
-    if not is_whole or told['order'] not in ('C', 'F') or type(told['allow_mmap']) is not bool or told['subclass'] not in _SUBCLASSES:
+    has_all = _KEYS <= set(told) <= _KEYS | {_ALIGNMENT} and target.state.is_whole and len(target.state) == 2 * len(told)
+    if not has_all or told['order'] not in ('C', 'F') or type(told['allow_mmap']) is not bool or told['subclass'] not in _SUBCLASSES:
         reader.fail('an array with another state than joblib gives it')
     return told
 

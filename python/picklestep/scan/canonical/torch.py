@@ -104,9 +104,9 @@ def legacy(blob: Blob, budget: Optional[Budget] = None) -> Rows:
     require(isinstance(system, PDict) and set(system.by_text()) == _SYSTEM, 'the third pickle does not describe a system')
     require(not any(pickles[index].imports for index in (0, 1, 2, 4)), 'an import in another pickle than the fourth')
     sizes = _storages(pickles[3], 6)
-    if not isinstance(keys, PList) or len(keys.items) != keys.count:
+    if not isinstance(keys, PList) or not keys.is_whole:
         wrong('the fifth pickle is no list')
-    names = [_text(name) for name in keys.items]
+    names = [_text(name) for name in keys]
     require(len(set(names)) == len(names) and set(names) == set(sizes), 'the fifth pickle does not name the storages')
     raw: List[Tuple[int, int]] = []
     for name in names:

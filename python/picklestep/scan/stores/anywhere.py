@@ -15,7 +15,7 @@ from typing import Iterator, Optional, Set, Tuple
 from ..blobs import Blob, LimitMet
 from .walk import MOST, Walk, walk
 
-__all__ = ['candidates']
+__all__ = ['BEGINS_PICKLE', 'candidates', 'may_end_text', 'may_have_candidates']
 
 # The bytes are read in such windows, each with this much of the next.
 _WINDOW = 4 << 20
@@ -23,7 +23,8 @@ _OVERLAP = 64 << 10
 # A candidate that does not end within the overlap is read up to this size.
 _MOST_BYTES = 64 << 20
 
-_PROTO = re.compile(rb'\x80[\x02-\x05][(-Z\]a-u}\x80-\x98]')
+# PROTO, and an opcode.
+BEGINS_PICKLE = re.compile(rb'\x80[\x02-\x05][(-Z\]a-u}\x80-\x98]')
 # The second line of GLOBAL and INST, and an opcode after it. What begins at a newline is found in linear time, however long the lines are.
 _SECOND_LINE = re.compile(rb'\n(?=[A-Za-z_][A-Za-z0-9_.]{0,255}\n[(-Z\]a-u}\x80-\x98])')
 _MOST_OF_LINE = 256
@@ -73,6 +74,22 @@ def candidates(blob: Blob) -> Iterator[Tuple[int, bytes]]:
         start += _WINDOW
 
 
+def may_have_candidates(content: bytes) -> bool:
+    """Whether one of the three places may be in these bytes: a quick test of a few, which never says no too often.
+
+    >>> may_have_candidates(b'cos\\nsystem\\n)R.'), may_have_candidates(bytes(range(32, 64)))
+    (True, False)
+    """
+    if BEGINS_PICKLE.search(content) or _SECOND_LINE.search(content):
+        return True
+    at = content.find(b'\x93')
+    while at >= 0:
+        if may_end_text(content, at):
+            return True
+        at = content.find(b'\x93', at + 1)
+    return False
+
+
 class _Search:
     """Goes through windows, and counts the opcodes that it has gone over."""
 
@@ -92,13 +109,13 @@ class _Search:
     def anchors(self, window: bytes, end: int) -> Iterator[int]:
         """Where PROTO, GLOBAL and INST are, and the first text of a STACK_GLOBAL."""
         self.dead = set()
-        for match in _PROTO.finditer(window, 0, min(len(window), end + 2)):
+        for match in BEGINS_PICKLE.finditer(window, 0, min(len(window), end + 2)):
             yield match.start()
         for match in _SECOND_LINE.finditer(window, 0, end):
             yield from _global_lines(window, match.start())
         at = window.find(b'\x93', 0, end)
         while at >= 0:
-            if _may_end_text(window, at):
+            if may_end_text(window, at):
                 yield from self._texts_before(window, at)
             at = window.find(b'\x93', at + 1, end)
 
@@ -155,7 +172,7 @@ def _global_lines(window: bytes, newline: int) -> Iterator[int]:
             return
 
 
-def _may_end_text(window: bytes, at: int) -> bool:
+def may_end_text(window: bytes, at: int) -> bool:
     """Whether a text (or one out of the memo) may end before this place, perhaps with an opcode between that keeps it in the memo."""
     end = at
     if at > 2 and window[at - 1] == 0x94:

@@ -22,7 +22,7 @@ from .walk import stops_at_end
 __all__ = ['MOST_BYTES', 'MOST_PICKLES', 'NOTHING', 'answers']
 
 # So many pickles, and bytes of them, are asked about at once.
-MOST_PICKLES = 2048
+MOST_PICKLES = 4096
 MOST_BYTES = 4 << 20
 
 # An answer about them that is longer is not read to its end: each is asked about alone.

@@ -16,13 +16,18 @@ __all__ = ['SERVER', 'MysqlServer']
 _BYTES = ('tinyblob', 'blob', 'mediumblob', 'longblob', 'binary', 'varbinary')
 _TEXTS = ('tinytext', 'text', 'mediumtext', 'longtext', 'char', 'varchar', 'json')
 
-# A primary key of one of these is gone over in ranges. A task has rows of about so many bytes, and a table so many tasks at most.
+# By a column of one of these that has an index, the rows of a table are handed out in parts. A task has rows of about so many bytes, and a
+# table so many tasks at most.
 _NUMBERS = ('tinyint', 'smallint', 'mediumint', 'int', 'bigint')
+_OTHERS = ('char', 'varchar', 'binary', 'varbinary', 'decimal', 'date', 'datetime', 'timestamp')
 _BYTES_OF_TASK = 16 << 20
 _MOST_TASKS = 10_000
 
 _COLUMNS = """
-    SELECT c.table_schema, c.table_name, c.column_name, c.data_type, c.column_key, t.data_length
+    SELECT c.table_schema, c.table_name, c.column_name, c.data_type, c.column_key, t.data_length, t.table_rows,
+           EXISTS (SELECT * FROM information_schema.statistics s WHERE s.table_schema = c.table_schema AND s.table_name = c.table_name
+                   AND s.column_name = c.column_name AND s.seq_in_index = 1 AND s.sub_part IS NULL AND s.index_type = 'BTREE'
+                   AND c.is_nullable = 'NO')
     FROM information_schema.columns c JOIN information_schema.tables t ON t.table_schema = c.table_schema AND t.table_name = c.table_name
     WHERE t.table_type = 'BASE TABLE' AND c.table_schema = COALESCE(DATABASE(), c.table_schema)
       AND c.table_schema NOT IN ('mysql', 'information_schema', 'performance_schema', 'sys')
@@ -31,17 +36,23 @@ _COLUMNS = """
 
 @dataclass
 class _Found:
-    """What is known of a table: how many bytes its rows have, by what the server reckons, and whether its key is one number."""
+    """What is known of a table: how many bytes and rows it has, by what the server reckons, and by which columns its rows can be handed out."""
 
     size: int
+    rows: int
     columns: List[Column] = field(default_factory=list)
     keys: List[str] = field(default_factory=list)
-    has_number: bool = False
+    orders: Dict[str, str] = field(default_factory=dict)  # (their types)
 
     def table(self, schema: str, name: str) -> Table:
-        """The table of this name. Without a size its rows are one task."""
-        size = self.size if self.has_number and len(self.keys) == 1 else 0
-        return Table(schema, name, tuple(self.columns), tuple(self.keys), size)
+        """The table of this name. Its own key is the best order: the rows lie so."""
+        orders = sorted(self.orders, key=lambda each: each not in self.keys)
+        tasks = min(_MOST_TASKS, 1 + self.size // _BYTES_OF_TASK)
+        is_number = bool(orders) and self.keys == orders[:1] and self.orders[orders[0]] in _NUMBERS
+        # (values of one number are spread evenly enough; with others it is asked where so many rows end)
+        rows = 0 if is_number or tasks < 2 else max(1, self.rows // tasks)
+        order = Column(orders[0], self.orders[orders[0]] in _TEXTS) if orders and tasks > 1 else None
+        return Table(schema, name, tuple(self.columns), tuple(self.keys), self.size, order, rows)
 
 
 class MysqlServer(SqlServer):
@@ -69,29 +80,47 @@ class MysqlServer(SqlServer):
         found: Dict[Tuple[str, str], _Found] = {}
         for row in self.all_of(_COLUMNS):
             schema, name, column, kind, key = (_text(each) for each in row[:5])
-            each = found.setdefault((schema, name), _Found(int(row[5] or 0)))
+            each = found.setdefault((schema, name), _Found(int(row[5] or 0), int(row[6] or 0)))
             if kind in _BYTES + _TEXTS:
                 each.columns.append(Column(column, kind in _TEXTS))
             if key == 'PRI':
                 each.keys.append(column)
-                each.has_number = kind in _NUMBERS
+            if row[7] and kind in _NUMBERS + _OTHERS:
+                each.orders[column] = kind
         return [each.table(*name) for name, each in found.items() if each.columns]
 
     def rows_of(self, table: Table) -> Iterator[Rows]:
-        """The rows in ranges of their primary key, where that is one number."""
+        """The rows in ranges of a column that has an index. A table without such a column is one task."""
+        begin = None
+        if table.order is not None:
+            # (the first and the last task have what came meanwhile, too)
+            for end in self._steps(table, table.order) if table.rows else self._numbers(table, table.order):
+                yield Rows(table, begin, end)
+                begin = end
+        yield Rows(table, begin)
+
+    def _numbers(self, table: Table, order: Column) -> Iterator[int]:
+        """Numbers at which ranges of the key end."""
         count = min(_MOST_TASKS, 1 + table.size // _BYTES_OF_TASK)
-        least = most = None
-        if count > 1:
-            key = _quoted(table.keys[0])
+        with self.named():
+            (least, most), = self.all_of(f'SELECT MIN({_quoted(order.name)}), MAX({_quoted(order.name)}) FROM {_place_of(table)}')
+        if least is not None and most is not None:
+            yield from sorted({int(least) + (int(most) - int(least)) * number // count for number in range(1, count)})
+
+    def _steps(self, table: Table, order: Column) -> Iterator[Any]:
+        """Values at which so many rows end, by the index."""
+        name = _quoted(order.name)
+        value: Any = None
+        while True:
+            where = f'WHERE {name} > %s ' if value is not None else ''
             with self.named():
-                (least, most), = self.all_of(f'SELECT MIN({key}), MAX({key}) FROM {_place_of(table)}')
-        if least is None or most is None:
-            yield Rows(table)
-            return
-        bounds = sorted({int(least) + (int(most) - int(least)) * number // count for number in range(1, count)})
-        # (the first and the last task have what came meanwhile, too)
-        for begin, end in zip([None, *bounds], [*bounds, None]):
-            yield Rows(table, begin, end)
+                found = super().all_of(f'SELECT {name} FROM {_place_of(table)} {where}ORDER BY {name} LIMIT 1 OFFSET {table.rows}',
+                                       [] if value is None else [value])
+            if not found:
+                return
+            # (as bytes a text would be compared in another order than that of the index)
+            value = found[0][0].decode('utf-8', 'surrogateescape') if order.is_text and isinstance(found[0][0], bytes) else found[0][0]
+            yield value
 
     def query(self, rows: Rows) -> Tuple[str, List[Any]]:
         table = rows.table
@@ -102,8 +131,10 @@ class MysqlServer(SqlServer):
         for column in table.columns:
             value = _quoted(column.name)
             words += [f'CASE WHEN LENGTH({value}) <= {most} THEN {value} END', f'LENGTH({value})']
-        bounds = [f'{_quoted(table.keys[0])} {sign} {bound}' for sign, bound in (('>=', rows.begin), ('<', rows.end)) if bound is not None]
-        return f'SELECT {", ".join(words)} FROM {_place_of(table)}{" WHERE " if bounds else ""}{" AND ".join(bounds)}', []
+        bounds = [(sign, bound) for sign, bound in (('>=', rows.begin), ('<', rows.end)) if bound is not None]
+        order = _quoted(table.order.name) if table.order is not None else ''
+        where = ' AND '.join(f'{order} {sign} %s' for sign, _ in bounds)
+        return f'SELECT {", ".join(words)} FROM {_place_of(table)}{" WHERE " if where else ""}{where}', [bound for _, bound in bounds]
 
     def part_query(self, table: Table, column: Column) -> str:
         value = f'CAST({_quoted(column.name)} AS BINARY)'

@@ -7,7 +7,7 @@ from __future__ import annotations
 
 import re
 from contextlib import closing, contextmanager, nullcontext
-from dataclasses import dataclass
+from dataclasses import dataclass, replace
 from fnmatch import fnmatchcase
 from typing import Any, ContextManager, Iterator, List, Optional, Tuple, Type
 
@@ -39,22 +39,27 @@ class Column:
 
 @dataclass(frozen=True)
 class Table:
-    """A table with its columns of bytes or text, and those by which a row is named. `size` is in the server's own measure."""
+    """A table with its columns of bytes or text, and those by which a row is named. `size` is in the server's own measure.
+
+    `order` is a column by whose values its rows can be handed out in parts, each with about so many `rows`, where there is one.
+    """
 
     schema: str
     name: str
     columns: Tuple[Column, ...]
     keys: Tuple[str, ...]
     size: int
+    order: Optional[Column] = None
+    rows: int = 0
 
 
 @dataclass(frozen=True)
 class Rows:
-    """Some rows of a table: from one place on up to another, or all."""
+    """Some rows of a table: from one place (or value of its `order`) on up to another, or all."""
 
     table: Table
-    begin: Optional[int] = None
-    end: Optional[int] = None
+    begin: Any = None
+    end: Any = None
 
 
 class SqlServer(Server):
@@ -132,7 +137,7 @@ class SqlServer(Server):
                 continue
             found = True
             if wanted.match is None or fnmatchcase(table.name, wanted.match):
-                for rows in self.rows_of(Table(table.schema, table.name, columns, table.keys, table.size)):
+                for rows in self.rows_of(replace(table, columns=columns)):
                     yield (rows, wanted.sample)
         if not found and asked:
             raise NoServer('there is no such table with such a column of bytes or text')

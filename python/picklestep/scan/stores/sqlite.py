@@ -172,12 +172,13 @@ class _Table:
     def look(self, values: Values, where: Place, depth: int) -> None:
         """Looks at each value that is bytes or text."""
         read = 0
+        names = [f'{self.name}.{column} row ' for column in self.columns]
         for count, row in enumerate(self._rows(), 1):
             number = count if self.number is None else row[0]
-            for column, value in zip(self.columns, row[1:]):
+            for name, column, value in zip(names, self.columns, row[1:]):
                 if value is None:
                     continue
-                place = where + (f'{self.name}.{column} row {number}',)
+                place = (*where, name + str(number))
                 if isinstance(value, bytes):
                     read += len(value)
                     values.add(value, place, depth + 1)

@@ -16,8 +16,10 @@ from ..reading import Summary
 from ..results import Place
 from . import anywhere
 from .asking import MOST_BYTES, MOST_PICKLES, NOTHING, answers
-from .encodings import decoded, prefixes
+from .encodings import UNFINISHED, decoded, is_word
 from .framed import framing_of
+from .long_texts import LongText
+from .telling import prefixes
 from .walk import is_opcode, stops_at_end, walk
 
 if TYPE_CHECKING:
@@ -27,6 +29,9 @@ __all__ = ['SMALL', 'Values', 'key_name']
 
 # Values up to this size, packed or not, are looked at in memory; larger ones as files are.
 SMALL = 8 << 20
+
+# Texts are looked at in windows of this size, each with so much of the next. What is longer and goes on is decoded piece by piece.
+_OVERLAP = 128 << 10
 
 # All values together may be unpacked to so many times their size.
 _MOST_TIMES = 100
@@ -131,11 +136,11 @@ class Values:
             self._nothing.add((content, depth))
 
     def _is_quick(self, content: bytes, where: Place, depth: int) -> bool:
-        """Takes a value that begins and ends as a pickle: the program says whether it is one. Takes a short one that held nothing before.
+        """Takes a value that begins and ends as a pickle: the program says whether it is one. Takes a short one that holds nothing.
 
         Raises LimitMet as `begin`.
         """
-        if len(content) <= _SHORT and (content, depth) in self._nothing:
+        if len(content) <= _SHORT and content and ((content, depth) in self._nothing or is_word(content)):
             is_pickle = False
         elif self._trusts and content[:1] == b'\x80' and content[-1] == _STOP and content[1] <= 5 and content[_TAR:_TAR + 5] != b'ustar':
             is_pickle = True
@@ -161,6 +166,8 @@ class Values:
         found, others = len(self.looker.pickles), self.looker.others
         try:
             self.looker.look_at(blob, where, (), depth)
+            if len(self.looker.pickles) == found and not self.looker.options.everywhere:
+                self.look_at_texts(blob, where, depth)
         except LimitMet as limit:
             self._met(limit)
         if len(self.looker.pickles) > found:
@@ -369,10 +376,29 @@ class Values:
 
     def look_at_texts(self, blob: Blob, where: Place, depth: int) -> None:
         """Looks at what texts in these bytes stand for."""
-        for start in range(0, blob.size, SMALL):
-            for offset, name, inner in decoded(blob.read(start, SMALL + (SMALL >> 3))):
-                if offset < SMALL:
+        start = 0
+        while start < blob.size:
+            window = blob.read(start, SMALL + _OVERLAP)
+            following = start + SMALL
+            for offset, name, inner in decoded(window, start + len(window) < blob.size):
+                if offset >= SMALL or start + offset < following - SMALL:
+                    continue
+                if name != UNFINISHED:
                     self._look(inner, where + (f'({name} at {start + offset})',), depth + 1, guessed=True)
+                else:
+                    following = max(following, self._look_at_long(blob, start + offset, where, depth))
+            start = following
+
+    def _look_at_long(self, blob: Blob, at: int, where: Place, depth: int) -> int:
+        """Looks at what a long text stands for, and answers where it ends."""
+        text = LongText(blob, at)
+        if depth < self.looker.options.limits.depth:
+            before = len(self.looker.pickles), self.looker.others
+            self.looker.look_at_pieces(text.pieces(), where + (f'({text.name} at {at})',), depth + 1)
+            if len(self.looker.pickles) > before[0]:
+                self._found.add(self.count)
+            self.looker.others = before[1]
+        return text.end
 
     def look_everywhere(self, blob: Blob, where: Place, shift: int = 0) -> bool:
         """Looks at each offset at which a pickle may begin."""

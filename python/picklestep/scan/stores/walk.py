@@ -10,7 +10,7 @@ import pickletools
 import re
 from typing import List, Optional, Set, Tuple
 
-__all__ = ['MOST', 'Walk', 'is_opcode', 'stops_at_end', 'walk']
+__all__ = ['MOST', 'Walk', 'is_opcode', 'may_begin', 'stops_at_end', 'walk']
 
 _PAIR, _LINE, _ONE, _FOUR, _EIGHT, _UNKNOWN = -1, -2, -3, -4, -5, -6
 
@@ -78,6 +78,15 @@ def is_opcode(byte: int) -> bool:
     return _STEPS[byte] != _UNKNOWN
 
 
+def may_begin(byte: int) -> bool:
+    """Whether a byte is an opcode that takes nothing from the stack, as the first one of a pickle.
+
+    >>> may_begin(ord('N')), may_begin(ord('R'))
+    (True, False)
+    """
+    return is_opcode(byte) and not _NEEDS[byte][0] and not _NEEDS[byte][1]
+
+
 def stops_at_end(content: bytes) -> bool:
     """Whether opcodes follow one another up to the last byte, and that is a STOP: one pickle or several, and nothing else.
 
@@ -107,7 +116,8 @@ class Walk:
     """How far a loader may go from a place on.
 
     `end` is where it ends: behind a STOP if `stops`. `imports` and `calls` say what it comes to. `lacks` says that an opcode takes more
-    from the stack than the walk has put there, so that the pickle, if it is one, begins before; `goes_on`, that it met its limit.
+    from the stack than the walk has put there, so that the pickle, if it is one, begins before; `goes_on`, that it met its limit. `needs` is
+    how many bytes there must be for the opcode whose argument reaches out of them, or 0.
     """
 
     def __init__(self) -> None:
@@ -118,6 +128,7 @@ class Walk:
         self.is_called = False
         self.lacks = False
         self.goes_on = False
+        self.needs = 0
         self.opcodes = 0
 
     @property
@@ -162,6 +173,7 @@ def walk(content: bytes, at: int, until: Optional[int] = None, most: int = MOST,
         if step < 0:
             step = _variable(content, at, step)
         if step <= 0 or at + step > size:
+            found.needs = at + step if step > 0 else size + 1 if _STEPS[code] in (_PAIR, _LINE) else 0
             break
         depth = _depth_after(code, depth, marks)
         if depth < 0:

@@ -9,12 +9,17 @@ const MOST_PARTS = 500;
 const MOST_ENTRIES = 500;
 const MOST_HOLDERS = 20;
 const MOST_RESULTS = 5;
+const MOST_TOP = 6;
+const MOST_BRIEFS = 2 * MOST_ENTRIES + MOST_RESULTS; // of a stack, a memo and results
 const MOST_ARGUMENT = 1 << 16;
 const MOST_SOURCE = 1000000; // opcodes of a pickle that is written as Python source,
 const MOST_SOURCE_BYTES = 1 << 26; // and its bytes,
 const MOST_SOURCE_LINES = 1000; // of which so many lines are shown
 const MOST_FIRST = 300000; // opcodes that are shown while the rest is read (or up to the last frame that is whole in them),
 const MOST_READ = 8000000; // where these are not more
+const MOST_LINE = 100; // bytes of a line besides texts and the blanks for open marks,
+const MOST_DEEP = 1 << 28; // and of all these blanks
+const MOST_CALLS = 1 << 26; // bytes that are read of `calls`, in which a long name may stand again and again
 const SHIFTS = { replace: 0, insert: 1, delete: -1, frame: 1, unframe: -1 };
 const HOW = { '+': 'append', '&': 'add', '!': 'state', '[': 'key', '=': 'value' };
 
@@ -22,48 +27,80 @@ let versions = 0; // (of all documents, so that the page never shows the lines o
 
 // That a listing has as many lines as are wanted. `offset` is that of the next opcode.
 class Enough extends Error {
-  constructor(lines, most) {
-    super(`more than ${most.toLocaleString('en')} opcodes are not read here (picklestep view shows them)`);
+  constructor(said, lines, most) {
+    super(said);
+    this.most = most;
     let at = most;
     while (at > 0 && !/^ *\d+: /.test(lines.raw(at))) at -= 1; // (what a STOP left has a line too)
     this.offset = lines.offset(at);
   }
 }
 
+class TooLong extends Error {}
+
 class Document {
   // Opens a pickle. Where it has many opcodes, only the first of them are opened unless it is `isWhole`: the document is a part.
-  static async open({ module, opcodes, facts, isLive }, file, name, many, isWhole, progress) {
-    const document = new Document();
-    const options = many ? ['--many'] : [];
-    Object.assign(document, { module, opcodes, facts, name, options, progress, breaks: new Set(), edits: [], undone: [], version: 0, place: 0 });
+  static async open(program, file, name, many, isWhole, progress, reaches) {
+    const document = Document.of(program, file, many, progress), { module, isLive } = program;
+    Object.assign(document, { name, reaches, breaks: new Set(), edits: [], undone: [], version: 0, place: 0 });
     progress('opening');
-    document.content = file;
     document.lines = isWhole ? document.list(MOST_READ) : document.listFirst();
     document.isPart = document.content.length < file.length;
+    document.unknown = document.isPart ? 'what the rest imports and calls is not known yet' : '';
     progress('debug: reading the opcodes');
     document.session = await Session.open(module, document.content, many, isLive);
     await document.read().catch((error) => { document.session.close(); throw error; });
     document.pickle = document.version; // (its edits have others)
-    if (document.isPart) document.lines.closing = [`the first ${document.lines.length.toLocaleString('en')} opcodes: the rest is not read`];
+    if (document.isPart) document.lines.closing = [document.said()];
     return document;
   }
 
+  static of({ module, opcodes, facts }, content, many, progress) {
+    return Object.assign(new Document(), { module, opcodes, facts, content, options: many ? ['--many'] : [], progress });
+  }
+
+  // What the whole of a pickle imports and calls.
+  static reachesOf(program, content, many, progress) {
+    progress('calls');
+    return Document.of(program, content, many, progress).readReaches();
+  }
+
+  said() {
+    return `the first ${this.lines.length.toLocaleString('en')} opcodes: the rest is not read`;
+  }
+
+  // Takes what the whole of the pickle imports and calls, of which this is a part; or why that is not known.
+  takeReaches(reaches, why) {
+    if (!this.unknown) return;
+    this.unknown = reaches ? '' : `what the rest imports and calls is not known: ${why}`;
+    if (!reaches) return;
+    this.reaches = reaches;
+    this.lines.closing = [this.said(), ...reaches.behind];
+  }
+
   list(most = Infinity) {
-    return readListing((words, into) => this.run(words, into, most), this.options);
+    const least = 4 * this.content.length + MOST_DEEP; // (a byte of a text has up to four letters)
+    const check = (lines) => {
+      if (lines.length > most) throw new Enough(`more than ${most.toLocaleString('en')} opcodes are not read here (picklestep view shows them)`, lines, most);
+      if (lines.whole > least + MOST_LINE * lines.length) throw new Enough('too many marks are open at once to be shown', lines, Math.floor(0.7 * lines.length));
+    };
+    return readListing((words, into) => this.run(words, into, check), this.options);
   }
 
   // The listing. Where it has more lines than are shown first, what is behind these is taken off the bytes, unless a frame holds all of them:
   // there is no reading on to the cut within a frame.
   listFirst() {
     const whole = this.content;
+    let most = 0;
     try {
       return this.list(MOST_FIRST);
     } catch (error) {
       if (!(error instanceof Enough)) throw error;
       this.content = whole.slice(0, error.offset);
+      most = error.most;
     }
     const first = this.list();
-    if (first.length > MOST_FIRST / 2) return first;
+    if (first.length > most / 2) return first;
     this.content = whole;
     return this.list(MOST_READ);
   }
@@ -79,9 +116,7 @@ class Document {
     this.listed = this.lines.length;
     if (this.listed < places) await this.readItems();
     this.final = readObjects((words, into) => this.run(words, into), this.options);
-    const calls = new Lines(Infinity);
-    this.run(['calls', ...(this.options.length ? [] : ['--first'])], calls);
-    this.reaches = new Reaches(calls);
+    if (this.version || !this.reaches) this.reaches = this.readReaches();
     this.lines.closing.push(...this.reaches.behind);
     await this.findMakers();
     await this.session.ask(`goto ${place}`);
@@ -91,12 +126,25 @@ class Document {
     if (this.hasBreaks) this.breaks = new Set([...(await this.session.ask('items')).matchAll(/^[> ]\* *(\d+) /gm)].map((match) => Number(match[1])));
   }
 
-  // Runs a task over the pickle as it is, and says how far it is.
-  run(words, into, most = Infinity) {
+  // What is imported and called; of very long lines only the first are read.
+  readReaches() {
+    const calls = new Lines(Infinity);
+    const check = ({ whole }) => { if (whole > MOST_CALLS) throw new TooLong(); };
+    try {
+      this.run(['calls', ...(this.options.length ? [] : ['--first'])], calls, check);
+    } catch (error) {
+      if (!(error instanceof TooLong)) throw error;
+      return new Reaches(calls, true);
+    }
+    return new Reaches(calls, false);
+  }
+
+  // Runs a task over the pickle as it is, and says how far it is. `check` may throw to end it.
+  run(words, into, check = () => {}) {
     let told = 0;
     runTask(this.module, [words[0], 'file', ...words.slice(1)], this.content, (bytes) => {
       into.feed(bytes);
-      if (into.length > most) throw new Enough(into, most);
+      check(into);
       if (into.length - told < 200000) return;
       told = into.length;
       this.progress(`${words[0]}: ${told.toLocaleString('en')} lines`);
@@ -162,8 +210,8 @@ class Document {
     return {
       version: this.version, name: this.name, place: where.place, places: where.places, offset: where.offset,
       results: where.results.slice(-MOST_RESULTS), results_before: Math.max(0, where.results.length - MOST_RESULTS), end: this.isPart ? 'not read yet' : where.end,
-      imports: [imports, this.reaches.counts[0]], calls: [calls, this.reaches.counts[1]], reaches: this.reaches.length, stack: lastWords(stack),
-      memo: lastWords(memo), pickle: this.pickle, part: this.isPart, made: this.made(), exact: this.isExact(), edits: this.edits.length, undone: this.undone.length,
+      imports: [imports, this.reaches.counts[0]], calls: [calls, this.reaches.counts[1]], reaches: this.reaches.length, unknown: this.unknown,
+      stack: lastWords(stack), memo: lastWords(memo), pickle: this.pickle, part: this.isPart, made: this.made(), exact: this.isExact(), edits: this.edits.length, undone: this.undone.length,
       undo: describeEdit(this.edits.at(-1)), redo: describeEdit(this.undone.at(-1)), breaks: this.breaks.size, closing: this.lines.closing };
   }
 
@@ -201,7 +249,7 @@ class Document {
   }
 
   briefs(numbers) {
-    return Object.fromEntries(numbers.slice(0, MOST_ENTRIES).map((number) => [number, this.thing(number)]));
+    return Object.fromEntries(numbers.slice(0, MOST_BRIEFS).map((number) => [number, this.thing(number)]));
   }
 
   // What an object holds: each with what it is to the object.
@@ -227,6 +275,35 @@ class Document {
       memo: memo.filter(([, other]) => Number(other) === number).map(([key]) => Number(key)).slice(0, MOST_HOLDERS), held: this.holders(number) };
   }
 
+  // The top of the stack before the opcode at the cursor and after it, as far as they differ; or why it is refused.
+  async effect() {
+    const { place } = this, words = async () => (await this.session.ask('stack')).trimEnd().split(' ').slice(1), before = await words();
+    try {
+      await this.session.ask('step');
+    } catch (error) {
+      if (error instanceof Refused) return { place, refused: error.message };
+      throw error;
+    }
+    const after = await words();
+    await this.session.ask('back');
+    let kept = 0;
+    while (kept < before.length && before[kept] === after[kept]) kept += 1;
+    if (kept === after.length && kept) kept -= 1; // (what is on top then may have changed)
+    return { place, before: this.top(before.slice(kept)), after: this.top(after.slice(kept)) };
+  }
+
+  top(words) {
+    const things = words.slice(-MOST_TOP).map((word) => [word, ...(word[0] === '#' ? this.thingThen(Number(word.slice(1))) : ['', ''])]);
+    return { things, more: words.length - things.length };
+  }
+
+  // An object at the cursor, or the one that the opcode there makes, before anything is put into it.
+  thingThen(number) {
+    if (number < this.made() || number >= this.final.length) return this.thing(number);
+    const text = this.final.brief(number).replace(/^\S+ /, ''), at = text.lastIndexOf("'") + 1;
+    return [text.slice(0, at) + text.slice(at).replace(/ (?:[+&!]#|\[#).*/, ''), this.reaches.textOf(number)];
+  }
+
   // The objects that hold an object, the first of them.
   holders(number) {
     const heap = this.objectLines(), made = this.made(), found = [];
@@ -243,21 +320,27 @@ class Document {
 
   // --- What is imported and called ---
 
+  // Each with its place, or none where that is not read.
   reached(start, count) {
     const end = Math.min(this.reaches.length, start + Math.min(count, MOST_LINES)), rows = [];
     for (let at = start; at < end; at += 1) {
       const offset = this.reaches.offsets.at(at);
-      rows.push([this.lines.placeOf(offset), offset, this.reaches.kindAt(offset), this.reaches.text(at)]);
+      rows.push([this.isRead(offset) ? this.lines.placeOf(offset) : null, offset, this.reaches.kindAt(offset), this.reaches.text(at)]);
     }
     return rows;
   }
 
+  isRead(offset) {
+    return !this.isPart || offset < this.content.length;
+  }
+
   // The pickle as Python source, as much of it as is shown, and how many lines more there are.
   source() {
-    if (this.lines.length > MOST_SOURCE || this.content.length > MOST_SOURCE_BYTES) return { source: [], more: 0, isLong: true };
+    const isLong = this.lines.length > MOST_SOURCE || this.content.length > MOST_SOURCE_BYTES || this.reaches.isPart;
+    if (isLong) return { source: [], more: 0, isLong: true };
     const offsets = new Numbers();
     for (let place = 0; place < this.listed; place += 1) offsets.add(this.lines.offset(place));
-    const { opcodes, facts } = this, saidAt = (offset) => this.reaches.textAt(offset);
+    const { opcodes, facts } = this, saidAt = (offset) => this.reaches.saidAt(offset);
     const lines = sourceOf(this.content, offsets, this.lines.closing, { opcodes, facts, saidAt }).split('\n').slice(0, -1);
     const shown = lines.slice(0, MOST_SOURCE_LINES);
     if (this.isPart) shown.push('# The rest of the pickle is not read.');
@@ -274,6 +357,7 @@ class Document {
 
   async toCall(direction) {
     const { offset } = await this.session.where(), call = this.reaches.nextCall(offset, direction);
+    if (call !== null && !this.isRead(call)) return `the next call is at offset ${call}, which is not read`;
     return call === null ? 'no call there' : `at ${await this.session.placeAfter(`goto ${this.lines.placeOf(call)}`)}`;
   }
 
@@ -305,25 +389,37 @@ class Document {
     if (this.isPart) throw new Error('edits wait until the rest is read');
     if (!(what in SHIFTS)) throw new Error('this is no edit');
     const puts = what === 'replace' || what === 'insert';
+    const before = { ...this };
     const done = await this.session.edit(what, place, ...(puts ? [name, raw] : what === 'frame' ? [String(count)] : []));
-    this.edits.push([what, done, puts ? name : '']);
+    this.edits = [...this.edits, [what, done, puts ? name : '']];
     this.undone = [];
-    await this.read();
+    await this.readOr(() => this.session.undo(), before);
     return `edited ${done}`;
   }
 
   async undo() {
-    const place = await this.session.undo();
-    this.undone.push(this.edits.pop());
-    await this.read();
-    return `undone ${place}: ${describeEdit(this.undone.at(-1))}`;
+    const before = { ...this }, place = await this.session.undo(), edit = this.edits.at(-1);
+    [this.edits, this.undone] = [this.edits.slice(0, -1), [...this.undone, edit]];
+    await this.readOr(() => this.session.redo(), before);
+    return `undone ${place}: ${describeEdit(edit)}`;
   }
 
   async redo() {
-    const place = await this.session.redo();
-    this.edits.push(this.undone.pop());
-    await this.read();
-    return `redone ${place}: ${describeEdit(this.edits.at(-1))}`;
+    const before = { ...this }, place = await this.session.redo(), edit = this.undone.at(-1);
+    [this.edits, this.undone] = [[...this.edits, edit], this.undone.slice(0, -1)];
+    await this.readOr(() => this.session.undo(), before);
+    return `redone ${place}: ${describeEdit(edit)}`;
+  }
+
+  // Reads the pickle after an edit. Where that fails (memory runs out), all is as it was before.
+  async readOr(back, before) {
+    try {
+      await this.read();
+    } catch (error) {
+      await back();
+      Object.assign(this, before);
+      throw error;
+    }
   }
 }
 

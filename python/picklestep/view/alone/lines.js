@@ -126,8 +126,8 @@ class Lines {
     this.headLength += part.length;
     this.head.add(part);
     if (this.head.size <= HEAD || this.cut !== CUT) return;
-    const head = this.head.all(), quote = head.indexOf(QUOTE);
-    if (quote < 0 || quote >= CUT) return;
+    const head = this.head.all();
+    if (!head.subarray(0, CUT).includes(QUOTE)) return;
     const last = head.lastIndexOf(QUOTE);
     this.head.drop(CUT, last > CUT ? last : head.length - HEAD / 4);
   }

@@ -57,7 +57,22 @@ const host = {
 // --- Workers ---
 
 const sayOfRest = (text) => { by('rest').textContent = text; };
-const sayAlone = (why) => sayOfRest(`The first part is shown alone: ${why}`);
+
+// Says that the first part is shown alone, and why. What the rest imports and calls stays unknown where it is not known by now.
+function failRest(said) {
+  const why = said.replace('not done: ', '');
+  sayOfRest(`The first part is shown alone: ${why}`);
+  tellReaches({ why });
+}
+
+// Shows in the first part what all of the pickle imports and calls, or why that is not known.
+function tellReaches(found) {
+  const asked = { pickle: worker.shown, ...found };
+  view.busy = view.busy.then(async () => {
+    const state = await host.ask('found', asked);
+    if (view.state && state.version !== undefined) await show(state);
+  }).catch(() => undefined);
+}
 
 // A worker with the program in it.
 function newThread() {
@@ -69,7 +84,7 @@ function newThread() {
     } else if (thread === worker.reader) sayOfRest(`The rest is being read: ${data.progress}`);
     else say(data.progress);
   };
-  thread.onerror = (event) => (thread === worker.reader ? sayAlone(event.message) : say(`the worker has ended: ${event.message}`, true));
+  thread.onerror = (event) => (thread === worker.reader ? failRest(event.message) : say(`the worker has ended: ${event.message}`, true));
   askThread(thread, 'start', { ...worker.program, from: worker.next });
   return thread;
 }
@@ -90,13 +105,18 @@ function endThread(thread) {
   }
 }
 
-// Reads the whole of a pickle of which the first part is shown, in a worker of its own, and goes on with that.
+// Reads the whole of a pickle of which the first part is shown, in a worker of its own, and goes on with that: first what it imports and
+// calls, which is shown as soon as it is known, and also where the whole is too long to be shown.
 async function readRest() {
   const reader = worker.reader = newThread();
   const { bytes, name, many } = await host.ask('whole');
-  const answer = await askThread(reader, 'rest', { bytes, name, many }, [bytes.buffer]);
+  const reaches = await askThread(reader, 'reach', { bytes, name, many }, [bytes.buffer]);
   if (worker.reader !== reader) return; // (another pickle was opened)
-  if (answer.failed) sayAlone(answer.said.replace('not done: ', ''));
+  if (reaches.failed) { failRest(reaches.said); return; }
+  tellReaches({ reaches });
+  const answer = await askThread(reader, 'rest');
+  if (worker.reader !== reader) return;
+  if (answer.failed) failRest(answer.said);
   else view.busy = view.busy.then(() => goOn(reader)).catch(() => undefined);
 }
 
@@ -104,7 +124,7 @@ async function readRest() {
 async function goOn(reader) {
   if (worker.reader !== reader) return;
   const state = await askThread(reader, 'go', await host.ask('marks'));
-  if (state.failed) { sayAlone(state.said); return; }
+  if (state.failed) { failRest(state.said); return; }
   endThread(worker.thread);
   [worker.thread, worker.reader, worker.shown] = [reader, null, state.pickle];
   sayOfRest('');
@@ -230,6 +250,7 @@ function wireOpening() {
     if (event.key === 'o') by('file').click();
     else if (event.key === 'v') { event.preventDefault(); openPaste(); }
   });
+  by('help-dialog').querySelector('dl').append(element('dt', '', 'o, v'), element('dd', '', 'open a file; paste hexadecimal or base64'));
   by('save-over-label').hidden = true;
 }
 

@@ -4,9 +4,12 @@
 const IMPORTS = ['import', 'inst'];
 const CALLS = ['inst', 'call', 'new', 'state', 'append', 'set', 'add'];
 
+const MOST_SAID = 4000; // bytes of a line that are shown
+
 class Reaches {
-  constructor(lines) {
-    this.lines = lines;
+  // `isPart`: there are more lines than these, which were too long to be read.
+  constructor(lines, isPart) {
+    Object.assign(this, { lines, isPart });
     this.offsets = new Numbers();
     this.kinds = [];
     this.imported = new Numbers(); // how many imports, and calls, are before a line
@@ -16,6 +19,17 @@ class Reaches {
     this.behind = [];
     this.counts = [0, 0];
     this.read();
+  }
+
+  // As another worker can take it.
+  packed() {
+    return { text: this.lines.text.all().slice(), isPart: this.isPart };
+  }
+
+  static unpacked({ text, isPart }) {
+    const lines = new Lines(Infinity);
+    lines.feed(text);
+    return new Reaches(lines, isPart);
   }
 
   read() {
@@ -34,7 +48,9 @@ class Reaches {
       if (made) { this.made.add(Number(made[1])); this.makers.add(at); }
     }
     this.sums = sums;
-    this.readEnd(at);
+    if (this.isPart) this.counts = sums;
+    if (this.isPart) this.behind.push(`imports and calls: the first ${at.toLocaleString('en')} alone, long as they are (picklestep calls shows all)`);
+    else this.readEnd(at);
   }
 
   // The counts, the container that the bytes begin like, and a line for each part: what loaders may reach where this reading has ended.
@@ -55,8 +71,10 @@ class Reaches {
     return this.offsets.length;
   }
 
+  // A line without its offset; with its beginning alone where it is long.
   text(at) {
-    return this.lines.raw(at).replace(/^ *\d+: /, '');
+    const parts = cutLine(this.lines.text.data.subarray(this.lines.start(at), this.lines.end(at)), 0, MOST_SAID);
+    return parts.map((part) => ascii.decode(part)).join('').replace(/^ *\d+: /, '');
   }
 
   // How the line at an offset is coloured: 'call', 'import', 'other' or ''.
@@ -70,6 +88,12 @@ class Reaches {
   textAt(offset) {
     const at = this.offsets.below(offset);
     return at < this.length && this.offsets.at(at) === offset ? this.text(at) : '';
+  }
+
+  // The whole line at an offset.
+  saidAt(offset) {
+    const at = this.offsets.below(offset);
+    return at < this.length && this.offsets.at(at) === offset ? this.lines.raw(at).replace(/^ *\d+: /, '') : '';
   }
 
   // What is said of the object of a number, where it is imported, called or asked for.

@@ -2,6 +2,7 @@
 // Names for what a pickle imports, as its Python source calls it. A name is the text that it is (`value`), and that text in quotes (`shown`).
 
 const IDENTIFIER = /^[A-Za-z_][A-Za-z0-9_]*$/;
+const MOST_NAME = 1000; // letters of a name that stands wherever it is used
 const OWN = /^_[0-9]+$/;
 const IS_UTF8 = '[\\0-\\x7f]|[\\xc2-\\xdf][\\x80-\\xbf]|\\xe0[\\xa0-\\xbf][\\x80-\\xbf]|[\\xe1-\\xec\\xee\\xef][\\x80-\\xbf]{2}|' +
   '\\xed[\\x80-\\x9f][\\x80-\\xbf]|\\xf0[\\x90-\\xbf][\\x80-\\xbf]{2}|[\\xf1-\\xf3][\\x80-\\xbf]{3}|\\xf4[\\x80-\\x8f][\\x80-\\xbf]{2}';
@@ -60,6 +61,10 @@ class Names {
     const [first, ...rest] = isDotted ? name.value.split('.') : [name.value];
     const isNamed = [...module.value.split('.'), first, ...rest].every((part) => this.isIdentifier(part)) && module.value !== '__future__';
     if (!isNamed) return { statement: `_${number} = getattr(import_module(${module.shown}), ${name.shown})`, text: `_${number}`, needsModule: true };
+    if (name.value.length > MOST_NAME) {
+      const more = rest.length ? `; _${number} = _${number}.${rest.join('.')}` : '';
+      return { statement: `from ${module.value} import ${first} as _${number}${more}`, text: `_${number}` };
+    }
     const thing = `${module.value} ${first}`, from = `from ${module.value} import ${first}`;
     if (this.settle(first, thing) === thing && !OWN.test(first)) return { statement: from, text: [first, ...rest].join('.') };
     let other = `${first}_${number}`;

@@ -3,7 +3,7 @@
 
 const MOST_MEMBERS = 2000;
 
-const page = { program: null, document: null, archive: null, whole: null };
+const page = { program: null, document: null, archive: null, whole: null, reaches: null };
 
 const after = async (said) => ({ said, ...await page.document.state() });
 
@@ -15,10 +15,19 @@ const ANSWERS = {
     return {};
   },
   load: ({ bytes, name, isPickle }) => load(bytes, name, isPickle),
-  // What is shown in part: its bytes, and where the page is in it. Another worker reads it whole, and goes there.
+  // What is shown in part: its bytes, and where the page is in it. Another worker reads it whole, what it imports and calls first, and goes there.
   whole: () => page.whole,
+  reach: ({ bytes, name, many }) => {
+    page.whole = { bytes, name, many };
+    page.reaches = Document.reachesOf(page.program, bytes, many, progress);
+    return page.reaches.packed();
+  },
+  found: ({ pickle, reaches, why }) => {
+    if (pickle === page.document.pickle) page.document.takeReaches(reaches && Reaches.unpacked(reaches), why);
+    return page.document.state();
+  },
   marks: () => ({ place: page.document.place, breaks: [...page.document.breaks] }),
-  rest: ({ bytes, name, many }) => open(bytes, name, many, true),
+  rest: () => open(page.whole.bytes, page.whole.name, page.whole.many, true),
   go: async ({ place, breaks }) => {
     for (const each of breaks) await page.document.toggleBreak(each);
     return after(await page.document.move('goto', place));
@@ -34,6 +43,7 @@ const ANSWERS = {
   briefs: ({ numbers }) => ({ briefs: page.document.briefs(numbers) }),
   reached: ({ start, count }) => ({ reached: page.document.reached(start, count) }),
   holds: ({ number }) => page.document.holds(number),
+  effect: () => page.document.effect(),
   about: ({ number }) => page.document.about(number),
   source: () => page.document.source(),
   argument: ({ place }) => page.document.argument(place),
@@ -51,7 +61,7 @@ const ANSWERS = {
 
 async function open(bytes, name, many, isWhole = false) {
   const before = page.document;
-  page.document = await Document.open(page.program, bytes, name, many, isWhole, progress);
+  page.document = await Document.open(page.program, bytes, name, many, isWhole, progress, isWhole ? page.reaches : null);
   before?.session.close();
   page.whole = page.document.isPart ? { bytes, name, many } : null;
   return after('open');

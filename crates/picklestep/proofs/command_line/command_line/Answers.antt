@@ -11,9 +11,11 @@ returns c =
     let reporting : app_of c.in_ok-reporting.reporting ≡ on_file (codes "objects") = c.in_ok-reporting.ensures in
     let calling : app_of c.in_ok-calling.calling ≡ calls_app = c.in_ok-calling.ensures in
     let debugging : app_of c.in_ok-debugging.debugging ≡ debug_app = c.in_ok-debugging.ensures in
+    let forming : app_of c.in_ok-forming.forming ≡ on_file (codes "form") = c.in_ok-forming.ensures in
     let start : app_of c.subcommand_required.result ≡ wants_subcommand (new_app (codes "picklestep")) = search rules in
     let one = c.in_ok-subcommand.ensures.shape (third _ _ _ _ (ap (λ (a : App). a.top.is_plain) listing)) ∙ ap₂ with_subcommand start (ap (λ (a : App). a.top) listing) in
     let two = c.in_ok-subcommand-2.ensures.shape (third _ _ _ _ (ap (λ (a : App). a.top.is_plain) reporting)) ∙ ap₂ with_subcommand one (ap (λ (a : App). a.top) reporting) in
     let three = c.in_ok-subcommand-3.ensures.shape (third _ _ _ _ (ap (λ (a : App). a.top.is_plain) calling)) ∙ ap₂ with_subcommand two (ap (λ (a : App). a.top) calling) in
-    IfOk-weaker c.subcommand-4.result _ _
-    (λ r a. a.shape (third _ _ _ _ (ap (λ (a : App). a.top.is_plain) debugging)) ∙ ap₂ with_subcommand three (ap (λ (a : App). a.top) debugging)) c.subcommand-4.ensures
+    let four = c.in_ok-subcommand-4.ensures.shape (third _ _ _ _ (ap (λ (a : App). a.top.is_plain) debugging)) ∙ ap₂ with_subcommand three (ap (λ (a : App). a.top) debugging) in
+    IfOk-weaker c.subcommand-5.result _ _
+    (λ r a. a.shape (third _ _ _ _ (ap (λ (a : App). a.top.is_plain) forming)) ∙ ap₂ with_subcommand four (ap (λ (a : App). a.top) forming)) c.subcommand-5.ensures

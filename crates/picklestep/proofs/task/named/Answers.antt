@@ -61,3 +61,14 @@ returns-in_ok-file-4-clause-some c =
       },
       search rules,
     )
+
+pub returns-in_ok-file-5-clause-some : goal.returns-in_ok-file-5-clause-some
+returns-in_ok-file-5-clause-some c =
+    let name : c.in-Some.name.now ≡ codes "form" = search rules in
+    record {
+      rows = rows_of (found_of c.in-Some.found.now);
+      used = used_is _ _ _ _ _ c.in-Some.ensures.name c.in-Some.ensures.rows ∙ ap (λ (n : Text). Some (n, rows_of (found_of c.in-Some.found.now))) name;
+      file_is = sym (first_value-rows (found_of c.in-Some.found.now) (codes "FILE")) ∙ sym c.in-Some-get_str.ensures ∙ ap Some (sym c.in_ok-file-5.ensures.ok);
+      many_is = c.is_given-many.ensures.yes;
+      one_is = c.is_given-many.ensures.no;
+    }

@@ -1,0 +1,490 @@
+//! The stack, the marks and the memo, of whose objects only the role is kept.
+
+ghost use Rattle.std.specs.Prelude.{◌≡◌};
+ghost use Rattle.std.specs.Option.{unwrap_or};
+ghost use Rattle.pickle_form.specs.Held.{is_so, is_name_role, is_there, is_buffer, is_dict, is_callable, is_arguments, is_target, if_paired};
+
+use crate::reason::Reason;
+use crate::role::Role;
+use crate::spelled::unless;
+use pickle_ops::{Cutting, Filling, Row, Taking};
+use std::alloc::{AllocError, Global};
+use std::marker::Model;
+
+/// The objects on the stack and in the memo, by their roles.
+#[derive(Drop)]
+pub struct Held {
+    // from the bottom
+    cells: Vec<Role>,
+    // how many objects are below each open mark
+    marks: Vec<usize>,
+    // by the key
+    memo: Vec<Role>,
+    // whether a key was left out
+    skipped: bool,
+}
+
+impl Model for Held {
+    ghost use Rattle.pickle_form.specs.Held.{Held as Objects};
+
+    ghost Value = { Objects };
+
+    ghost view = { λ h. record { cells = h.cells.items; marks = h.marks.items; memo = h.memo.items; skipped = h.skipped } };
+}
+
+/// Whether there is a plain name.
+fn is_name(role: Option<Role>) -> bool
+    ensures { result ≡ is_so is_name_role role }
+{
+    match role {
+        Some(role) => role.is_name(),
+        None => false,
+    }
+}
+
+/// Whether there is an object.
+fn is_there(role: Option<Role>) -> bool
+    ensures { result ≡ is_so is_there role }
+{
+    match role {
+        Some(role) => role.is_there(),
+        None => false,
+    }
+}
+
+/// Whether there is a buffer.
+fn is_buffer(role: Option<Role>) -> bool
+    ensures { result ≡ is_so is_buffer role }
+{
+    match role {
+        Some(role) => role.is_buffer(),
+        None => false,
+    }
+}
+
+/// Whether there is a dictionary.
+fn is_dict(role: Option<Role>) -> bool
+    ensures { result ≡ is_so is_dict role }
+{
+    match role {
+        Some(role) => role.is_dict(),
+        None => false,
+    }
+}
+
+/// Whether there is what picklers call.
+fn is_callable(role: Option<Role>) -> bool
+    ensures { result ≡ is_so is_callable role }
+{
+    match role {
+        Some(role) => role.is_callable(),
+        None => false,
+    }
+}
+
+/// Whether there is what may be arguments.
+fn is_arguments(role: Option<Role>) -> bool
+    ensures { result ≡ is_so is_arguments role }
+{
+    match role {
+        Some(role) => role.is_arguments(),
+        None => false,
+    }
+}
+
+/// Whether there is what picklers put something into so.
+fn is_target(filling: Filling, role: Option<Role>) -> bool
+    ensures { result ≡ is_so (is_target filling) role }
+{
+    match role {
+        Some(role) => role.is_target(filling),
+        None => false,
+    }
+}
+
+/// The role, or that of a plain value.
+fn or_value(role: Option<Role>) -> Role
+    ensures { result ≡ unwrap_or role Role.Value }
+{
+    match role {
+        Some(role) => role,
+        None => Role::Value,
+    }
+}
+
+/// Why keys have no values.
+fn if_paired(filling: Filling, count: usize, rest: Option<Reason>) -> Option<Reason>
+    ensures { result ≡ if_paired filling count rest }
+{
+    match filling {
+        Filling::SetItem => {
+            if count % 2 == 0 {
+                rest
+            } else {
+                Some(Reason::OddItems)
+            }
+        }
+        _ => rest,
+    }
+}
+
+impl Held {
+    ghost use Rattle.std.specs.Prelude.{◌≡◌, ◌-◌, ◌+◌, ◌<◌, ◌==◌, ◌&&◌, ◌≤◌, ◌^◌, not, nat_lt, nat_le, length, take, slice_get, OnOk, Option, Some, None};
+    ghost use Rattle.std.specs.Option.{unwrap_or};
+    ghost use Rattle.pickle_ops.specs.Row.{count_of, values_of};
+    ghost use Rattle.pickle_form.specs.Held.{nothing_held, below, above, between, deep, under, at_key, other_call, other_taking, other_cutting, is_next_key, other_row, without, cut, push, top, keep, next};
+
+    /// Nothing is there.
+    pub fn new(alloc: Global) -> Held
+        ensures { result ≡ nothing_held }
+    {
+        Held {
+            cells: Vec::new(alloc),
+            marks: Vec::new(alloc),
+            memo: Vec::new(alloc),
+            skipped: false,
+        }
+    }
+
+    /// How many objects are below the topmost mark.
+    fn below(&self) -> usize
+        ensures { result ≡ below self.now }
+    {
+        let last = self.marks.len().saturating_sub(1);
+        self.marks.get(last).copied().unwrap_or(0)
+    }
+
+    /// How many objects are above it.
+    fn above(&self) -> usize
+        ensures { result ≡ above self.now }
+    {
+        self.cells.len().saturating_sub(self.below())
+    }
+
+    /// How many objects are between the topmost mark and the one under it.
+    fn between(&self) -> usize
+        ensures { result ≡ between self.now }
+    {
+        if self.marks.len() < 2 {
+            return self.below();
+        }
+        let lower = self.marks[self.marks.len() - 2];
+        self.below().saturating_sub(lower)
+    }
+
+    /// The object under this many others.
+    fn deep(&self, depth: usize) -> Option<Role>
+        ensures { result ≡ deep depth self.now }
+    {
+        let top = self.cells.len().saturating_sub(1);
+        self.cells.get(top.saturating_sub(depth)).copied()
+    }
+
+    /// The object right under the topmost mark.
+    fn under(&self) -> Option<Role>
+        ensures { result ≡ under self.now }
+    {
+        self.cells.get(self.below().saturating_sub(1)).copied()
+    }
+
+    /// The lowest object above the topmost mark.
+    fn lowest(&self) -> Option<Role>
+        ensures { result ≡ slice_get self.now.cells (below self.now) }
+    {
+        self.cells.get(self.below()).copied()
+    }
+
+    /// The object under a key.
+    fn at_key(&self, key: u64) -> Option<Role>
+        ensures { result ≡ at_key key self.now }
+    {
+        self.memo.get(key as usize).copied()
+    }
+
+    /// Why a function and its arguments, under this many others, are not called.
+    fn other_call(&self, depth: usize) -> Option<Reason>
+        requires { depth ≤ 1 }
+        ensures { result ≡ other_call depth self.now None }
+    {
+        if !is_callable(self.deep(depth + 1)) {
+            return Some(Reason::NotCallable);
+        }
+        unless(is_arguments(self.deep(depth)), Reason::NotArguments)
+    }
+
+    /// Why a function is not called with arguments and keywords.
+    fn other_call_with(&self) -> Option<Reason>
+        ensures { result ≡ other_taking Taking.CallWith self.now }
+    {
+        if let Some(why) = self.other_call(1) {
+            return Some(why);
+        }
+        unless(is_dict(self.deep(0)), Reason::NotArguments)
+    }
+
+    /// Why nothing is made so of the objects on top.
+    fn other_taking(&self, taking: Taking) -> Option<Reason>
+        ensures { result ≡ other_taking taking self.now }
+    {
+        match taking {
+            Taking::One => None,
+            Taking::Two => None,
+            Taking::Three => None,
+            Taking::Names => {
+                if !is_name(self.deep(0)) {
+                    return Some(Reason::Name);
+                }
+                unless(is_name(self.deep(1)), Reason::Name)
+            }
+            Taking::Call => self.other_call(0),
+            Taking::CallWith => self.other_call_with(),
+        }
+    }
+
+    /// Why nothing is made so of the objects above the topmost mark.
+    fn other_cutting(&self, cutting: Cutting) -> Option<Reason>
+        ensures { result ≡ other_cutting cutting self.now }
+    {
+        match cutting {
+            Cutting::Any => None,
+            Cutting::Pairs => if_paired(Filling::SetItem, self.above(), None),
+            Cutting::Callable => {
+                if self.above() < 1 {
+                    return Some(Reason::TooFew);
+                }
+                unless(is_callable(self.lowest()), Reason::NotCallable)
+            }
+        }
+    }
+
+    /// Why the topmost object or objects do not go into the one below them.
+    fn other_change(&self, filling: Filling) -> Option<Reason>
+        ensures { result ≡ other_row 0 (Row.Change filling) self.now }
+    {
+        if self.above() < filling.values() + 1 {
+            return Some(Reason::TooFew);
+        }
+        let target = self.deep(filling.values());
+        unless(is_target(filling, target), Reason::WrongTarget)
+    }
+
+    /// Why the objects above the topmost mark do not go into the one under it.
+    fn other_cut_change(&self, filling: Filling) -> Option<Reason>
+        ensures { result ≡ other_row 0 (Row.CutChange filling) self.now }
+    {
+        if self.marks.is_empty() {
+            return Some(Reason::NoMark);
+        }
+        if self.between() < 1 {
+            return Some(Reason::TooFew);
+        }
+        let last = unless(is_target(filling, self.under()), Reason::WrongTarget);
+        if_paired(filling, self.above(), last)
+    }
+
+    /// Why nothing is dropped in a pickle of at least this protocol.
+    fn other_pop(&self, protocol: u64) -> Option<Reason>
+        ensures { result ≡ other_row protocol Row.Pop self.now }
+    {
+        if 0 < self.above() {
+            return None;
+        }
+        unless(!self.marks.is_empty() && protocol == 0, Reason::TooFew)
+    }
+
+    /// Whether a key comes next in a pickle of at least this protocol.
+    fn is_next_key(&self, key: u64, protocol: u64) -> bool
+        ensures { result ≡ is_next_key key protocol self.now }
+    {
+        let next = self.memo.len() as u64;
+        if key == next {
+            return true;
+        }
+        if self.skipped {
+            return false;
+        }
+        key == next + 1 && protocol <= 2
+    }
+
+    /// Why the memo does not keep the top under this key.
+    fn other_put(&self, key: u64, protocol: u64) -> Option<Reason>
+        ensures { result ≡ other_row protocol (Row.Put key) self.now }
+    {
+        if self.above() < 1 {
+            return Some(Reason::TooFew);
+        }
+        unless(self.is_next_key(key, protocol), Reason::KeyOrder)
+    }
+
+    /// Why the top is not made read only.
+    fn other_view(&self) -> Option<Reason>
+        ensures { result ≡ other_row 0 Row.ReadOnly self.now }
+    {
+        if self.above() < 1 {
+            return Some(Reason::TooFew);
+        }
+        unless(is_buffer(self.deep(0)), Reason::NotBuffer)
+    }
+
+    /// Why no pickler does this, in a pickle of at least this protocol.
+    pub fn other(&self, protocol: u64, row: Row) -> Option<Reason>
+        ensures { result ≡ other_row protocol row self.now }
+    {
+        match row {
+            Row::Nothing => None,
+            Row::Protocol(_) => None,
+            Row::Extension(_) => None,
+            Row::Push => None,
+            Row::Buffer => None,
+            Row::ReadOnly => self.other_view(),
+            Row::Take(taking) => {
+                if self.above() < taking.count() {
+                    return Some(Reason::TooFew);
+                }
+                self.other_taking(taking)
+            }
+            Row::Cut(cutting) => {
+                if self.marks.is_empty() {
+                    return Some(Reason::NoMark);
+                }
+                self.other_cutting(cutting)
+            }
+            Row::Change(filling) => self.other_change(filling),
+            Row::CutChange(filling) => self.other_cut_change(filling),
+            Row::Pop => self.other_pop(protocol),
+            Row::PopMark => unless(!self.marks.is_empty(), Reason::NoMark),
+            Row::Dup => None,
+            Row::Mark => None,
+            Row::Get(key) => unless(is_there(self.at_key(key)), Reason::NoKey),
+            Row::Put(key) => self.other_put(key, protocol),
+            Row::Memoize => unless(1 <= self.above(), Reason::TooFew),
+            Row::Stop => unless(
+                self.cells.len() == 1 && self.marks.is_empty(),
+                Reason::LeftOver,
+            ),
+        }
+    }
+
+    /// The last n objects go.
+    fn lose(&mut self, n: usize)
+        ensures { self.new ≡ without n self.old }
+    {
+        let left = self.cells.len().saturating_sub(n);
+        self.cells.truncate(left);
+    }
+
+    /// The topmost mark goes, and what is above it.
+    fn cut(&mut self)
+        ensures { self.new ≡ cut self.old }
+    {
+        let left = self.below();
+        self.cells.truncate(left);
+        let marks = self.marks.len().saturating_sub(1);
+        self.marks.truncate(marks);
+    }
+
+    /// A new object is put on top.
+    fn push(&mut self, role: Role) -> Result<(), AllocError>
+        ensures ok { OnOk result (self.new ≡ push role self.old) }
+    {
+        self.cells.push(role)?;
+        Ok(())
+    }
+
+    /// The object on top, or a plain value.
+    fn top(&self) -> Role
+        ensures { result ≡ top self.now }
+    {
+        or_value(self.deep(0))
+    }
+
+    /// The memo keeps the top under the next key, or under the one behind that.
+    fn keep(&mut self, key: u64) -> Result<(), AllocError>
+        ensures ok { OnOk result (self.new ≡ keep key self.old) }
+    {
+        let top = self.top();
+        if key == self.memo.len() as u64 {
+            self.memo.push(top)?;
+            return Ok(());
+        }
+        self.memo.push(Role::Absent)?;
+        self.memo.push(top)?;
+        self.skipped = true;
+        Ok(())
+    }
+
+    /// A mark is set.
+    fn mark(&mut self) -> Result<(), AllocError>
+        ensures ok { OnOk result (self.new ≡ next Row.Mark Role.Value self.old) }
+    {
+        self.marks.push(self.cells.len())?;
+        Ok(())
+    }
+
+    /// What is on top is dropped, or the topmost mark.
+    fn drop_top(&mut self)
+        ensures { self.new ≡ next Row.Pop Role.Value self.old }
+    {
+        if 0 < self.above() {
+            self.lose(1);
+        } else {
+            self.cut();
+        }
+    }
+
+    /// Does what an opcode does that makes an object of this role, if it makes one. It fails only where memory runs out.
+    pub fn perform(&mut self, row: Row, role: Role) -> Result<(), AllocError>
+        ensures ok { OnOk result (self.new ≡ next row role self.old) }
+    {
+        match row {
+            Row::Nothing => Ok(()),
+            Row::Protocol(_) => Ok(()),
+            Row::Extension(_) => self.push(role),
+            Row::Push => self.push(role),
+            Row::Buffer => self.push(role),
+            Row::ReadOnly => {
+                self.lose(1);
+                self.push(role)
+            }
+            Row::Take(taking) => {
+                self.lose(taking.count());
+                self.push(role)
+            }
+            Row::Cut(_) => {
+                self.cut();
+                self.push(role)
+            }
+            Row::Change(filling) => {
+                self.lose(filling.values());
+                Ok(())
+            }
+            Row::CutChange(_) => {
+                self.cut();
+                Ok(())
+            }
+            Row::Pop => {
+                self.drop_top();
+                Ok(())
+            }
+            Row::PopMark => {
+                self.cut();
+                Ok(())
+            }
+            Row::Dup => Ok(()),
+            Row::Mark => self.mark(),
+            Row::Get(key) => {
+                let role = or_value(self.at_key(key));
+                self.push(role)
+            }
+            Row::Put(key) => self.keep(key),
+            Row::Memoize => {
+                let next = self.memo.len() as u64;
+                self.keep(next)
+            }
+            Row::Stop => {
+                self.lose(1);
+                Ok(())
+            }
+        }
+    }
+}

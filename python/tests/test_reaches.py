@@ -1,0 +1,134 @@
+"""The reader of lines of `calls`, on every line of the rows and of the real pickles: what it read, written again as the line's definition says
+(crates/pickle_show/specs: CallsLine, Brief, Naming), is the line. So nothing of a line is lost, and nothing is taken for something else."""
+
+from __future__ import annotations
+
+import re
+import struct
+import unittest
+from typing import Dict, Iterator, List, Union
+
+import picklestep
+from picklestep import Brief, Briefs, Extension, Global, Reach, Ref
+from picklestep.texts import OFFSET, reach_of
+from pickles import ROOT, real_pickles
+
+# Kinds of values that stand for themselves; all others but texts, objects and names are a word and a value.
+_CONSTANTS = ('none', 'true', 'false')
+# A long number that is not cut. Its bytes may be more than it needs, which the reader does not keep.
+_LONG = re.compile(r'\ble:([0-9a-f]*)(?![0-9a-f+])')
+
+
+def quoted(value: bytes) -> str:
+    """Bytes in quotes."""
+    escapes = {0x27: "\\'", 0x5c: '\\\\'}
+    return "'" + ''.join(escapes.get(byte) or (chr(byte) if 0x20 <= byte <= 0x7e else f'\\x{byte:02x}') for byte in value) + "'"
+
+
+def text_of(kind: str, value: bytes, more: int) -> str:
+    """A text, or a payload after its keyword."""
+    words = {'text': '', 'raw string': 'string raw '}.get(kind, kind + ' ')
+    return words + quoted(value) + (f'+{more}' if more else '')
+
+
+def number_of(value: Union[int, float, bytes], more: int) -> str:
+    """A number: a float, decimal, or the first bytes of one that is cut."""
+    if isinstance(value, float):
+        return 'float f8:' + struct.pack('>d', value).hex()
+    if isinstance(value, bytes):
+        return f'int le:{value.hex()}+{more}'
+    return f'int {value}'
+
+
+def decimal(line: str) -> str:
+    """The line with its long numbers in decimal."""
+    return _LONG.sub(lambda match: str(int.from_bytes(bytes.fromhex(match[1]), 'little', signed=True)), line)
+
+
+def name_of(name: Union[Global, Ref, Extension]) -> str:
+    """What is imported or called."""
+    if isinstance(name, Ref):
+        return f'#{name.number}'
+    if isinstance(name, Extension):
+        return f'ext {name.code}'
+    parts = (('module', name.module), ('name', name.name))
+    return ' '.join(f'#{part.number}' if isinstance(part, Ref) else ('raw ' if which in name.raw else '') + quoted(part) for which, part in parts)
+
+
+def brief_of(brief: Brief) -> str:
+    """A value in brief."""
+    value = brief.value
+    if brief.kind in _CONSTANTS:
+        return brief.kind
+    if isinstance(value, (Global, Ref, Extension)):
+        return ('global ' if brief.kind == 'global' else '') + name_of(value)
+    if brief.kind in ('int', 'float'):
+        assert isinstance(value, (int, float, bytes))
+        return number_of(value, brief.more)
+    assert isinstance(value, bytes)
+    return text_of(brief.kind, value, brief.more)
+
+
+def value_of(value: Union[Brief, Briefs]) -> str:
+    """A value, or the items of a tuple."""
+    if isinstance(value, Brief):
+        return brief_of(value)
+    more = [f'+{value.more}'] if value.more else []
+    return '(' + ', '.join([*map(brief_of, value.items), *more]) + ')'
+
+
+def line_of(reach: Reach) -> str:
+    """The line, from everything but its own text."""
+    words: List[str] = [reach.what]
+    if reach.name is not None:
+        words.append(name_of(reach.name))
+    if reach.said is not None:
+        words += ['for', name_of(reach.said)]
+    words += [value_of(value) for value in (reach.value, reach.keywords) if value is not None]
+    words += [str(reach.count)] if reach.count is not None else []
+    if reach.target is not None:
+        words += [f'#{reach.target}'] if reach.what == 'readonly' else ['in' if reach.what == 'set' else 'to', f'#{reach.target}']
+    words += ['as', f'#{reach.number}'] if reach.number is not None else []
+    return f'{reach.offset:5d}: ' + ' '.join(words)
+
+
+def given() -> Iterator[bytes]:
+    """Calls with 15 to 19 arguments of each kind, cut and not."""
+    kinds: Dict[str, bytes] = {
+        'int': b'K\x01', 'text': b'\x8c\x01a', 'long text': b'X\x50\0\0\0' + b'a' * 80, 'bytes': b'C\x01b', 'long': b'\x8a\x12' + b'\1' * 18,
+        'cut long': b'\x8b\x46\0\0\0' + b'\1' * 70, 'float': b'G?\xf0\0\0\0\0\0\0', 'line': b'I5\n', 'none': b'N', 'true': b'\x88',
+        'string': b'U\x01s', 'raw': b'U\x01\xff', 'list': b']', 'global': b'cm\nn\n', 'extension': b'\x82\x07', 'array': b'\x96' + b'\1' + b'\0' * 7 + b'x'}
+    for argument in kinds.values():
+        for count in range(15, 20):
+            yield b'\x80\x05ca\nb\n(' + argument * count + b'tR.'
+    yield b'ca\nb\n(' + b''.join(kinds.values()) + b'tR.'
+
+
+class Lines(unittest.TestCase):
+    """What is read of a line is the line."""
+
+    def check(self, lines: List[str]) -> None:
+        for line in lines:
+            self.assertEqual(line_of(reach_of(line)), decimal(line))
+
+    def test_rows(self) -> None:
+        rows = (ROOT / 'equipment' / 'calls.txt').read_text('ascii').splitlines()
+        lines = [line for line in rows if OFFSET.fullmatch(line)]
+        self.assertGreater(len(lines), 400)
+        self.check(lines)
+
+    def test_real_pickles(self) -> None:
+        for name, data in real_pickles().items():
+            for full in (False, True):
+                with self.subTest(name, full=full):
+                    self.check([f'{reach.offset:5d}: {reach.text}' for reach in picklestep.calls(data, full=full)])
+
+    def test_arguments(self) -> None:
+        for data in given():
+            answer = picklestep.calls(data)
+            with self.subTest(answer[-1].text):
+                self.check([f'{reach.offset:5d}: {reach.text}' for reach in answer])
+
+
+if __name__ == '__main__':
+    unittest.main()
