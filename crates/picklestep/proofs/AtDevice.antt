@@ -1,6 +1,6 @@
 -- From what a page took to what its device did.
 use Rattle.std.proofs.Common.{◌≡◌, ◌≢◌, ◌⊎◌, inl, inr, ℕ, ◌+◌, ◌<◌, ◌≤◌, Bool, List, [], ◌∷◌, ◌++◌, length, Option, None, Some, Result, Ok, Err, refl, sym, ap, subst, ◌∙◌, append_assoc, append-nil, arith}
-use Rattle.std.specs.Prelude.{IsErr}
+use Rattle.std.specs.Prelude.{IsErr, IsErrAnd, IfErr}
 use Rattle.std.specs.List.{concat}
 use Rattle.pickle_io.specs.Device.{Told, holding, AppendsPrefix, Wrote, Broke, WroteAllBut}
 use Rattle.pickle_io.specs.Whole.{IsWhole}
@@ -221,14 +221,16 @@ pub cuts_below : (s after : SessionState) (a b : Option (List ℕ)) (d e : Told)
     → (r ≢ Err stop.Write → (holding e held).held ≡ 0)
     → (r ≡ Err stop.Read → StopsReading s after a b (holding d first) (holding e held))
     → (r ≡ Err stop.Write → StopsWriting s after a b (holding d first) (holding e held))
-    → (r ≡ Err stop.Memory → (after ≡ s) × (b ≡ a) × (holding e held ≡ holding d first))
+    → (r ≡ Err stop.Memory → (after ≡ s) × (b ≡ a) × (e ≡ d))
     → r ≢ Err stop.TooLarge → Cuts s after a b d e x
 cuts_below s after a b d e first held stop.Read r is none all reading writing memory no_other =
     let n : r ≢ Err stop.Write = λ w. let c : err stop.Read ≡ err stop.Write = sym is ∙ w in absurd cc in
     same_below (StopsReading s after a b) d e first held none (all n) (reading is)
 cuts_below s after a b d e first held stop.Write r is none all reading writing memory no_other = stops_below s after a b d e first held none (writing is)
 cuts_below s after a b d e first held stop.TooLarge r is none all reading writing memory no_other = absurd (no_other is)
-cuts_below s after a b d e first held stop.Memory r is none all reading writing memory no_other =
-    let n : r ≢ Err stop.Write = λ w. let c : err stop.Memory ≡ err stop.Write = sym is ∙ w in absurd cc in
-    let m = memory is in
-    (m.0, m.1, sym (nothing-held e held (all n)) ∙ m.2 ∙ nothing-held d first none)
+cuts_below s after a b d e first held stop.Memory r is none all reading writing memory no_other = memory is
+
+-- the error of a `?` is passed on as it is
+pub unsaved_so : {A : Type 0} (P : Stop → Type 0) (x : Stop) (r : Result A Stop) → IsErrAnd r (λ y. y ≡ x) → P x → IfErr r P
+unsaved_so P x (Ok y) h w = absurd h
+unsaved_so P x (Err y) h w = subst P (sym h) w
