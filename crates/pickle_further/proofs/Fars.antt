@@ -14,6 +14,8 @@ use Rattle.std.specs.declared.cmp.Ordering.TheVariants.{Less, Equal, Greater}
 use Rattle.std.specs.BTreeMap.{insert_entry, is_at}
 use Rattle.std.specs.Cmp.{nat_cmp_is}
 use Rattle.pickle_ops.specs.declared.kind.Kind.{Kind}
+use Rattle.pickle_ops.specs.declared.kind.Kind.TheVariants as kind
+use Rattle.pickle_ops.specs.declared.class.Demand.TheVariants as demand
 use Rattle.pickle_ops.specs.declared.row.Row.{Row}
 use Rattle.pickle_ops.specs.declared.row.Row.TheVariants as row
 use Rattle.pickle_ops.specs.declared.row.Taking.TheVariants as taking
@@ -29,7 +31,7 @@ use Rattle.pickle_machine.specs.State.{State}
 use Rattle.pickle_machine.specs.Names.{AreNames, NamesAll}
 use Rattle.pickle_machine.specs.Kept.{AreBelow}
 use Rattle.pickle_machine.specs.Inside.Slots.{IsAbove}
-use Rattle.pickle_machine.specs.Move.{deep, put_on, memo_at, unless, refusal_of, next_of, begun, fresh, outcome}
+use Rattle.pickle_machine.specs.Move.{deep, object_meets, push, last_of, without, cut, put_on, memo_at, unless, refusal_of, next_of, begun, fresh, outcome}
 use Rattle.pickle_machine.specs.declared.loader.Fill.{Fill}
 use Rattle.pickle_machine.specs.declared.loader.LoaderMove.{LoaderMove}
 use Rattle.pickle_machine.specs.Held.{Held}
@@ -133,8 +135,8 @@ next_same : (r : Row) (k : Kind) (place : ℕ) (far : List (ℕ × ℕ)) (s : St
 next_same (row.Get key) k place far s a near other = ap (λ (x : Option ℕ). put_on (unwrap_or x 0) (with_far far s)) (lookup_near key s.memo far (near_key key near) a)
 next_same (row.Put key) k place far s a near other = ap (λ (m : List (ℕ × ℕ)). record s { memo = m }) (insert_near key (deep 0 s.top) s.memo far (near_key key near) a)
 next_same row.Memoize k place far s a near other = absurd (other refl)
-next_same row.ReadOnly k place far s a near other = picked far _ _ _
-next_same row.Pop k place far s a near other = picked far _ _ _
+next_same row.ReadOnly k place far s a near other = picked far (object_meets demand.ReadOnly s (deep 0 s.top)) s (push kind.ReadOnly (last_of 1 s) (without 1 s))
+next_same row.Pop k place far s a near other = picked far (nat_lt 0 (length s.top)) (without 1 s) (cut s)
 next_same _ k place far s a near other = refl
 
 -- ---- what no entry of the memo bears on
@@ -205,7 +207,7 @@ same_fresh s e = go s.stopped e
     go false e = refl
     go true e = absurd cc
 
-lift : List (ℕ × ℕ) → Result State Refusal → Result State Refusal
+abbrev lift : List (ℕ × ℕ) → Result State Refusal → Result State Refusal
 lift far (Ok t) = Ok (with_far far t)
 lift far (Err r) = Err r
 
@@ -334,19 +336,21 @@ pub put_done : (n id : ℕ) (far more : List (ℕ × ℕ)) (s : State) → 2 ^ 6
 put_done n id far more s h b within e is =
     let top = top_is s.top (length s.top - 1) id e in
     let some : nat_le 1 (length s.top) ≡ true = some_top s.top (omega (arith, top.1)) in
-    let at : deep 0 s.top ≡ id = top.0 in
+    let place : length s.top - 1 ≡ length s.top - 1 - 0 = omega arith in
+    let at : deep 0 s.top ≡ id = ap (slice_index s.top) (sym place) ∙ top.0 in
     λ place. far_put n place (with_far far s) within
     ∙ ap (λ (x : Bool). outcome (unless x refusal.Underflow None) (record s { memo = insert_entry nat_cmp (s.memo ++ far) n (deep 0 s.top) })) some
     ∙ ap (λ (v : ℕ). Ok (record s { memo = insert_entry nat_cmp (s.memo ++ far) n v })) at
     ∙ ap (λ (m : List (ℕ × ℕ)). Ok (record s { memo = m })) (insert_far n id s.memo far h b ∙ ap (λ (l : List (ℕ × ℕ)). s.memo ++ l) (sym is))
 
+never_none : (xs : List ℕ) (i : ℕ) → i < length xs → slice_get xs i ≡ None → ⊥
+never_none [] i h e = omega (arith, h)
+never_none (x ∷ xs) zero h e = cc
+never_none (x ∷ xs) (suc i) h e = never_none xs i (omega (arith, h)) e
+
 no_top : (xs : List ℕ) → slice_get xs (length xs - 1) ≡ None → xs ≡ []
 no_top [] e = refl
-no_top (x ∷ xs) e = absurd (last x xs e)
-  where
-    last : (x : ℕ) (xs : List ℕ) → slice_get (x ∷ xs) (length (x ∷ xs) - 1) ≡ None → ⊥
-    last x [] e = cc
-    last x (y ∷ ys) e = last y ys e
+no_top (x ∷ xs) e = absurd (never_none (x ∷ xs) (length (x ∷ xs) - 1) (omega arith) e)
 
 pub put_misses : (n : ℕ) (far : List (ℕ × ℕ)) (s t : State) → s.stopped ≡ false → slice_get s.top (length s.top - 1) ≡ None → ComesTo (row.Put n) (with_far far s) t false
 put_misses n far s t within e =

@@ -1,6 +1,8 @@
 //! The machine that moves as loaders do. Its memo has keys of any size.
 
-ghost use Rattle.std.specs.Prelude.{◌≡◌, ◌+◌, IfSome};
+ghost use Rattle.std.specs.Prelude.{◌≡◌, ◌+◌, IfSome, OnOk, OnErr};
+ghost use Rattle.std.specs.Ordering.{nat_cmp};
+ghost use Rattle.std.specs.BTreeMap.{insert_entry};
 ghost use Rattle.pickle_further.specs.Far.{with_far, IsApart, counted, ComesTo};
 
 use pickle_lenient::{Number, is_far};
@@ -34,6 +36,17 @@ fn count_of(near: usize, far: usize) -> Option<u64>
     ensures { IfSome result (λ n. n ≡ near + far) }
 {
     (near as u64).checked_add(far as u64)
+}
+
+/// Maps a key to an object. An error comes only where memory runs out, and changes nothing.
+fn put_in(far: &mut BTreeMap<Number, ObjId>, number: Number, id: ObjId) -> Result<(), AllocError>
+    ensures ok { OnOk result (far.new.entries ≡ insert_entry nat_cmp far.old.entries number id) }
+    ensures err { OnErr result (far.new.entries ≡ far.old.entries) }
+{
+    match far.insert(number, id) {
+        Ok(_) => Ok(()),
+        Err(_) => Err(AllocError),
+    }
 }
 
 #[tactic(auto, using(crate::proofs::Fars::far_rules))]
@@ -192,10 +205,10 @@ impl LoaderMachine {
         let _objects = self.machine.objects();
         match self.machine.top() {
             None => Ok(false),
-            Some(id) => match self.far.insert(number, id) {
-                Ok(_) => Ok(true),
-                Err(_) => Err(AllocError),
-            },
+            Some(id) => {
+                put_in(&mut self.far, number, id)?;
+                Ok(true)
+            }
         }
     }
 
