@@ -1,11 +1,11 @@
 -- A machine beside which stand the entries of its memo whose keys have more than 64 bits moves as one that has all entries.
-use Rattle.std.proofs.Common.{◌≡◌, ℕ, ◌+◌, ◌-◌, ◌^◌, ◌<◌, ◌≤◌, Bool, true, false, cond, List, [], ◌∷◌, ◌++◌, length, zero, suc, Option, Some, None, Ok, Err, refl, sym, ap, subst, ◌∙◌, inl, inr, arith, length-append}
+use Rattle.std.proofs.Common.{◌≡◌, ◌≢◌, ℕ, ◌+◌, ◌-◌, ◌^◌, ◌<◌, ◌≤◌, Bool, true, false, cond, List, [], ◌∷◌, ◌++◌, length, zero, suc, Option, Some, None, Ok, Err, refl, sym, ap, subst, ◌∙◌, inl, inr, arith, length-append}
 use Rattle.std.specs.Prelude.{Result, ◌==◌, ◌&&◌, nat_le, nat_lt, slice_get, slice_index, if◌then◌else◌, is_some}
 use Rattle.std.proofs.lemmas.Bool.{leb-true, leb-false, lt-ltb, le-leb}
 use Rattle.std.proofs.lemmas.List.{append-nil}
 use Rattle.std.proofs.lemmas.List.Elements.{All-nil, All-cons, All-head, All-tail, All-get_or}
 use Rattle.std.proofs.lemmas.Map.Views.{All-values-insert_entry, IfSome-lookup_from_All}
-use Rattle.std.specs.Prelude.{IfSome}
+use Rattle.std.specs.Prelude.{IfSome, IfErr, IsErrAnd}
 use Rattle.std.specs.Option.{unwrap_or}
 use Rattle.std.specs.Map.{lookup, values_of}
 use Rattle.std.specs.Ordering.{nat_cmp, match_ordering}
@@ -366,6 +366,11 @@ put_stopped n far s t stopped = λ place. (refusal.Underflow, go s.stopped stopp
     go : (b : Bool) → b ≡ true → outcome (refusal_of (row.Put n) (if b then begun (with_far far s) else with_far far s)) (next_of (row.Put n) (kind_of (frame_op 0)) 0 (if b then begun (with_far far s) else with_far far s)) ≡ Err refusal.Underflow
     go true e = refl
     go false e = absurd cc
+
+-- what a `?` answers of a row that is refused
+pub still_refused : {A : Type 0} (x : Refusal) (y : Result A Refusal) (r : Row) (t : State) → IsErrAnd y (λ e. e ≡ x) → (x ≢ refusal.Memory → refusal_of r (fresh t) ≡ Some x) → IfErr y (λ e. e ≢ refusal.Memory → refusal_of r (fresh t) ≡ Some e)
+still_refused x (Ok a) r t h w = tt
+still_refused x (Err e) r t h w = subst (λ (z : Refusal). z ≢ refusal.Memory → refusal_of r (fresh t) ≡ Some z) (sym h) w
 
 -- what stays apart
 pub apart_clear : (far : List (ℕ × ℕ)) (s : State) → IsApart far s → IsApart far (cleared s)

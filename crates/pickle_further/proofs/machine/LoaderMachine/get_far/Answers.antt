@@ -20,4 +20,4 @@ pub returns-clause-ok : goal.returns-clause-ok
 returns-clause-ok c =
     let within : c.self.inside.machine.state.stopped ≡ false = sym c.has_stopped.ensures ∙ c.if-has_stopped.false in
     let some : lookup (is_at (nat_cmp c.args.number)) c.self.inside.far.entries ≡ Some c.in-Some.id.now = sym (rw c.in-Some.is at c.get.ensures.value) in
-    rw (← c.self.view_is) (get_done c.args.number c.in-Some.id.now c.self.inside.far.entries c.self.inside.machine.state _ c.requires c.self.invariant.near within some c.in_ok-put_on.ensures.ok)
+    rw (← c.self.view_is) (get_done c.args.number c.in-Some.id.now c.self.inside.far.entries c.self.inside.machine.state _ c.requires c.self.invariant.near within some c.in_ok-put_on-in-Some.ensures.ok)
