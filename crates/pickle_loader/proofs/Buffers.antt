@@ -89,15 +89,15 @@ across_same ends bytes gap (Err f) item e lost = absurd cc
 parted : (left : ℕ) (bytes : List ℕ) → take left bytes ++ drop left bytes ≡ bytes
 parted left bytes = take-append-drop left bytes
 
-same_by : (b ends : Bool) (left : ℕ) (bytes : List ℕ) (item : Taken) → ends_in (front_of (take left bytes)) ≡ b
-    → (if b then within ends bytes (length (take left bytes)) (lenient (take left bytes)) else across ends bytes (length (take left bytes) - first_read (take left bytes)) (lenient (joined left bytes))) ≡ Ok item → item.lost ≡ false
+same_by : (b drops : Bool) (left : ℕ) (bytes : List ℕ) (item : Taken) → ends_in (front_of (take left bytes)) ≡ b
+    → (if b then within drops bytes (length (take left bytes)) (lenient (take left bytes)) else across drops bytes (length (take left bytes) - first_read (take left bytes)) (lenient (joined left bytes))) ≡ Ok item → item.lost ≡ false
     → plain (lenient bytes) ≡ Ok (plain_item item)
-same_by true ends left bytes item ends e lost =
+same_by true drops left bytes item ends e lost =
     ap (λ (l : List ℕ). plain (lenient l)) (sym (parted left bytes)) ∙ ap plain (lenient_more (take left bytes) (drop left bytes) ends)
-    ∙ within_same ends bytes (length (take left bytes)) (lenient (take left bytes)) item e lost
-same_by false ends left bytes item ends e lost =
+    ∙ within_same drops bytes (length (take left bytes)) (lenient (take left bytes)) item e lost
+same_by false drops left bytes item ends e lost =
     let some : List ℕ = take left bytes in
-    let both = across_same ends bytes (length some - first_read some) (lenient (joined left bytes)) item e lost in
+    let both = across_same drops bytes (length some - first_read some) (lenient (joined left bytes)) item e lost in
     let whole : take (first_read some) some ≡ some = take_all (first_read some) some (omega (arith, both.0)) in
     ap (λ (l : List ℕ). plain (lenient l)) (sym (parted left bytes) ∙ ap (λ (l : List ℕ). l ++ drop left bytes) (sym whole)) ∙ both.1
 

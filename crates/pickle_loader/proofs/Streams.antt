@@ -92,13 +92,13 @@ behind_is false false o left e f stop = sym (ap (λ (d : Bool). if d then frame_
 
 -- ---- what is taken of bytes that begin with an operation
 
-record Stands (left : ℕ) (o : Operation) (bytes : List ℕ) : Type 0 where
-  fits : FitsFrame left o
-  front : (rest : List ℕ) × (bytes ≡ spelling o ++ rest)
-  reach : left ≤ length bytes
-  frame : is_frame o.opcode ≡ true → frame_number o ≤ length bytes - size_of o
-  quiet : is_stop o.opcode ≡ true → left_behind left o ≡ 0
-  reads : lenient bytes ≡ Ok (record { op = o; row = row_of o; size = size_of o })
+pub record Stands (left : ℕ) (o : Operation) (bytes : List ℕ) : Type 0 where
+  pub fits : FitsFrame left o
+  pub front : (rest : List ℕ) × (bytes ≡ spelling o ++ rest)
+  pub reach : left ≤ length bytes
+  pub frame : is_frame o.opcode ≡ true → frame_number o ≤ length bytes - size_of o
+  pub quiet : is_stop o.opcode ≡ true → left_behind left o ≡ 0
+  pub reads : lenient bytes ≡ Ok (record { op = o; row = row_of o; size = size_of o })
 
 pub record Takes (left : ℕ) (o : Operation) (bytes : List ℕ) : Type 0 where
   pub item : Taken
