@@ -99,6 +99,6 @@ pub near_goes : (w : Way) (item : Taken) (r : Row) (s t : State) (at : Spot) (mo
     → IfOk x (λ g. (p : Standing) → p.state ≡ s → p.at ≡ at → length (drop item.size p.rest) ≡ more → Goes (gone_as w p item (loader_move item.op.opcode item.row (fresh p.state))) g t)
 near_goes w item r s t at more (Ok g) e h =
     λ p state spot left.
-        subst (λ (y : Row). Goes (gone_as w p (record { op = item.op; row = y; size = item.size; left = item.left; lost = item.lost }) (loader_move item.op.opcode y (fresh p.state))) g t) e
-        (h p state (ap (λ (x : Spot). x.place) spot) left)
+    subst (λ (y : Row). Goes (gone_as w p (record { op = item.op; row = y; size = item.size; left = item.left; lost = item.lost }) (loader_move item.op.opcode y (fresh p.state))) g t) e
+    (h p state (ap (λ (x : Spot). x.place) spot) left)
 near_goes w item r s t at more (Err x) e h = tt

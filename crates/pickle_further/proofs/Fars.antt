@@ -357,7 +357,7 @@ put_misses n far s t within e =
     λ place. (
       refusal.Underflow,
       far_put n place (with_far far s) within
-      ∙ ap (λ (xs : List ℕ). outcome (unless (nat_le 1 (length xs)) refusal.Underflow None) (record s { memo = insert_entry nat_cmp (s.memo ++ far) n (deep 0 s.top) })) (no_top s.top e),
+          ∙ ap (λ (xs : List ℕ). outcome (unless (nat_le 1 (length xs)) refusal.Underflow None) (record s { memo = insert_entry nat_cmp (s.memo ++ far) n (deep 0 s.top) })) (no_top s.top e),
     )
 
 pub put_stopped : (n : ℕ) (far : List (ℕ × ℕ)) (s t : State) → s.stopped ≡ true → ComesTo (row.Put n) (with_far far s) t false

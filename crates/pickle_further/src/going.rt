@@ -237,10 +237,7 @@ fn far_gone(done: bool, size: usize, left: u64, lost: bool, offset: u64) -> Gone
             closing: None,
         }
     } else {
-        nothing(Closing::Fault(
-            TailFault::Front(FrontFault::BadArgument),
-            offset,
-        ))
+        nothing(Closing::Fault(TailFault::Front(FrontFault::BadArgument), offset))
     }
 }
 

@@ -111,13 +111,7 @@ impl LoaderMachine {
     }
 
     /// One step within a pickle.
-    fn step_within(
-        &mut self,
-        alloc: Global,
-        row: Row,
-        op: &Op,
-        place: usize,
-    ) -> Result<(), Refusal>
+    fn step_within(&mut self, alloc: Global, row: Row, op: &Op, place: usize) -> Result<(), Refusal>
         requires heap { length self.old.state.heap < 2 ^ 32 - 1 }
         requires within { self.old.state.stopped ≡ false }
         ensures ok { OnOk result (move_as row op.now place self.old.state ≡ Ok self.new.state) }
@@ -135,13 +129,7 @@ impl LoaderMachine {
     }
 
     /// One step as the first of a further pickle, which begins with an empty memo.
-    fn step_first(
-        &mut self,
-        alloc: Global,
-        row: Row,
-        op: &Op,
-        place: usize,
-    ) -> Result<(), Refusal>
+    fn step_first(&mut self, alloc: Global, row: Row, op: &Op, place: usize) -> Result<(), Refusal>
         requires heap { length self.old.state.heap < 2 ^ 32 - 1 }
         requires stopped { self.old.state.stopped ≡ true }
         ensures ok { OnOk result (move_as row op.now place self.old.state ≡ Ok self.new.state) }

@@ -133,16 +133,7 @@ fn write_document<S: Page>(
         sink,
     )?;
     let status = write_end(holes, bytes, ran.course, ran.ending, sink)?;
-    write_parts(
-        alloc,
-        detail,
-        holes,
-        pickles,
-        bytes,
-        ran,
-        machine,
-        sink,
-    )?;
+    write_parts(alloc, detail, holes, pickles, bytes, ran, machine, sink)?;
     Ok(status)
 }
 

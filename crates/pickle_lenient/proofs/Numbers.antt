@@ -64,19 +64,19 @@ as_many p (x ∷ xs) (y ∷ ys) e da db =
     let same : length xs ≡ length ys = omega (arith, e) in
     elim (cases_Bool (nat_lt x y)) [
       | inl hit ↦
-        let h : x < y = ltb-true x y hit in
-        then_less (nat_cmp x y) (less x y h) (slice_cmp nat_cmp xs ys)
-        ∙ sym (less _ _ (lower (10 * p + (x - 48)) (10 * p + (y - 48)) xs ys (omega (arith, h, da.0, db.0)) same da.2))
+          let h : x < y = ltb-true x y hit in
+          then_less (nat_cmp x y) (less x y h) (slice_cmp nat_cmp xs ys)
+          ∙ sym (less _ _ (lower (10 * p + (x - 48)) (10 * p + (y - 48)) xs ys (omega (arith, h, da.0, db.0)) same da.2))
       | inr miss ↦ elim (cases_Bool (nat_lt y x)) [
         | inl hit ↦
-          let h : y < x = ltb-true y x hit in
-          then_greater (nat_cmp x y) (greater x y h) (slice_cmp nat_cmp xs ys)
-          ∙ sym (greater _ _ (lower (10 * p + (y - 48)) (10 * p + (x - 48)) ys xs (omega (arith, h, da.0, db.0)) (sym same) db.2))
+            let h : y < x = ltb-true y x hit in
+            then_greater (nat_cmp x y) (greater x y h) (slice_cmp nat_cmp xs ys)
+            ∙ sym (greater _ _ (lower (10 * p + (y - 48)) (10 * p + (x - 48)) ys xs (omega (arith, h, da.0, db.0)) (sym same) db.2))
         | inr none ↦
-          let h : x ≡ y = omega (arith, ltb-false x y miss, ltb-false y x none) in
-          then_equal (nat_cmp x y) (equal x y h) (slice_cmp nat_cmp xs ys)
-          ∙ as_many (10 * p + (x - 48)) xs ys same da.2 db.2
-          ∙ ap (λ (d : ℕ). nat_cmp (value_from (10 * p + (x - 48)) xs) (value_from (10 * p + (d - 48)) ys)) h
+            let h : x ≡ y = omega (arith, ltb-false x y miss, ltb-false y x none) in
+            then_equal (nat_cmp x y) (equal x y h) (slice_cmp nat_cmp xs ys)
+            ∙ as_many (10 * p + (x - 48)) xs ys same da.2 db.2
+            ∙ ap (λ (d : ℕ). nat_cmp (value_from (10 * p + (x - 48)) xs) (value_from (10 * p + (d - 48)) ys)) h
       ]
     ]
 
@@ -97,12 +97,12 @@ same_length a b r o ia ib is e c = c ∙ as_many 0 a b (lengths (length a) (leng
 pub other_length : (a b : List ℕ) (r : Ordering) → IsNumber a → IsNumber b → r ≡ nat_cmp (length a) (length b) → r ≢ Equal → r ≡ nat_cmp (value_of a) (value_of b)
 other_length a b r ia ib is other = elim (cases_Bool (nat_lt (length a) (length b))) [
   | inl hit ↦
-    let h : length a < length b = ltb-true (length a) (length b) hit in
-    is ∙ less (length a) (length b) h ∙ sym (less _ _ (fewer a b ia ib h))
+      let h : length a < length b = ltb-true (length a) (length b) hit in
+      is ∙ less (length a) (length b) h ∙ sym (less _ _ (fewer a b ia ib h))
   | inr miss ↦ elim (cases_Bool (nat_lt (length b) (length a))) [
     | inl hit ↦
-      let h : length b < length a = ltb-true (length b) (length a) hit in
-      is ∙ greater (length a) (length b) h ∙ sym (greater _ _ (fewer b a ib ia h))
+        let h : length b < length a = ltb-true (length b) (length a) hit in
+        is ∙ greater (length a) (length b) h ∙ sym (greater _ _ (fewer b a ib ia h))
     | inr none ↦ absurd (other (is ∙ equal (length a) (length b) (omega (arith, ltb-false (length a) (length b) miss, ltb-false (length b) (length a) none))))
   ]
 ]

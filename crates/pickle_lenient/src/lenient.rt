@@ -46,11 +46,7 @@ fn keyed_row(code: u8, key: Number) -> Option<LenientRow>
 }
 
 /// The row of GET or PUT of a number, and how many bytes it takes, by the code and the line behind it.
-fn odd_line(
-    alloc: Global,
-    code: u8,
-    rest: &[u8],
-) -> Result<Option<(LenientRow, usize)>, AllocError>
+fn odd_line(alloc: Global, code: u8, rest: &[u8]) -> Result<Option<(LenientRow, usize)>, AllocError>
     ensures is { IfOk result (λ x. x ≡ odd_line code rest.now) }
     ensures some { IfOk result (λ x. IfSome x (λ r. 0 < r.1)) }
     ensures within { IfOk result (λ x. IfSome x (λ r. r.1 ≤ length rest.now + 1)) }

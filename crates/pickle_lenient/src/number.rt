@@ -34,7 +34,11 @@ fn is_leading(digits: &[u8], digit: u8) -> bool
     ensures leads { result ≡ true → (digits.now ≡ []) × (digit ≡ 48) }
     ensures follows { result ≡ false → digits.now ≡ [] → digit ≢ 48 }
 {
-    if digits.is_empty() { digit == b'0' } else { false }
+    if digits.is_empty() {
+        digit == b'0'
+    } else {
+        false
+    }
 }
 
 /// A number with another digit behind it, if it has at most 64 bits then.

@@ -137,12 +137,7 @@ fn take_plain(alloc: Global, bytes: &[u8]) -> Result<Taken, NotTaken>
 }
 
 /// What is taken of a buffer, in which it ends.
-fn take_within(
-    alloc: Global,
-    ends: bool,
-    bytes: &[u8],
-    buffer: &[u8],
-) -> Result<Taken, NotTaken>
+fn take_within(alloc: Global, ends: bool, bytes: &[u8], buffer: &[u8]) -> Result<Taken, NotTaken>
     requires small { length bytes.now < 2 ^ 62 }
     requires few { length buffer.now ≤ length bytes.now }
     ensures ok { IfOk result (IsAnswer bytes.now (within ends bytes.now (length buffer.now) (lenient buffer.now))) }

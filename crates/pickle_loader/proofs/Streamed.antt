@@ -1,5 +1,5 @@
 -- Where the lines end with status 0, a reading that keeps frames in a buffer tells what the one tells that ignores frames.
-use Rattle.std.proofs.Common.{◌≡◌, ◌⊎◌, ℕ, zero, suc, ◌^◌, ◌<◌, ◌≤◌, Bool, true, false, List, [], ◌++◌, length, drop, Option, Some, None, Ok, Err, refl, sym, ap, subst, ◌∙◌, inl, inr, arith}
+use Rattle.std.proofs.Common.{◌≡◌, ℕ, zero, suc, ◌^◌, ◌<◌, ◌≤◌, Bool, true, false, List, [], ◌++◌, length, drop, Option, Some, None, Ok, Err, refl, sym, ap, subst, ◌∙◌, inl, inr, arith}
 use Rattle.std.specs.Prelude.{is_some, if◌then◌else◌, Result}
 use Rattle.std.proofs.lemmas.Bool.{cases_lt}
 use Rattle.pickle_ops.specs.declared.fault.FrontFault.{FrontFault}
@@ -22,7 +22,6 @@ use Rattle.pickle_further.specs.declared.way.Pickles.{Pickles}
 use Rattle.pickle_further.specs.Going.{Standing, Going as Gone, used_op, moved_so, gone_to, gone_by, going, stands_after}
 use Rattle.pickle_further.specs.Parts.{ignoring, buffering, are_many, standing_first}
 use Rattle.pickle_loader.specs.Environment.{Value, Act}
-use Rattle.pickle_loader.specs.Told.{protocol_after}
 use Rattle.pickle_loader.specs.Onward.{begins_anew, stands_behind, stands_on, stands, protocol_read, protocol_on, protocol, acts_gone, acts_on, acts_before, unbuffered}
 use Rattle.pickle_loader.proofs.Items.{none_taken}
 use Rattle.pickle_loader.proofs.Buffers.{plain_item, flat, buffered_same, flat_to}
@@ -167,15 +166,15 @@ turn_of : (V : ℕ → Value) (p : Pickles) (d : Contents) (n : ℕ) (q : Standi
     → stands (ignoring p) (From p d) n ≡ Some (unbuffered q) → q.at.left ≡ left_at d n → n ≤ length (ops_of d) → Turn p d n q
 turn_of V p d n q formed small anew mode t plain left most = elim (cases_lt n (length (ops_of d))) [
   | inl less ↦
-    let after = run_before (start d.many) (ops_of d) (length (ops_of d)) (suc n) t.last t.runs (omega (arith, less)) in
-    let m = move_to (start d.many) (ops_of d) n after.0 after.1 in
-    let beside = beside_all V p d formed small anew mode n m.before (unbuffered q) m.reached plain in
-    let rest : q.rest ≡ drop (offset_of d n) (document_bytes d) = ap (λ (x : Standing). x.rest) beside.stands_there in
-    turn_item p d n q m.item m.there less left rest (takes_item d formed small t.quiet t.tail n m.item m.there (reads_item d n m.item formed small m.there))
+      let after = run_before (start d.many) (ops_of d) (length (ops_of d)) (suc n) t.last t.runs (omega (arith, less)) in
+      let m = move_to (start d.many) (ops_of d) n after.0 after.1 in
+      let beside = beside_all V p d formed small anew mode n m.before (unbuffered q) m.reached plain in
+      let rest : q.rest ≡ drop (offset_of d n) (document_bytes d) = ap (λ (x : Standing). x.rest) beside.stands_there in
+      turn_item p d n q m.item m.there less left rest (takes_item d formed small t.quiet t.tail n m.item m.there (reads_item d n m.item formed small m.there))
   | inr over ↦
-    let last : n ≡ length (ops_of d) = omega (arith, over, most) in
-    let beside = beside_all V p d formed small anew mode n t.last (unbuffered q) (ap (run (start d.many) (ops_of d)) last ∙ t.runs) plain in
-    turn_end p d n q (ap (λ (x : Standing). x.rest) beside.stands_there ∙ rest_end d n last t.tail)
+      let last : n ≡ length (ops_of d) = omega (arith, over, most) in
+      let beside = beside_all V p d formed small anew mode n t.last (unbuffered q) (ap (run (start d.many) (ops_of d)) last ∙ t.runs) plain in
+      turn_end p d n q (ap (λ (x : Standing). x.rest) beside.stands_there ∙ rest_end d n last t.tail)
 ]
 
 alike_where : (V : ℕ → Value) (p : Pickles) (d : Contents) (n : ℕ) (x : Option Standing) → IsFormed d → length (document_bytes d) < 2 ^ 64 → begins_anew p ≡ true → d.many ≡ are_many p → IsThrough d

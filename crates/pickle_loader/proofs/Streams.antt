@@ -1,16 +1,11 @@
 -- Where the lines end with status 0, a reading that keeps frames in a buffer loses nothing.
-use Rattle.std.proofs.Common.{◌≡◌, ◌⊎◌, ℕ, zero, suc, ◌+◌, ◌-◌, ◌^◌, ◌<◌, ◌≤◌, Bool, true, false, List, [], ◌∷◌, ◌++◌, length, take, drop, Option, Some, None, Ok, Err, refl, sym, ap, subst, ◌∙◌, inl, inr, arith, length-append, append_assoc}
-use Rattle.std.specs.Prelude.{◌&&◌, ◌||◌, MatchBool, nat_lt, nat_le, slice_get, is_some, if◌then◌else◌, Result}
-use Rattle.std.specs.Option.{option_map}
-use Rattle.std.proofs.lemmas.Bool.{cases_Bool, le-leb, leb-true, ltb-false}
-use Rattle.std.proofs.lemmas.List.{append-nil, take-append-drop}
+use Rattle.std.proofs.Common.{◌≡◌, ℕ, zero, suc, ◌+◌, ◌-◌, ◌^◌, ◌<◌, ◌≤◌, Bool, true, false, List, [], ◌∷◌, ◌++◌, length, take, drop, Option, Some, None, Ok, refl, sym, ap, subst, ◌∙◌, arith, length-append, append_assoc}
+use Rattle.std.specs.Prelude.{◌&&◌, ◌||◌, MatchBool, nat_lt, nat_le, slice_get, if◌then◌else◌}
+use Rattle.std.proofs.lemmas.Bool.{le-leb, leb-true, ltb-false}
+use Rattle.std.proofs.lemmas.List.{take-append-drop}
 use Rattle.std.proofs.lemmas.Option.{slice_get_within}
-use Rattle.pickle_ops.specs.declared.opcode.Opcode.{Opcode}
-use Rattle.pickle_ops.specs.declared.opcode.Opcode.TheVariants as op
-use Rattle.pickle_ops.specs.declared.fault.FrontFault.{FrontFault}
-use Rattle.pickle_ops.specs.declared.row.Row.{Row}
 use Rattle.pickle_ops.specs.Row.{row_of}
-use Rattle.pickle_ops.specs.Spelling.{Operation, spelling, size_of, Reads}
+use Rattle.pickle_ops.specs.Spelling.{Operation, spelling, size_of}
 use Rattle.pickle_ops.specs.Front.{front_of}
 use Rattle.pickle_doc.specs.declared.fault.TailFault.{TailFault}
 use Rattle.pickle_doc.specs.DocUnit.{is_frame, is_stop, ends_reading, frame_number, bytes_of}
@@ -20,12 +15,10 @@ use Rattle.pickle_doc.specs.Place.{ops_of, item_at, offset_of}
 use Rattle.pickle_doc.proofs.Fits.{reaches}
 use Rattle.pickle_doc.proofs.Opcodes.{frame_goes}
 use Rattle.pickle_doc.proofs.Units.{small_document, document_fits}
-use Rattle.pickle_machine.specs.State.{State, start}
-use Rattle.pickle_machine.specs.Run.{run}
 use Rattle.pickle_lenient.specs.declared.taken.Frames.TheVariants as frames
 use Rattle.pickle_lenient.specs.declared.taken.Taken.{Taken}
-use Rattle.pickle_lenient.specs.Lenient.{Lenient, lenient}
-use Rattle.pickle_lenient.specs.Stream.{first_read, joined, ends_in, refilled, framed, settled, taken_as, within, across, buffered, taken}
+use Rattle.pickle_lenient.specs.Lenient.{lenient}
+use Rattle.pickle_lenient.specs.Stream.{first_read, joined, ends_in, refilled, framed, settled, within, across, buffered, taken}
 use Rattle.pickle_lenient.proofs.Behind.{lenient_more, op_ends}
 use Rattle.pickle_show.specs.Calls.{is_inside, first_inside, left_on, left_at}
 use Rattle.pickle_loader.proofs.Cuts.{drop_zero}

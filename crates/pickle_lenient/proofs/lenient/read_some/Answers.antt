@@ -5,7 +5,7 @@ use Rattle.pickle_lenient.proofs.Lenients.{found_so, faulty_ok, faulty_err}
 use Rattle.pickle_lenient.proofs.lenient.read_some.Goals as goal
 
 pub returns-in_ok-op-in-Ok-clause-ok : goal.returns-in_ok-op-in-Ok-clause-ok
-returns-in_ok-op-in-Ok-clause-ok c = 
+returns-in_ok-op-in-Ok-clause-ok c =
     let near : is_far (row_of c.in-Ok.found) ≡ false = rw c.of_ref.ensures at c.near-row.ensures.near in
     rw (c.in_ok-op-in-Ok.ensures.ok, c.near-row.ensures.is, c.of_ref.ensures, c.size-size.ensures) (found_so c.args.bytes.now c.in-Ok.found c.in-Ok.ensures.found near)
 
