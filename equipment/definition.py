@@ -24,7 +24,6 @@ TYPES = {"str": "PyStr", "tuple": "PyTuple", "dict": "PyDict", "buffer": "PyOthe
 ASKING = ("Find", "Persist", "NextBuffer", "Extension")
 CALLING = ("Call", "New", "NewEx", "Instance")
 # (what int() takes; before 3.11 some versions take any number)
-MOST_DIGITS = getattr(sys, "get_int_max_str_digits", lambda: sys.maxsize)()
 RAISES = Made("Environment.Raises")
 ANSWERS = Made("Environment.Answers", (Made("Environment.PyOther"),))
 
@@ -162,11 +161,11 @@ class Definition:
         return self._run(Run(world), begin, lambda x: self.load_next(record, True, x), self._is_odd_key)
 
     def way(self, data: bytes, plan: Plan, encoding: str, pickles: str, frames: str) -> Run:
-        """What the unpickler in Python does where it reads in this way, behind an end of the lines too, up to a key of more than 64 bits."""
+        """What the unpickler in Python does where it reads in this way, behind an end of the lines too."""
         world = World(plan, encoding == "bytes")
         record, way = world.record(is_python=True), _way(pickles, frames)
         begin = self.load_way(record, way, tuple(data), 0)
-        return self._run(Run(world), begin, lambda x: self.load_on(record, way, x), lambda x: _is_large_key(bytes(x["rest"])))
+        return self._run(Run(world), begin, lambda x: self.load_on(record, way, x), lambda x: False)
 
     def in_c(self, data: bytes, plan: Plan, encoding: str, pickles: str, frames: str) -> Run:
         """What the unpickler in C does where it reads in this way."""
@@ -204,11 +203,6 @@ class Definition:
 
 def _way(pickles: str, frames: str) -> dict[str, Value]:
     return {"pickles": Made(f"Pickles.{pickles}"), "frames": Made(f"Frames.{frames}")}
-
-
-def _is_large_key(rest: bytes) -> bool:
-    line = rest[1:].partition(b"\n")[0].strip()
-    return rest[:1] in (b"g", b"p") and line.isdigit() and len(line) <= MOST_DIGITS and int(line) >= 1 << 64
 
 
 # ---- what is seen of it outside

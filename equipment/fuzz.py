@@ -52,7 +52,7 @@ IMPORT_LINE = re.compile(r"^ *\d+: (?:import|inst) ", re.M)
 # (behind a heading of `calls` is what only loaders reach)
 HEADING = re.compile(r"^a loader .*may go on:$", re.M)
 # (a STOP inside a frame, where the strict lines end and `objects` goes on)
-UNSURE_LINE = re.compile(r"^unsure: U1 .*\n", re.M)
+UNSURE_LINE = re.compile(r"^unsure: U[12] .*\n", re.M)
 CALL_LINE = re.compile(r"^ *\d+: (?:inst|call|new|state|append|set|add) ", re.M)
 WHERE = re.compile(r"at (\d+) of (\d+), offset (\d+), buffers (\d+), result (none|#\d+(?: #\d+)*), end (.*)")
 VIEW = "where\nitems\nstack\nmemo\nobjects\n"

@@ -226,10 +226,10 @@ def framed(chance: random.Random, opcodes: Sequence[bytes], odd: float) -> list[
     return made
 
 
-def made(chance: random.Random, frames: bool = True) -> bytes:
+def made(chance: random.Random) -> bytes:
     """One pickle."""
     odd = chance.choice([0, 0, 0.05, 0.15, 0.4])
-    return Maker(chance, odd).pickle(chance.choice([4, 8, 16, 30]), frames and chance.random() < 0.35)
+    return Maker(chance, odd).pickle(chance.choice([4, 8, 16, 30]), chance.random() < 0.35)
 
 
 def changed(chance: random.Random, real: Sequence[bytes]) -> bytes:
@@ -258,14 +258,14 @@ def singles(seed: int, count: int, real: Sequence[bytes]) -> Iterator[bytes]:
         yield made(chance) if chance.random() < 0.66 or not short else changed(chance, short)
 
 
-def rows(seed: int, count: int, frames: bool = True) -> Iterator[bytes]:
+def rows(seed: int, count: int) -> Iterator[bytes]:
     """Two or three pickles in a row; of some the frame goes on behind STOP."""
-    chance = random.Random(f"several {seed} {frames}")
+    chance = random.Random(f"several {seed}")
     for _ in range(count):
         pickles = []
         for _ in range(chance.choice([2, 2, 3])):
-            pickle = made(chance, frames)
-            if frames and chance.random() < 0.15:
+            pickle = made(chance)
+            if chance.random() < 0.15:
                 rest = chance.choice([b"", b"N.", b"\0", b"(", b"X\x10\0\0\0", b"cin\nframe\n."])
                 pickle = b"\x95" + struct.pack("<Q", len(pickle) + len(rest)) + pickle + rest
             pickles.append(pickle)

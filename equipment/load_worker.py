@@ -170,7 +170,7 @@ def load_all(name: str, data: bytes, is_one: bool) -> list[list[Any]]:
     try:
         unpickler = kind(file, buffers=buffers())
         unpickler.load()
-        while has_more(file):
+        while is_one or has_more(file):  # (one unpickler may still hold bytes where its file has no more)
             if not is_one:
                 unpickler = kind(file, buffers=buffers())
             unpickler.load()

@@ -34,6 +34,7 @@ CALLS = ("call", "new", "inst")
 FILLS = ("append", "set", "add")
 ODDITY = re.compile(r"(stopped|[FSU][0-9]+) +(.*?) {2,}([0-9a-f*]+(?: [0-9a-f*]+)*)")
 BUFFERED = "a loader that buffers frames may go on"
+HELD = "a loader that keeps its buffer may go on"
 
 
 @dataclass
@@ -178,27 +179,18 @@ def untold(text: str, acts: Sequence[Sequence[Any]]) -> str:
     strict = reader.acts(answer)
     before = reader.copy()
     parts = {part.heading: part for part in answer.parts}
-    behind = reader.acts(reach for heading, part in parts.items() if heading != BUFFERED for reach in part)
+    behind = reader.acts(reach for heading, part in parts.items() if heading not in (BUFFERED, HELD) for reach in part)
     match = Match(acts)
     if match.go_on([*strict, *behind]):
         return ""
-    first = len(match.pairs)
-    if BUFFERED in parts and _is_buffered(parts[BUFFERED], [*strict, *behind], before, reader, match):
-        return ""
-    return f"{acts[first]} is not told"
-
-
-def has_large_key(text: str, case: bytes) -> bool:
-    """Whether the lines end at a GET or PUT of 2^64 or more, which the unpickler in Python takes: docs/CODES.md says so."""
-    answer = Calls(text)
-    faults = [end.offset for end in (answer.end, *(part.end for part in answer.parts)) if end.code == "F5" and end.offset is not None]
-    lines = [case[offset + 1:].partition(b"\n")[0].strip() for offset in faults]
-    return any(line.isdigit() and int(line) >= 1 << 64 for line in lines)
-
-
-def _is_buffered(part: Iterable[Reach], told: Sequence[Told], before: Reader, after: Reader, match: Match) -> bool:
-    """Whether acts go on in the part for loaders that buffer frames: from some act on that is told before it."""
     pairs = match.pairs
+    if any(heading in parts and _is_buffered(parts[heading], before, reader, match, pairs) for heading in (BUFFERED, HELD)):
+        return ""
+    return f"{acts[len(pairs)]} is not told"
+
+
+def _is_buffered(part: Iterable[Reach], before: Reader, after: Reader, match: Match, pairs: Sequence[Told]) -> bool:
+    """Whether acts go on in a part for loaders that buffer frames: from some act on of those that are told before it."""
     for reader in (after, before):
         behind = reader.copy().acts(part)
         for count in range(len(pairs), -1, -1):
@@ -246,7 +238,7 @@ class Loads:
             for loader, acts in loads:
                 count += len(acts)
                 why = untold(text, acts) if text else "the program gives no answer"
-                if why and not (loader == "Python" and has_large_key(text, case)):
+                if why:
                     found.append(f"{loader}: {why}: {case.hex()}")
         self.cases, self.acts = self.cases + len(cases), self.acts + count
         shown = "; ".join(sorted(found, key=len)[:MOST_SHOWN])
@@ -303,7 +295,7 @@ def _tried(loads: Loads, kind: str, number: int, real: Sequence[bytes]) -> Noted
     seed = SEED * 1000 + number
     if kind == "singles":
         return loads.fault(f"{kind}{number}", list(load_cases.singles(seed, EACH, real)))
-    return loads.fault(f"{kind}{number}", list(load_cases.rows(seed, EACH, frames=kind != "kept")), kind == "kept")
+    return loads.fault(f"{kind}{number}", list(load_cases.rows(seed, EACH)), kind == "kept")
 
 
 def _old_names() -> Noted:

@@ -140,8 +140,10 @@ def examples(text: str) -> Iterator[Example]:
 def fault_of_example(program: str, example: Example, file: Path) -> str:
     file.parent.mkdir(parents=True, exist_ok=True)
     file.write_bytes(bytes.fromhex(example.pickle))
-    # (an example without commands is listed; a pickle that refers to an earlier one needs --many, and only calls is unsure)
-    listed = {"S3 ..": ["list", "--many"], "U1": ["calls"]}.get(example.code if example.code == "S3 .." else example.code[:2], ["list"])
+    # (an example without commands is listed; a pickle that refers to an earlier one needs --many, and only calls is unsure, of one code with
+    # --memo kept)
+    words = {"S3 ..": ["list", "--many"], "U1": ["calls"], "U2": ["calls", "--memo", "kept"]}
+    listed = words.get(example.code if example.code == "S3 .." else example.code[:2], ["list"])
     command = ["debug"] if example.commands else listed
     script = "".join(line + "\n" for line in example.commands).encode()
     done = subprocess.run([program, *command, str(file)], input=script, capture_output=True, timeout=60)

@@ -243,7 +243,8 @@ def load(name: str, data: bytes, plan: Plan, encoding: str, pickles: str = "All"
     loader = _loader(kind, record)
     try:
         unpickler = None
-        while unpickler is None or pickles != "First" and has_more(file):
+        # (One unpickler may still hold bytes where its file has no more: it loads until it raises.)
+        while unpickler is None or pickles == "OneMemo" or pickles == "All" and has_more(file):
             if unpickler is None or pickles == "All":
                 unpickler = loader(file, encoding=encoding, buffers=Buffers(record))
             value = unpickler.load()

@@ -3,10 +3,11 @@
 
     try_definition.py [--crates FOLDER] [--odd] SEED COUNT [PICKLE..]
 
-The unpickler in Python is compared with `load_bytes` of crates/pickle_loader/specs, and one load of it with `load_way`, frames ignored; those
-in C with `c_load_way`, frames ignored and buffered. COUNT pickles are made by load_cases.py from the seed and from the real pickles. The pickles
-that are given come before them, and with --odd the rows of oddities.txt. With --crates the definition is that of another folder of crates.
-What is printed is JSON: what was tried, and what differs.
+The unpickler in Python is compared with `load_bytes` of crates/pickle_loader/specs, one load of it with `load_way`, frames ignored, and one
+that loads again and again with `load_way`, frames buffered; those in C with `c_load_way`, frames ignored, and buffered or, where one loads
+again, held. COUNT pickles are made by load_cases.py from the seed and from the real pickles. The pickles that are given come before them, and
+with --odd the rows of oddities.txt. With --crates the definition is that of another folder of crates. What is printed is JSON: what was
+tried, and what differs.
 """
 
 from __future__ import annotations
@@ -71,9 +72,9 @@ class Tally:
 
 
 def cases(seed: int, count: int, real: Sequence[bytes]) -> Iterator[tuple[bytes, str]]:
-    """Pickles, each with what it is for: several in a row, and several without frames for one unpickler that keeps its memo."""
+    """Pickles, each with what it is for: several in a row, and several for one unpickler that keeps its memo."""
     singles, rows = load_cases.singles(seed, count, real), load_cases.rows(seed, count)
-    kept = load_cases.rows(seed, count, frames=False)
+    kept = load_cases.rows(seed + 1000, count)
     for number in range(count):
         yield (next(rows), "rows") if number % 5 == 3 else (next(kept), "kept") if number % 5 == 4 else (next(singles), "singles")
 
@@ -85,8 +86,12 @@ def try_case(definition: Definition, tally: Tally, case: bytes, kind: str, plan:
         tally.add("Python", case, definition.python(case, plan, encoding), load("Python", case, plan, encoding), encoding)
         first = definition.way(case, plan, encoding, "First", "Ignored")
         tally.add("Python, one load", case, first, load("Python", case, plan, encoding, "First"), encoding)
-    runs = {frames: definition.in_c(case, plan, encoding, pickles, frames) for frames in ("Ignored", "Buffered")}
-    for name, frames in READERS.items():
+    else:
+        read = definition.way(case, plan, encoding, pickles, "Buffered")
+        tally.add("Python, one unpickler", case, read, load("Python", case, plan, encoding, pickles), encoding)
+    readers = {name: "Held" if kind == "kept" and frames == "Buffered" else frames for name, frames in READERS.items()}
+    runs = {frames: definition.in_c(case, plan, encoding, pickles, frames) for frames in set(readers.values())}
+    for name, frames in readers.items():
         tally.add(name, case, runs[frames], load(name, case, plan, encoding, pickles), encoding)
 
 

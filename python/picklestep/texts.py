@@ -22,7 +22,7 @@ _PARTS = re.compile(r' \((#[^)]*)\)')
 _CHANGE = re.compile(r' (?:([+&!])#([0-9]+)|\[#([0-9]+)\]=#([0-9]+))')
 _CHANGES = {'+': 'append', '&': 'add', '!': 'state'}
 # What is under these headings the strict reading does not reach.
-HEADING = re.compile(r'^(a loader may go on|a loader that buffers frames may go on):$', re.MULTILINE)
+HEADING = re.compile(r'^(a loader(?: that buffers frames| that keeps its buffer)? may go on):$', re.MULTILINE)
 # Each heading has these words, and hardly any other line.
 IN_HEADINGS = ' may go on:\n'
 COUNTS = re.compile(r'^([0-9]+) imports, ([0-9]+) calls$', re.MULTILINE)

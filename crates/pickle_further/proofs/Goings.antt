@@ -36,7 +36,7 @@ unfolding going
 goes_by w p item t gone e g = rw e g
 
 pub go_ok : (w : Way) (s : State) (rest : List ℕ) (at : Spot) (item : Taken) (t : State) (more : ℕ) (r : Result Gone TextStop) → IsTaken w.frames at.left rest item → more ≡ length rest - item.size
-    → IfOk r (λ g. (q : Standing) → q.state ≡ s → q.at.place ≡ at.place → length (drop item.size q.rest) ≡ more → Goes (gone_as w q item (loader_move item.op.opcode item.row (fresh q.state))) g t)
+    → IfOk r (λ g. (q : Standing) → q.state ≡ s → q.at ≡ at → length (drop item.size q.rest) ≡ more → Goes (gone_as w q item (loader_move item.op.opcode item.row (fresh q.state))) g t)
     → IfOk r (λ g. (naming : Naming) → Goes (going w (standing s rest at naming)) g t)
 go_ok w s rest at item t more (Ok g) e is h = λ naming. goes_by w (standing s rest at naming) item t g e.is (h (standing s rest at naming) refl refl (length-drop item.size rest ∙ sym is))
 go_ok w s rest at item t more (Err x) e is h = tt
@@ -58,7 +58,7 @@ gone_some w p item m (Ok t) gone is some none = rw is some
 gone_some w p item m (Err x) gone is some none = absurd (ends_or_not _ (sym (ap (λ (x : Gone). x.closing) is) ∙ none))
 
 pub go_some : (w : Way) (s : State) (rest : List ℕ) (at : Spot) (item : Taken) (t : State) (more : ℕ) (r : Result Gone TextStop) → IsTaken w.frames at.left rest item → more ≡ length rest - item.size
-    → IfOk r (λ g. (q : Standing) → q.state ≡ s → q.at.place ≡ at.place → length (drop item.size q.rest) ≡ more → Goes (gone_as w q item (loader_move item.op.opcode item.row (fresh q.state))) g t)
+    → IfOk r (λ g. (q : Standing) → q.state ≡ s → q.at ≡ at → length (drop item.size q.rest) ≡ more → Goes (gone_as w q item (loader_move item.op.opcode item.row (fresh q.state))) g t)
     → IfOk r (λ g. g.closing ≡ None → 0 < g.size)
 go_some w s rest at item t more (Ok g) e is h =
     let q : Standing = standing s rest at (begin detail.Cut 0) in

@@ -1,5 +1,7 @@
 -- Lemmas that the proofs of several functions cite.
 pub mod Pieces
+pub mod Fars
+pub mod FarGoings
 pub mod Goings
 pub mod Tales
 pub mod Partly

@@ -1,6 +1,7 @@
 -- What loaders may do behind the end of the lines, as texts.
-use Rattle.std.proofs.Common.{◌≡◌, ℕ, List, [], ◌++◌, length, Option, Some, None, refl, ap, subst}
+use Rattle.std.proofs.Common.{◌≡◌, ℕ, List, [], ◌++◌, length, Option, Some, None, refl, sym, ap, subst}
 use Rattle.std.specs.Prelude.{Result}
+use Rattle.std.specs.Option.{option_map}
 use Rattle.pickle_io.specs.Text.{◌⧺◌}
 use Rattle.pickle_io.specs.Device.{Told, Wrote, Broke}
 use Rattle.pickle_io.proofs.Devices.{Wrote-none, Wrote-trans, Broke-after, Broke-more}
@@ -89,3 +90,24 @@ lost_puts holes how w s bytes at m v x t a b r same is f puts =
     let here : Finds w (search_from sought.Lost w (standing s bytes at (begin how 0))) x t = subst (λ (n : Naming). Finds w (search_from sought.Lost w (standing s bytes at n)) x t) same f in
     found_puts w (found_text holes w) (search_from sought.Lost w (standing s bytes at (begin how 0))) v t a b r
     (subst (λ (y : Option Visited). Finds w (search_from sought.Lost w (standing s bytes at (begin how 0))) y t) is here) puts
+
+-- where it is
+offset_by : (w : Way) (p : Option Standing) (v : Visited) (t : State) → Finds w p (Some v) t → Some v.at.offset ≡ option_map (λ (q : Standing). q.at.offset) p
+offset_by w (Some p) v t f = ap (λ (q : Standing). Some q.at.offset) (sym f.1)
+offset_by w None v t f = absurd f
+
+none_by : (w : Way) (p : Option Standing) (t : State) → Finds w p None t → None ≡ option_map (λ (q : Standing). q.at.offset) p
+none_by w (Some p) t f = absurd f
+none_by w None t f = refl
+
+pub found_offset : (how : Detail) (w : Way) (s : State) (bytes : List ℕ) (at : Spot) (m : Naming) (v : Visited) (x : Option Visited) (t : State) → m ≡ begin how 0 → x ≡ Some v → Finds w (search_from sought.Lost w (standing s bytes at m)) x t
+    → Some v.at.offset ≡ option_map (λ (q : Standing). q.at.offset) (search_from sought.Lost w (standing s bytes at (begin how 0)))
+found_offset how w s bytes at m v x t same is f =
+    let here = subst (λ (n : Naming). Finds w (search_from sought.Lost w (standing s bytes at n)) x t) same f in
+    offset_by w (search_from sought.Lost w (standing s bytes at (begin how 0))) v t (subst (λ (y : Option Visited). Finds w (search_from sought.Lost w (standing s bytes at (begin how 0))) y t) is here)
+
+pub no_offset : (how : Detail) (w : Way) (s : State) (bytes : List ℕ) (at : Spot) (m : Naming) (x : Option Visited) (t : State) → m ≡ begin how 0 → x ≡ None → Finds w (search_from sought.Lost w (standing s bytes at m)) x t
+    → None ≡ option_map (λ (q : Standing). q.at.offset) (search_from sought.Lost w (standing s bytes at (begin how 0)))
+no_offset how w s bytes at m x t same is f =
+    let here = subst (λ (n : Naming). Finds w (search_from sought.Lost w (standing s bytes at n)) x t) same f in
+    none_by w (search_from sought.Lost w (standing s bytes at (begin how 0))) t (subst (λ (y : Option Visited). Finds w (search_from sought.Lost w (standing s bytes at (begin how 0))) y t) is here)

@@ -1,6 +1,7 @@
 -- The text of what bytes would import and call, with its status, in each reading.
 -- Source: own.
-use Rattle.std.specs.Prelude.{◌≡◌, ℕ, true, false, List, Result, Ok, Err}
+use Rattle.std.specs.Prelude.{◌≡◌, ℕ, true, false, List, [], codes, decimal, Option, Some, None, Result, Ok, Err}
+use Rattle.std.specs.Option.{option_map}
 use Rattle.pickle_io.specs.Text.{◌⧺◌}
 use Rattle.pickle_io.specs.Device.{Told, Wrote, Broke, WroteAllBut}
 use Rattle.pickle_doc.specs.Document.{Contents, ReadsAs}
@@ -13,8 +14,11 @@ use Rattle.pickle_show.specs.CallsLine.{calls_end_text, ending_status}
 use Rattle.pickle_show.specs.Calls.{calls}
 use Rattle.pickle_further.specs.declared.way.Pickles.{Pickles}
 use Rattle.pickle_further.specs.declared.way.Pickles.TheVariants as pickles
-use Rattle.pickle_further.specs.Going.{Tale, tale_of}
-use Rattle.pickle_further.specs.Parts.{ignoring, are_many, standing_first, parts}
+use Rattle.pickle_show.specs.Column.{newline}
+use Rattle.pickle_show.specs.declared.naming.Detail.{Detail}
+use Rattle.pickle_holes.specs.Holes.{in_file}
+use Rattle.pickle_further.specs.Going.{Standing, Tale, tale_of}
+use Rattle.pickle_further.specs.Parts.{ignoring, buffering, holding, are_many, standing_first, loss_at, lost_by, parts}
 
 -- ---- of a document
 
@@ -30,8 +34,33 @@ tale_calls how bytes t = record {
   status = ending_status (ending.Closed 0 t.closing);
 }
 
+-- where an Unpickler in Python, which leaves the rest of a frame at STOP, or one that buffers frames loses bytes, they do not read alike
+unfoldable pub loss_words : List ℕ
+loss_words = codes "unsure: U2 rest of a frame is lost at "
+
+unfoldable pub loss_line : ℕ → List ℕ
+loss_line offset = loss_words ⧺ decimal offset ⧺ newline
+
+abbrev pub first_loss : Detail → List ℕ → Option ℕ
+first_loss how bytes = option_map (λ (p : Standing). p.at.offset) (loss_at how (buffering pickles.OneMemo) bytes)
+
+unfoldable pub loss_text : Manner → List ℕ → ℕ → List ℕ
+loss_text how bytes offset = loss_line (in_file how.holes offset) ⧺ (lost_by how (buffering pickles.OneMemo) bytes ⧺ lost_by how (holding pickles.OneMemo) bytes)
+
+abbrev pub kept_behind : Manner → List ℕ → Option ℕ → List ℕ
+kept_behind how bytes None = []
+kept_behind how bytes (Some offset) = loss_text how bytes offset
+
+abbrev pub kept_status : Option ℕ → ℕ → ℕ
+kept_status None status = status
+kept_status (Some offset) status = 1
+
+abbrev pub kept_with : Manner → List ℕ → Option ℕ → Output → Output
+kept_with how bytes loss o = record { text = o.text ⧺ kept_behind how bytes loss; status = kept_status loss o.status }
+
 unfoldable pub kept_calls : Manner → List ℕ → Output
-kept_calls how bytes = tale_calls how bytes (tale_of how.holes (ignoring pickles.OneMemo) (standing_first how.detail pickles.OneMemo bytes))
+kept_calls how bytes =
+    kept_with how bytes (first_loss how.detail bytes) (tale_calls how bytes (tale_of how.holes (ignoring pickles.OneMemo) (standing_first how.detail pickles.OneMemo bytes)))
 
 -- ---- of bytes
 

@@ -8,6 +8,7 @@ use Rattle.pickle_ops.specs.declared.opcode.Opcode.TheVariants as op
 use Rattle.pickle_ops.specs.declared.fault.FrontFault.{FrontFault}
 use Rattle.pickle_ops.specs.declared.fault.FrontFault.TheVariants as front
 use Rattle.pickle_ops.specs.Spelling.{Operation}
+use Rattle.pickle_ops.specs.declared.row.Row.{Row}
 use Rattle.pickle_ops.specs.declared.row.Row.TheVariants as row
 use Rattle.pickle_doc.specs.declared.fault.TailFault.TheVariants as tail
 use Rattle.pickle_doc.specs.DocUnit.{is_stop}
@@ -18,6 +19,7 @@ use Rattle.pickle_machine.specs.State.{State}
 use Rattle.pickle_machine.specs.Move.{fresh}
 use Rattle.pickle_machine.specs.Loader.{loader_move, move_as, cleared}
 use Rattle.pickle_lenient.specs.declared.taken.Taken.{Taken}
+use Rattle.pickle_lenient.specs.Row.{is_far}
 use Rattle.pickle_lenient.specs.Stream.{taken}
 use Rattle.pickle_holes.specs.declared.hole.Hole.{Hole}
 use Rattle.pickle_holes.specs.Holes.{in_file}
@@ -50,6 +52,14 @@ pub record Standing : Type 0 where
 pub record Going : Type 0 where
   pub gone : Gone
   pub state : State
+
+-- GET or PUT of a number of more than 64 bits that is refused counts as a bad argument, as it is to the machine
+abbrev pub refused_at : Row → Spot → Refusal → Closing
+refused_at r at e = if is_far r then closing.Fault (tail.Front front.BadArgument) at.offset else closing.Refused at.place e
+
+-- it has no bearing on names
+abbrev pub naming_row : Row → Row
+naming_row r = if is_far r then row.Nothing else r
 
 -- it ends before this item
 abbrev pub nothing : Closing → Gone
@@ -98,11 +108,11 @@ abbrev pub state_after : Pickles → Opcode → State → State
 state_after p o s = if keeps p o then cleared s else s
 
 abbrev pub gone_to : Way → Standing → Taken → LoaderMove → Result State Refusal → Going
-gone_to w p item m (Err r) = over p.state (closing.Refused p.at.place r)
+gone_to w p item m (Err r) = over p.state (refused_at item.row p.at r)
 gone_to w p item m (Ok t) = record {
   gone = record {
     event = event_by m p.state t m.fill;
-    row = item.row;
+    row = naming_row item.row;
     size = item.size;
     left = item.left;
     lost = item.lost;

@@ -1,5 +1,6 @@
 -- The definitions that contracts cite.
 pub mod Going
+pub mod Far
 pub mod Parts
 pub mod CallsText
 pub mod Inside

@@ -51,9 +51,13 @@ ignored_words = codes "a loader may go on:"
 unfoldable pub buffered_words : List ℕ
 buffered_words = codes "a loader that buffers frames may go on:"
 
+unfoldable pub held_words : List ℕ
+held_words = codes "a loader that keeps its buffer may go on:"
+
 abbrev pub header_words : Frames → List ℕ
 header_words frames.Ignored = ignored_words
 header_words frames.Buffered = buffered_words
+header_words frames.Held = held_words
 
 unfoldable pub header : Frames → List ℕ
 header f = header_words f ⧺ newline
@@ -77,6 +81,9 @@ ignoring p = record { pickles = p; frames = frames.Ignored }
 
 abbrev pub buffering : Pickles → Way
 buffering p = record { pickles = p; frames = frames.Buffered }
+
+abbrev pub holding : Pickles → Way
+holding p = record { pickles = p; frames = frames.Held }
 
 -- before item k of a document
 abbrev pub standing_at : Detail → Contents → ℕ → State → Standing
@@ -102,9 +109,16 @@ abbrev pub found_text : List Hole → Way → Option Standing → List ℕ
 found_text holes w (Some p) = text_from holes w p
 found_text holes w None = []
 
--- from the first item on whose reading loses bytes
+-- the first item whose reading loses bytes
+abbrev pub loss_at : Detail → Way → List ℕ → Option Standing
+loss_at how w bytes = search_from sought.Lost w (standing_first how w.pickles bytes)
+
+-- from there on
+abbrev pub lost_by : Manner → Way → List ℕ → List ℕ
+lost_by how w bytes = found_text how.holes w (loss_at how.detail w bytes)
+
 abbrev pub lost_text : Manner → Pickles → List ℕ → List ℕ
-lost_text how p bytes = found_text how.holes (buffering p) (search_from sought.Lost (buffering p) (standing_first how.detail p bytes))
+lost_text how p bytes = lost_by how (buffering p) bytes
 
 -- ---- both
 

@@ -5,10 +5,10 @@ ghost use Rattle.pickle_further.specs.CallsText.{CutsText};
 ghost use Rattle.pickle_further.specs.Inside.{standing, tale_here, ended, IsTold};
 
 use crate::going::{Gone, go};
+use crate::machine::LoaderMachine;
 use crate::way::{Spot, Way};
 use pickle_doc::TailFault;
 use pickle_holes::Holes;
-use pickle_machine::Machine;
 use pickle_ops::{FrontFault, Page};
 use pickle_show::{Closing, Course, Naming, TextStop, write_line};
 use std::alloc::Global;
@@ -74,7 +74,7 @@ pub fn write_items<S: Page>(
     from: Spot,
     naming: Naming,
     first: Gone,
-    machine: &mut Machine,
+    machine: &mut LoaderMachine,
     sink: &mut S,
 ) -> Result<TaleEnd, TextStop>
     requires size { first.size ≤ length bytes.now }

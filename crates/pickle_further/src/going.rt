@@ -1,20 +1,24 @@
 //! What loaders do with the next item.
 
-ghost use Rattle.std.specs.Prelude.{◌≡◌, ℕ, drop, ◌≢◌, ◌<◌, ◌≤◌, ◌+◌, ◌^◌, ◌-◌, if◌then◌else◌, None, Some, length, IfOk, IfErr, Ok, Err};
+ghost use Rattle.std.specs.Prelude.{◌≡◌, ℕ, drop, true, false, ◌≢◌, ◌<◌, ◌≤◌, ◌+◌, ◌^◌, ◌-◌, if◌then◌else◌, None, Some, length, IfOk, IfErr, Ok, Err};
 ghost use Rattle.pickle_machine.specs.State.{State};
 ghost use Rattle.pickle_machine.specs.Move.{fresh};
 ghost use Rattle.pickle_machine.specs.Loader.{loader_move, cleared};
 ghost use Rattle.pickle_show.specs.Event.{before_of};
+ghost use Rattle.pickle_doc.specs.DocUnit.{frame_op};
+ghost use Rattle.pickle_lenient.specs.Row.{is_far};
+ghost use Rattle.pickle_further.specs.Far.{near_item, far_gone};
 ghost use Rattle.pickle_further.specs.Going.{Standing, moved_so, used_op, event_by, stops, stopped_after, closing_after, keeps, nothing, gone_as, going};
 ghost use Rattle.pickle_show.specs.declared.naming.Naming.{Naming};
 ghost use Rattle.pickle_further.specs.Inside.{standing, Goes, EndsAtFault};
 
+use crate::machine::LoaderMachine;
 use crate::way::{Pickles, Spot, Way};
 use pickle_doc::{TailFault, is_stop};
-use pickle_lenient::{NotTaken, Taken, take_op};
-use pickle_machine::{LoaderMove, Machine, Refusal};
-use pickle_ops::{Op, Opcode, Row, op_of};
-use pickle_show::{Before, Closing, Event, TextStop, event_of};
+use pickle_lenient::{NotTaken, RowKind, Taken, take_op};
+use pickle_machine::{LoaderMove, Refusal};
+use pickle_ops::{FrontFault, Op, Opcode, Row, op_of};
+use pickle_show::{Before, Closing, Event, TextStop};
 use std::alloc::Global;
 
 /// What an item comes to.
@@ -54,7 +58,7 @@ fn move_so(
     m: LoaderMove,
     op: &Op,
     place: usize,
-    machine: &mut Machine,
+    machine: &mut LoaderMachine,
 ) -> Result<(), Refusal>
     requires { length machine.old.state.heap < 2 ^ 32 - 2 }
     ensures ok { IfOk result (λ _. moved_so m op.now place machine.old.state ≡ Ok machine.new.state) }
@@ -69,12 +73,12 @@ fn move_so(
 }
 
 /// The event of a move: what went into an object is told as well where the machine would refuse it.
-fn event_by(m: LoaderMove, before: Before, machine: &Machine) -> Option<Event>
+fn event_by(m: LoaderMove, before: Before, machine: &LoaderMachine) -> Option<Event>
     ensures { (s : State) → before ≡ before_of s → result ≡ event_by m s machine.now.state m.fill }
 {
     match m.fill {
         Some(fill) => Some(Event::Filled(fill.filling, fill.count, fill.target)),
-        None => event_of(m.row, before, machine),
+        None => machine.event(m.row, before),
     }
 }
 
@@ -150,7 +154,7 @@ fn keeps(pickles: Pickles, opcode: Opcode) -> bool
 }
 
 /// Where it is so, the stack begins anew, and the memo stays.
-fn clear_after(anew: bool, machine: &mut Machine)
+fn clear_after(anew: bool, machine: &mut LoaderMachine)
     ensures state { machine.new.state ≡ (if anew then cleared machine.old.state else machine.old.state) }
     ensures heap { machine.new.state.heap ≡ machine.old.state.heap }
 {
@@ -159,24 +163,40 @@ fn clear_after(anew: bool, machine: &mut Machine)
     }
 }
 
-/// Goes over an item that was read, which is one of those.
-fn go_over(
+/// An item that was read, of a row of the machine.
+#[derive(Drop)]
+struct NearItem {
+    /// The operation.
+    op: Op,
+    /// The row as which it moves.
+    row: Row,
+    /// How many bytes it took.
+    size: usize,
+    /// How many bytes of the buffer are left.
+    left: u64,
+    /// Whether bytes are lost.
+    lost: bool,
+}
+
+/// Goes over such an item.
+fn go_near(
     alloc: Global,
     way: Way,
-    item: Taken,
+    item: NearItem,
     more: usize,
     place: usize,
-    machine: &mut Machine,
+    machine: &mut LoaderMachine,
 ) -> Result<Gone, TextStop>
-    requires { length machine.old.state.heap < 2 ^ 32 - 2 }
-    ensures ok { IfOk result (λ g. (p : Standing) → p.state ≡ machine.old.state → p.at.place ≡ place → length (drop item.size p.rest) ≡ more → Goes (gone_as way p item (loader_move item.op.opcode item.row (fresh p.state))) g machine.new.state) }
+    requires heap { length machine.old.state.heap < 2 ^ 32 - 2 }
+    requires near { is_far item.row ≡ false }
+    ensures ok { IfOk result (λ g. (p : Standing) → p.state ≡ machine.old.state → p.at.place ≡ place → length (drop item.size p.rest) ≡ more → Goes (gone_as way p (near_item item) (loader_move item.op.opcode item.row (fresh p.state))) g machine.new.state) }
     ensures size { IfOk result (λ g. g.size ≤ item.size) }
     ensures err { IfErr result (λ e. e ≡ TextStop.Memory) }
     ensures objects { length machine.new.state.heap ≤ length machine.old.state.heap + 2 }
 {
     let m = machine.loader_move(item.op.opcode(), item.row);
     let anew = keeps(way.pickles, item.op.opcode());
-    let before = Before::of(machine);
+    let before = machine.before();
     let closing = closing_after(way.pickles, item.op.opcode(), place, more, m.last);
     let (row, size, left, lost) = (item.row, item.size, item.left, item.lost);
     let op = used_op(alloc, m, item.op)?;
@@ -202,6 +222,65 @@ fn go_over(
     }
 }
 
+/// What GET or PUT of a number of more than 64 bits comes to, if it is done.
+fn far_gone(done: bool, size: usize, left: u64, lost: bool, offset: u64) -> Gone
+    ensures is { result ≡ far_gone done size left lost offset }
+    ensures size { result.size ≤ size }
+{
+    if done {
+        Gone {
+            event: None,
+            row: Row::Nothing,
+            size,
+            left,
+            lost,
+            closing: None,
+        }
+    } else {
+        nothing(Closing::Fault(TailFault::Front(FrontFault::BadArgument), offset))
+    }
+}
+
+/// Goes over an item that was read, which is one of those.
+fn go_over(
+    alloc: Global,
+    way: Way,
+    item: Taken,
+    more: usize,
+    at: Spot,
+    machine: &mut LoaderMachine,
+) -> Result<Gone, TextStop>
+    requires heap { length machine.old.state.heap < 2 ^ 32 - 2 }
+    requires far { is_far item.row ≡ true → item.op ≡ frame_op 0 }
+    ensures ok { IfOk result (λ g. (p : Standing) → p.state ≡ machine.old.state → p.at ≡ at → length (drop item.size p.rest) ≡ more → Goes (gone_as way p item (loader_move item.op.opcode item.row (fresh p.state))) g machine.new.state) }
+    ensures size { IfOk result (λ g. g.size ≤ item.size) }
+    ensures err { IfErr result (λ e. e ≡ TextStop.Memory) }
+    ensures objects { length machine.new.state.heap ≤ length machine.old.state.heap + 2 }
+{
+    let (size, left, lost) = (item.size, item.left, item.lost);
+    let op = item.op;
+    match item.row.into_kind() {
+        RowKind::Near(row) => {
+            let near = NearItem {
+                op,
+                row,
+                size,
+                left,
+                lost,
+            };
+            go_near(alloc, way, near, more, at.place, machine)
+        }
+        RowKind::FarGet(number) => {
+            let done = machine.get_far(number)?;
+            Ok(far_gone(done, size, left, lost, at.offset))
+        }
+        RowKind::FarPut(number) => {
+            let done = machine.put_far(number)?;
+            Ok(far_gone(done, size, left, lost, at.offset))
+        }
+    }
+}
+
 /// Nothing was read: it ends at the fault, or memory ran out.
 fn not_taken(stop: NotTaken, offset: u64) -> Result<Gone, TextStop>
     ensures ok { IfOk result (EndsAtFault stop offset) }
@@ -220,7 +299,7 @@ pub fn go(
     way: Way,
     rest: &[u8],
     at: Spot,
-    machine: &mut Machine,
+    machine: &mut LoaderMachine,
 ) -> Result<Gone, TextStop>
     requires heap { length machine.old.state.heap < 2 ^ 32 - 2 }
     requires small { length rest.now < 2 ^ 62 }
@@ -233,7 +312,7 @@ pub fn go(
     match take_op(alloc, way.frames, at.left, rest) {
         Ok(item) => {
             let more = rest.len() - item.size;
-            go_over(alloc, way, item, more, at.place, machine)
+            go_over(alloc, way, item, more, at, machine)
         }
         Err(stop) => not_taken(stop, at.offset),
     }

@@ -1,22 +1,23 @@
 //! What loaders may do behind the end of the lines. The bytes are what is left of a file without these holes; the offsets that are told are
 //! those in the file.
 
-ghost use Rattle.std.specs.Prelude.{◌≡◌, ◌≤◌, ◌^◌, length, Some};
+ghost use Rattle.std.specs.Prelude.{◌≡◌, ◌≤◌, ◌^◌, length, Some, IfOk, IfErr};
+ghost use Rattle.std.specs.Option.{option_map};
 ghost use Rattle.pickle_io.specs.Device.{Writes};
 ghost use Rattle.pickle_further.specs.CallsText.{PutsText};
-ghost use Rattle.pickle_further.specs.Going.{going, search_from};
-ghost use Rattle.pickle_further.specs.Parts.{stop_words, stop_line, ends_line, part_end, ignored_words, buffered_words, header_words, header, tale_text, told_text, text_from, found_text};
+ghost use Rattle.pickle_further.specs.Going.{Standing, going, search_from};
+ghost use Rattle.pickle_further.specs.Parts.{stop_words, stop_line, ends_line, part_end, ignored_words, buffered_words, held_words, header_words, header, tale_text, told_text, text_from, found_text};
 ghost use Rattle.pickle_machine.specs.State.{State};
 ghost use Rattle.pickle_show.specs.Naming.{begin};
 ghost use Rattle.pickle_further.specs.Inside.{standing, standing_of, tale_here, Goes, HasRoom};
 
 use crate::engine::write_items;
 use crate::going::go;
+use crate::machine::LoaderMachine;
 use crate::seek::{Sought, Visited, seek};
 use crate::way::{Spot, Way};
 use pickle_holes::Holes;
 use pickle_lenient::Frames;
-use pickle_machine::Machine;
 use pickle_ops::{Failed, Page, write_all};
 use pickle_show::{
     Closing, Course, Detail, Naming, TextStop, closing_in, write_closing, write_totals,
@@ -39,6 +40,14 @@ fn buffered_words() -> &'static str
     "a loader that buffers frames may go on:"
 }
 
+/// The words of the line above what loaders may do that keep their buffer behind STOP.
+#[tactic(auto, unfolding(crate::specs::Parts::held_words))]
+fn held_words() -> &'static str
+    ensures { result.now ≡ held_words }
+{
+    "a loader that keeps its buffer may go on:"
+}
+
 /// The words of the line above what loaders may do.
 fn header_words(frames: Frames) -> &'static str
     ensures { result.now ≡ header_words frames }
@@ -46,6 +55,7 @@ fn header_words(frames: Frames) -> &'static str
     match frames {
         Frames::Ignored => ignored_words(),
         Frames::Buffered => buffered_words(),
+        Frames::Held => held_words(),
     }
 }
 
@@ -108,7 +118,7 @@ fn write_tale<S: Page>(
     holes: &Holes,
     way: Way,
     item: Visited<'_>,
-    machine: &mut Machine,
+    machine: &mut LoaderMachine,
     sink: &mut S,
 ) -> Result<(), TextStop>
     requires { HasRoom machine.old.state item }
@@ -135,7 +145,7 @@ fn write_told<S: Page>(
     holes: &Holes,
     way: Way,
     item: Visited<'_>,
-    machine: &mut Machine,
+    machine: &mut LoaderMachine,
     sink: &mut S,
 ) -> Result<(), TextStop>
     requires { HasRoom machine.old.state item }
@@ -151,7 +161,7 @@ fn write_visited<S: Page>(
     holes: &Holes,
     way: Way,
     item: Visited<'_>,
-    machine: &mut Machine,
+    machine: &mut LoaderMachine,
     sink: &mut S,
 ) -> Result<(), TextStop>
     requires { HasRoom machine.old.state item }
@@ -171,7 +181,7 @@ pub fn write_from<S: Page>(
     rest: &[u8],
     at: Spot,
     naming: Naming,
-    machine: &mut Machine,
+    machine: &mut LoaderMachine,
     sink: &mut S,
 ) -> Result<(), TextStop>
     requires few { length rest.now ≤ 2 ^ 30 }
@@ -198,7 +208,7 @@ pub fn write_found<S: Page>(
     holes: &Holes,
     way: Way,
     bytes: &[u8],
-    machine: &mut Machine,
+    machine: &mut LoaderMachine,
     sink: &mut S,
 ) -> Result<(), TextStop>
     requires few { length bytes.now ≤ 2 ^ 30 }
@@ -221,5 +231,37 @@ pub fn write_found<S: Page>(
     match seek(alloc, way, Sought::Lost, first, machine)? {
         Some(found) => write_visited(alloc, holes, way, found, machine, sink),
         None => Ok(()),
+    }
+}
+
+/// Where the first item is whose reading loses bytes, if there is one. The machine has done nothing yet.
+pub fn find_loss(
+    alloc: Global,
+    detail: Detail,
+    way: Way,
+    bytes: &[u8],
+    machine: &mut LoaderMachine,
+) -> Result<Option<u64>, TextStop>
+    requires few { length bytes.now ≤ 2 ^ 30 }
+    requires heap { length machine.old.state.heap ≤ 2 ^ 30 }
+    ensures ok { IfOk result (λ x. x ≡ option_map (λ (p : Standing). p.at.offset) (search_from Sought.Lost way (standing machine.old.state bytes.now (record { offset = 0; place = 0; left = 0 }) (begin detail 0)))) }
+    ensures err { IfErr result (λ e. e ≡ TextStop.Memory) }
+{
+    let at = Spot {
+        offset: 0,
+        place: 0,
+        left: 0,
+    };
+    let naming = Naming::begin(detail, 0);
+    let gone = go(alloc, way, bytes, at, machine)?;
+    let first = Visited {
+        rest: bytes,
+        at,
+        naming,
+        gone,
+    };
+    match seek(alloc, way, Sought::Lost, first, machine)? {
+        Some(found) => Ok(Some(found.at.offset)),
+        None => Ok(None),
     }
 }

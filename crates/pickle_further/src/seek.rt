@@ -7,8 +7,8 @@ ghost use Rattle.pickle_further.specs.Inside.{HasRoom, Goes, standing_of, IsNext
 
 use crate::engine::spot_after;
 use crate::going::{Gone, go};
+use crate::machine::LoaderMachine;
 use crate::way::{Spot, Way};
-use pickle_machine::Machine;
 use pickle_show::{Naming, TextStop};
 use std::alloc::Global;
 
@@ -49,7 +49,7 @@ fn next<'a>(
     alloc: Global,
     way: Way,
     item: Visited<'a>,
-    machine: &mut Machine,
+    machine: &mut LoaderMachine,
 ) -> Result<Visited<'a>, TextStop>
     requires room { HasRoom machine.old.state item }
     requires goes { item.gone.closing ≡ None }
@@ -78,7 +78,7 @@ pub fn seek<'a>(
     way: Way,
     sought: Sought,
     first: Visited<'a>,
-    machine: &mut Machine,
+    machine: &mut LoaderMachine,
 ) -> Result<Option<Visited<'a>>, TextStop>
     requires room { HasRoom machine.old.state first }
     ensures finds { IfOk result (λ found. (s : State) → Goes (going way (standing_of s first.entry)) first.entry.gone machine.old.state → Finds way (search_from sought way (standing_of s first.entry)) found machine.new.state) }

@@ -1,22 +1,23 @@
 //! The text of what bytes would import and call.
 
 ghost use Rattle.std.specs.Prelude.{◌≡◌, ◌≤◌, ◌+◌, ◌*◌, ◌-◌, ◌^◌, length, drop, IfOk, IfErr};
-ghost use Rattle.pickle_io.specs.Device.{Told};
+ghost use Rattle.pickle_io.specs.Device.{Told, Writes};
 ghost use Rattle.pickle_doc.specs.Document.{size_limit};
 ghost use Rattle.pickle_show.specs.Manner.{manner};
 ghost use Rattle.pickle_show.specs.Ran.{IsRun};
-ghost use Rattle.pickle_further.specs.Parts.{are_many, is_open, lost_text, parts};
-ghost use Rattle.pickle_further.specs.CallsText.{CompletesText, CutsCallsText, CompletesDocument, CutsDocument, PutsText};
+ghost use Rattle.pickle_further.specs.Parts.{are_many, is_open, lost_by, parts};
+ghost use Rattle.pickle_further.specs.CallsText.{CompletesText, CutsCallsText, CompletesDocument, CutsDocument, PutsText, first_loss, loss_words, loss_line, loss_text, kept_behind, kept_status};
 
 use crate::engine::write_items;
 use crate::going::go;
-use crate::parts::{write_found, write_from};
+use crate::machine::LoaderMachine;
+use crate::parts::{find_loss, write_found, write_from};
 use crate::way::{Pickles, Spot, Way};
 use pickle_doc::Items;
 use pickle_holes::Holes;
 use pickle_lenient::Frames;
 use pickle_machine::Machine;
-use pickle_ops::Page;
+use pickle_ops::{Failed, Page, write_all, write_decimal};
 use pickle_show::{Closing, Detail, Ending, Naming, Ran, TextStop, run_items, write_end};
 use std::alloc::Global;
 
@@ -43,23 +44,19 @@ fn is_open(ending: Ending) -> bool
     }
 }
 
-/// Writes what loaders may do that buffer frames, from the first item on whose reading loses bytes.
+/// Writes what loaders may do that read so, from the first item on whose reading loses bytes.
 fn write_lost<S: Page>(
     alloc: Global,
     detail: Detail,
     holes: &Holes,
-    pickles: Pickles,
+    way: Way,
     bytes: &[u8],
     sink: &mut S,
 ) -> Result<(), TextStop>
     requires { length bytes.now ≤ size_limit }
-    ensures { PutsText (S.told sink.old) (S.told sink.new) (lost_text (manner detail holes.now) pickles bytes.now) result }
+    ensures { PutsText (S.told sink.old) (S.told sink.new) (lost_by (manner detail holes.now) way bytes.now) result }
 {
-    let way = Way {
-        pickles,
-        frames: Frames::Buffered,
-    };
-    let mut machine = Machine::start(alloc, are_many(pickles));
+    let mut machine = LoaderMachine::new(alloc, Machine::start(alloc, are_many(way.pickles)));
     write_found(alloc, detail, holes, way, bytes, &mut machine, sink)
 }
 
@@ -71,14 +68,14 @@ fn write_parts<S: Page>(
     pickles: Pickles,
     bytes: &[u8],
     ran: Ran,
-    machine: &mut Machine,
+    machine: Machine,
     sink: &mut S,
 ) -> Result<(), TextStop>
     requires small { length bytes.now ≤ size_limit }
     requires offset { ran.offset ≤ length bytes.now }
     requires place { ran.place ≤ length bytes.now }
-    requires heap { length machine.old.state.heap ≤ ran.place }
-    ensures { (a b : Told) → (w : IsRun (manner detail holes.now) (are_many pickles) bytes.now a b machine.old.state ran) → PutsText (S.told sink.old) (S.told sink.new) (parts (manner detail holes.now) pickles w.d) result }
+    requires heap { length machine.state.heap ≤ ran.place }
+    ensures { (a b : Told) → (w : IsRun (manner detail holes.now) (are_many pickles) bytes.now a b machine.state ran) → PutsText (S.told sink.old) (S.told sink.new) (parts (manner detail holes.now) pickles w.d) result }
 {
     if !is_open(ran.ending) {
         return Ok(());
@@ -93,6 +90,7 @@ fn write_parts<S: Page>(
         left: 0,
     };
     let rest = bytes.split_at(ran.offset as usize).1;
+    let mut machine = LoaderMachine::new(alloc, machine);
     write_from(
         alloc,
         holes,
@@ -100,10 +98,14 @@ fn write_parts<S: Page>(
         rest,
         at,
         ran.course.naming,
-        machine,
+        &mut machine,
         sink,
     )?;
-    write_lost(alloc, detail, holes, pickles, bytes, sink)
+    let way = Way {
+        pickles,
+        frames: Frames::Buffered,
+    };
+    write_lost(alloc, detail, holes, way, bytes, sink)
 }
 
 /// Writes the text of the document that the bytes read as.
@@ -131,17 +133,93 @@ fn write_document<S: Page>(
         sink,
     )?;
     let status = write_end(holes, bytes, ran.course, ran.ending, sink)?;
-    write_parts(
-        alloc,
-        detail,
-        holes,
-        pickles,
-        bytes,
-        ran,
-        &mut machine,
-        sink,
-    )?;
+    write_parts(alloc, detail, holes, pickles, bytes, ran, machine, sink)?;
     Ok(status)
+}
+
+/// Where the first item is whose reading by one unpickler loses bytes, if there is one.
+fn first_loss(alloc: Global, detail: Detail, bytes: &[u8]) -> Result<Option<u64>, TextStop>
+    requires { length bytes.now ≤ size_limit }
+    ensures ok { IfOk result (λ x. x ≡ first_loss detail bytes.now) }
+    ensures err { IfErr result (λ e. e ≡ TextStop.Memory) }
+{
+    let way = Way {
+        pickles: Pickles::OneMemo,
+        frames: Frames::Buffered,
+    };
+    let mut machine = LoaderMachine::new(alloc, Machine::start(alloc, false));
+    find_loss(alloc, detail, way, bytes, &mut machine)
+}
+
+/// The words of the line that says where bytes are lost.
+#[tactic(auto, unfolding(crate::specs::CallsText::loss_words))]
+fn loss_words() -> &'static str
+    ensures { result.now ≡ loss_words }
+{
+    "unsure: U2 rest of a frame is lost at "
+}
+
+/// Writes that bytes are lost at this offset.
+#[tactic(auto, using(pickle_io::proofs::Devices::text_steps), unfolding(crate::specs::CallsText::loss_line))]
+fn write_loss_line<S: Page>(offset: u64, sink: &mut S) -> Result<(), Failed>
+    ensures { Writes (S.told sink.old) (S.told sink.new) result (loss_line offset) }
+{
+    write_all(sink, loss_words().as_bytes())?;
+    write_decimal(offset, sink)?;
+    write_all(sink, b"\n")
+}
+
+/// Writes what one unpickler may do that loses bytes, first at this offset.
+fn write_losses<S: Page>(
+    alloc: Global,
+    detail: Detail,
+    holes: &Holes,
+    bytes: &[u8],
+    offset: u64,
+    sink: &mut S,
+) -> Result<(), TextStop>
+    requires { length bytes.now ≤ size_limit }
+    ensures { PutsText (S.told sink.old) (S.told sink.new) (loss_text (manner detail holes.now) bytes.now offset) result }
+{
+    write_loss_line(holes.in_file(offset), sink)?;
+    let left = Way {
+        pickles: Pickles::OneMemo,
+        frames: Frames::Buffered,
+    };
+    write_lost(alloc, detail, holes, left, bytes, sink)?;
+    let held = Way {
+        pickles: Pickles::OneMemo,
+        frames: Frames::Held,
+    };
+    write_lost(alloc, detail, holes, held, bytes, sink)
+}
+
+/// Writes what one unpickler may do that loses bytes, if they are lost anywhere.
+fn write_behind<S: Page>(
+    alloc: Global,
+    detail: Detail,
+    holes: &Holes,
+    bytes: &[u8],
+    loss: Option<u64>,
+    sink: &mut S,
+) -> Result<(), TextStop>
+    requires { length bytes.now ≤ size_limit }
+    ensures { PutsText (S.told sink.old) (S.told sink.new) (kept_behind (manner detail holes.now) bytes.now loss) result }
+{
+    match loss {
+        None => Ok(()),
+        Some(offset) => write_losses(alloc, detail, holes, bytes, offset, sink),
+    }
+}
+
+/// The status: 1 where bytes are lost.
+fn kept_status(loss: Option<u64>, status: u8) -> u8
+    ensures { result ≡ kept_status loss status }
+{
+    match loss {
+        None => status,
+        Some(_) => 1,
+    }
 }
 
 /// Writes the text of bytes that one unpickler reads on and on.
@@ -156,7 +234,8 @@ fn write_kept<S: Page>(
     ensures ok { IfOk result (CompletesText (manner detail holes.now) Pickles.OneMemo bytes.now (S.told sink.old) (S.told sink.new)) }
     ensures err { IfErr result (CutsCallsText (manner detail holes.now) Pickles.OneMemo bytes.now (S.told sink.old) (S.told sink.new)) }
 {
-    let mut machine = Machine::start(alloc, false);
+    let loss = first_loss(alloc, detail, bytes)?;
+    let mut machine = LoaderMachine::new(alloc, Machine::start(alloc, false));
     let way = Way {
         pickles: Pickles::OneMemo,
         frames: Frames::Ignored,
@@ -185,7 +264,8 @@ fn write_kept<S: Page>(
         Ending::Closed(0, end.closing),
         sink,
     )?;
-    Ok(status)
+    write_behind(alloc, detail, holes, bytes, loss, sink)?;
+    Ok(kept_status(loss, status))
 }
 
 /// Writes what the pickles of the bytes would import and call: a line for each item that does, the last lines, and behind a refused item,

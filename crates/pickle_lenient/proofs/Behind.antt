@@ -172,7 +172,7 @@ begin_size first behind some n is =
 
 pub begin_ok : (first behind some : List ℕ) (n : ℕ) (r : Result LenientOp NotTaken) → some ≡ first ++ take n behind → ends_in (front_of some) ≡ true
     → IfOk r (λ x. IsLenient some x.op x.row x.size) → IfOk r (λ x. IsLenient (first ++ behind) x.op x.row x.size)
-begin_ok first behind some n (Ok x) is ends w = record { is = begin_is first behind some n is ends ∙ w.is; some = w.some; within = omega (arith, w.within, begin_size first behind some n is) }
+begin_ok first behind some n (Ok x) is ends w = record { is = begin_is first behind some n is ends ∙ w.is; some = w.some; within = omega (arith, w.within, begin_size first behind some n is); far = w.far }
 begin_ok first behind some n (Err x) is ends w = tt
 
 pub begin_err : (first behind some : List ℕ) (n : ℕ) (r : Result LenientOp NotTaken) → some ≡ first ++ take n behind → ends_in (front_of some) ≡ true

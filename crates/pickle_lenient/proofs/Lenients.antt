@@ -1,5 +1,5 @@
 -- What is at the front of bytes, as a function of them.
-use Rattle.std.proofs.Common.{◌≡◌, ℕ, ◌≤◌, List, [], ◌∷◌, length, Some, None, Ok, Err, refl, ap, ◌∙◌, arith, length-append}
+use Rattle.std.proofs.Common.{◌≡◌, ℕ, ◌≤◌, Bool, true, false, sym, List, [], ◌∷◌, length, Some, None, Ok, Err, refl, ap, ◌∙◌, arith, length-append}
 use Rattle.std.specs.Prelude.{Result, IfOk, IfErr}
 use Rattle.pickle_ops.specs.declared.fault.FrontFault.{FrontFault}
 use Rattle.pickle_ops.specs.declared.fault.FrontFault.TheVariants as fault
@@ -11,6 +11,8 @@ use Rattle.pickle_lenient.specs.declared.lenient.LenientOp.{LenientOp}
 use Rattle.pickle_lenient.specs.declared.fault.NotTaken.{NotTaken}
 use Rattle.pickle_lenient.specs.declared.fault.NotTaken.TheVariants as stop
 use Rattle.pickle_lenient.specs.Reading.{IsLenient, IsNotLenient, IsFaulty, IsNotFaulty}
+use Rattle.pickle_doc.specs.DocUnit.{frame_op}
+use Rattle.pickle_lenient.specs.Row.{is_far}
 use Rattle.pickle_lenient.specs.Lenient.{lenient, faulty, mended, cut_line}
 
 -- an operation at the front
@@ -54,12 +56,15 @@ pub lenient_none : lenient [] ≡ Err fault.Ended
 unfolding lenient
 lenient_none = refl
 
-pub found_so : (bytes : List ℕ) (o : Operation) → Reads bytes o (size_of o) → IsLenient bytes o (row_of o) (size_of o)
-found_so bytes o r = record { is = read_so bytes o (size_of o) r; some = omega arith; within = reads_within bytes o (size_of o) r }
+not_far : (b : Bool) (X : Type 0) → b ≡ false → b ≡ true → X
+not_far b X e f = let two : false ≡ true = sym e ∙ f in absurd cc
+
+pub found_so : (bytes : List ℕ) (o : Operation) → Reads bytes o (size_of o) → is_far (row_of o) ≡ false → IsLenient bytes o (row_of o) (size_of o)
+found_so bytes o r near = record { is = read_so bytes o (size_of o) r; some = omega arith; within = reads_within bytes o (size_of o) r; far = not_far (is_far (row_of o)) (o ≡ frame_op 0) near }
 
 pub faulty_ok : (bytes all : List ℕ) (f : FrontFault) (r : Result LenientOp NotTaken) → HasFault bytes f → bytes ≡ all
     → IfOk r (λ x. IsFaulty all f x.op x.row x.size) → IfOk r (λ x. IsLenient bytes x.op x.row x.size)
-faulty_ok bytes all f (Ok x) h e w = record { is = faulty_so bytes f h ∙ ap (λ (b : List ℕ). faulty b f) e ∙ w.is; some = w.some; within = omega (arith, w.within, ap length e) }
+faulty_ok bytes all f (Ok x) h e w = record { is = faulty_so bytes f h ∙ ap (λ (b : List ℕ). faulty b f) e ∙ w.is; some = w.some; within = omega (arith, w.within, ap length e); far = w.far }
 faulty_ok bytes all f (Err x) h e w = tt
 
 pub faulty_err : (bytes all : List ℕ) (f : FrontFault) (r : Result LenientOp NotTaken) → HasFault bytes f → bytes ≡ all

@@ -1,3 +1,4 @@
 -- Lemmas.
 mod Lenients
 pub mod Behind
+pub mod Numbers

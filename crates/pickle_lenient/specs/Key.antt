@@ -1,7 +1,7 @@
 -- The key that the line of GET or PUT is to loaders.
 -- Source: Lib/pickle.py, class `_Unpickler`: `load_get`, `load_put` (`int(self.readline()[:-1])`); Modules/_pickle.c: `load_get`,
--- `load_put` (`PyLong_FromString`, which ends at a NUL byte).
-use Rattle.std.specs.Prelude.{ℕ, ◌+◌, ◌*◌, ◌-◌, ◌^◌, ◌==◌, ◌&&◌, ◌||◌, nat_lt, nat_le, if◌then◌else◌, Bool, true, false, List, fold, Option, Some, None}
+-- `load_put` (`PyLong_FromString`, which ends at a NUL byte). A number may have any number of digits.
+use Rattle.std.specs.Prelude.{ℕ, ◌+◌, ◌*◌, ◌-◌, ◌==◌, ◌&&◌, ◌||◌, nat_le, if◌then◌else◌, Bool, true, false, List, fold, Option, Some, None}
 use Rattle.pickle_lenient.specs.declared.key.KeyPart.{KeyPart}
 use Rattle.pickle_lenient.specs.declared.key.KeyPart.TheVariants as part
 use Rattle.pickle_lenient.specs.declared.key.KeyState.{KeyState}
@@ -20,9 +20,9 @@ is_digit byte = nat_le 48 byte && nat_le byte 57
 abbrev pub at_part : KeyState → KeyPart → KeyState
 at_part s p = record s { part = p }
 
--- a digit more; a number of more than 64 bits is none, nor is one below 0
+-- a digit more
 abbrev pub with_digit : KeyState → ℕ → KeyState
-with_digit s digit = if nat_lt (10 * s.number + (digit - 48)) (2 ^ 64) then record { part = part.Digits; number = 10 * s.number + (digit - 48); negative = s.negative } else at_part s part.Wrong
+with_digit s digit = record { part = part.Digits; number = 10 * s.number + (digit - 48); negative = s.negative }
 
 abbrev pub at_begin : ℕ → KeyState → KeyState
 at_begin byte s =

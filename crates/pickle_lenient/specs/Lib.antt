@@ -1,4 +1,6 @@
 -- The definitions that contracts cite.
+pub mod Number
+pub mod Row
 pub mod Key
 pub mod Lenient
 pub mod Reading

@@ -4,15 +4,18 @@ use Rattle.pickle_ops.specs.declared.row.Row.{Row}
 use Rattle.pickle_ops.specs.declared.fault.FrontFault.{FrontFault}
 use Rattle.pickle_ops.specs.declared.fault.FrontFault.TheVariants as fault
 use Rattle.pickle_ops.specs.Spelling.{Operation}
+use Rattle.pickle_doc.specs.DocUnit.{frame_op}
+use Rattle.pickle_lenient.specs.Row.{is_far}
 use Rattle.pickle_lenient.specs.declared.fault.NotTaken.{NotTaken}
 use Rattle.pickle_lenient.specs.declared.fault.NotTaken.TheVariants as stop
 use Rattle.pickle_lenient.specs.Lenient.{lenient, faulty}
 
--- this is what loaders read
+-- this is what loaders read; GET and PUT of a number of more than 64 bits come as the FRAME of 0
 pub record IsLenient (bytes : List ℕ) (o : Operation) (r : Row) (size : ℕ) : Type 0 where
   pub is : lenient bytes ≡ Ok (record { op = o; row = r; size = size })
   pub some : 0 < size
   pub within : size ≤ length bytes
+  pub far : is_far r ≡ true → o ≡ frame_op 0
 
 -- they end at this fault, or memory ran out
 abbrev pub IsNotLenient : List ℕ → NotTaken → Type 0
@@ -24,6 +27,7 @@ pub record IsFaulty (bytes : List ℕ) (f : FrontFault) (o : Operation) (r : Row
   pub is : faulty bytes f ≡ Ok (record { op = o; row = r; size = size })
   pub some : 0 < size
   pub within : size ≤ length bytes
+  pub far : is_far r ≡ true → o ≡ frame_op 0
 
 abbrev pub IsNotFaulty : List ℕ → FrontFault → NotTaken → Type 0
 IsNotFaulty bytes f (stop.Fault g) = faulty bytes f ≡ Err g

@@ -6,7 +6,8 @@
 -- behind it. A line ends in the buffer if a newline is there; else what is left is lost, and the line is read behind it. Only the bytes
 -- of a byte string (BINBYTES, BYTEARRAY8 and their like) are read from the buffer and go on behind it. After FRAME so many bytes as it says are in the buffer: those that are
 -- there, if they are enough; else they are lost, and the buffer is filled anew, at the end of the file with what there is
--- (Lib/pickle.py, `_Unframer.load_frame`). STOP loses what is left.
+-- (Lib/pickle.py, `_Unframer.load_frame`). STOP loses what is left, since the next load has a buffer of its own (`pickle.load`; in Python
+-- each `load`). Held: the same, but STOP leaves the buffer, as where one `Unpickler` in C loads again.
 -- Source: Modules/_pickle.c: `_Unpickler_ReadImpl`, `_Unpickler_ReadInto`, `_Unpickler_Readline`, `_Unpickler_ReadFromFile`,
 -- `load_frame`, of a file without `peek`.
 use Rattle.std.specs.Prelude.{◌≡◌, ℕ, ◌+◌, ◌-◌, ◌<◌, ◌≤◌, ◌&&◌, ◌||◌, nat_lt, nat_le, if◌then◌else◌, Bool, true, false, List, [], ◌∷◌, ◌++◌, length, take, drop, position, Option, Some, None, Result, Ok, Err, ⊤}
@@ -20,7 +21,8 @@ use Rattle.pickle_ops.specs.Table.{form_of, opcode_of}
 use Rattle.pickle_ops.specs.Spelling.{Front, Unknown, Whole}
 use Rattle.pickle_ops.specs.Front.{front_of}
 use Rattle.pickle_ops.specs.Inside.Sizes.{length_bytes}
-use Rattle.pickle_doc.specs.DocUnit.{is_frame, is_stop, frame_number}
+use Rattle.pickle_doc.specs.DocUnit.{frame_op, is_frame, is_stop, frame_number}
+use Rattle.pickle_lenient.specs.Row.{is_far}
 use Rattle.pickle_lenient.specs.declared.taken.Frames.{Frames}
 use Rattle.pickle_lenient.specs.declared.taken.Frames.TheVariants as frames
 use Rattle.pickle_lenient.specs.declared.taken.Taken.{Taken}
@@ -87,9 +89,10 @@ framed bytes t number =
     else if nat_le number (length bytes - (t.size + t.left)) then refilled number t
     else refilled (length bytes - (t.size + t.left)) t
 
-abbrev pub settled : List ℕ → Taken → Taken
-settled bytes t =
-    if is_stop t.op.opcode then refilled 0 t
+-- `ends` says whether STOP loses what is left
+abbrev pub settled : Bool → List ℕ → Taken → Taken
+settled ends bytes t =
+    if ends && is_stop t.op.opcode then refilled 0 t
     else if is_frame t.op.opcode then framed bytes t (frame_number t.op)
     else t
 
@@ -104,24 +107,25 @@ plain (Ok l) = Ok (taken_as 0 0 l)
 plain (Err f) = Err f
 
 -- it is in the buffer, which has so many bytes
-abbrev pub within : List ℕ → ℕ → Result Lenient FrontFault → Result Taken FrontFault
-within bytes size (Ok l) = Ok (settled bytes (taken_as 0 (size - l.size) l))
-within bytes size (Err f) = Err f
+abbrev pub within : Bool → List ℕ → ℕ → Result Lenient FrontFault → Result Taken FrontFault
+within ends bytes size (Ok l) = Ok (settled ends bytes (taken_as 0 (size - l.size) l))
+within ends bytes size (Err f) = Err f
 
 -- it goes on behind the buffer, of which this many bytes are lost
-abbrev pub across : List ℕ → ℕ → Result Lenient FrontFault → Result Taken FrontFault
-across bytes gap (Ok l) = Ok (settled bytes (taken_as gap 0 l))
-across bytes gap (Err f) = Err f
+abbrev pub across : Bool → List ℕ → ℕ → Result Lenient FrontFault → Result Taken FrontFault
+across ends bytes gap (Ok l) = Ok (settled ends bytes (taken_as gap 0 l))
+across ends bytes gap (Err f) = Err f
 
-abbrev pub buffered : ℕ → List ℕ → Result Taken FrontFault
-buffered left bytes =
-    if ends_in (front_of (take left bytes)) then within bytes (length (take left bytes)) (lenient (take left bytes))
-    else across bytes (length (take left bytes) - first_read (take left bytes)) (lenient (joined left bytes))
+abbrev pub buffered : Bool → ℕ → List ℕ → Result Taken FrontFault
+buffered ends left bytes =
+    if ends_in (front_of (take left bytes)) then within ends bytes (length (take left bytes)) (lenient (take left bytes))
+    else across ends bytes (length (take left bytes) - first_read (take left bytes)) (lenient (joined left bytes))
 
 -- what loaders take from the front of bytes, the first `left` of which are in the buffer, or the fault at which they end
 unfoldable pub taken : Frames → ℕ → List ℕ → Result Taken FrontFault
 taken frames.Ignored left bytes = plain (lenient bytes)
-taken frames.Buffered left bytes = buffered left bytes
+taken frames.Buffered left bytes = buffered true left bytes
+taken frames.Held left bytes = buffered false left bytes
 
 -- ---- what the reader answers
 
@@ -130,6 +134,7 @@ pub record IsAnswer (bytes : List ℕ) (want : Result Taken FrontFault) (t : Tak
   pub is : want ≡ Ok t
   pub some : 0 < t.size
   pub within : t.size + t.left ≤ length bytes
+  pub far : is_far t.row ≡ true → t.op ≡ frame_op 0
 
 -- nothing is, by this fault, or memory ran out
 abbrev pub IsNoAnswer : Result Taken FrontFault → NotTaken → Type 0

@@ -1,12 +1,15 @@
 //! What loaders read at the front of bytes, where an opcode is spelled otherwise than it should be.
 
-ghost use Rattle.std.specs.Prelude.{◌≡◌, ◌≢◌, ◌<◌, ◌≤◌, ◌+◌, ◌^◌, ◌∷◌, length, position, Ok, Err, IfOk, IfErr, IfSome};
+ghost use Rattle.std.specs.Prelude.{◌≡◌, ◌≢◌, ◌<◌, ◌≤◌, ◌+◌, ◌^◌, ◌∷◌, false, length, position, Ok, Err, IfOk, IfErr, IfSome};
 ghost use Rattle.pickle_ops.specs.Shape.{is_newline};
+ghost use Rattle.pickle_lenient.specs.Row.{is_far};
 ghost use Rattle.pickle_lenient.specs.Lenient.{mended, keyed_row, odd_line, cut_line, tells_line};
 ghost use Rattle.pickle_lenient.specs.Reading.{IsLenient, IsNotLenient, IsFaulty, IsNotFaulty};
 
 use crate::fault::NotTaken;
 use crate::key::key_of;
+use crate::number::Number;
+use crate::row::LenientRow;
 use pickle_ops::{FrontFault, Op, Row, peek_op};
 use std::alloc::{AllocError, Global};
 
@@ -16,7 +19,7 @@ pub struct LenientOp {
     /// The operation; of GET and PUT with such a number another, which makes nothing either.
     pub op: Op,
     /// The row as which it moves.
-    pub row: Row,
+    pub row: LenientRow,
     /// How many bytes it takes.
     pub size: usize,
 }
@@ -30,31 +33,31 @@ pub(crate) fn newline(bytes: &[u8]) -> Option<usize>
 }
 
 /// The row of GET or PUT of a key, by the code.
-fn keyed_row(code: u8, key: u64) -> Option<Row>
+fn keyed_row(code: u8, key: Number) -> Option<LenientRow>
     ensures { result ≡ keyed_row code key }
 {
     if code == b'g' {
-        Some(Row::Get(key))
+        Some(LenientRow::get(key))
     } else if code == b'p' {
-        Some(Row::Put(key))
+        Some(LenientRow::put(key))
     } else {
         None
     }
 }
 
 /// The row of GET or PUT of a number, and how many bytes it takes, by the code and the line behind it.
-fn odd_line(code: u8, rest: &[u8]) -> Option<(Row, usize)>
-    ensures is { result ≡ odd_line code rest.now }
-    ensures some { IfSome result (λ r. 0 < r.1) }
-    ensures within { IfSome result (λ r. r.1 ≤ length rest.now + 1) }
+fn odd_line(alloc: Global, code: u8, rest: &[u8]) -> Result<Option<(LenientRow, usize)>, AllocError>
+    ensures is { IfOk result (λ x. x ≡ odd_line code rest.now) }
+    ensures some { IfOk result (λ x. IfSome x (λ r. 0 < r.1)) }
+    ensures within { IfOk result (λ x. IfSome x (λ r. r.1 ≤ length rest.now + 1)) }
 {
     match newline(rest) {
-        None => None,
-        Some(end) => match key_of(&rest[..end]) {
-            None => None,
+        None => Ok(None),
+        Some(end) => match key_of(alloc, &rest[..end])? {
+            None => Ok(None),
             Some(key) => match keyed_row(code, key) {
-                None => None,
-                Some(row) => Some((row, end + 2)),
+                None => Ok(None),
+                Some(row) => Ok(Some((row, end + 2))),
             },
         },
     }
@@ -76,12 +79,13 @@ fn mended(alloc: Global, code: u8, rest: &[u8]) -> Result<Vec<u8>, AllocError>
 fn read_mended(alloc: Global, code: u8, rest: &[u8]) -> Result<LenientOp, NotTaken>
     requires small { length rest.now < 2 ^ 62 }
     ensures ok { IfOk result (λ r. (cut_line (code ∷ rest.now) ≡ Ok (record { op = r.op; row = r.row; size = r.size })) × (r.size ≡ length rest.now + 1)) }
+    ensures near { IfOk result (λ r. is_far r.row ≡ false) }
     ensures err { IfErr result (λ e. e ≢ NotTaken.Memory → (cut_line (code ∷ rest.now) ≡ Err FrontFault.Truncated) × (e ≡ NotTaken.Fault FrontFault.Truncated)) }
 {
     let line = mended(alloc, code, rest)?;
     match peek_op(line.as_slice()) {
         Ok(found) => {
-            let row = Row::of_ref(&found);
+            let row = LenientRow::near(Row::of_ref(&found));
             let op = found.copied(alloc)?;
             Ok(LenientOp {
                 op,
@@ -114,11 +118,11 @@ fn read_cut(alloc: Global, code: u8, rest: &[u8]) -> Result<LenientOp, NotTaken>
 }
 
 /// A front with a bad argument.
-fn read_key(code: u8, rest: &[u8]) -> Result<LenientOp, NotTaken>
+fn read_key(alloc: Global, code: u8, rest: &[u8]) -> Result<LenientOp, NotTaken>
     ensures ok { IfOk result (λ r. IsFaulty (code ∷ rest.now) FrontFault.BadArgument r.op r.row r.size) }
     ensures err { IfErr result (IsNotFaulty (code ∷ rest.now) FrontFault.BadArgument) }
 {
-    match odd_line(code, rest) {
+    match odd_line(alloc, code, rest)? {
         Some((row, size)) => Ok(LenientOp {
             op: Op::frame(0),
             row,
@@ -140,7 +144,7 @@ fn read_faulty(
     ensures err { IfErr result (IsNotFaulty (code ∷ rest.now) fault) }
 {
     match fault {
-        FrontFault::BadArgument => read_key(code, rest),
+        FrontFault::BadArgument => read_key(alloc, code, rest),
         FrontFault::Truncated => read_cut(alloc, code, rest),
         FrontFault::Ended => Err(NotTaken::Fault(FrontFault::Ended)),
         FrontFault::NegativeLength => Err(NotTaken::Fault(FrontFault::NegativeLength)),
@@ -157,7 +161,7 @@ fn read_some(alloc: Global, bytes: &[u8], code: u8, rest: &[u8]) -> Result<Lenie
 {
     match peek_op(bytes) {
         Ok(found) => {
-            let row = Row::of_ref(&found);
+            let row = LenientRow::near(Row::of_ref(&found));
             let size = found.size();
             let op = found.copied(alloc)?;
             Ok(LenientOp { op, row, size })

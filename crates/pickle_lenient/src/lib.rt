@@ -6,7 +6,11 @@ mod buffer;
 mod fault;
 mod key;
 mod lenient;
+mod number;
+mod row;
 mod taken;
 
 pub use fault::NotTaken;
+pub use number::Number;
+pub use row::{LenientRow, RowKind, is_far};
 pub use taken::{Frames, Taken, take_op};

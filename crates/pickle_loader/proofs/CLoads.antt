@@ -14,7 +14,7 @@ use Rattle.pickle_show.specs.declared.naming.Detail.TheVariants as detail
 use Rattle.pickle_further.specs.declared.way.Pickles.{Pickles}
 use Rattle.pickle_further.specs.declared.way.Pickles.TheVariants as pickles
 use Rattle.pickle_further.specs.declared.way.Way.{Way}
-use Rattle.pickle_further.specs.Parts.{ignoring, standing_first}
+use Rattle.pickle_further.specs.Parts.{ignoring, buffering, standing_first}
 use Rattle.pickle_loader.specs.Environment.{Act, World}
 use Rattle.pickle_loader.specs.Unpickler.{Step, Raised}
 use Rattle.pickle_loader.specs.Dispatch.{Loaded, loaded, acts_of}
@@ -22,11 +22,12 @@ use Rattle.pickle_loader.specs.Told.{told_of, told}
 use Rattle.pickle_loader.specs.Onward as onward
 use Rattle.pickle_loader.specs.Onward.{Onward, reads_on, load_more, load_read, load_on, load_way, acts_before}
 use Rattle.pickle_loader.specs.CUnpickler.{CUnpickler, CStep, CRan, CStopped, CRaised, seen}
-use Rattle.pickle_loader.specs.CLoad.{load_keyed, dispatch_as, c_load_taken, CLoaded, CGoing, CEnded, CFailed, c_loaded, seen_loaded, COnward, c_again, c_load_more, c_load_read, c_load_on, c_load_way, asked, raises, as_in_c, seen_onward, OneLoad, NothingBeyondInC, NothingElseInC}
+use Rattle.pickle_loader.specs.CLoad.{load_keyed, dispatch_as, c_load_taken, CLoaded, CGoing, CEnded, CFailed, c_loaded, seen_loaded, COnward, c_again, c_load_more, c_load_read, c_load_on, c_load_way, asked, raises, as_in_c, seen_onward, OneLoad, NothingBeyondInC, NothingElseInC, NothingElseInAStream}
 use Rattle.pickle_loader.proofs.CSteps.{Fenced, Same, same_is, dispatched, gets_key, puts_key}
 use Rattle.pickle_loader.proofs.Ways.{nothing_beyond}
 use Rattle.pickle_loader.proofs.Bytes.{joined}
 use Rattle.pickle_loader.proofs.Ends.{through, read_is_told}
+use Rattle.pickle_loader.proofs.Streamed.{streamed}
 
 -- ---- an item
 
@@ -127,5 +128,26 @@ nothing_else_in_c how w p bytes d anew reads small status =
           let front = all.1 n in (
             front.0 ++ lines.0,
             joined (told_of (acts_of (seen_loaded (c_load_way w (ignoring p) bytes n).now))) front.0 lines.0 (acts_before all.0 (ignoring p) (standing_first detail.Cut p bytes) n) (told all.0 d.many (ops_of d) (length (ops_of d))) front.1 (sym lines.1),
+          ),
+    )
+
+-- the same of a stream
+pub nothing_else_in_a_stream : NothingElseInAStream
+nothing_else_in_a_stream how w p bytes d anew reads small status =
+    let all = nothing_beyond_in_c w (buffering p) bytes in
+    let less : length (document_bytes d) < 2 ^ 64 = subst (λ (l : List ℕ). length l < 2 ^ 64) (sym reads.whole) small in
+    let t = through how d status in (
+      all.0,
+      λ n.
+          let same : acts_before all.0 (ignoring p) (standing_first detail.Cut p bytes) n ≡ acts_before all.0 (buffering p) (standing_first detail.Cut p bytes) n =
+          subst (λ (l : List ℕ). acts_before all.0 (ignoring p) (standing_first detail.Cut p l) n ≡ acts_before all.0 (buffering p) (standing_first detail.Cut p l) n) reads.whole
+          (sym (streamed all.0 p d reads.document.formed less anew reads.mode t n)) in
+          let lines = subst (λ (l : List ℕ). (rest : List Act) × (acts_before all.0 (ignoring p) (standing_first detail.Cut p l) n ++ rest ≡ told all.0 d.many (ops_of d) (length (ops_of d)))) reads.whole
+          (read_is_told all.0 p d reads.document.formed less anew reads.mode t n) in
+          let front = all.1 n in
+          let here : acts_before all.0 (buffering p) (standing_first detail.Cut p bytes) n ++ lines.0 ≡ told all.0 d.many (ops_of d) (length (ops_of d)) =
+          subst (λ (l : List Act). l ++ lines.0 ≡ told all.0 d.many (ops_of d) (length (ops_of d))) same lines.1 in (
+            front.0 ++ lines.0,
+            joined (told_of (acts_of (seen_loaded (c_load_way w (buffering p) bytes n).now))) front.0 lines.0 (acts_before all.0 (buffering p) (standing_first detail.Cut p bytes) n) (told all.0 d.many (ops_of d) (length (ops_of d))) front.1 (sym here),
           ),
     )

@@ -21,7 +21,7 @@ use Rattle.pickle_show.specs.declared.naming.Detail.TheVariants as detail
 use Rattle.pickle_show.specs.declared.report.Closing.TheVariants as closing
 use Rattle.pickle_show.specs.Listing.{reached}
 use Rattle.pickle_show.specs.Report.{refused_on}
-use Rattle.pickle_show.specs.Calls.{closing_of, closing_to, kept_by, calls}
+use Rattle.pickle_show.specs.Calls.{first_inside, closing_of, closing_to, kept_by, calls}
 use Rattle.pickle_show.proofs.Places.{is_reached}
 use Rattle.pickle_further.specs.declared.way.Pickles.{Pickles}
 use Rattle.pickle_further.specs.Going.{Standing, Going as Gone, gone_by, going, over}
@@ -40,6 +40,7 @@ use Rattle.pickle_loader.proofs.Readings.{beside_all, acts_next, accepted_move, 
 pub record IsThrough (d : Contents) : Type 0 where
   pub last : State
   pub runs : run (start d.many) (ops_of d) (length (ops_of d)) ≡ Some last
+  pub quiet : first_inside d (length (ops_of d)) ≡ None
   pub tail : d.tail ≡ []
 
 abbrev First : Pickles → Contents → Standing
@@ -61,7 +62,7 @@ going_end p q e = ap (gone_by (ignoring p) q) (ap (taken frames.Ignored q.at.lef
 all_dropped : (ops : List Operation) (n : ℕ) → n ≡ length ops → drop n ops ≡ []
 all_dropped ops n e = ap (λ (m : ℕ). drop m ops) e ∙ drop_all ops
 
-rest_end : (d : Contents) (n : ℕ) → n ≡ length (ops_of d) → d.tail ≡ [] → drop (offset_of d n) (document_bytes d) ≡ []
+pub rest_end : (d : Contents) (n : ℕ) → n ≡ length (ops_of d) → d.tail ≡ [] → drop (offset_of d n) (document_bytes d) ≡ []
 rest_end d n e none = rest_is (items_of d) d.tail n ∙ ap (λ (l : List Operation). bytes_of l ++ d.tail) (all_dropped (ops_of d) n e) ∙ none
 
 -- ---- one item more
@@ -146,6 +147,7 @@ through how d status =
     record {
       last = far.state;
       runs = ap (run (start d.many) (ops_of d)) (sym all) ∙ far.is;
+      quiet = ap (first_inside d) (sym all) ∙ ended.0;
       tail = zero_length d.tail (sym (ap (λ (r : Option Refusal). kept_by d (closing_to d k r) == 0) none ∙ ap (λ (f : Finish). kept_by d (closing_of d f) == 0) stopped) ∙ ended.2);
     }
 

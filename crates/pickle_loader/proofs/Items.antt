@@ -1,6 +1,6 @@
 -- An item that loaders take, and a step of it.
 use Rattle.std.proofs.Common.{◌≡◌, ◌<◌, ℕ, ◌+◌, ◌-◌, Bool, true, false, List, [], ◌∷◌, ◌++◌, length, take, drop, Option, Some, None, Ok, Err, refl, sym, ap, subst, ◌∙◌, arith}
-use Rattle.std.specs.Prelude.{◌==◌, nat_le, position, is_some, if◌then◌else◌, Result}
+use Rattle.std.specs.Prelude.{◌==◌, ◌&&◌, nat_le, position, is_some, if◌then◌else◌, Result}
 use Rattle.std.specs.Option.{option_map}
 use Rattle.std.specs.Ordering.{nat_cmp}
 use Rattle.std.specs.BTreeMap.{insert_entry}
@@ -28,7 +28,7 @@ use Rattle.pickle_lenient.specs.declared.taken.Frames.TheVariants as frames
 use Rattle.pickle_lenient.specs.declared.taken.Taken.{Taken}
 use Rattle.pickle_lenient.specs.Key.{key_of}
 use Rattle.pickle_lenient.specs.Lenient.{Lenient, mended, tells_line, sized, keyed_by, odd_to, odd_so, odd, taken_so, mended_so, cut_line, cut, faulty, lenient_at, lenient}
-use Rattle.pickle_lenient.specs.Stream.{first_read, joined, ends_in, refilled, framed, settled, taken_as, plain, within, across, taken}
+use Rattle.pickle_lenient.specs.Stream.{first_read, joined, ends_in, refilled, framed, settled, taken_as, plain, within, across, buffered, taken}
 use Rattle.pickle_further.specs.Going.{used_op, then_as, moved_so}
 use Rattle.pickle_loader.specs.Environment.{Value, Method, Unpickler, World}
 use Rattle.pickle_loader.specs.Unpickler.{Step, Raised, load_get, load_put, tell}
@@ -149,23 +149,24 @@ plain_items : (x : Result Lenient FrontFault) → AreLenient x → AreItems (pla
 plain_items (Ok l) all = ok_taken 0 0 l (all l refl)
 plain_items (Err f) all = λ t e. absurd cc
 
-within_items : (bytes : List ℕ) (size : ℕ) (x : Result Lenient FrontFault) → AreLenient x → AreItems (within bytes size x)
-within_items bytes size (Ok l) all = let t : Taken = taken_as 0 (size - l.size) l in ok_item (settled bytes t) (good_settled (is_stop t.op.opcode) (is_frame t.op.opcode) bytes t (taken_some 0 l (all l refl)))
-within_items bytes size (Err f) all = λ t e. absurd cc
+within_items : (ends : Bool) (bytes : List ℕ) (size : ℕ) (x : Result Lenient FrontFault) → AreLenient x → AreItems (within ends bytes size x)
+within_items ends bytes size (Ok l) all = let t : Taken = taken_as 0 (size - l.size) l in ok_item (settled ends bytes t) (good_settled (ends && is_stop t.op.opcode) (is_frame t.op.opcode) bytes t (taken_some 0 l (all l refl)))
+within_items ends bytes size (Err f) all = λ t e. absurd cc
 
-across_items : (bytes : List ℕ) (gap : ℕ) (x : Result Lenient FrontFault) → AreLenient x → AreItems (across bytes gap x)
-across_items bytes gap (Ok l) all = let t : Taken = taken_as gap 0 l in ok_item (settled bytes t) (good_settled (is_stop t.op.opcode) (is_frame t.op.opcode) bytes t (taken_some gap l (all l refl)))
-across_items bytes gap (Err f) all = λ t e. absurd cc
+across_items : (ends : Bool) (bytes : List ℕ) (gap : ℕ) (x : Result Lenient FrontFault) → AreLenient x → AreItems (across ends bytes gap x)
+across_items ends bytes gap (Ok l) all = let t : Taken = taken_as gap 0 l in ok_item (settled ends bytes t) (good_settled (ends && is_stop t.op.opcode) (is_frame t.op.opcode) bytes t (taken_some gap l (all l refl)))
+across_items ends bytes gap (Err f) all = λ t e. absurd cc
 
-buffered_items : (b : Bool) (left : ℕ) (bytes : List ℕ)
-    → AreItems (if b then within bytes (length (take left bytes)) (lenient (take left bytes)) else across bytes (length (take left bytes) - first_read (take left bytes)) (lenient (joined left bytes)))
-buffered_items true left bytes = within_items bytes (length (take left bytes)) (lenient (take left bytes)) (all_lenient (take left bytes))
-buffered_items false left bytes = across_items bytes (length (take left bytes) - first_read (take left bytes)) (lenient (joined left bytes)) (all_lenient (joined left bytes))
+buffered_items : (b ends : Bool) (left : ℕ) (bytes : List ℕ)
+    → AreItems (if b then within ends bytes (length (take left bytes)) (lenient (take left bytes)) else across ends bytes (length (take left bytes) - first_read (take left bytes)) (lenient (joined left bytes)))
+buffered_items true ends left bytes = within_items ends bytes (length (take left bytes)) (lenient (take left bytes)) (all_lenient (take left bytes))
+buffered_items false ends left bytes = across_items ends bytes (length (take left bytes) - first_read (take left bytes)) (lenient (joined left bytes)) (all_lenient (joined left bytes))
 
 all_items : (f : Frames) (left : ℕ) (bytes : List ℕ) → AreItems (taken f left bytes)
 unfolding taken
 all_items frames.Ignored left bytes = plain_items (lenient bytes) (all_lenient bytes)
-all_items frames.Buffered left bytes = buffered_items (ends_in (front_of (take left bytes))) left bytes
+all_items frames.Buffered left bytes = buffered_items (ends_in (front_of (take left bytes))) true left bytes
+all_items frames.Held left bytes = buffered_items (ends_in (front_of (take left bytes))) false left bytes
 
 pub are_items : (f : Frames) (left : ℕ) (bytes : List ℕ) (t : Taken) → taken f left bytes ≡ Ok t → IsItem t.op t.row
 are_items f left bytes t e = (all_items f left bytes t e).0
@@ -179,13 +180,17 @@ no_lenient : lenient [] ≡ Err fault.Ended
 unfolding lenient
 no_lenient = refl
 
+none_buffered : (ends : Bool) (left : ℕ) → buffered ends left [] ≡ Err fault.Ended
+none_buffered ends left =
+    ap (λ (l : List ℕ). if ends_in (front_of l) then within ends [] (length l) (lenient l) else across ends [] (length l - first_read l) (lenient (take (first_read l) l ++ drop left []))) (take_none left)
+    ∙ ap (λ (l : List ℕ). across ends [] 0 (lenient l)) (drop_none left)
+    ∙ ap (across ends [] 0) no_lenient
+
 pub none_taken : (f : Frames) (left : ℕ) → taken f left [] ≡ Err fault.Ended
 unfolding taken
 none_taken frames.Ignored left = ap plain no_lenient
-none_taken frames.Buffered left =
-    ap (λ (l : List ℕ). if ends_in (front_of l) then within [] (length l) (lenient l) else across [] (length l - first_read l) (lenient (take (first_read l) l ++ drop left []))) (take_none left)
-    ∙ ap (λ (l : List ℕ). across [] 0 (lenient l)) (drop_none left)
-    ∙ ap (across [] 0) no_lenient
+none_taken frames.Buffered left = none_buffered true left
+none_taken frames.Held left = none_buffered false left
 
 -- ---- a key that only int() reads
 

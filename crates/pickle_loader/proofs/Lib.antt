@@ -27,8 +27,10 @@ pub mod Onwards
 pub mod Ways
 pub mod Readings
 pub mod Ends
+pub mod Buffers
+pub mod Streams
+pub mod Streamed
 pub mod CSteps
 pub mod CLoads
-pub mod Buffers
 pub mod Losses
 pub mod Unframing

@@ -22,7 +22,7 @@ use Rattle.pickle_show.specs.declared.report.Closing.TheVariants as closing
 use Rattle.pickle_further.specs.declared.way.Pickles.{Pickles}
 use Rattle.pickle_further.specs.declared.way.Pickles.TheVariants as pickles
 use Rattle.pickle_further.specs.declared.way.Way.{Way}
-use Rattle.pickle_further.specs.Going.{Standing, Going as Gone, over, used_op, moved_so, event_by, stops, stopped_after, closing_after, keeps, state_after, gone_to, gone_by}
+use Rattle.pickle_further.specs.Going.{Standing, Going as Gone, refused_at, naming_row, over, used_op, moved_so, event_by, stops, stopped_after, closing_after, keeps, state_after, gone_to, gone_by}
 use Rattle.pickle_further.specs.Parts.{are_many}
 use Rattle.pickle_loader.specs.Environment.{Value, Act, Unpickler, World}
 use Rattle.pickle_loader.specs.Unpickler.{Step, Ran, Stopped, Raised, item}
@@ -89,7 +89,7 @@ after p t item step = record { now = loaded step; rest = drop item.size t.q.rest
 -- where it ends behind this item for this reason, if it does
 abbrev gone_with : (p : Pickles) → Turn p → Taken → State → Option Closing → Gone
 gone_with p t item a c = record {
-  gone = record { event = event_by (move_of p t item) t.q.state a (move_of p t item).fill; row = item.row; size = item.size; left = item.left; lost = item.lost; closing = c };
+  gone = record { event = event_by (move_of p t item) t.q.state a (move_of p t item).fill; row = naming_row item.row; size = item.size; left = item.left; lost = item.lost; closing = c };
   state = state_after p item.op.opcode a;
 }
 
@@ -323,7 +323,7 @@ item_turn : (way : Way) (t : Turn way.pickles) (item : Taken) (z : Result State 
 item_turn way t item (Ok a) is moved comes maps =
     last_turn way.pickles t item a (load_taken t.w item t.r) _ (move_of way.pickles t item).last refl is moved (acts_same way.pickles t item a is moved) comes.0
     (maps_new way.pickles t (load_taken t.w item t.r) (load_taken t.w item t.r) a refl (maps a refl)) comes.1
-item_turn way t item (Err r) is moved comes maps = refused_turn way.pickles t item (load_taken t.w item t.r) (closing.Refused t.q.at.place r) comes
+item_turn way t item (Err r) is moved comes maps = refused_turn way.pickles t item (load_taken t.w item t.r) (refused_at item.row t.q.at r) comes
 
 -- what a reading comes to
 abbrev pub read_on : (p : Pickles) → Turn p → Onward → Result Taken FrontFault → Onward

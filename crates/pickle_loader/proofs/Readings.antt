@@ -1,6 +1,6 @@
 -- The reading of a document's bytes, frames ignored, goes over its items as the machine does.
 use Rattle.std.proofs.Common.{◌≡◌, ℕ, zero, suc, ◌+◌, ◌^◌, ◌<◌, Bool, true, false, cond, List, [], ◌∷◌, ◌++◌, length, take, drop, Option, Some, None, Ok, refl, sym, ap, subst, ◌∙◌, arith, length-append}
-use Rattle.std.specs.Prelude.{slice_get, is_some, Result}
+use Rattle.std.specs.Prelude.{slice_get, is_some, nat_le, if◌then◌else◌, Result}
 use Rattle.std.proofs.Math.Seq.{drop-append-add}
 use Rattle.std.proofs.lemmas.List.{append_assoc}
 use Rattle.pickle_ops.specs.declared.fault.FrontFault.{FrontFault}
@@ -36,12 +36,13 @@ use Rattle.pickle_show.specs.declared.event.Event.{Event}
 use Rattle.pickle_show.specs.declared.event.Before.{Before}
 use Rattle.pickle_show.specs.declared.naming.Naming.{Naming}
 use Rattle.pickle_show.specs.Event.{before_of, event_of}
+use Rattle.pickle_show.specs.Naming.{naming_after}
 use Rattle.pickle_show.specs.Calls.{naming_on, naming_at}
 use Rattle.pickle_show.specs.declared.naming.Detail.TheVariants as detail
 use Rattle.pickle_further.specs.declared.way.Pickles.{Pickles}
 use Rattle.pickle_further.specs.declared.way.Pickles.TheVariants as pickles
 use Rattle.pickle_further.specs.declared.way.Way.{Way}
-use Rattle.pickle_further.specs.Going.{Standing, Going as Gone, used_op, then_as, moved_so, event_by, state_after, gone_to, gone_as, gone_by, going, stands_after}
+use Rattle.pickle_further.specs.Going.{Standing, Going as Gone, naming_row, used_op, then_as, moved_so, event_by, state_after, gone_to, gone_as, gone_by, going, stands_after}
 use Rattle.pickle_further.specs.Parts.{ignoring, are_many, standing_at, standing_first}
 use Rattle.pickle_loader.specs.Environment.{Value, Act}
 use Rattle.pickle_loader.specs.Told.{acts_told, told, protocol_after, protocol_at}
@@ -99,7 +100,7 @@ read_so bytes o behind e spelled =
     ap (λ (x : Option FrontFault). lenient_at bytes (front_of bytes) x) good ∙ ap (λ (x : Front). lenient_at bytes x None) is
 
 -- the bytes at an item are those of its operation
-reads_item : (d : Contents) (j : ℕ) (o : Operation) → IsFormed d → length (document_bytes d) < 2 ^ 64 → item_at d j ≡ Some o → lenient (drop (offset_of d j) (document_bytes d)) ≡ Ok (record { op = o; row = row_of o; size = size_of o })
+pub reads_item : (d : Contents) (j : ℕ) (o : Operation) → IsFormed d → length (document_bytes d) < 2 ^ 64 → item_at d j ≡ Some o → lenient (drop (offset_of d j) (document_bytes d)) ≡ Ok (record { op = o; row = row_of o; size = size_of o })
 reads_item d j o formed small there =
     let all : length (document_bytes d) ≡ length (bytes_of (ops_of d)) + length d.tail = length-append (bytes_of (ops_of d)) d.tail in
     let fits = document_fits d formed (omega (arith, small, all, length_bytes (items_of d), formed.reach)) in
@@ -218,6 +219,20 @@ drop_more zero m xs = ap (drop m) (drop_zero xs) ∙ ap (λ (k : ℕ). drop k xs
 drop_more (suc n) m [] = drop_none m ∙ sym (drop_none (suc n + m))
 drop_more (suc n) m (x ∷ xs) = let sum : suc (n + m) ≡ suc n + m = omega arith in drop_more n m xs ∙ ap (λ (k : ℕ). drop k (x ∷ xs)) sum
 
+-- how names are read behind it
+named : (r : Row) (n : ℕ) (m : Naming) → naming_after (naming_row r) n m ≡ naming_after r n m
+named (row.Get key) n m = go (nat_le (2 ^ 64) key)
+  where
+    go : (b : Bool) → naming_after (if b then row.Nothing else row.Get key) n m ≡ m
+    go true = refl
+    go false = refl
+named (row.Put key) n m = go (nat_le (2 ^ 64) key)
+  where
+    go : (b : Bool) → naming_after (if b then row.Nothing else row.Put key) n m ≡ m
+    go true = refl
+    go false = refl
+named r n m = refl
+
 -- the standing behind an item
 next_stands : (p : Pickles) (d : Contents) (k : ℕ) (s t : State) (o : Operation) → begins_anew p ≡ true → item_at d k ≡ Some o → run (start d.many) (ops_of d) (suc k) ≡ Some t
     → stands_after (standing_at detail.Cut d k s) (gone_to (ignoring p) (standing_at detail.Cut d k s) (item_taken o) (one_move (asks_less (row_of o) (fresh s))) (Ok t)) ≡ standing_at detail.Cut d (suc k) t
@@ -229,7 +244,13 @@ next_stands p d k s t o anew there to =
     ap (λ (x : Option State). naming_on (Some o) x (naming_at detail.Cut d k)) (sym to) ∙ ap (λ (x : Option Operation). naming_on x (run (start d.many) (ops_of d) (suc k)) (naming_at detail.Cut d k)) (sym there) in
     let rest : drop (size_of o + 0) (drop (offset_of d k) (document_bytes d)) ≡ drop (offset_of d (suc k)) (document_bytes d) =
     drop_more (offset_of d k) (size_of o + 0) (document_bytes d) ∙ ap (λ (n : ℕ). drop n (document_bytes d)) size in
-    ap (λ (x : State). record {
+    ap (λ (m : Naming). record {
+      state = state_after p o.opcode t;
+      rest = drop (size_of o + 0) (drop (offset_of d k) (document_bytes d));
+      at = record { offset = offset_of d k + (size_of o + 0); place = k + 1; left = 0 };
+      naming = m;
+    }) (named (row_of o) (length (state_after p o.opcode t).heap) (naming_at detail.Cut d k))
+    ∙ ap (λ (x : State). record {
       state = x;
       rest = drop (size_of o + 0) (drop (offset_of d k) (document_bytes d));
       at = record { offset = offset_of d k + (size_of o + 0); place = k + 1; left = 0 };

@@ -19,7 +19,7 @@ use Rattle.pickle_show.specs.Calls.{calls}
 use Rattle.pickle_further.specs.declared.way.Pickles.{Pickles}
 use Rattle.pickle_further.specs.declared.way.Pickles.TheVariants as pickles
 use Rattle.pickle_further.specs.declared.way.Way.{Way}
-use Rattle.pickle_further.specs.Parts.{ignoring, are_many, standing_first}
+use Rattle.pickle_further.specs.Parts.{ignoring, buffering, are_many, standing_first}
 use Rattle.pickle_loader.specs.Environment.{Value, is_elsewhere, Act, Unpickler, World}
 use Rattle.pickle_loader.specs.Unpickler.{Step, Ran, Raised, item, pop, pop_mark}
 use Rattle.pickle_loader.specs.Dispatch.{Loaded, Going, Ended, Failed, acts_of}
@@ -141,3 +141,8 @@ NothingBeyondInC = (w : World) (way : Way) (bytes : List ℕ)
 abbrev pub NothingElseInC : Type 0
 NothingElseInC = (how : Manner) (w : World) (p : Pickles) (bytes : List ℕ) (d : Contents) → begins_anew p ≡ true → ReadsAs (are_many p) bytes d → length bytes < 2 ^ 64 → (calls how d).status ≡ 0
     → (V : ℕ → Value) × ((n : ℕ) → (rest : List Act) × (told_of (acts_of (seen_loaded (c_load_way w (ignoring p) bytes n).now)) ++ rest ≡ told V d.many (ops_of d) (length (ops_of d))))
+
+-- nor does a stream change that: there the unpickler in C keeps frames in a buffer, and loses nothing of it
+abbrev pub NothingElseInAStream : Type 0
+NothingElseInAStream = (how : Manner) (w : World) (p : Pickles) (bytes : List ℕ) (d : Contents) → begins_anew p ≡ true → ReadsAs (are_many p) bytes d → length bytes < 2 ^ 64 → (calls how d).status ≡ 0
+    → (V : ℕ → Value) × ((n : ℕ) → (rest : List Act) × (told_of (acts_of (seen_loaded (c_load_way w (buffering p) bytes n).now)) ++ rest ≡ told V d.many (ops_of d) (length (ops_of d))))

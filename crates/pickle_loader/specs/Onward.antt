@@ -20,7 +20,7 @@ use Rattle.pickle_further.specs.declared.way.Pickles.{Pickles}
 use Rattle.pickle_further.specs.declared.way.Pickles.TheVariants as pickles
 use Rattle.pickle_further.specs.declared.way.Way.{Way}
 use Rattle.pickle_further.specs.Going.{Standing, Going as Gone, going, stands_after, search}
-use Rattle.pickle_further.specs.Parts.{ignoring, buffering, are_many, standing_at, standing_first}
+use Rattle.pickle_further.specs.Parts.{ignoring, are_many, standing_at, standing_first}
 use Rattle.pickle_loader.specs.Environment.{Value, Act, Unpickler, World}
 use Rattle.pickle_loader.specs.Unpickler.{Step, Raised, load_frame, load_get, load_put}
 use Rattle.pickle_loader.specs.Dispatch.{dispatch, Loaded, Going, Ended, Failed, loaded, acts_of, new_unpickler}
@@ -156,11 +156,11 @@ unbuffered q = record { state = q.state; rest = q.rest; at = record { offset = q
 abbrev pub NoneLost : Way → Standing → ℕ → Type 0
 NoneLost way p k = (j : ℕ) (q : Standing) → j < k → stands way p j ≡ Some q → (going way q).gone.lost ≡ false
 
--- up to the first item that loses bytes the reading with a buffer is the one in which frames are ignored: it stands where that does, and told
+-- up to the first item that loses bytes a reading with a buffer is the one in which frames are ignored: it stands where that does, and told
 -- the same, so that what is shown of it from there on is all that it has more
 abbrev pub BufferedIsRead : Type 0
-BufferedIsRead = (V : ℕ → Value) (p : Pickles) (bytes : List ℕ) (k : ℕ) (q : Standing) → stands (buffering p) (standing_first detail.Cut p bytes) k ≡ Some q → NoneLost (buffering p) (standing_first detail.Cut p bytes) k
-    → (stands (ignoring p) (standing_first detail.Cut p bytes) k ≡ Some (unbuffered q)) × (acts_before V (buffering p) (standing_first detail.Cut p bytes) k ≡ acts_before V (ignoring p) (standing_first detail.Cut p bytes) k)
+BufferedIsRead = (V : ℕ → Value) (w : Way) (bytes : List ℕ) (k : ℕ) (q : Standing) → stands w (standing_first detail.Cut w.pickles bytes) k ≡ Some q → NoneLost w (standing_first detail.Cut w.pickles bytes) k
+    → (stands (ignoring w.pickles) (standing_first detail.Cut w.pickles bytes) k ≡ Some (unbuffered q)) × (acts_before V w (standing_first detail.Cut w.pickles bytes) k ≡ acts_before V (ignoring w.pickles) (standing_first detail.Cut w.pickles bytes) k)
 
 -- what is found among the first n items: none that loses bytes, or the first that does
 abbrev pub IsFound : Way → Standing → ℕ → Option Standing → Type 0

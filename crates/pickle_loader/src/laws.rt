@@ -6,7 +6,7 @@ ghost use Rattle.pickle_loader.specs.FlatStack.{OneStack};
 ghost use Rattle.pickle_loader.specs.Beyond.{WideMovesAreFollowed, WhatIsMissingRaises, FillsAreFollowed, AStepBeyond};
 ghost use Rattle.pickle_loader.specs.Onward.{NothingBeyond, LinesAreRead, BufferedIsRead, LossIsFound};
 ghost use Rattle.pickle_loader.specs.Bytes.{BytesAreListed, NothingElse};
-ghost use Rattle.pickle_loader.specs.CLoad.{OneLoad, NothingBeyondInC, NothingElseInC};
+ghost use Rattle.pickle_loader.specs.CLoad.{OneLoad, NothingBeyondInC, NothingElseInAStream, NothingElseInC};
 
 /// What the unpickler does in any environment is what the lines tell, as far as it does not raise.
 pub fn loads_are_listed()
@@ -57,6 +57,11 @@ pub fn nothing_beyond_in_c()
 /// Where the reading ends with status 0, the unpickler in C does nothing else, however long it runs, frames ignored.
 pub fn nothing_else_in_c()
     ensures { NothingElseInC }
+{}
+
+/// Where the reading ends with status 0, the unpickler in C that reads a stream does nothing else either: its buffer loses nothing.
+pub fn nothing_else_in_a_stream()
+    ensures { NothingElseInAStream }
 {}
 
 /// An accepted item without a line makes the unpickler do nothing that is told.

@@ -64,7 +64,7 @@ without_names n s i = top_names (without n s).top s (All-take (λ id. id < lengt
 last_names : (n : ℕ) (s : State) → NamesAll s → AreNames (length s.heap) (last_of n s)
 last_names n s i = All-drop (λ id. id < length s.heap) (length s.top - n) s.top i.top
 
-put_on_names : (id : ℕ) (s : State) → id < length s.heap → NamesAll s → NamesAll (put_on id s)
+pub put_on_names : (id : ℕ) (s : State) → id < length s.heap → NamesAll s → NamesAll (put_on id s)
 put_on_names id s h i = top_names (put_on id s).top s (All-push (λ id. id < length s.heap) s.top id i.top h) i
 
 under_names : (n : ℕ) (ms : List Marked) → All (λ m. AreNames n m.section) ms → AreNames n (under ms)

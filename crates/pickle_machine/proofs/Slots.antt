@@ -1,14 +1,17 @@
 -- Slots of a memo, and the map behind them.
-use Rattle.std.proofs.Common.{◌≡◌, ℕ, ◌+◌, ◌-◌, ◌<◌, ◌≤◌, Bool, true, false, cond, List, [], ◌∷◌, ◌++◌, length, set, get_or, zero, suc, Option, Some, None, refl, sym, ap, ◌∙◌, arith, length-append, subst}
-use Rattle.std.specs.List.{AllByRecursion}
+use Rattle.std.proofs.Common.{◌≡◌, ℕ, ◌+◌, ◌-◌, ◌<◌, ◌≤◌, Bool, true, false, cond, List, [], ◌∷◌, ◌++◌, length, set, get_or, zero, suc, Option, Some, None, refl, sym, ap, ◌∙◌, inl, inr, arith, subst}
+use Rattle.std.specs.Prelude.{IsSome, nat_lt}
+use Rattle.std.proofs.lemmas.Bool.{cases_Bool, ltb-true, ltb-false}
+use Rattle.std.proofs.lemmas.List.Elements.{All-head, All-tail}
+use Rattle.std.specs.List.{All, AllByRecursion}
 use Rattle.std.specs.List.Sorted.{IsStrictlySortedBy}
 use Rattle.std.specs.Map.{lookup, remove_entry, keys_of}
-use Rattle.std.specs.Ordering.{nat_cmp, match_ordering}
+use Rattle.std.specs.Ordering.{nat_cmp, match_ordering, is_lt}
 use Rattle.std.specs.declared.cmp.Ordering.{Ordering}
 use Rattle.std.specs.declared.cmp.Ordering.TheVariants.{Less, Equal, Greater}
 use Rattle.std.specs.BTreeMap.{insert_entry, is_at}
 use Rattle.std.specs.Cmp.{nat_cmp_is}
-use Rattle.pickle_machine.specs.Kept.{kept}
+use Rattle.pickle_machine.specs.Kept.{kept, AreBelow}
 use Rattle.pickle_machine.specs.Inside.Slots.{holes_in, IsAbove, IsInOrder}
 
 less : (x y : ℕ) → x < y → nat_cmp x y ≡ Less
@@ -59,6 +62,29 @@ above_remove test n (e ∷ es) a = step (test e.0) (above_remove test n es a.1)
 all_less : (k : ℕ) (es : List (ℕ × ℕ)) → IsAbove (k + 1) es → AllByRecursion (λ y. nat_cmp k y ≡ Less) (keys_of es)
 all_less k [] a = tt
 all_less k (e ∷ es) a = (less k e.0 (omega (arith, a.0)), all_less k es a.1)
+
+-- ---- keys below a number
+
+not_less : (x y : ℕ) → is_lt (nat_cmp x y) ≡ false → y ≤ x
+not_less x y h = elim (cases_Bool (nat_lt x y)) [
+  | inl hit ↦ let f : true ≡ false = rw (less x y (ltb-true x y hit)) at h in cc
+  | inr miss ↦ ltb-false x y miss
+]
+
+pub below_last : (n last : ℕ) (es : List (ℕ × ℕ)) → last < n → All (λ q. is_lt (nat_cmp last q) ≡ false) (keys_of es) → AreBelow n es
+below_last n last [] h a = tt
+below_last n last (e ∷ es) h a =
+    let first : e.0 ≤ last = not_less last e.0 (All-head (λ q. is_lt (nat_cmp last q) ≡ false) e.0 (keys_of es) a) in
+    (omega (arith, h, first), below_last n last es h (All-tail (λ q. is_lt (nat_cmp last q) ≡ false) e.0 (keys_of es) a))
+
+pub below_none : {A : Type 0} (n : ℕ) (es : List (ℕ × ℕ)) (r : Option A) → (0 < length es → IsSome r) → r ≡ None → AreBelow n es
+below_none n [] r h e = tt
+below_none n (x ∷ es) r h e = let f : false ≡ true = rw e at h (omega arith) in cc
+
+pub kept_below : (n k : ℕ) (xs : List (Option ℕ)) (es : List (ℕ × ℕ)) → k + length xs ≤ n → AreBelow n es → AreBelow n (kept k xs es)
+kept_below n k [] es h a = a
+kept_below n k (None ∷ xs) es h a = kept_below n (k + 1) xs es (omega (arith, h)) a
+kept_below n k (Some x ∷ xs) es h a = (omega (arith, h), kept_below n (k + 1) xs es (omega (arith, h)) a)
 
 -- ---- behind the first slot
 

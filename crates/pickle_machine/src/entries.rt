@@ -31,12 +31,12 @@ impl Model for Entries {
 
 #[tactic(auto, using(crate::proofs::Slots::slot_rules))]
 impl Entries {
-    ghost use Rattle.std.specs.Prelude.{◌≡◌, ◌<◌, [], length, IfOk, IfSome, OnOk, OnErr, None, Some};
+    ghost use Rattle.std.specs.Prelude.{◌≡◌, ◌<◌, ◌^◌, [], length, true, IfOk, IfSome, OnOk, OnErr, None, Some};
     ghost use Rattle.std.specs.List.Sorted.{IsStrictlySortedBy};
     ghost use Rattle.std.specs.Map.{lookup, remove_entry, keys_of};
     ghost use Rattle.std.specs.Ordering.{nat_cmp};
     ghost use Rattle.std.specs.BTreeMap.{insert_entry, is_at};
-    ghost use Rattle.pickle_machine.specs.Kept.{kept};
+    ghost use Rattle.pickle_machine.specs.Kept.{kept, AreBelow};
 
     /// No entries.
     pub(crate) fn new(alloc: Global) -> Entries
@@ -72,6 +72,18 @@ impl Entries {
         ensures { kept 0 result.0.now result.1.now.entries ≡ self.now }
     {
         (self.slots.as_slice(), &self.rest)
+    }
+
+    /// Whether each key is below 2^64: it always is, which only `prove!` asks.
+    pub fn are_short(&self) -> bool
+        ensures always { result ≡ true }
+        ensures below { AreBelow (2 ^ 64) self.now }
+    {
+        let count = self.slots.len();
+        match self.rest.last_key_value() {
+            None => count <= usize::MAX,
+            Some((key, _)) => *key <= u64::MAX && count <= usize::MAX,
+        }
     }
 
     /// Maps a key to an object, and answers the one that it had. An error comes only where memory runs out, and never where it had one.

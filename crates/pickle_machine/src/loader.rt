@@ -11,7 +11,7 @@ use crate::machine::{Core, Machine};
 use crate::refusal::Refusal;
 use crate::stack::deep;
 use pickle_ops::{Class, Cutting, Demand, Filling, Kind, ObjId, Object, Op, Opcode, Row, Taking};
-use std::alloc::Global;
+use std::alloc::{AllocError, Global};
 
 /// What goes into an object that the machine would refuse: how, how many items, pairs or members, and into which.
 #[derive(Clone, Copy)]
@@ -395,8 +395,9 @@ fn first_loader_move(opcode: Opcode, row: Row) -> LoaderMove
 }
 
 impl Machine {
-    ghost use Rattle.std.specs.Prelude.{◌≡◌, ◌≢◌, ◌+◌, ◌<◌, ◌≤◌, ◌-◌, ◌^◌, length, OnOk, OnErr, IfErr, Ok, Some};
-    ghost use Rattle.pickle_machine.specs.Move.{fresh, refusal_of};
+    ghost use Rattle.std.specs.Prelude.{◌≡◌, ◌≢◌, ◌+◌, ◌<◌, ◌≤◌, ◌-◌, ◌^◌, true, length, slice_get, OnOk, OnErr, IfErr, Ok, Some};
+    ghost use Rattle.pickle_machine.specs.Kept.{AreBelow};
+    ghost use Rattle.pickle_machine.specs.Move.{fresh, refusal_of, put_on};
     ghost use Rattle.pickle_machine.specs.Loader.{loader_move, move_as, cleared};
 
     /// How a loader moves at this opcode, whose row this is.
@@ -424,6 +425,41 @@ impl Machine {
             return Err(refusal);
         }
         self.perform_as(alloc, row, op, place)?;
+        Ok(())
+    }
+
+    /// Whether the last move was STOP, where several pickles are run.
+    pub fn has_stopped(&self) -> bool
+        ensures { result ≡ self.now.state.stopped }
+    {
+        let core = &self.core;
+        core.stopped
+    }
+
+    /// The object on top of the section above the topmost mark.
+    pub fn top(&self) -> Option<ObjId>
+        ensures { result ≡ slice_get self.now.state.top (length self.now.state.top - 1) }
+    {
+        let core = &self.core;
+        core.stack.top().last().copied()
+    }
+
+    /// Whether each key of the memo is below 2^64: it always is, which only `prove!` asks.
+    pub fn has_short_keys(&self) -> bool
+        ensures always { result ≡ true }
+        ensures below { AreBelow (2 ^ 64) self.now.state.memo }
+    {
+        let core = &self.core;
+        core.memo.are_short()
+    }
+
+    /// Puts an object that is there on the stack, as GET does. An error comes only where memory runs out, and changes nothing.
+    pub fn put_on(&mut self, id: ObjId) -> Result<(), AllocError>
+        requires { id < length self.old.state.heap }
+        ensures ok { OnOk result (self.new.state ≡ put_on id self.old.state) }
+        ensures err { OnErr result (self.new.state ≡ self.old.state) }
+    {
+        self.core.repeat(id)?;
         Ok(())
     }
 

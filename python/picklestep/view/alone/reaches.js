@@ -58,7 +58,7 @@ class Reaches {
     let heading = null;
     for (let at = from; at < this.lines.length; at += 1) {
       const line = this.lines.raw(at);
-      heading = /^(a loader may go on|a loader that buffers frames may go on):$/.exec(line) || heading;
+      heading = /^(a loader(?: that buffers frames| that keeps its buffer)? may go on):$/.exec(line) || heading;
       const container = /^begins like an? (.*): picklestep scan looks into it$/.exec(line);
       if (container && !heading) this.behind.push(`begins like a container: ${container[1]} (picklestep scan looks into it)`);
       const counts = /^(\d+) imports, (\d+) calls$/.exec(line);

@@ -3,27 +3,38 @@ use Rattle.pickle_further.specs.declared.way.Pickles.TheVariants as pickles
 use Rattle.pickle_show.specs.Manner.{manner}
 use Rattle.pickle_further.proofs.Pieces.{no_text_yet}
 use Rattle.pickle_further.proofs.Tales.{err_is}
-use Rattle.pickle_further.proofs.Kept.{kept_cut, kept_broken, kept_done}
+use Rattle.pickle_further.proofs.Kept.{kept_cut, kept_broken, behind_cut, kept_done}
 use Rattle.pickle_further.proofs.texts.write_kept.Goals as goal
+
+pub returns-in_err-loss-clause-err : goal.returns-in_err-loss-clause-err
+returns-in_err-loss-clause-err g c =
+    err_is _ _ _ c.from_residual.ensures.1 (rw c.in_err-loss.ensures.err (no_text_yet (manner c.args.detail c.args.holes.now) pickles.OneMemo c.args.bytes.now _ (λ i. omega (arith, c.type_inv.bytes i))))
 
 pub returns-in_err-first-clause-err : goal.returns-in_err-first-clause-err
 returns-in_err-first-clause-err g c =
-    err_is _ _ _ c.from_residual.ensures.1 (rw c.in_err-first.ensures.err (no_text_yet (manner c.args.detail c.args.holes.now) pickles.OneMemo c.args.bytes.now _ (λ i. omega (arith, c.type_inv.bytes i))))
+    err_is _ _ _ c.from_residual-in_err-first.ensures.1 (rw c.in_err-first.ensures.err (no_text_yet (manner c.args.detail c.args.holes.now) pickles.OneMemo c.args.bytes.now _ (λ i. omega (arith, c.type_inv.bytes i))))
 
 pub returns-in_err-end-clause-err : goal.returns-in_err-end-clause-err
 returns-in_err-end-clause-err g c =
-    let first = rw c.start-machine.ensures at c.in_ok-first.ensures.ok in
+    let first = rw (c.new-machine.ensures, c.start.ensures) at c.in_ok-first.ensures.ok in
     let cut = rw c.begin.ensures at c.in_err-end.ensures.err in
     err_is _ _ _ c.from_residual-in_err-end.ensures.1 (kept_cut (manner c.args.detail c.args.holes.now) _ _ _ _ _ _ (first _) cut)
 
 pub returns-in_err-status-clause-err : goal.returns-in_err-status-clause-err
 returns-in_err-status-clause-err g c =
-    let first = rw c.start-machine.ensures at c.in_ok-first.ensures.ok in
+    let first = rw (c.new-machine.ensures, c.start.ensures) at c.in_ok-first.ensures.ok in
     let told = rw c.begin.ensures at c.in_ok-end.ensures.ok in
     err_is _ _ _ c.from_residual-in_err-status.ensures.1 (rw c.in_err-status.ensures.failed (kept_broken (manner c.args.detail c.args.holes.now) _ _ _ _ _ _ _ (first _) told c.in_err-status.ensures.text))
 
+pub returns-in_err-write_behind-clause-err : goal.returns-in_err-write_behind-clause-err
+returns-in_err-write_behind-clause-err g c =
+    let first = rw (c.new-machine.ensures, c.start.ensures) at c.in_ok-first.ensures.ok in
+    let told = rw c.begin.ensures at c.in_ok-end.ensures.ok in
+    err_is _ _ _ c.from_residual-in_err-write_behind.ensures.1
+    (behind_cut (manner c.args.detail c.args.holes.now) _ _ _ _ _ _ _ _ _ _ (first _) told c.in_ok-status.ensures.text c.in_ok-loss.ensures.ok c.in_err-write_behind.ensures)
+
 pub returns-clause-ok : goal.returns-clause-ok
 returns-clause-ok g c =
-    let first = rw c.start-machine.ensures at c.in_ok-first.ensures.ok in
+    let first = rw (c.new-machine.ensures, c.start.ensures) at c.in_ok-first.ensures.ok in
     let told = rw c.begin.ensures at c.in_ok-end.ensures.ok in
-    kept_done (manner c.args.detail c.args.holes.now) _ _ _ _ _ _ _ _ (first _) told c.in_ok-status.ensures.text c.in_ok-status.ensures.status
+    rw c.kept_status.ensures (kept_done (manner c.args.detail c.args.holes.now) _ _ _ _ _ _ _ _ _ _ (first _) told c.in_ok-status.ensures.text c.in_ok-status.ensures.status c.in_ok-loss.ensures.ok c.in_ok-write_behind.ensures)
