@@ -26,7 +26,8 @@ for end, wanted in zip(ends, (3, 4)):
     os.dup2(end, wanted)
     os.close(end)
 os.execv(sys.argv[3], sys.argv[3:])'''
-KEYS = {'ArrowRight': 39, 'ArrowLeft': 37, 'ArrowDown': 40, 'ArrowUp': 38, 'Home': 36, 'End': 35, 'PageUp': 33, 'PageDown': 34, 'Delete': 46, 'Enter': 13, ' ': 32, 'Tab': 9, 'Escape': 27}
+KEYS = {'ArrowRight': 39, 'ArrowLeft': 37, 'ArrowDown': 40, 'ArrowUp': 38, 'Home': 36, 'End': 35, 'PageUp': 33, 'PageDown': 34, 'Delete': 46,
+        'Enter': 13, ' ': 32, 'Tab': 9, 'Escape': 27}
 
 # A script whose value are the faults that some people could not use the page for.
 ACCESSIBILITY = (Path(__file__).parent / 'accessibility.js').read_text(encoding='utf-8')

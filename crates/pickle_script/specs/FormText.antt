@@ -13,9 +13,12 @@ use Rattle.pickle_form.specs.Form.{first_other}
 unfoldable pub place_text : ℕ → ℕ → List ℕ
 place_text place offset = codes "item " ⧺ decimal place ⧺ codes " at " ⧺ decimal offset ⧺ codes ": "
 
+unfoldable pub other_words : List ℕ
+other_words = codes "not in form: "
+
 -- the first place at which it is not, and why no pickler writes that
 unfoldable pub other_line : Other → List ℕ
-other_line o = codes "not in form: " ⧺ place_text o.place o.offset ⧺ sentence_of o.reason ⧺ newline
+other_line o = other_words ⧺ place_text o.place o.offset ⧺ sentence_of o.reason ⧺ newline
 
 abbrev pub form_text : Option Other → List ℕ
 form_text None = codes "in form\n"

@@ -4,7 +4,7 @@ ghost use Rattle.std.specs.Prelude.{◌≡◌, ◌≤◌, false, length, IfOk, I
 ghost use Rattle.pickle_io.specs.Device.{Writes};
 ghost use Rattle.pickle_doc.specs.Document.{size_limit};
 ghost use Rattle.pickle_show.specs.Output.{Completes, Cuts};
-ghost use Rattle.pickle_script.specs.FormText.{place_text, other_line, form_text, form_status, form_output};
+ghost use Rattle.pickle_script.specs.FormText.{place_text, other_words, other_line, form_text, form_status, form_output};
 
 use pickle_form::{Other, first_other};
 use pickle_ops::{Failed, Page, write_all, write_decimal};
@@ -23,12 +23,20 @@ fn write_place<S: Page>(place: usize, offset: u64, sink: &mut S) -> Result<(), F
     write_all(sink, b": ")
 }
 
+/// Words of a line.
+#[tactic(auto, unfolding(crate::specs::FormText::other_words))]
+fn other_words() -> &'static str
+    ensures { result.now ≡ other_words }
+{
+    "not in form: "
+}
+
 /// Writes the line of the first place.
 #[tactic(auto, using(pickle_io::proofs::Devices::text_steps), unfolding(crate::specs::FormText::other_line))]
 fn write_other<S: Page>(other: Other, sink: &mut S) -> Result<(), Failed>
     ensures { Writes (S.told sink.old) (S.told sink.new) result (other_line other) }
 {
-    write_all(sink, b"not in form: ")?;
+    write_all(sink, other_words().as_bytes())?;
     write_place(other.place, other.offset, sink)?;
     write_all(sink, other.reason.sentence().as_bytes())?;
     write_all(sink, b"\n")

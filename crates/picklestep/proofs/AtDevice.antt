@@ -1,6 +1,6 @@
 -- From what a page took to what its device did.
 use Rattle.std.proofs.Common.{◌≡◌, ◌≢◌, ◌⊎◌, inl, inr, ℕ, ◌+◌, ◌<◌, ◌≤◌, Bool, List, [], ◌∷◌, ◌++◌, length, Option, None, Some, Result, Ok, Err, refl, sym, ap, subst, ◌∙◌, append_assoc, append-nil, arith}
-use Rattle.std.specs.Prelude.{IsErr}
+use Rattle.std.specs.Prelude.{IsErr, IsErrAnd, IfErr}
 use Rattle.std.specs.List.{concat}
 use Rattle.pickle_io.specs.Device.{Told, holding, AppendsPrefix, Wrote, Broke, WroteAllBut}
 use Rattle.pickle_io.specs.Whole.{IsWhole}
@@ -43,7 +43,7 @@ said_text told text.Objects many bytes old new (Err stop.Write) few p = let w = 
 said_text told (text.Calls pickles detail) many bytes old new (Err stop.Write) few p = inl p.stopped
 said_text told text.Listing many bytes old new (Err stop.Memory) few p = let w = p.stopped in inl (listing w.0, (w.0, w.1, refl), w.2)
 said_text told text.Form many bytes old new (Err stop.Memory) few p = let w = p.stopped in inl (form_output w.0, (w.0, w.1, refl), w.2)
-said_text told text.Objects many bytes old new (Err stop.Memory) few p = inr (tt, wrote_nothing (told old) (told new) p.stopped)
+said_text told text.Objects many bytes old new (Err stop.Memory) few p = inr (refl, wrote_nothing (told old) (told new) p.stopped)
 said_text told (text.Calls pickles detail) many bytes old new (Err stop.Memory) few p = inl p.stopped
 said_text told text.Listing many bytes old new (Err stop.Read) few p = absurd p.stopped
 said_text told text.Form many bytes old new (Err stop.Read) few p = absurd p.stopped
@@ -90,7 +90,7 @@ text_on Is a b c r n (inr w) f = inr (w.0, took_on nothing a b c r n w.1 f)
 
 text_broken : (Is : Output → Type 0) (a b c : Told) (r : Result ℕ Stop) → r ≢ Err stop.Write → TookText Is a b r → Broke b c [] → TookText Is a c (Err stop.Write)
 text_broken Is a b c r n (inl w) f = inl (w.0, w.1, took_broken w.0 a b c r n w.2 f)
-text_broken Is a b c r n (inr w) f = inr (tt, took_broken nothing a b c r n w.1 f)
+text_broken Is a b c r n (inr w) f = inr (refl, took_broken nothing a b c r n w.1 f)
 
 -- what `write_out` makes of an answer
 record HandsOn (old new : Told) (answer result : Result ℕ Stop) : Type 0 where
@@ -99,12 +99,15 @@ record HandsOn (old new : Told) (answer result : Result ℕ Stop) : Type 0 where
   pub untouched : answer ≡ Err stop.Write → new ≡ old
   pub failed : result ≡ Err stop.Write → answer ≢ Err stop.Write → Broke old new []
 
+abbrev err : Stop → Result ℕ Stop
+err e = Err e
+
 text_failed : (Is : Output → Type 0) (a b c : Told) (answer : Result ℕ Stop) → TookText Is a b answer → HandsOn b c answer (Err stop.Write) → TookText Is a c (Err stop.Write)
 text_failed Is a b c (Err stop.Write) w h = let e : c ≡ b = h.untouched refl in rw e w
 text_failed Is a b c (Ok status) w h = let n : Ok status ≢ Err stop.Write = λ e. absurd cc in text_broken Is a b c (Ok status) n w (h.failed refl n)
-text_failed Is a b c (Err stop.Memory) w h = let n : Err stop.Memory ≢ Err stop.Write = λ e. absurd cc in text_broken Is a b c (Err stop.Memory) n w (h.failed refl n)
-text_failed Is a b c (Err stop.Read) w h = let n : Err stop.Read ≢ Err stop.Write = λ e. absurd cc in text_broken Is a b c (Err stop.Read) n w (h.failed refl n)
-text_failed Is a b c (Err stop.TooLarge) w h = let n : Err stop.TooLarge ≢ Err stop.Write = λ e. absurd cc in text_broken Is a b c (Err stop.TooLarge) n w (h.failed refl n)
+text_failed Is a b c (Err stop.Memory) w h = let n : err stop.Memory ≢ err stop.Write = λ e. absurd cc in text_broken Is a b c (Err stop.Memory) n w (h.failed refl n)
+text_failed Is a b c (Err stop.Read) w h = let n : err stop.Read ≢ err stop.Write = λ e. absurd cc in text_broken Is a b c (Err stop.Read) n w (h.failed refl n)
+text_failed Is a b c (Err stop.TooLarge) w h = let n : err stop.TooLarge ≢ err stop.Write = λ e. absurd cc in text_broken Is a b c (Err stop.TooLarge) n w (h.failed refl n)
 
 text_passed : (Is : Output → Type 0) (a b c : Told) (answer result : Result ℕ Stop) → result ≢ Err stop.Write → TookText Is a b answer → HandsOn b c answer result → TookText Is a c result
 text_passed Is a b c answer result n w h = text_on Is a b c result n (rw (h.passed n) w) (h.calm n)
@@ -218,14 +221,16 @@ pub cuts_below : (s after : SessionState) (a b : Option (List ℕ)) (d e : Told)
     → (r ≢ Err stop.Write → (holding e held).held ≡ 0)
     → (r ≡ Err stop.Read → StopsReading s after a b (holding d first) (holding e held))
     → (r ≡ Err stop.Write → StopsWriting s after a b (holding d first) (holding e held))
-    → (r ≡ Err stop.Memory → (after ≡ s) × (b ≡ a) × (holding e held ≡ holding d first))
+    → (r ≡ Err stop.Memory → (after ≡ s) × (b ≡ a) × (e ≡ d))
     → r ≢ Err stop.TooLarge → Cuts s after a b d e x
 cuts_below s after a b d e first held stop.Read r is none all reading writing memory no_other =
-    let n : r ≢ Err stop.Write = λ w. let c : Err stop.Read ≡ Err stop.Write = sym is ∙ w in absurd cc in
+    let n : r ≢ Err stop.Write = λ w. let c : err stop.Read ≡ err stop.Write = sym is ∙ w in absurd cc in
     same_below (StopsReading s after a b) d e first held none (all n) (reading is)
 cuts_below s after a b d e first held stop.Write r is none all reading writing memory no_other = stops_below s after a b d e first held none (writing is)
 cuts_below s after a b d e first held stop.TooLarge r is none all reading writing memory no_other = absurd (no_other is)
-cuts_below s after a b d e first held stop.Memory r is none all reading writing memory no_other =
-    let n : r ≢ Err stop.Write = λ w. let c : Err stop.Memory ≡ Err stop.Write = sym is ∙ w in absurd cc in
-    let m = memory is in
-    (m.0, m.1, sym (nothing-held e held (all n)) ∙ m.2 ∙ nothing-held d first none)
+cuts_below s after a b d e first held stop.Memory r is none all reading writing memory no_other = memory is
+
+-- the error of a `?` is passed on as it is
+pub unsaved_so : {A : Type 0} (P : Stop → Type 0) (x : Stop) (r : Result A Stop) → IsErrAnd r (λ y. y ≡ x) → P x → IfErr r P
+unsaved_so P x (Ok y) h w = absurd h
+unsaved_so P x (Err y) h w = subst P (sym h) w

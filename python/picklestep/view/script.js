@@ -218,8 +218,8 @@ function turn(name, count) {
 
 function wire() {
   const clicks = {
-    home: KEYS.Home, back: KEYS.ArrowLeft, step: KEYS.ArrowRight, run: KEYS[' '], end: KEYS.End, there: LIST_KEYS.Enter, previous: KEYS.p, next: KEYS.n, undo: KEYS.u,
-    redo: KEYS.r, edit: KEYS.e, save: KEYS.s, help: KEYS['?'], 'read-on': () => command('again', { many: true }),
+    home: KEYS.Home, back: KEYS.ArrowLeft, step: KEYS.ArrowRight, run: KEYS[' '], end: KEYS.End, there: LIST_KEYS.Enter, previous: KEYS.p, next: KEYS.n,
+    undo: KEYS.u, redo: KEYS.r, edit: KEYS.e, save: KEYS.s, help: KEYS['?'], 'read-on': () => command('again', { many: true }),
     'objects-back': () => turn('objects', -PAGE), 'objects-on': () => turn('objects', PAGE),
     'reaches-back': () => turn('reaches', -PAGE), 'reaches-on': () => turn('reaches', PAGE),
   };

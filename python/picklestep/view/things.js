@@ -183,7 +183,8 @@ async function showEffect(into, key) {
   const answer = await ask('effect');
   if (by('opcode').dataset.key !== key) return;
   if (answer.refused) into.textContent = `here: refused, ${answer.refused}`;
-  else if (answer.before) into.replaceChildren(element('span', 'key', 'here: '), shownTop(answer.before), element('span', 'key', ' → '), shownTop(answer.after));
+  else if (answer.before)
+    into.replaceChildren(element('span', 'key', 'here: '), shownTop(answer.before), element('span', 'key', ' → '), shownTop(answer.after));
   else into.remove();
 }
 
