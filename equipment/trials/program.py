@@ -239,10 +239,12 @@ WHAT_EACH_DOES = (
     ("objects", "Prints the objects that the opcodes of FILE make, and which of them is the result"),
     ("calls", "Prints what the pickles of FILE would import and call, a line for each opcode that does so"),
     ("debug", "Runs the commands of standard input on FILE: steps forwards and back, shows, edits"),
+    ("form", "Says whether FILE is a pickle in the form that picklers write, else where it is not and why"),
 )
 OPTIONS = {
     "list": (("    --many", MANY_HELP),),
     "objects": (("    --many", MANY_HELP),),
+    "form": (("    --many", "changes nothing: FILE is to be one pickle"),),
     "calls": (
         ("    --many", "changes nothing: all pickles of FILE are read without it too"),
         ("    --first", "read the first pickle alone, up to its STOP"),
