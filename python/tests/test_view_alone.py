@@ -644,7 +644,7 @@ class Alone(Driven):
         self.give(self.file('large.pickle', large))
         self.browser.key('Delete')
         self.said('edited 0')
-        self.limit_memory(310)
+        self.limit_memory(360)
         self.give(self.file('large.pickle', large))
         for key, said in (('End', 'refused: M out of memory'), ('Delete', 'not done: out of memory'), ('ArrowRight', 'at 1')):
             self.browser.key(key)
