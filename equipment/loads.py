@@ -10,6 +10,7 @@ from __future__ import annotations
 
 import functools
 import json
+import math
 import pathlib
 import re
 import struct
@@ -57,6 +58,10 @@ class Reader:
 
     def copy(self) -> "Reader":
         return Reader(dict(self.brought), dict(self.extensions))
+
+    def up_to(self, end: float) -> "Reader":
+        """What was brought by objects of lower numbers than this."""
+        return Reader({number: told for number, told in self.brought.items() if number < end}, dict(self.extensions))
 
     def acts(self, reaches: Iterable[Reach]) -> list[Told]:
         told: list[Told] = []
@@ -184,14 +189,17 @@ def untold(text: str, acts: Sequence[Sequence[Any]]) -> str:
     if match.go_on([*strict, *behind]):
         return ""
     pairs = match.pairs
-    if any(heading in parts and _is_buffered(parts[heading], before, reader, match, pairs) for heading in (BUFFERED, HELD)):
+    # (Behind a loss the numbers of a part are its own.)
+    lost = [reach.number for reach in answer if reach.number is not None and answer.end.offset is not None and reach.offset >= answer.end.offset]
+    readers = (reader, before, before.up_to(min(lost, default=math.inf)))
+    if any(heading in parts and _is_buffered(parts[heading], readers, match, pairs) for heading in (BUFFERED, HELD)):
         return ""
     return f"{acts[len(pairs)]} is not told"
 
 
-def _is_buffered(part: Iterable[Reach], before: Reader, after: Reader, match: Match, pairs: Sequence[Told]) -> bool:
+def _is_buffered(part: Iterable[Reach], readers: Iterable[Reader], match: Match, pairs: Sequence[Told]) -> bool:
     """Whether acts go on in a part for loaders that buffer frames: from some act on of those that are told before it."""
-    for reader in (after, before):
+    for reader in readers:
         behind = reader.copy().acts(part)
         for count in range(len(pairs), -1, -1):
             match.pairs = list(pairs[:count])
