@@ -3,8 +3,12 @@
 import { readFileSync } from 'node:fs';
 import { setFlagsFromString } from 'node:v8';
 
+function set(flag) {
+    try { setFlagsFromString(flag); } catch { /* another Node has no such flag */ }
+}
+
 // Node 20 breaks in the fast calls of its WASI after a longer run.
-try { setFlagsFromString('--no-turbo-fast-api-calls'); } catch { /* another Node has no such flag */ }
+set('--no-turbo-fast-api-calls');
 // A limit of memory in bytes, for the module alone.
 const most = Number(process.env.PICKLESTEP_MEMORY);
 if (most > 0) setFlagsFromString(`--wasm-max-mem-pages=${Math.floor(most / 65536)}`);
@@ -18,6 +22,22 @@ function plain(path, drive) {
         throw new Error(`${path} is not on the drive of the current folder (${drive}), and no other is read`);
     }
     return hasDrive ? shown.slice(2) : shown;
+}
+
+// V8 first runs each function as its quick compiler makes it, and a loop that has begun so stays so, to the end of a large pickle. So what
+// is called first when that many bytes were read is made by the better compiler at once.
+const LARGE = 1 << 22;
+
+function reader(read, memory) {
+    let total = 0;
+    return (file, parts, count, moved) => {
+        const status = read(file, parts, count, moved);
+        if (status === 0 && total < LARGE) {
+            total += new DataView(memory().buffer).getUint32(moved >>> 0, true);
+            if (total >= LARGE) set('--no-liftoff');
+        }
+        return status;
+    };
 }
 
 async function run(words) {
@@ -35,7 +55,9 @@ async function run(words) {
         returnOnExit: true,
     });
     const module = new WebAssembly.Module(readFileSync(new URL('picklestep.wasm', import.meta.url)));
-    return wasi.start(new WebAssembly.Instance(module, wasi.getImportObject()));
+    const { wasi_snapshot_preview1: calls } = wasi.getImportObject();
+    const instance = new WebAssembly.Instance(module, { wasi_snapshot_preview1: { ...calls, fd_read: reader(calls.fd_read, () => instance.exports.memory) } });
+    return wasi.start(instance);
 }
 
 try {

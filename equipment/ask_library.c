@@ -1,7 +1,7 @@
-// Asks the library. Each line of standard input has a task (list, list --many, objects, objects --many, calls, calls --first,
-// calls --memo kept, debug, debug --many; or of what the script leaves: edited list, edited list --many and the like), a limit of memory in
-// bytes (0: none), the file that is asked about, the file that the text is put in, and the file of the script of a conversation, with tabs
-// between them. For each, a line of standard output has the answer and the status. Status 1 where a file cannot be read or written.
+// Asks the library. Each line of standard input has a task, which is words of the program (list --many, calls --skip 3:2, debug; or of what the
+// script leaves: edited list and the like), a limit of memory in bytes (0: none), the file that is asked about, the file that the text is put
+// in, and the file of the script of a conversation, with tabs between them. For each, a line of standard output has the answer and the status.
+// Status 1 where a file cannot be read or written.
 #include <picklestep.h>
 #include <stdio.h>
 #include <stdlib.h>
@@ -57,14 +57,66 @@ static const struct {
     {"edited calls --memo kept", false, picklestep_edited_calls_one_memo},
 };
 
-static uint8_t ask_of_script(const char *task, memory given, memory out, picklestep_written *written) {
-    for (size_t i = 0; i < sizeof OF_SCRIPT / sizeof *OF_SCRIPT; i++)
-        if (!strcmp(task, OF_SCRIPT[i].task))
-            return OF_SCRIPT[i].function(OF_SCRIPT[i].many, given.bytes, given.size, script.bytes, script.size, out.bytes, out.size, written);
+// The words of a task that are options.
+typedef struct {
+    uint32_t options;
+    picklestep_hole holes[8];
+    size_t count;
+} options;
+
+static const struct {
+    const char *word;
+    uint32_t option;
+} OPTIONS[] = {
+    {"--many", PICKLESTEP_MANY},      {"--unframed", PICKLESTEP_UNFRAMED}, {"--first", PICKLESTEP_FIRST},
+    {"--memo", PICKLESTEP_MEMO_KEPT}, {"--full", PICKLESTEP_FULL},
+};
+
+static bool begins(const char *text, const char *front) { return !strncmp(text, front, strlen(front)); }
+
+static options options_of(const char *task) {
+    options o = {0};
+    for (const char *word = strstr(task, " --"); word; word = strstr(word + 1, " --")) {
+        for (size_t i = 0; i < sizeof OPTIONS / sizeof *OPTIONS; i++)
+            if (begins(word + 1, OPTIONS[i].word))
+                o.options |= OPTIONS[i].option;
+        char *rest;
+        if (begins(word, " --skip ") && o.count < sizeof o.holes / sizeof *o.holes) {
+            o.holes[o.count].offset = strtoull(word + strlen(" --skip "), &rest, 10);
+            o.holes[o.count++].size = strtoull(rest + 1, NULL, 10);
+        }
+    }
+    return o;
+}
+
+static uint8_t ask_with(const char *task, memory given, memory out, picklestep_written *written) {
+    const options o = options_of(task);
+    if (begins(task, "list"))
+        return picklestep_list_with(o.options, given.bytes, given.size, out.bytes, out.size, written);
+    if (begins(task, "objects"))
+        return picklestep_objects_with(o.options, given.bytes, given.size, out.bytes, out.size, written);
+    if (begins(task, "calls"))
+        return picklestep_calls_with(o.options, o.holes, o.count, given.bytes, given.size, out.bytes, out.size, written);
+    if (begins(task, "debug"))
+        return picklestep_debug_with(o.options, given.bytes, given.size, script.bytes, script.size, out.bytes, out.size, written);
+    if (begins(task, "edited list"))
+        return picklestep_edited_list_with(o.options, given.bytes, given.size, script.bytes, script.size, out.bytes, out.size, written);
+    if (begins(task, "edited objects"))
+        return picklestep_edited_objects_with(o.options, given.bytes, given.size, script.bytes, script.size, out.bytes, out.size, written);
+    if (begins(task, "edited calls"))
+        return picklestep_edited_calls_with(o.options, given.bytes, given.size, script.bytes, script.size, out.bytes, out.size, written);
     fputs("there is no such task\n", stderr);
     exit(1);
 }
 
+static uint8_t ask_of_script(const char *task, memory given, memory out, picklestep_written *written) {
+    for (size_t i = 0; i < sizeof OF_SCRIPT / sizeof *OF_SCRIPT; i++)
+        if (!strcmp(task, OF_SCRIPT[i].task))
+            return OF_SCRIPT[i].function(OF_SCRIPT[i].many, given.bytes, given.size, script.bytes, script.size, out.bytes, out.size, written);
+    return ask_with(task, given, out, written);
+}
+
+// A task is asked of the function without options where there is one.
 static uint8_t ask(const char *task, memory given, memory out, picklestep_written *written) {
     if (!strcmp(task, "list"))
         return picklestep_list(false, given.bytes, given.size, out.bytes, out.size, written);
@@ -80,6 +132,8 @@ static uint8_t ask(const char *task, memory given, memory out, picklestep_writte
         return picklestep_calls_first(given.bytes, given.size, out.bytes, out.size, written);
     if (!strcmp(task, "calls --memo kept"))
         return picklestep_calls_one_memo(given.bytes, given.size, out.bytes, out.size, written);
+    if (!strcmp(task, "form"))
+        return picklestep_form(given.bytes, given.size, out.bytes, out.size, written);
     return ask_of_script(task, given, out, written);
 }
 

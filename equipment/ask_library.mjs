@@ -9,6 +9,7 @@ const TASKS = {
     'calls': ['picklestep_calls'],
     'calls --first': ['picklestep_calls_first'],
     'calls --memo kept': ['picklestep_calls_one_memo'],
+    'form': ['picklestep_form'],
     'debug': ['picklestep_debug', 0],
     'debug --many': ['picklestep_debug', 1],
     'edited list': ['picklestep_edited_list', 0],
@@ -19,12 +20,26 @@ const TASKS = {
     'edited calls --first': ['picklestep_edited_calls_first', 0],
     'edited calls --memo kept': ['picklestep_edited_calls_one_memo', 0],
 };
+// What has options is asked of a function that takes them.
+const OPTIONS = { '--many': 1, '--unframed': 2, '--first': 4, '--memo': 8, '--full': 16 };
 const module = new WebAssembly.Module(readFileSync(process.argv[2]));
 if (WebAssembly.Module.imports(module).length) throw new Error('it has imports');
 
+// The function for a task, and what comes before its other arguments: holes are put into its memory.
+function asked(task, library) {
+    if (TASKS[task]) return TASKS[task];
+    const words = task.split(' '), options = words.map((word) => OPTIONS[word] ?? 0).reduce((sum, one) => sum | one);
+    const name = `picklestep_${words.slice(0, words[0] === 'edited' ? 2 : 1).join('_')}_with`;
+    if (words[0] !== 'calls') return [name, options];
+    const holes = words.filter((_, at) => words[at - 1] === '--skip').flatMap((hole) => hole.split(':').map(BigInt));
+    const place = library.take(BigInt(8 * holes.length + 1));
+    if (place) new BigUint64Array(library.memory.buffer, Number(place), holes.length).set(holes);
+    return [name, options, place, BigInt(holes.length / 2)];
+}
+
 function ask(task, content, script) {
-    const [name, ...first] = TASKS[task];
     const library = new WebAssembly.Instance(module, {}).exports;
+    const [name, ...first] = asked(task, library);
     const given = library.take(BigInt(content.length + 1)), written = library.take(16n), lines = library.take(BigInt(script.length + 1));
     if (!given || !written || !lines) return { answer: 1, status: 0, text: new Uint8Array() };
     new Uint8Array(library.memory.buffer).set(content, Number(given));

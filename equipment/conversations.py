@@ -1,7 +1,7 @@
 """Runs the conversations that a page shows, and says of each what is wrong.
 
 A conversation on the page is a block of lines, indented or not, that begins with `pickle` and the bytes of a pickle in
-hexadecimal. After `pickles` they are of several pickles, and every command has the option --many. Then comes a line of the
+hexadecimal. After `pickles` they are of several pickles, and every command has the option --many; after `unframed` it has --unframed. Then comes a line of the
 script after `debug> `, then the lines that answer it, and so on. `$ list`, `$ objects`, `$ calls` (with options: `$ calls --first`) or `$ form` comes
 before what that command writes. A last line `saved` has the bytes that the pickle is saved as. The block ends at an empty line, or at the end of the page.
 
@@ -23,8 +23,8 @@ from trials.trial import Trial
 Done = subprocess.CompletedProcess[bytes]
 WINDOWS: list[list[str]] = [[], ["--window", "1"], ["--window", "2"]]
 # the first line of a block; its first word, and the options that it gives to every command
-START = re.compile(r" *(pickles?)((?: [0-9a-f]+)*)")
-OPTIONS: dict[str, list[str]] = {"pickle": [], "pickles": ["--many"]}
+START = re.compile(r" *(pickles?|unframed)((?: [0-9a-f]+)*)")
+OPTIONS: dict[str, list[str]] = {"pickle": [], "pickles": ["--many"], "unframed": ["--unframed"]}
 # the lines with which a command has status 1
 REFUSED = ("refused: ", "fault: ")
 REFUSALS: dict[str, tuple[str, ...]] = {"list": REFUSED, "objects": REFUSED, "calls": (*REFUSED, "kept: ", "unsure: "), "form": ("not in form: ",)}

@@ -19,11 +19,9 @@ from recorded import CODES, TAKING, Plan
 ROOT = pathlib.Path(__file__).resolve().parent.parent
 LOADER = "Rattle.pickle_loader.specs"
 TABLE = "Rattle.pickle_ops.specs.Table"
-SHAPE = "Rattle.pickle_ops.specs.Shape"
 TYPES = {"str": "PyStr", "tuple": "PyTuple", "dict": "PyDict", "buffer": "PyOther", "array": "PyOther", "thing": "PyOther"}
 ASKING = ("Find", "Persist", "NextBuffer", "Extension")
 CALLING = ("Call", "New", "NewEx", "Instance")
-# (what int() takes; before 3.11 some versions take any number)
 RAISES = Made("Environment.Raises")
 ANSWERS = Made("Environment.Answers", (Made("Environment.PyOther"),))
 
@@ -122,16 +120,12 @@ class World:
 
 @dataclass
 class Run:
-    """What the definition does with some bytes: all acts, and for each STOP the value and the unpickler.
-
-    `is_cut` says that it ends at a key of GET or PUT that CPython's unpickler takes and the definition leaves out.
-    """
+    """What the definition does with some bytes: all acts, and for each STOP the value and the unpickler."""
 
     world: World
     acts: Sequence[Made] = ()
     stops: list[tuple[Made, dict[str, Value]]] = field(default_factory=list)
     opcodes: int = 0
-    is_cut: bool = False
 
 
 class Definition:
@@ -143,54 +137,49 @@ class Definition:
         self.program = antt.Program(crates, {"ALL": tuple(Made(f"Opcode.{name}") for name in names)})
         self.load_bytes = self.program.value(f"{LOADER}.Bytes", "load_bytes")
         self.load_next = self.program.value(f"{LOADER}.Bytes", "load_next")
+        self.load_framed = self.program.value(f"{LOADER}.ByFrames", "load_framed")
+        self.load_frames = self.program.value(f"{LOADER}.ByFrames", "load_frames")
         self.load_way = self.program.value(f"{LOADER}.Onward", "load_way")
         self.load_on = self.program.value(f"{LOADER}.Onward", "load_on")
         self.c_load_way = self.program.value(f"{LOADER}.CLoad", "c_load_way")
         self.c_load_on = self.program.value(f"{LOADER}.CLoad", "c_load_on")
         self.seen_onward = self.program.value(f"{LOADER}.CLoad", "seen_onward")
         self.acts_of = self.program.value(f"{LOADER}.Dispatch", "acts_of")
-        self.fetch = self.program.value(f"{LOADER}.Reader", "fetch")
-        self.form_of = self.program.value(TABLE, "form_of")
-        self.value_fault = self.program.value(SHAPE, "value_fault")
 
     def python(self, data: bytes, plan: Plan, encoding: str) -> Run:
-        """What the unpickler in Python does with all pickles of some bytes, up to a key that is not spelled as pickletools says."""
+        """What the unpickler in Python does with all pickles of some bytes."""
         world = World(plan, encoding == "bytes")
         record = world.record(is_python=True)
         begin = self.load_bytes(record, True, tuple(data), 0)
-        return self._run(Run(world), begin, lambda x: self.load_next(record, True, x), self._is_odd_key)
+        return self._run(Run(world), begin, lambda x: self.load_next(record, True, x))
+
+    def by_frames(self, data: bytes, plan: Plan, encoding: str, pickles: str) -> Run:
+        """The same of one load, of a loop of loads, or of one unpickler that loads again."""
+        world, which = World(plan, encoding == "bytes"), Made(f"Pickles.{pickles}")
+        record = world.record(is_python=True)
+        begin = self.load_framed(record, which, tuple(data), 0)
+        return self._run(Run(world), begin, lambda x: self.load_frames(record, which, x))
 
     def way(self, data: bytes, plan: Plan, encoding: str, pickles: str, frames: str) -> Run:
         """What the unpickler in Python does where it reads in this way, behind an end of the lines too."""
         world = World(plan, encoding == "bytes")
         record, way = world.record(is_python=True), _way(pickles, frames)
         begin = self.load_way(record, way, tuple(data), 0)
-        return self._run(Run(world), begin, lambda x: self.load_on(record, way, x), lambda x: False)
+        return self._run(Run(world), begin, lambda x: self.load_on(record, way, x))
 
     def in_c(self, data: bytes, plan: Plan, encoding: str, pickles: str, frames: str) -> Run:
         """What the unpickler in C does where it reads in this way."""
         world = World(plan, encoding == "bytes")
         record, way = world.record(is_python=False), _way(pickles, frames)
         begin = self.c_load_way(record, way, tuple(data), 0)
-        return self._run(Run(world), begin, lambda x: self.c_load_on(record, way, x), lambda x: False, self.seen_onward)
+        return self._run(Run(world), begin, lambda x: self.c_load_on(record, way, x), self.seen_onward)
 
-    def _is_odd_key(self, loading: Value) -> bool:
-        fetched = self.fetch(loading["reader"])
-        if short(fetched) == "NoFetch":
-            return False
-        op = fetched.parts[0]
-        form = self.form_of(op["opcode"])
-        return short(form) == "Decimal" and short(self.value_fault(form, op["arg"])) != "None"
-
-    def _run(self, run: Run, begin: Value, step: Value, is_cut: Callable[[Value], bool], held: Callable[[Value], Value] = lambda x: x) -> Run:
+    def _run(self, run: Run, begin: Value, step: Value, held: Callable[[Value], Value] = lambda x: x) -> Run:
         """Goes opcode by opcode, as the definition does it, until it ends. `held` is what the unpickler in Python would hold."""
         now, after = None, begin
         loaded = held(after)["now"]
         while after is not now and short(loaded) != "Failed":
             now = after
-            run.is_cut = is_cut(now)
-            if run.is_cut:
-                break
             after = step(now)
             loaded = held(after)["now"]
             if after is not now and short(loaded) != "Failed":

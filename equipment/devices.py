@@ -8,45 +8,42 @@ import pathlib
 import subprocess
 from collections.abc import Callable
 
+import conversations
 from trials.trial import Trial
 
-# The bytes, and the lines that are given; what they are answered is in the pages of the program (README, docs/USING.md).
-BREAKPOINTS = (
-    bytes.fromhex("80049506000000000000005d944b01612e"),
-    "break 4\nrun\nrun\nrun\ngoto 0\nclear 4\nrun\n",
-    "break 4\nat 4: breakpoint\nat 7: end, stopped\nrefused: C2 at the end, stopped\nat 0\nclear 4\nat 7: end, stopped\n",
-    1,
-)
-BY_MEMO = (
-    bytes.fromhex("5d71002868006800652e"),
-    "goto 6\nshow 0\nback\nobjects\nstack\n",
-    "at 6\n0 #0 list +#0 +#0\n1 #0\n1 #0\nat 5\n#0 list\nstack #0 (2 #0 #0\n",
-    0,
-)
-LISTING = (
-    "    0: ]    EMPTY_LIST\n    1: q    BINPUT     0\n    3: (    MARK\n    4: h        BINGET     0\n    6: h        BINGET     0\n"
-    "    8: e        APPENDS    (MARK at 3)\n    9: .    STOP\nhighest protocol among opcodes = 1\n"
-)
-OBJECTS = "#0 list +#0 +#0\nresult #0\n"
+HERE = pathlib.Path(__file__).parent
+BLOCKS = [block for page in ("conversations.txt", "texts.txt") for block in conversations.blocks_of((HERE / page).read_text("utf-8"))]
+
+
+def answered(pickled: bytes, script: str) -> tuple[bytes, str, str, int]:
+    """The bytes, the lines that are given, and what the pages say that they are answered, with the status."""
+    block = next(block for block in BLOCKS if block.pickle == pickled and block.script == script.splitlines())
+    told = "".join(answer + "\n" for answer in block.answers)
+    return pickled, script, told, int(any(answer.startswith("refused: ") for answer in block.answers))
+
+
+def written(pickled: bytes, task: str) -> str:
+    """What the pages say that a task writes of bytes."""
+    block = next(block for block in BLOCKS if block.pickle == pickled and task in block.written)
+    return "".join(line + "\n" for line in block.written[task])
+
+
+BREAKPOINTS = answered(bytes.fromhex("80049506000000000000005d944b01612e"), "break 4\nrun\nrun\nrun\ngoto 0\nclear 4\nrun\n")
+BY_MEMO = answered(bytes.fromhex("5d71002868006800652e"), "goto 6\nshow 0\nback\nobjects\nstack\n")
+LISTING = written(BY_MEMO[0], "list")
+OBJECTS = written(BY_MEMO[0], "objects")
 CALLS = "0 imports, 0 calls\n"
 FORM = "not in form: item 2 at 2: STOP where the stack has not one object\n"
 # Two pickles in one input, of which the first leaves a mark.
-SEVERAL = (
-    bytes.fromhex("284e2e4e2e"),
-    "goto 3\nstack\nstep\nstack\nback\nstack\n",
-    "at 3\nstack (0\nat 4\nstack #1\nat 3\nstack (0\n",
-    0,
-)
-SEVERAL_LISTING = (
-    "    0: (    MARK\n    1: N        NONE\n    2: .        STOP\nleft: 0 objects, 1 marks\n    3: N    NONE\n    4: .    STOP\n"
-    "highest protocol among opcodes = 0\n"
-)
-SEVERAL_OBJECTS = "#0 none\n#1 none\nresult #0\nresult #1\n"
+SEVERAL = answered(bytes.fromhex("284e2e4e2e"), "goto 3\nstack\nstep\nstack\nback\nstack\n")
+SEVERAL_LISTING = written(SEVERAL[0], "list")
+SEVERAL_OBJECTS = written(SEVERAL[0], "objects")
 # Scripts, with their names and the options of the program; and tasks with their options, the bytes, and what is written of them.
 SCRIPTS: tuple[tuple[str, list[str], tuple[bytes, str, str, int]], ...] = (
     ("breakpoints", [], BREAKPOINTS),
     ("a list appended to itself by memo", [], BY_MEMO),
     ("several pickles", ["--many"], SEVERAL),
+    ("breakpoints, unframed", ["--unframed"], BREAKPOINTS),
 )
 TASKS = (
     (["list"], BY_MEMO[0], LISTING),
@@ -56,6 +53,8 @@ TASKS = (
     (["list", "--many"], SEVERAL[0], SEVERAL_LISTING),
     (["objects", "--many"], SEVERAL[0], SEVERAL_OBJECTS),
     (["calls", "--many"], SEVERAL[0], CALLS),
+    (["list", "--unframed"], BY_MEMO[0], LISTING),
+    (["objects", "--unframed"], BY_MEMO[0], OBJECTS),
 )
 Done = subprocess.CompletedProcess[bytes]
 Ran = tuple[Done, int, int, int]

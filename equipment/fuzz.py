@@ -1,12 +1,13 @@
 #!/usr/bin/python3
 """Makes random pickles and scripts, and asks the program for laws that need no reference.
 
-    fuzz.py PROGRAM FOLDER [--seed S] [--first K] [--cases N] [--seconds T] [--pickles FOLDER]
+    fuzz.py PROGRAM FOLDER [--seed S] [--first K] [--cases N] [--seconds T] [--pickles FOLDER] [--library FILE]
 
 The first FOLDER is for the files of the cases. Each case has a generator of its own, made of the seed and the case's number, so
 that a case that breaks a law can be made again (--first K --cases 1, with the same --pickles); its files stay in FOLDER. Without
 --cases and --seconds there are 1000 cases; with both, it ends with what comes first. With --pickles some cases are mutations of
-the pickles in that folder. The last line says how many cases there were, or which law was broken.
+the pickles in that folder. With --library this shared library answers in this process; what it has no function for (what is saved,
+calls in full) is the program's, which then has to answer alike. The last line says how many cases there were, or which law was broken.
 
 The laws:
 - the bytes that are saved after no line are those that were opened;
@@ -25,12 +26,14 @@ The laws:
   that the script saved;
 - the status says whether something was refused.
 
-A third of the cases are several pickles in one input, and every command has the option --many.
+A third of the cases are several pickles in one input, and every command has the option --many. In a quarter every command has --unframed,
+and `calls` and the library, which have no such option, are not asked.
 """
 
 from __future__ import annotations
 
 import argparse
+import ctypes
 import datetime
 import pathlib
 import pickle
@@ -319,23 +322,63 @@ def split_views(lines: Sequence[str]) -> list[tuple[Sequence[str], Shown]]:
     return found
 
 
+class Written(ctypes.Structure):
+    _fields_ = [("size", ctypes.c_size_t), ("status", ctypes.c_uint8)]
+
+
+class Library:
+    """The library in this process, for words of the program. How many steps are remembered (--window) changes no answer."""
+
+    ROOM = 1 << 16
+    OPTIONS = {"--many": 1, "--unframed": 2, "--first": 4, "--memo": 8, "--full": 16}
+
+    def __init__(self, file: pathlib.Path) -> None:
+        self.library = ctypes.CDLL(str(file))
+        self.room = ctypes.create_string_buffer(self.ROOM)
+
+    def answers(self, words: Sequence[str], script: bytes) -> tuple[bytes, int]:
+        """The text and the status."""
+        content = pathlib.Path(next(word for word in words if word.endswith(".pickle"))).read_bytes()
+        given: list[Any] = [ctypes.c_uint32(sum(option for word, option in self.OPTIONS.items() if word in words))]
+        for part in {"calls": (b"", content), "debug": (content, script)}.get(words[0], (content,)):  # (no holes come before what calls reads)
+            given += [part, ctypes.c_size_t(len(part))]
+        function, written = getattr(self.library, f"picklestep_{words[0]}_with"), Written()
+        for _ in range(2):
+            answer = function(*given, self.room, ctypes.c_size_t(len(self.room)), ctypes.byref(written)) & 0xFF
+            if answer == 0:
+                return ctypes.string_at(self.room, written.size), written.status
+            if answer == 3:
+                self.room = ctypes.create_string_buffer(written.size)
+        raise Broken(f"the library answers {answer} to {words}")
+
+
 class Case:
-    def __init__(self, program: str, folder: pathlib.Path, rng: Random, pickles: Sequence[bytes]) -> None:
+    def __init__(self, program: str, library: Optional[Library], folder: pathlib.Path, rng: Random, pickles: Sequence[bytes]) -> None:
         self.program = program
+        self.library = library
         self.folder = folder
         self.file = folder / "case.pickle"
         self.saved = folder / "saved.pickle"
         self.rng = rng
         self.runs = 0
-        self.options = ["--many"] if rng.random() < 1 / 3 else []
-        self.pickled = make_several(rng, pickles) if self.options else make_pickle(rng, pickles)
+        draw = rng.random()
+        self.is_many, self.is_unframed = draw < 1 / 3, draw % (1 / 3) > 1 / 4
+        self.options = ["--many"] * self.is_many + ["--unframed"] * self.is_unframed
+        self.pickled = make_several(rng, pickles) if self.is_many else make_pickle(rng, pickles)
         self.file.write_bytes(self.pickled)
 
     def answers(self, words: Sequence[str], script: str = "") -> tuple[str, int]:
         self.runs += 1
+        told = None
+        if self.library:
+            told = self.library.answers([*words, *self.options], script.encode())
+            if "--save" not in words:
+                return told[0].decode(), told[1]
         done = subprocess.run([self.program, *words, *self.options], input=script.encode(), capture_output=True, timeout=100)
         if done.returncode not in (0, 1) or done.stderr:
             raise Broken(f"status {done.returncode}, errors {done.stderr[:200]!r}, words {words}, script {script!r}")
+        if told not in (None, (done.stdout, done.returncode)):
+            raise Broken(f"the library and the program differ, words {words}, script {script!r}")
         return done.stdout.decode(), done.returncode
 
     def items_of(self, listing: str) -> list[str]:
@@ -386,12 +429,13 @@ class Case:
             raise Broken("another report of the objects")
         if listing and self.items_of(listing)[: int(where[1])] != self.items_of(listing)[: len(self.items_of(listing)) - bool(refused)]:
             raise Broken("the listing and the conversation end at other places")
-        self.check_calls(report, status)
+        if not self.is_unframed:
+            self.check_calls(report, status)
         return int(where[1])
 
     def check_calls(self, report: str, wanted: int) -> None:
         # (`calls` reads all pickles by itself, and `objects` only with --many)
-        first = [] if self.options else ["--first"]
+        first = [] if self.is_many else ["--first"]
         told, status = self.answers(["calls", *first, str(self.file)])
         text = HEADING.split(told, maxsplit=1)[0]
         unsure = UNSURE_LINE.search(text)
@@ -507,7 +551,9 @@ def main() -> int:
     parser.add_argument("--cases", type=int)
     parser.add_argument("--seconds", type=float)
     parser.add_argument("--pickles", type=pathlib.Path)
+    parser.add_argument("--library", type=pathlib.Path)
     words = parser.parse_args()
+    library = Library(words.library) if words.library else None
     words.folder.mkdir(parents=True, exist_ok=True)
     pickles = [file.read_bytes() for file in sorted(words.pickles.glob("*.pickle"))] if words.pickles else []
     pickles = [pickled for pickled in pickles if len(pickled) < 3000]
@@ -517,7 +563,7 @@ def main() -> int:
     while number < cases and not (end and time.monotonic() > end):
         number += 1
         name = f"case {words.first + number - 1} of seed {words.seed}"
-        case = Case(words.program, words.folder, random.Random(f"{words.seed}:{words.first + number - 1}"), pickles)
+        case = Case(words.program, library, words.folder, random.Random(f"{words.seed}:{words.first + number - 1}"), pickles)
         try:
             told, made = case.check()
         except Broken as broken:

@@ -1,7 +1,7 @@
 """Gives the program inputs that are cut short, deep or long, with a stack of 256 KiB.
 
-Each real pickle is cut at each of its first 2,000 bytes and listed. What a listing of a cut says follows from the listing of the whole:
-the opcodes that are whole in it, and the fault of what is left, by the sizes that pickletools gives.
+Each real pickle is cut at each of its first 2,000 bytes and listed, and at some of them with --unframed. What a listing of a cut
+says follows from the listing of the whole: the opcodes that are whole in it, and the fault of what is left, by the sizes that pickletools gives.
 """
 
 from __future__ import annotations
@@ -20,6 +20,7 @@ from collections.abc import Callable
 from trials.trial import Trial
 
 MOST = 2000
+UNFRAMED_STEP = 7
 STACK = 256 * 1024
 OPCODES = {opcode.name: opcode for opcode in pickletools.opcodes}
 ITEM = re.compile(r" *(\d+): \S+ +(\S+)(?: +(\d+))?")
@@ -35,13 +36,13 @@ def answer(program: str, words: list[str], script: str = "") -> tuple[str, int]:
 class Listing:
     """The listing of whole bytes, in parts."""
 
-    def __init__(self, text: str, size: int) -> None:
+    def __init__(self, text: str, size: int, is_unframed: bool = False) -> None:
         parts = [part for part in map(ITEM.match, text.splitlines()) if part]
         self.lines = [part.string for part in parts]
         self.closing = text.splitlines()[len(self.lines) :]
         self.starts = [int(part[1]) for part in parts]
         self.names = [part[2] for part in parts]
-        self.frames = [int(part[3]) if part[2] == "FRAME" else 0 for part in parts]
+        self.frames = [int(part[3]) if part[2] == "FRAME" and not is_unframed else 0 for part in parts]
         fault = [line for line in self.closing if line.startswith("fault: ")]
         kept = [line for line in self.closing if line.startswith("kept: ")]
         self.refused = [line for line in self.closing if line.startswith("refused: ")]
@@ -84,14 +85,15 @@ class Listing:
 
 def try_pickle(program: str, folder: pathlib.Path, path: pathlib.Path) -> tuple[int, str]:
     pickled = path.read_bytes()
-    text, _ = answer(program, ["list", str(path)])
-    listing = Listing(text, len(pickled))
     cut = folder / f"{os.getpid()}.pickle"
-    for size in range(min(len(pickled), MOST)):
-        cut.write_bytes(pickled[:size])
-        found = answer(program, ["list", str(cut)])
-        if found not in listing.of_cut(size):
-            return size, f"{path.name} cut at {size}: {found!r} and not {listing.of_cut(size)!r}"[:600]
+    for options, step in ([], 1), (["--unframed"], UNFRAMED_STEP):
+        text, _ = answer(program, ["list", *options, str(path)])
+        listing = Listing(text, len(pickled), bool(options))
+        for size in range(0, min(len(pickled), MOST), step):
+            cut.write_bytes(pickled[:size])
+            found = answer(program, ["list", *options, str(cut)])
+            if found not in listing.of_cut(size):
+                return size, f"{path.name} cut at {size}, {options}: {found!r} and not {listing.of_cut(size)!r}"[:600]
     return min(len(pickled), MOST), ""
 
 

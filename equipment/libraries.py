@@ -3,7 +3,6 @@
 from __future__ import annotations
 
 import functools
-import os
 import re
 import subprocess
 import sys
@@ -12,7 +11,7 @@ from dataclasses import dataclass, replace
 from pathlib import Path
 from typing import Callable
 
-from machines import KINDS, SEED, Answer, Asked, Machines, large
+from machines import KINDS, Answer, Asked, Machines, large
 from trials.room import beginning
 from trials.trial import Noted, Skip, Trial
 
@@ -24,16 +23,38 @@ TASKS = (
     ("calls",),
     ("calls", "--first"),
     ("calls", "--memo", "kept"),
+    ("form",),
     ("debug",),
     ("debug", "--many"),
+    # (these are asked of the functions with options)
+    ("list", "--unframed"),
+    ("objects", "--many", "--unframed"),
+    ("calls", "--full"),
+    ("calls", "--memo", "kept", "--skip", "3:2", "--skip", "9:40"),
+    ("debug", "--unframed"),
+)
+# What no function takes: options of another one, or that do not go together; holes that overlap, or end where no file does.
+NO_TASKS = (
+    ("list", "--full"),
+    ("objects", "--first"),
+    ("debug", "--memo", "kept"),
+    ("edited", "list", "--full"),
+    ("edited", "objects", "--first"),
+    ("edited", "calls", "--first", "--memo", "kept"),
+    ("calls", "--first", "--memo", "kept", "--full"),
+    ("calls", "--unframed"),
+    ("calls", "--skip", "5:2", "--skip", "6:1"),
+    ("calls", "--skip", "5:2", "--skip", "3:1"),
+    ("calls", "--skip", "1:4611686018427387904"),
+    ("calls", "--skip", "18446744073709551615:1"),
 )
 X86, ARM, MODULE = "linux-x86_64-library", "linux-aarch64-library", "libpicklestep.wasm"
 MUSL, MUSL_HEADERS = Path("/usr/lib/x86_64-linux-musl"), Path("/usr/include/x86_64-linux-musl")
 # (of these lines some edit each pickle, and some are refused)
 EDITS = b"insert 0 GLOBAL 6f730a6765746377640a\ngoto 1\nstep\ninsert 2 NONE\nundo\nnonsense\ndelete 3\nframe 2 2\nrun\n"
 WARNINGS = ("-Wall", "-Wextra", "-Werror")
-OF_STOPS = {1: b"picklestep: out of memory\n", 2: b"picklestep: too large\n"}
-CASES_OF_LAWS = 100
+OF_STOPS = {1: b"picklestep: out of memory\n", 2: b"picklestep: too large\n", 4: b"no task\n"}
+SEED_OF_LAWS, CASES_OF_LAWS = 2, 400
 LIMITS = (1, 1 << 16, 1 << 20, 8 << 20, 32 << 20)
 EXAMPLE = b"    0: import 'posix' 'system' as #0\n   23: call 'posix' 'system' ('id') as #3\n1 imports, 1 calls\n"
 
@@ -158,20 +179,30 @@ def of_edits(libraries: Libraries, way: str) -> Noted:
     """The texts of what a script leaves are those of the bytes that the program saves after it."""
     folder = libraries.folder / "saved"
     folder.mkdir(parents=True, exist_ok=True)
-    saved, runs = [], []
+    saved: list[Asked] = []
+    runs: list[Asked] = []
     for file in sorted(libraries.pickles.glob("*.pickle")):
-        for many in ((), ("--many",)):
+        for modes in ((), ("--many",), ("--unframed",)):
             out = folder / f"{len(saved)}.pickle"
-            subprocess.run([libraries.program, "debug", file, *many, "--save", out], input=EDITS, capture_output=True, timeout=300, check=False)
-            words = [("list", *many), ("objects", *many)] if many else [task for task in TASKS if "debug" not in task and "--many" not in task]
+            subprocess.run([libraries.program, "debug", file, *modes, "--save", out], input=EDITS, capture_output=True, timeout=300, check=False)
+            words = [("list", *modes), ("objects", *modes)] + [task for task in TASKS if task[0] == "calls" and not modes and "--skip" not in task]
             saved += [Asked(task, out) for task in words]
             runs += [Asked(("edited", *task), file, EDITS) for task in words]
     return libraries.compare_answers(saved, libraries.asked(getattr(libraries, way)(), runs))
 
 
+def no_tasks(libraries: Libraries, way: str) -> str:
+    """Options and holes that are none of a function are refused."""
+    runs = [Asked(words, next(iter(sorted(libraries.pickles.glob("*.pickle")))), EDITS) for words in NO_TASKS]
+    for run, found in zip(runs, libraries.asked(getattr(libraries, way)(), runs), strict=True):
+        if found.errors != OF_STOPS[4]:
+            return f"{' '.join(run.words)}: status {found.status}"
+    return ""
+
+
 def limits(libraries: Libraries) -> str:
-    """Out of memory is an answer, and the next call is as any other."""
-    runs = [Asked(words, large(libraries).file) for words in TASKS if words[0] != "debug"]
+    """Out of memory is an answer, and the next call is as any other (`form` takes little memory, and says that this one is in no form)."""
+    runs = [Asked(words, large(libraries).file) for words in TASKS if words[0] not in ("debug", "form") and "--skip" not in words]
     for limit in LIMITS:
         for run, found in zip(runs, libraries.asked(libraries.static(), runs, limit)):
             if found != Answer(2, b"", OF_STOPS[1]):
@@ -180,14 +211,11 @@ def limits(libraries: Libraries) -> str:
 
 
 def fuzzed(libraries: Libraries) -> Noted:
-    """The laws of fuzz.py, of a program that answers by the library. The seed is always the same."""
-    at = libraries.dist / X86
-    made = libraries.folder / "as_program"
-    words = ("-O1", *WARNINGS, f"-I{at / 'include'}", "-o", made, libraries.root / "equipment/library_as_program.c", at / "lib/libpicklestep.a")
-    libraries.call(libraries.tool("cc", "a compiler of C"), *words)
-    fuzz = (sys.executable, "-B", libraries.root / "equipment/fuzz.py", made, libraries.folder / "fuzz")
-    limits = ("--seed", str(SEED), "--cases", str(CASES_OF_LAWS), "--pickles", libraries.pickles)
-    done = subprocess.run([*fuzz, *limits], env={**os.environ, "PICKLESTEP": str(libraries.program)}, capture_output=True, text=True, check=False)
+    """The laws of fuzz.py, of the library in its process. The seed is always the same, and another than that of the program's."""
+    fuzz = (sys.executable, "-B", libraries.root / "equipment/fuzz.py", libraries.program, libraries.folder / "fuzz")
+    library = ("--library", libraries.dist / X86 / "lib/libpicklestep.so")
+    limits = ("--seed", str(SEED_OF_LAWS), "--cases", str(CASES_OF_LAWS), "--pickles", libraries.pickles)
+    done = subprocess.run([*fuzz, *library, *limits], capture_output=True, text=True, check=False)
     said = done.stdout.splitlines()[-1:] or ["it says nothing"]
     return Noted("" if done.returncode == 0 else said[0], f": {said[0]}")
 
@@ -248,6 +276,7 @@ ROWS: list[tuple[str, Callable[[Libraries], "str | Noted"]]] = [
     ("the library: the header in C++", in_cxx),
     *((f"the library, {name}: {told}", functools.partial(compared, way=way, kind=kind)) for kind, told in KINDS.items() for way, name in WAYS.items()),
     *((f"the library, {WAYS[way]}: what edits leave", functools.partial(of_edits, way=way)) for way in ("static", "module")),
+    *((f"the library, {WAYS[way]}: options of no task", functools.partial(no_tasks, way=way)) for way in ("static", "module")),
     ("the library: random pickles and scripts", fuzzed),
     ("the library: out of memory is an answer", limits),
     ("the library: too large is an answer", too_large),

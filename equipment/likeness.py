@@ -218,18 +218,18 @@ class Likeness:
 
     def match_acts(self, wanted: Sequence[Seen]) -> None:
         acts = self.record.acts
-        if len(wanted) < len(acts) and not self.run.is_cut:
+        if len(wanted) < len(acts):
             raise Unlike(f"{len(acts)} acts and not {len(wanted)}, the first more is {acts[len(wanted)].what}")
         for want, found in zip(wanted, acts):
             self.match_act(want, found)
-        if self.record.end in ("", Planned.__name__) and len(wanted) != len(acts) and not self.run.is_cut:
+        if self.record.end in ("", Planned.__name__) and len(wanted) != len(acts):
             raise Unlike(f"it ends after {len(acts)} acts, and the definition after {len(wanted)}")
 
     # --- STOP ---
 
     def match_stops(self) -> None:
         stops, others = self.record.stops, self.run.stops
-        if not self.run.is_cut and (len(others) < len(stops) or not self.record.end and len(others) != len(stops)):
+        if len(others) < len(stops) or not self.record.end and len(others) != len(stops):
             raise Unlike(f"{len(stops)} loads end, and {len(others)} of the definition")
         for (value, last), stop in zip(others, stops):
             self.match_stop(value, last, stop)
@@ -270,7 +270,7 @@ def verdict(run: Run, record: Record, encoding: str, is_python: bool) -> Verdict
     try:
         likeness.match_acts(wanted)
         likeness.match_stops()
-        if record.opcodes > run.opcodes + (record.end == "EOFError") and not run.is_cut:
+        if record.opcodes > run.opcodes + (record.end == "EOFError"):
             raise Unlike(f"{record.opcodes} opcodes ran, and {run.opcodes} of the definition")
     except Unlike as unlike:
         return Verdict(str(unlike), False)

@@ -83,11 +83,13 @@ class Maker:
         if how < 5:
             self.put(b"c" + self.text_of(MODULES) + b"\n" + self.text_of(MEMBERS) + b"\n", makes="o")
         elif how < 8:
-            if how == 7:
-                self.put(b"Ptext\n", makes="s")
-            else:
-                self.text(MODULES)
-            self.text(MEMBERS)
+            # (of a module or a member that is no text in the pickle)
+            asked = self.chance.randrange(2) if how == 7 else 2
+            for which, names in enumerate((MODULES, MEMBERS)):
+                if which == asked:
+                    self.put(b"Ptext\n", makes="s")
+                else:
+                    self.text(names)
             self.put(b"\x93", 2, "o")
         elif how == 8:
             codes = [b"\x82\x01", b"\x82\x02", b"\x83\x00\x01", b"\x84\xff\xff\xff\x7f", b"\x82\x01"]

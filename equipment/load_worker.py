@@ -1,10 +1,11 @@
 #!/usr/bin/env python3
 """Gives pickles to real unpicklers, one load after another, and writes down what they do. Nothing that a pickle names is imported.
 
-    load_worker.py CASES OUT [--one]
+    load_worker.py CASES OUT [--one] [--bytes]
 
 CASES has pickles, each behind its length (4 bytes). Each line of OUT is JSON: for each unpickler its name and its acts, each as what is
-done, to which thing (by the number of the act that brought it), and with what. With --one the same unpickler loads again and again.
+done, to which thing (by the number of the act that brought it), and with what. With --one the same unpickler loads again and again, with
+--bytes what STRING, BINSTRING and SHORT_BINSTRING make is bytes.
 """
 
 from __future__ import annotations
@@ -161,18 +162,18 @@ def has_more(file: Any) -> bool:
     return bool(file.peek(1)[:1]) if hasattr(file, "peek") else file.tell() < len(file.getvalue())
 
 
-def load_all(name: str, data: bytes, is_one: bool) -> list[list[Any]]:
+def load_all(name: str, data: bytes, is_one: bool, encoding: str) -> list[list[Any]]:
     """What an unpickler does with all pickles of some bytes."""
     kind, opened = LOADERS[name]
     acts.clear()
     copyreg._extension_cache.clear()  # type: ignore[attr-defined]
     file = opened(data)
     try:
-        unpickler = kind(file, buffers=buffers())
+        unpickler = kind(file, buffers=buffers(), encoding=encoding)
         unpickler.load()
         while is_one or has_more(file):  # (one unpickler may still hold bytes where its file has no more)
             if not is_one:
-                unpickler = kind(file, buffers=buffers())
+                unpickler = kind(file, buffers=buffers(), encoding=encoding)
             unpickler.load()
     except (Exception, TooMany):
         pass  # (it ends there)
@@ -189,9 +190,10 @@ def main() -> None:
     resource.setrlimit(resource.RLIMIT_AS, (MOST_MEMORY, MOST_MEMORY))
     for code in EXTENSIONS:
         copyreg._inverted_registry[code] = ("extension", str(code))  # type: ignore[attr-defined]
+    is_one, encoding = "--one" in sys.argv, "bytes" if "--bytes" in sys.argv else "ASCII"
     with open(sys.argv[2], "w") as out:
         for data in cases_of(sys.argv[1]):
-            print(json.dumps([[name, load_all(name, data, "--one" in sys.argv)] for name in LOADERS]), file=out)
+            print(json.dumps([[name, load_all(name, data, is_one, encoding)] for name in LOADERS]), file=out)
 
 
 if __name__ == "__main__":

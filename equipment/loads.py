@@ -236,13 +236,13 @@ class Loads:
             for line in lines:
                 yield json.loads(line)
 
-    def fault(self, name: str, cases: Sequence[bytes], kept: bool = False) -> Noted:
-        """What is not told of some cases."""
+    def fault(self, name: str, cases: Sequence[bytes], options: Sequence[str] = ()) -> Noted:
+        """What is not told of some cases. The options are those of load_worker.py."""
         self.folder.mkdir(parents=True, exist_ok=True)
         found: list[str] = []
         count = 0
-        for case, loads in zip(cases, self.done(name, cases, ["--one"] if kept else [])):
-            text = self.told(case, ["--memo", "kept"] if kept else [])
+        for case, loads in zip(cases, self.done(name, cases, options)):
+            text = self.told(case, ["--memo", "kept"] if "--one" in options else [])
             for loader, acts in loads:
                 count += len(acts)
                 why = untold(text, acts) if text else "the program gives no answer"
@@ -290,7 +290,10 @@ def _odd(loads: Loads, rows: Sequence[Oddity]) -> Noted:
 def trials(loads: Loads, pickles: pathlib.Path) -> list[Trial]:
     real = [path.read_bytes() for path in sorted(pickles.glob("*.pickle"))]
     made = [Trial("real pickles in loaders", functools.partial(loads.fault, "real", real))]
-    made.append(Trial("oddities in loaders", functools.partial(_odd, loads, list(oddities()))))
+    rows = list(oddities())
+    made.append(Trial("oddities in loaders", functools.partial(_odd, loads, rows)))
+    as_bytes = functools.partial(loads.fault, "odd_bytes", [row.data for row in rows], ["--bytes"])
+    made.append(Trial("oddities in loaders for which STRING is bytes", as_bytes))
     for number in range(8):
         made.append(Trial(f"pickles {number} of seed {SEED} in loaders", functools.partial(_tried, loads, "singles", number, real)))
     for number in range(2):
@@ -302,8 +305,8 @@ def trials(loads: Loads, pickles: pathlib.Path) -> list[Trial]:
 def _tried(loads: Loads, kind: str, number: int, real: Sequence[bytes]) -> Noted:
     seed = SEED * 1000 + number
     if kind == "singles":
-        return loads.fault(f"{kind}{number}", list(load_cases.singles(seed, EACH, real)))
-    return loads.fault(f"{kind}{number}", list(load_cases.rows(seed, EACH)), kind == "kept")
+        return loads.fault(f"{kind}{number}", list(load_cases.singles(seed, EACH, real)), ["--bytes"] if number % 4 == 3 else [])
+    return loads.fault(f"{kind}{number}", list(load_cases.rows(seed, EACH)), ["--one"] if kind == "kept" else [])
 
 
 def _old_names() -> Noted:

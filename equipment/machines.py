@@ -5,6 +5,7 @@ from __future__ import annotations
 import filecmp
 import functools
 import json
+import os
 import random
 import shutil
 import subprocess
@@ -16,17 +17,36 @@ from dataclasses import dataclass, field
 from pathlib import Path
 from typing import Callable, NamedTuple
 
+import c_files
 from conversations import blocks_of, runs_of
+from roots import Root, like_alpine, put
 from trials.room import beginning, text_difference
 from trials.samples import HOSTILE
 from trials.trial import Noted, Skip, Trial
 
-STATIC, ARM, MODULE = "linux-x86_64-static/picklestep", "linux-aarch64/picklestep", "picklestep.wasm"
+STATIC, ARM, MODULE, SCRIPTED = "linux-x86_64-static/picklestep", "linux-aarch64/picklestep", "picklestep.wasm", "picklestep.mjs"
+# Each word of the debugger. The two lines before the last are refused, and so is what a pickle does not allow.
 SCRIPT = (
-    b"where\nstep\nstep\nstack\nmemo\nshow 0\nrun\nwhere\nback\nback\nbreak 3\ngoto 2\nrun\nnext\nshow 2\ndelete 0\nundo\nredo\nundo\n"
-    b"goto 0\nrun\ninsert 0 4e\nbytes\nlist\nnonsense\nquit\n"
+    b"where\nstep\nstep\nstack\nmemo\nshow 0\nobjects\nrun\nwhere\nback\nback\nbreak 3\ngoto 2\nrun\nclear 3\nrun\ngoto 0\n"
+    b"insert 0 NONE\ninsert 1 BININT1 07\nreplace 0 SHORT_BINUNICODE 0161\nframe 0 2\nitems\nunframe 0\ndelete 1\nundo\nredo\nundo\n"
+    b"step\nshow 0\nrun\nstack\nmemo\nnonsense\ngoto 999999999\nquit\n"
 )
-TASKS = (("list",), ("objects",), ("calls",), ("form",), ("list", "--many"), ("debug",), ("debug", "--window", "3"))
+TASKS = (
+    ("list",),
+    ("list", "--many"),
+    ("list", "--unframed"),
+    ("objects",),
+    ("objects", "--many"),
+    ("objects", "--unframed"),
+    ("calls",),
+    ("calls", "--full"),
+    ("calls", "--first"),
+    ("calls", "--memo", "kept"),
+    ("calls", "--skip", "3:2"),
+    ("form",),
+    ("debug",),
+    ("debug", "--window", "3"),
+)
 CASES = 2000
 SEED = 1
 AT_ONCE = 4
@@ -159,21 +179,23 @@ class Machines:
         """The same in Node: one process has an instance of the module for each run."""
         return self.compare_answers(runs, self.in_node(runs))
 
-    def in_node(self, runs: list[Asked], pages: int = 0) -> Iterator[Answer]:
-        """What the module answers, with at most so many pages of memory."""
+    def in_node(self, runs: list[Asked], pages: int = 0, root: Root | None = None) -> Iterator[Answer]:
+        """What the module answers, with at most so many pages of memory, and in a root where one is given."""
         node = self.tool("node", "Node 20 or later")
         folder = self.folder / "node"
-        folder.mkdir(parents=True, exist_ok=True)
+        there = root.path(folder) if root else folder
+        there.mkdir(parents=True, exist_ok=True)
         lines = []
         for number, asked in enumerate(runs):
-            (folder / f"{number}.in").write_bytes(asked.given)
+            (there / f"{number}.in").write_bytes(asked.given)
             lines.append({"words": ["picklestep", *asked.command(folder / f"{number}.saved")], "at": str(folder / str(number))})
-        (folder / "runs.json").write_text(json.dumps({"module": str(self.dist / MODULE), "pages": pages, "runs": lines}))
-        done = subprocess.run([node, str(self.root / "equipment/run_module.mjs"), str(folder / "runs.json")], capture_output=True, timeout=900)
+        (there / "runs.json").write_text(json.dumps({"module": str(self.dist / MODULE), "pages": pages, "runs": lines}))
+        words = [node, str(self.root / "equipment/run_module.mjs"), str(folder / "runs.json")]
+        done = subprocess.run(root.start(*words) if root else words, capture_output=True, timeout=900)
         if done.returncode != 0:
             raise OSError(f"node: status {done.returncode}, {beginning(done.stderr)}")
         for number, status in enumerate(json.loads(done.stdout)):
-            yield Answer(status, *(taken(folder / f"{number}.{kind}") for kind in ("out", "err", "saved")))
+            yield Answer(status, *(taken(there / f"{number}.{kind}") for kind in ("out", "err", "saved")))
 
     def tool(self, name: str, what: str) -> str:
         found = shutil.which(name)
@@ -184,6 +206,62 @@ class Machines:
     def arm(self) -> list[str]:
         return [self.tool("qemu-aarch64", "Debian's qemu-user"), str(self.dist / ARM)]
 
+    # --- Roots with nothing else in them ---
+
+    def new_root(self, name: str) -> Root:
+        """A root with the real pickles."""
+        root = Root(self.folder / "roots" / name)
+        root.add(sorted(self.pickles.glob("*.pickle")))
+        return root
+
+    @functools.cached_property
+    def empty_root(self) -> Root:
+        """With the static program alone."""
+        root = self.new_root("empty")
+        put(self.dist / STATIC, root.at / "picklestep")
+        return root
+
+    @functools.cached_property
+    def arm_root(self) -> Root:
+        """With the program for ARM, and the emulator, which needs libraries of this machine."""
+        root = self.new_root("arm")
+        root.add_program(Path(self.arm()[0]))
+        put(self.dist / ARM, root.at / "picklestep")
+        return root
+
+    @functools.cached_property
+    def node_root(self) -> Root:
+        """With Node, which needs libraries of this machine, and the module."""
+        root = self.new_root("node")
+        root.add_program(Path(self.tool("node", "Node 20 or later")))
+        root.add([self.dist / MODULE, self.dist / SCRIPTED, self.root / "equipment/run_module.mjs"])
+        return root
+
+    @functools.cached_property
+    def alpine_root(self) -> Root:
+        """With a clone that has the files as they lie here, out of which it is installed."""
+        root = like_alpine(self.folder / "roots" / "alpine")
+        root.add(sorted(self.pickles.glob("*.pickle")))
+        clone = ["git", "-c", "safe.directory=*", "clone", "-q", str(self.root), str(root.at / "clone")]
+        for words in (clone, root.start("/clone/install", "/usr/local")):
+            if words is not clone:
+                self.copy_files(root.at / "clone")
+            done = subprocess.run(words, stdin=subprocess.DEVNULL, capture_output=True, check=False)
+            if done.returncode != 0:
+                raise OSError(f"{words[-2:]}: status {done.returncode}, {beginning(done.stderr)}")
+        return root
+
+    def copy_files(self, to: Path) -> None:
+        """Puts the files of the working tree, which may not be committed yet, where a clone has those of its commit."""
+        listed = ["git", "-c", "safe.directory=*", "-C", str(self.root), "ls-files", "-z", "--cached", "--others", "--exclude-standard"]
+        for name in subprocess.run(listed, capture_output=True, text=True, check=True).stdout.split("\0")[:-1]:
+            file = self.root / name
+            if file.exists():
+                (to / name).parent.mkdir(parents=True, exist_ok=True)
+                shutil.copy2(file, to / name)
+            else:
+                (to / name).unlink(missing_ok=True)
+
 
 def make(machines: Machines, to: Path) -> bytes:
     """Makes the programs for further machines, and answers why not, or nothing."""
@@ -192,8 +270,8 @@ def make(machines: Machines, to: Path) -> bytes:
 
 
 def made_again(machines: Machines) -> str:
-    """From what the proofs built, each byte for byte. Tools that are missing are installed where that can be done; tools of another
-    version would make others: that is said."""
+    """From what the proofs built, each byte for byte. Tools that are missing are installed where that can be done, and where it cannot,
+    the trial is skipped by name; tools of another version make others, so that nobody knows what is released: that fails."""
     to = machines.folder / "made"
     fault = make(machines, to)
     if b"is not installed" in fault:
@@ -210,22 +288,52 @@ def made_again(machines: Machines) -> str:
     return ""
 
 
+def other_tools(machines: Machines) -> str:
+    """Tools of another version are told, also where others are missing; and so is the first that is missing."""
+    stand_in = machines.folder / "tools/dpkg-query"
+    stand_in.parent.mkdir(parents=True)
+    for said, wanted in (("", "is not installed"), ("[ $4 != binaryen ] || echo -n 109-1", "Debian's binaryen is 109-1, and the released sums are of")):
+        stand_in.write_text(f"#!/bin/sh\n{said}\n")
+        stand_in.chmod(0o755)
+        words = [sys.executable, "-B", machines.root / "targets/make.py", machines.folder / "tools/made"]
+        done = subprocess.run(words, env={**os.environ, "PATH": f"{stand_in.parent}:/usr/bin:/bin"}, capture_output=True, check=False)
+        if done.returncode != 2 or wanted not in done.stderr.decode() or done.stderr.count(b"\n") != 1:
+            return f"status {done.returncode}: {beginning(done.stderr)}"
+    return ""
+
+
 def alone(machines: Machines, file: str) -> str:
     """Nothing else is needed to start it."""
     said = subprocess.run(["readelf", "--program-headers", "--dynamic", "--wide", machines.dist / file], capture_output=True, text=True, check=True)
     return next((f"it has {word}" for word in NEEDS_OTHERS if word in said.stdout), "")
 
 
-def in_empty_root(machines: Machines) -> str:
-    bare = machines.folder / "bare"
-    bare.mkdir(parents=True)
-    shutil.copy(machines.dist / STATIC, bare / "picklestep")
-    (bare / "hostile.pickle").write_bytes(HOSTILE)
-    done = subprocess.run(["chroot", bare, "/picklestep", "calls", "/hostile.pickle"], capture_output=True, check=False)
-    if done.returncode == 125:
-        raise Skip("the root may not be changed here")
-    wanted = ask([str(machines.program)], Asked(("calls",), bare / "hostile.pickle"))
-    return "" if Answer(done.returncode, done.stdout, done.stderr) == wanted else f"status {done.returncode}: {beginning(done.stderr)}"
+def in_empty_root(machines: Machines) -> Noted:
+    return machines.compare_all(machines.empty_root.start("/picklestep"), machines.real)
+
+
+def on_alpine(machines: Machines) -> Noted:
+    """As it is installed there; that of the clone is the same, and the program that needs glibc does not start."""
+    root = machines.alpine_root
+    refused = subprocess.run(root.start("/clone/dist/linux-x86_64/picklestep", "list"), capture_output=True, check=False)
+    if refused.returncode != 127:
+        return Noted(f"the root has a glibc: status {refused.returncode}, errors {beginning(refused.stderr)}", "")
+    some = machines.real[:: 10 * len(machines.tasks) + 1]
+    found = machines.compare_all(root.start("/clone/picklestep"), some)
+    return found if found.why else machines.compare_all(root.start("/usr/local/bin/picklestep"), machines.real)
+
+
+def in_arm_root(machines: Machines) -> Noted:
+    root = machines.arm_root
+    return machines.compare_all(root.start(machines.arm()[0], "/picklestep"), machines.real)
+
+
+def in_node_root(machines: Machines) -> Noted:
+    """The module, and some of them as a user starts it."""
+    root = machines.node_root
+    started = root.start(machines.tool("node", "Node 20 or later"), machines.dist / SCRIPTED)
+    found = machines.compare_all(started, machines.real[:: 10 * len(machines.tasks) + 1])
+    return found if found.why else machines.compare_answers(machines.real, machines.in_node(machines.real, root=root))
 
 
 def large(machines: Machines) -> Asked:
@@ -279,23 +387,6 @@ def size_of_all(machines: Machines) -> str:
     return "" if size < MOST_BYTES else f"dist has {size} bytes"
 
 
-def heap(machines: Machines) -> str:
-    """The C of the heap and of the moves of blocks, under a load of random sizes: on Linux, and as in a module."""
-    c = machines.root / "targets/c"
-    return tried_heap(machines, c / "heap.c", c / "blocks.c") or tried_heap(machines, "-DMODULE", f"-I{c}")
-
-
-def tried_heap(machines: Machines, *more: str | Path) -> str:
-    made = machines.folder / "try_heap"
-    machines.folder.mkdir(parents=True, exist_ok=True)
-    words = ["cc", "-O2", "-fno-builtin", "-o", made, machines.root / "equipment/try_heap.c", *more]
-    done = subprocess.run([str(word) for word in words], capture_output=True, check=False)
-    if done.returncode != 0:
-        return f"it does not compile: {beginning(done.stderr)}"
-    done = subprocess.run([str(made)], capture_output=True, timeout=300, check=False)
-    return "" if done.returncode == 0 else f"status {done.returncode}: {beginning(done.stdout)}"
-
-
 def compared(machines: Machines, way: str, kind: str) -> Noted:
     """All answers of one kind of a program."""
     runs: list[Asked] = getattr(machines, kind)
@@ -309,24 +400,30 @@ KINDS = {"real": "all real pickles", "random": "random cases", "conversations": 
 
 
 def comparisons(way: str, name: str) -> list[Row]:
-    return [(f"{name}: {told}", functools.partial(compared, way=way, kind=kind)) for kind, told in KINDS.items()]
+    """(The real pickles are compared in roots.)"""
+    return [(f"{name}: {KINDS[kind]}", functools.partial(compared, way=way, kind=kind)) for kind in ("random", "conversations")]
 
 
 ROWS: list[Row] = [
     ("further machines: made again, each is the released one", made_again),
-    ("further machines: the heap in C", heap),
+    ("further machines: tools of another version are told", other_tools),
     ("further machines: dist is under 8 MB", size_of_all),
     ("x86-64, static: needs no other file", lambda machines: alone(machines, STATIC)),
-    ("x86-64, static: in an empty root", in_empty_root),
+    ("x86-64, static: all real pickles in an empty root", in_empty_root),
+    ("x86-64, static: all real pickles on what is like an Alpine", on_alpine),
     *comparisons("static", "x86-64, static"),
     ("x86-64, static: out of memory is an answer", memory_of_static),
     ("ARM: needs no other file", lambda machines: alone(machines, ARM)),
+    ("ARM, under an emulator: all real pickles in a root with nothing else", in_arm_root),
     *comparisons("arm", "ARM, under an emulator"),
     ("the module in Node: as it is started", started_in_node),
+    ("the module in Node: all real pickles in a root with nothing else", in_node_root),
     *comparisons("module", "the module in Node"),
     ("the module in Node: out of memory is an answer", memory_of_module),
 ]
 
 
 def trials(machines: Machines) -> list[Trial]:
-    return [Trial(name, functools.partial(row, machines)) for name, row in ROWS]
+    """(The first of them installs what the others need.)"""
+    files = c_files.trials(machines.root, machines.folder / "c_files")
+    return [*(Trial(name, functools.partial(row, machines)) for name, row in ROWS), *files]

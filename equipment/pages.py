@@ -13,9 +13,12 @@ from pathlib import Path
 
 from trials.trial import Trial
 
-WORDS = 17500
+WORDS = 16000
 WORDS_OF_README = 900
 COLUMNS = 100
+
+# What scan has.
+SCAN = ["python/picklestep/scan/**/*.py", "python/tests/*.py", "python/pyproject.toml"]
 
 # The checklists of docs/DESIGN.md: the heading, how the sample is named, and the files that are looked through.
 CHECKLISTS = [
@@ -26,7 +29,7 @@ CHECKLISTS = [
     ),
     (
         "To add a word of the debugger",
-        r"(?i)unframe(?!r\b)",
+        r"(?i)unframe(?![rd])",
         ["crates/*/src/**/*.rt", "crates/*/specs/**/*.antt", "share/**/*", "equipment/*.txt", "equipment/*.py", "python/picklestep/**/*", "python/tests/*.py"],
     ),
     (
@@ -38,6 +41,13 @@ CHECKLISTS = [
         "To add a text or a command",
         r"\b(?:Text|Task)::Calls\b|\btext\.Calls\b|\bIsCallsText\b|\bpub fn calls<|\bcalls\(alloc, pickles\b|[\"']calls[\"':]|Cm calls|objects calls",
         ["crates/*/src/**/*.rt", "crates/*/specs/**/*.antt", "share/**/*", "equipment/*.py", "python/picklestep/*.py"],
+    ),
+    ("To add a container", r"(?i)zfile", SCAN),
+    ("To add a server", r"(?i)memcached(?!_vanish)", SCAN),
+    (
+        "To add a word of the package",
+        r"(?m)['\"]mend['\":]|prog='picklestep mend'|Cm mend|diff mend |^  mend ",
+        ["share/**/*", "equipment/*.py", "python/picklestep/**/*", "python/tests/*.py"],
     ),
 ]
 
@@ -128,10 +138,9 @@ def examples(text: str) -> Iterator[Example]:
         named = re.match(r"\*\*(.+?)\*\*, ((?:`[^`]+`(?:: |, )?)+)", item)
         if named:
             spans = re.findall(r"`([^`]+)`", named[2])
-            if not heading.startswith("X"):
-                yield Example(named[1], spans[0], spans[1:])
-            else:
-                yield Example(named[1], "4e 2e", spans)
+            # (where no pickle is named, it is this one)
+            pickle, commands = (spans[0], spans[1:]) if re.fullmatch(r"[0-9a-f ]+", spans[0]) else ("4e 2e", spans)
+            yield Example(named[1], pickle, commands)
         elif heading.startswith("What loaders load"):
             for span in re.findall(r"\(`([0-9a-f ]+)`[):]", item):
                 yield Example(item.split(",")[0] + " ..", span, [])
@@ -196,6 +205,23 @@ def fault_of_checklist(root: Path, page: str, heading: str, sample: str, pattern
     return f"it lacks {', '.join(missing)}" if missing else "" if named else "it lists no file"
 
 
+# --- The version ---
+
+# Where it stands: the package has it, `picklestep --version` and the wheel read it there, and the others are the same.
+VERSIONS = {
+    "python/picklestep/__init__.py": r"^__version__ = '(\S+)'$",
+    "CHANGELOG.md": r"^## (\S+)$",
+    "targets/library/picklestep.pc": r"^Version: (\S+)$",
+}
+
+
+def fault_of_version(root: Path) -> str:
+    """The newest version of the change log is that of the package and of the library."""
+    found = {name: re.search(pattern, (root / name).read_text(encoding="utf-8"), flags=re.M) for name, pattern in VERSIONS.items()}
+    told = {name: match[1] if match else "none" for name, match in found.items()}
+    return "" if len(set(told.values())) == 1 else ", ".join(f"{name} has {version}" for name, version in told.items())
+
+
 def fault_of_index(root: Path) -> str:
     """Each file of definitions has a head."""
     index = subprocess.run([sys.executable, str(root / "tools" / "definitions.py")], capture_output=True, text=True, timeout=60)
@@ -214,5 +240,6 @@ def trials(root: Path, program: str, folder: Path) -> list[Trial]:
     design = (root / "docs" / "DESIGN.md").read_text(encoding="utf-8")
     for checklist in CHECKLISTS:
         found.append(Trial(f"the checklist '{checklist[0]}'", functools.partial(fault_of_checklist, root, design, *checklist)))
+    found.append(Trial("the version of the change log", functools.partial(fault_of_version, root)))
     found.append(Trial("the index of definitions", functools.partial(fault_of_index, root)))
     return found

@@ -41,9 +41,9 @@ product_crates() {
 product_files() {
     local folders=() name
     cd -- "$root" || return
-    while read -r name; do
+    for name in $(product_crates); do
         folders+=("crates/$name"/{src,specs,proofs})
-    done < <(product_crates)
+    done
     find "${folders[@]}" -type f -print0 2>/dev/null | LC_ALL=C sort -z | xargs -0 -r sha256sum --
 }
 
@@ -65,11 +65,11 @@ is_built() {
 }
 
 # Whether the released program is the one of the sources as they are, and whole; else it says which of the two it is not.
-# A file that was cut or changed on its way must not be started, so its own sum counts too.
+# A file that was cut or changed on its way must not be started, so its own sum counts too. (Busybox's sha256sum knows no long words.)
 release_fault() {
     if [ ! -r "$released/SOURCES" ] || [ "$(sum_of_sources)" != "$(<"$released/SOURCES")" ]; then
         echo 'dist/linux-x86_64/SOURCES is not the sum of the sources'
-    elif ! (cd -- "$released" && sha256sum --check --status SHA256SUMS) 2>/dev/null; then
+    elif ! (cd -- "$released" && sha256sum -c SHA256SUMS) >/dev/null 2>&1; then
         echo 'dist/linux-x86_64/picklestep has not the sum in SHA256SUMS'
     fi
 }
@@ -89,7 +89,7 @@ sum_of_further() {
 further_fault() {
     if [ ! -r "$further/SOURCES" ] || [ "$(sum_of_further)" != "$(<"$further/SOURCES")" ]; then
         echo 'dist/SOURCES is not the sum of the sources and of targets/'
-    elif ! (cd -- "$further" && sha256sum --check --status SHA256SUMS) 2>/dev/null; then
+    elif ! (cd -- "$further" && sha256sum -c SHA256SUMS) >/dev/null 2>&1; then
         echo 'a program for a further machine has not the sum in dist/SHA256SUMS'
     fi
 }
@@ -137,20 +137,28 @@ is_released() {
     fi
 }
 
-# Names the program to start, in `chosen`. Where none fits the sources it is built, if the toolchain runs on such a machine, and where that
-# fails there is none. On another machine nothing is built.
-choose_program() {
+# Names the program to start, in `chosen`: the one that was built here, where it is newer than its sources, else the released one for
+# this machine, where it is of the sources.
+find_program() {
     if is_built && has_glibc; then
         chosen=$program
-    elif is_released; then
-        chosen=$fits
-    elif [ "$fits" = "$released/picklestep" ]; then
-        "$root/build" --kept >/dev/null && chosen=$program
-    elif find_fitting; then
-        complain 'no program for this machine is of the sources as they are: ./release makes it where the toolchain is (CONTRIBUTING.md)'
-        return 1
     else
-        complain "there is no program for this machine ($(uname -sm)): with Node 20 or later on the path its module runs (https://nodejs.org)"
-        return 1
+        is_released && chosen=$fits
     fi
+}
+
+# The same, or says in a sentence why there is none. Nothing is built: who asks about a pickle does not wait for half an hour.
+choose_program() {
+    local fault
+    if find_program; then
+        return
+    elif ! find_fitting; then
+        complain "there is no program for this machine ($(uname -sm)): with Node 20 or later on the path its module runs (https://nodejs.org)"
+    elif [ "$fits" = "$released/picklestep" ]; then
+        fault=$(release_fault)
+        complain "no program is of the sources as they are (${fault:-$fits cannot be started}): ./build --kept proves and builds it"
+    else
+        complain 'no program for this machine is of the sources as they are: ./release makes it where the toolchain is (CONTRIBUTING.md)'
+    fi
+    return 1
 }

@@ -170,13 +170,24 @@ def is_refused(releases: Releases, at: pathlib.Path, says: str) -> str:
     check = releases.run("./release", "--check", at=at)
     if check.status != 1 or says not in check.errors or "run ./release" not in check.errors:
         return f"the check: status {check.status}, errors {check.errors[:200]!r}"
-    start = releases.run_stand_in("./picklestep", "list", str(releases.folder / "hostile.pickle"), at=at)
-    if start.status != 2 or start.output or "picklestep: the build failed: rt is not here" not in start.errors:
-        return f"the start: status {start.status}, output {start.output[:60]!r}, errors {start.errors[:200]!r}"
+    for words in (["./picklestep", "list", str(releases.folder / "hostile.pickle")], ["./install", str(releases.folder / "nowhere")]):
+        start = releases.run_stand_in(*words, at=at)
+        told = start.errors.count("\n") == 1 and says in start.errors and "./build" in start.errors
+        if start.status != 2 or start.output or not told or releases.called.exists():
+            return f"{words[0]}: status {start.status}, output {start.output[:60]!r}, errors {start.errors[:200]!r}"
     gate = releases.run_stand_in("./test", at=at)
     if gate.status != 1 or not gate.output.endswith("\n0 passed, 1 failed\n") or "run ./release" not in gate.output:
         return f"./test: status {gate.status}, output {gate.output[-200:]!r}"
     return "./test went on to the proofs" if releases.called.exists() else ""
+
+
+def builds_to_test(releases: Releases, at: pathlib.Path) -> str:
+    """What is wrong where a test by its name has no program: it is built, but not for a name that is none."""
+    named = releases.run_stand_in("./test", "program", at=at)
+    if named.status != 2 or named.output or "picklestep: the build failed: rt is not here" not in named.errors:
+        return f"./test program: status {named.status}, output {named.output[:60]!r}, errors {named.errors[:200]!r}"
+    unknown = releases.run_stand_in("./test", "no such name", at=at)
+    return f"an unknown name: status {unknown.status}" if unknown.status != 2 or releases.called.exists() else ""
 
 
 def source_changed(releases: Releases) -> str:
@@ -184,7 +195,7 @@ def source_changed(releases: Releases) -> str:
     for file in ("crates/picklestep/src/main.rt", "crates/pickle_io/src/lib.rt", "crates/pickle_ops/specs/Table.antt"):
         was = (at / file).read_bytes()
         change_byte(at / file)
-        why = is_refused(releases, at, "SOURCES")
+        why = is_refused(releases, at, "SOURCES") or builds_to_test(releases, at)
         if why:
             return f"a byte of {file}: {why}"
         (at / file).write_bytes(was)
@@ -506,10 +517,10 @@ def completions(releases: Releases) -> str:
         ([""], ["--help", "--version", "calls", "debug", "diff", "form", "list", "mend", "objects", "scan", "shell", "source", "view"]),
         (["ob"], ["objects"]),
         (["one"], ["one.pickle"]),
-        (["list", "--"], ["--help", "--many"]),
+        (["list", "--"], ["--help", "--many", "--unframed"]),
         (["calls", "--m"], ["--memo"]),
         (["calls", "--f"], ["--first", "--full"]),
-        (["debug", "--"], ["--help", "--many", "--save", "--window"]),
+        (["debug", "--"], ["--help", "--many", "--save", "--unframed", "--window"]),
         (["scan", "--sar"], ["--sarif"]),
         (["one.pickle", "--j"], ["--jobs", "--json"]),
         (["scan", "--allow", "torch"], ["torch", "torch-modules"]),

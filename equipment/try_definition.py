@@ -4,7 +4,7 @@
     try_definition.py [--crates FOLDER] [--odd] SEED COUNT [PICKLE..]
 
 The unpickler in Python is compared with `load_bytes` of crates/pickle_loader/specs, one load of it with `load_way`, frames ignored, and one
-that loads again and again with `load_way`, frames buffered; those in C with `c_load_way`, frames ignored, and buffered or, where one loads
+that loads again and again with `load_framed`; those in C with `c_load_way`, frames ignored, and buffered or, where one loads
 again, held. COUNT pickles are made by load_cases.py from the seed and from the real pickles. The pickles that are given come before them, and
 with --odd the rows of oddities.txt. With --crates the definition is that of another folder of crates. What is printed is JSON: what was
 tried, and what differs.
@@ -36,7 +36,6 @@ SEED = 1
 EACH = 500
 MOST_SHOWN = 3
 STACK = 256 << 20
-MOST_BYTES = 3000
 ENCODINGS = ("latin-1", "latin-1", "ASCII", "bytes")
 # The unpicklers in C, and how they read frames.
 READERS = {"C from bytes": "Ignored", "C from BytesIO": "Buffered", "C from a buffered file": "Ignored"}
@@ -44,15 +43,13 @@ READERS = {"C from bytes": "Ignored", "C from BytesIO": "Buffered", "C from a bu
 
 @dataclass
 class Tally:
-    """How much was tried: `same` loads did all that the definition does, `cut` ones went on behind a key at which it is left, and the others
-    raised before it, as `early` says."""
+    """How much was tried: `same` loads did all that the definition does, and the others raised before it, as `early` says."""
 
     cases: int = 0
     loads: int = 0
     acts: int = 0
     stops: int = 0
     same: int = 0
-    cut: int = 0
     early: collections.Counter[str] = field(default_factory=collections.Counter)
     different: list[str] = field(default_factory=list)
 
@@ -65,8 +62,6 @@ class Tally:
             self.different.append(f"{what}, {encoding}, {record.plan}: {found.why}: {case.hex()}")
         elif found.is_all:
             self.same += 1
-        elif run.is_cut:
-            self.cut += 1
         else:
             self.early[record.end] += 1
 
@@ -87,7 +82,7 @@ def try_case(definition: Definition, tally: Tally, case: bytes, kind: str, plan:
         first = definition.way(case, plan, encoding, "First", "Ignored")
         tally.add("Python, one load", case, first, load("Python", case, plan, encoding, "First"), encoding)
     else:
-        read = definition.way(case, plan, encoding, pickles, "Buffered")
+        read = definition.by_frames(case, plan, encoding, pickles)
         tally.add("Python, one unpickler", case, read, load("Python", case, plan, encoding, pickles), encoding)
     readers = {name: "Held" if kind == "kept" and frames == "Buffered" else frames for name, frames in READERS.items()}
     runs = {frames: definition.in_c(case, plan, encoding, pickles, frames) for frames in set(readers.values())}
@@ -128,7 +123,7 @@ def main() -> None:
     parser.add_argument("count", type=int)
     parser.add_argument("pickles", type=pathlib.Path, nargs="*")
     words = parser.parse_args()
-    given = [data for data in (path.read_bytes() for path in words.pickles) if 0 < len(data) <= MOST_BYTES]
+    given = [path.read_bytes() for path in words.pickles]
     if words.odd:
         given += [row.data for row in loads.oddities()]
     resource.setrlimit(resource.RLIMIT_AS, (MOST_MEMORY, MOST_MEMORY))

@@ -80,16 +80,26 @@ def run(*words: 'str | Path', at: Path | None = None) -> str:
     return done.stdout.decode()
 
 
+def installed(package: str) -> str:
+    """The version of a package of Debian that is installed, or nothing."""
+    if shutil.which('dpkg-query') is None:
+        return ''
+    asked = subprocess.run(['dpkg-query', '-W', '-f', '${Version}', package], capture_output=True, text=True, check=False)
+    return asked.stdout if asked.returncode == 0 else ''
+
+
 def check_tools() -> str:
-    """The versions of the packages, a line each. (That of the toolchain stands beside the first program.)"""
+    """The versions of the packages, a line each. (That of the toolchain stands beside the first program.) Another version is told before
+    one that is missing: it makes other programs."""
+    found = {name: installed(name) for name in PACKAGES}
+    for name, wanted in PACKAGES.items():
+        if found[name] not in ('', wanted):
+            raise Fault(f"Debian's {name} is {found[name]}, and the released sums are of {wanted}: run equipment/install_targets")
+    for name, wanted in PACKAGES.items():
+        if not found[name]:
+            raise Fault(f"Debian's {name} {wanted} is not installed: run equipment/install_targets")
     if not CLANG.exists():
         raise Fault(f'the toolchain is not in {KIT}')
-    for name, wanted in PACKAGES.items():
-        asked = subprocess.run(['dpkg-query', '-W', '-f', '${Version}', name], capture_output=True, text=True, check=False)
-        if asked.returncode != 0 or not asked.stdout:
-            raise Fault(f"Debian's {name} {wanted} is not installed: run equipment/install_targets")
-        if asked.stdout != wanted:
-            raise Fault(f"Debian's {name} is {asked.stdout}, and the released sums are of {wanted}: run equipment/install_targets")
     return ''.join(f'{name} {version}\n' for name, version in PACKAGES.items())
 
 

@@ -18,6 +18,7 @@ import struct
 import sys
 import tarfile
 import zipfile
+import zlib
 from collections.abc import Callable
 from dataclasses import dataclass, field
 from pathlib import Path
@@ -31,6 +32,10 @@ ROWS = re.compile(r'^ *\((\d+), (b"(?:[^"\\]|\\.)*"), "([^"]*)"\),$', re.MULTILI
 COUNT = re.compile(r"CONTAINERS: \[.*; (\d+)\]")
 # What comes behind the bytes of a row, which makes a whole container of none of them.
 ENDINGS = (bytes(600), b"\x08" + bytes(600), b"\xff" * 600)
+# Files of other forms begin so too: scan takes for such a file what can be unpacked.
+UNPACKED = ("an lzma file", "a zlib file", "a zlib file of joblib")
+# The levels at which zlib begins so.
+LEVELS = {b"\x78\x01": 1, b"\x78\x5e": 5, b"\x78\x9c": 6, b"\x78\xda": 9}
 
 
 def zip_archive() -> bytes:
@@ -65,14 +70,17 @@ def database(path: Path) -> bytes:
     return content
 
 
-# A whole container of each kind that Python's own library makes, with a pickle in it.
-WHOLE: dict[str, Callable[[], bytes]] = {
-    "a zip archive": zip_archive,
-    "a gzip file": lambda: gzip.compress(HOSTILE),
-    "a .npy file": array_of_objects,
-    "a bzip2 file": lambda: bz2.compress(HOSTILE),
-    "an xz file": lambda: lzma.compress(HOSTILE),
-    "a tar archive": tar_archive,
+# A whole container of each kind that Python's own library makes, with a pickle in it, by what it begins with.
+WHOLE: dict[str, Callable[[bytes], bytes]] = {
+    "a zip archive": lambda magic: zip_archive(),
+    "a gzip file": lambda magic: gzip.compress(HOSTILE),
+    "a .npy file": lambda magic: array_of_objects(),
+    "a bzip2 file": lambda magic: bz2.compress(HOSTILE),
+    "an xz file": lambda magic: lzma.compress(HOSTILE),
+    "a tar archive": lambda magic: tar_archive(),
+    "an lzma file": lambda magic: lzma.compress(HOSTILE, lzma.FORMAT_ALONE),
+    "a zlib file": lambda magic: zlib.compress(HOSTILE, LEVELS[magic]),
+    "a zlib file of joblib": lambda magic: b"ZF" + hex(len(HOSTILE)).ljust(19).encode() + zlib.compress(HOSTILE),
 }
 
 
@@ -111,10 +119,10 @@ class Begins:
         folder = self.room.folder / "begins"
         folder.mkdir()
         for number, kind in enumerate(self.kinds):
-            for which, ending in enumerate(ENDINGS):
+            for which, ending in enumerate(() if kind.name in UNPACKED else ENDINGS):
                 (folder / f"{number}-{which}").write_bytes(bytes(kind.offset) + kind.magic + ending)
             if kind.name in WHOLE:
-                (folder / f"{number}-whole").write_bytes(WHOLE[kind.name]())
+                (folder / f"{number}-whole").write_bytes(WHOLE[kind.name](kind.magic))
             elif kind.name == "an SQLite file":
                 (folder / f"{number}-whole").write_bytes(database(folder / "database"))
         return folder

@@ -15,8 +15,8 @@ from .trial import Trial
 
 COMMAND = "    $ "
 MARGIN = "    "
-PAGES = ("docs/USING.md", "equipment/conversations.txt", "equipment/calls.txt")
-BLOCK = re.compile(r"^ *pickles?( [0-9a-f ]+)?$", re.MULTILINE)
+PAGES = ("docs/USING.md", "equipment/conversations.txt", "equipment/texts.txt", "equipment/calls.txt")
+BLOCK = re.compile(r"^ *(?:pickles?|unframed)(?: [0-9a-f ]+)?$", re.MULTILINE)
 
 
 def examples_of(page: str) -> Iterator[tuple[str, str]]:

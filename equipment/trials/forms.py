@@ -1,4 +1,4 @@
-"""What picklers write is in form: the program says so of pickles of this Python's picklers, and of real files."""
+"""What picklers write is in form: the program says so of pickles of this Python's picklers, and of real files. Other batches are told."""
 
 from __future__ import annotations
 
@@ -20,7 +20,7 @@ from .trial import Noted, Trial
 IN_FORM = b"in form\n"
 PROTOCOLS = range(pickle.HIGHEST_PROTOCOL + 1)
 # The sizes at which picklers take another opcode, begin a batch, or write without a frame.
-SIZES = (0, 1, 2, 3, 4, 255, 256, 257, 999, 1000, 1001, 2001, 65535, 65536, 70000)
+SIZES = (0, 1, 2, 3, 4, 255, 256, 257, 999, 1000, 1001, 1002, 2000, 2001, 65535, 65536, 70000)
 NUMBERS = (0, 1, -1, 255, 256, 65535, 65536, 2**31 - 1, 2**31, -(2**31), -(2**31) - 1, 2**63, -(2**63), 2**2039, 2**2040, -(10**700))
 FLOATS = (0.0, -0.0, 1.0, 0.1, 1e15, 1e16, 1e22, 1e-5, 5e-324, 1.7e308, -2.5e-10, float("inf"), float("-inf"), float("nan"))
 TEXTS = ("", "a", "a\\b", "a\nb", "\0\r\x1a", "é\xff", "\u20ac", "\U0001f600", "\ud800", "it's \"so\"", "\\u0041")
@@ -35,6 +35,26 @@ class Node:
 
 class Tupled(tuple):  # type: ignore[type-arg]
     """A tuple of a class of its own."""
+
+
+class Listed(list):  # type: ignore[type-arg]
+    """A list of a class of its own."""
+
+
+class Mapped(dict):  # type: ignore[type-arg]
+    """A dictionary of a class of its own."""
+
+
+class Keyed:
+    """An object that is made with keywords."""
+
+    def __new__(cls, *values: object, **keywords: object) -> Keyed:
+        made = object.__new__(cls)
+        made.__dict__["count"] = len(keywords)
+        return made
+
+    def __getnewargs_ex__(self) -> tuple[tuple[int, ...], dict[str, int]]:
+        return (1, 2), {f"k{key}": key for key in range(self.__dict__["count"])}
 
 
 class Set(Node):
@@ -74,6 +94,8 @@ def values() -> Iterator[object]:
         yield ["x" * size, b"y" * size, bytearray(b"z" * size)] * 2
         if size <= 2001:
             yield [list(range(size)), tuple(range(size)), {key: str(key) for key in range(size)}, set(range(size)), [Node(key) for key in range(size)]]
+            yield [Listed(range(size)), Mapped({key: [key] for key in range(size)}), frozenset(range(size)), collections.deque(range(size))]
+            yield [collections.OrderedDict.fromkeys(range(size)), Keyed(**{f"k{key}": key for key in range(size)}), *[(key,) * (key % 6) for key in range(size)]]
     yield [[str(key) * 5 for key in range(5000)], b"large" * 20000, [str(key) * 5 for key in range(5000)], b"large" * 20000]
     yield from recursive()
 
@@ -87,6 +109,25 @@ def written(pickler: Callable[..., Any], value: object, protocol: int) -> bytes:
 def optimized(value: object, protocol: int) -> bytes:
     return pickletools.optimize(pickle.dumps(value, protocol))
 
+
+FULL = b"N" * 1000
+BATCH = "items that picklers give in another number at once"
+FILLED = "items or a state for what picklers give none"
+# Beginnings and ends around a thousand items or more, in protocol 3, and the reason if no pickler writes that.
+BATCHES: tuple[tuple[bytes, str], ...] = (
+    (b"](" + FULL + b"e", ""),
+    (b"](" + FULL + b"eNa", ""),
+    (b"](" + FULL + b"e(Ne", ""),
+    (b"](" + FULL + b"e(e", BATCH),
+    (b"](" + FULL + b"Ne", BATCH),
+    (b"](" + FULL + b"e(NeNa", FILLED),
+    (b"}(" + 2 * FULL + b"u", ""),
+    (b"}(" + 2 * FULL + b"uNNs", ""),
+    (b"}(" + 2 * FULL + b"u(NNu", ""),
+    (b"}(" + 2 * FULL + b"u(u", ""),
+    (b"}(" + 2 * FULL + b"u(u(u", FILLED),
+    (b"}(" + 2 * FULL + b"NNu", BATCH),
+)
 
 WAYS: dict[str, Callable[[object, int], bytes]] = {
     "in C": pickle.dumps,
@@ -119,7 +160,19 @@ def fault_of_files(room: Room) -> Noted:
     return Noted(f"not in form: {wrong}" if wrong or not files else "", f": {len(files)} files")
 
 
+def fault_of_batches(room: Room) -> Noted:
+    room.folder.mkdir(parents=True, exist_ok=True)
+    path = room.folder / "form.pickle"
+    for number, (opcodes, reason) in enumerate(BATCHES):
+        path.write_bytes(b"\x80\x03" + opcodes + b".")
+        answer = said(room, path)
+        if answer != IN_FORM if not reason else not answer.endswith(f": {reason}\n".encode()):
+            return Noted(f"batch {number}: {answer!r}", "")
+    return Noted("", f": {len(BATCHES)} pickles")
+
+
 def trials(room: Room) -> list[Trial]:
     """A trial for each pickler, and one of files."""
     made = [Trial(f"what a pickler writes {name} is in form", functools.partial(fault_of_way, room, way)) for name, way in WAYS.items()]
+    made.append(Trial("a batch has at most a thousand items", functools.partial(fault_of_batches, room)))
     return [*made, Trial("real pickles of each protocol are in form", functools.partial(fault_of_files, room))]

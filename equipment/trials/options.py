@@ -23,6 +23,12 @@ WINDOWS = (
         for count in (1, 2, 3, 1_000_000)
     ),
     Row(
+        "back past a window, unframed",
+        ("debug", "--unframed", "--window", "1", "doubled.pickle"),
+        "goto 3\nback\nback\nstack\n",
+        output="at 3\nat 2\nat 1\nstack #0\n",
+    ),
+    Row(
         "back past a window",
         ("debug", "--window", "1", "doubled.pickle"),
         "goto 3\nback\nback\nstack\n",
@@ -72,6 +78,17 @@ SAVES = (
         "run\n",
         output="at 4: end, stopped\n",
         saved=("window.pickle", "doubled.pickle"),
+    ),
+    saves(
+        "an unframed pickle saved from a window",
+        "dump.pickle",
+        "unframed.pickle",
+        "--unframed",
+        "--window",
+        "1",
+        "dump.pickle",
+        "--save",
+        "unframed.pickle",
     ),
     saves(
         "options before the file",

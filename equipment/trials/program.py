@@ -161,6 +161,22 @@ CONVERSATIONS = (
     Row("a conversation", ("debug", "doubled.pickle"), STEPS, status=1, output=STEPS_TOLD),
     Row("a conversation without a line", ("debug", "doubled.pickle")),
     Row(
+        "lines with returns and tabs, the last without its end",
+        ("debug", "popped.pickle"),
+        "step\r\n\tstep\t\nstep",
+        output="at 1\nat 2\nat 3\n",
+    ),
+    Row("lines of blanks", ("debug", "none.pickle"), "\n \t\r\n\nstack\n \r\t", output="stack\n"),
+    Row("a number between blanks", ("debug", "none.pickle"), f"\tgoto  {1:040} \n", output="at 1\n"),
+    Row("a quit without its end", ("debug", "none.pickle"), "step\nquit", output="at 1\n"),
+    Row(
+        "signs that are no blanks",
+        ("debug", "none.pickle"),
+        "goto\x0b1\ngoto 1\x0c\nSTEP\n\x0bstep\nstep\x0c\nst\x00ep\nfly 1\ngoto1\n",
+        status=1,
+        output=UNKNOWN + "refused: X3 bad number\n" + UNKNOWN * 6,
+    ),
+    Row(
         "a conversation of 100,000 lines",
         ("debug", "long.pickle"),
         "step\nback\n" * MANY,
@@ -234,6 +250,7 @@ WORDS = (
 
 FILE_HELP = "Arguments:\n  <FILE>  the pickle\n"
 MANY_HELP = "read FILE as pickles that follow one another: go on after each STOP"
+UNFRAMED_HELP = "take FRAME for an opcode like others, as a pickle needs that was cut off"
 WHAT_EACH_DOES = (
     ("list", "Lists the opcodes of FILE with their offsets and arguments"),
     ("objects", "Prints the objects that the opcodes of FILE make, and which of them is the result"),
@@ -242,8 +259,8 @@ WHAT_EACH_DOES = (
     ("form", "Says whether FILE is a pickle in the form that picklers write, else where it is not and why"),
 )
 OPTIONS = {
-    "list": (("    --many", MANY_HELP),),
-    "objects": (("    --many", MANY_HELP),),
+    "list": (("    --many", MANY_HELP), ("    --unframed", UNFRAMED_HELP)),
+    "objects": (("    --many", MANY_HELP), ("    --unframed", UNFRAMED_HELP)),
     "form": (("    --many", "changes nothing: FILE is to be one pickle"),),
     "calls": (
         ("    --many", "changes nothing: all pickles of FILE are read without it too"),
@@ -254,6 +271,7 @@ OPTIONS = {
     ),
     "debug": (
         ("    --many", MANY_HELP),
+        ("    --unframed", UNFRAMED_HELP),
         ("    --window <N>", "keep the records of the latest N steps; to go back further, run from the start again"),
         ("    --save <OUT>", "write the pickle to OUT after the last line"),
     ),

@@ -44,6 +44,8 @@ SMALL = {
     "dump.pickle": BREAKPOINTS[0],
     "cut_short.pickle": b"X\x05\0\0\0ab",
     "empty.pickle": b"",
+    "none.pickle": b"N.",
+    "popped.pickle": b"NN0.",
     "long.pickle": b"N" * 2_000_000 + b".",
 }
 

@@ -12,9 +12,9 @@ What is public is imported when it is first used: the entrance starts faster, an
 __version__ = '1.0.0'
 
 __all__ = ['Answer', 'Argument', 'Brief', 'Briefs', 'Call', 'Calls', 'Change', 'Difference', 'End', 'Extension', 'Global', 'Heap', 'Item',
-           'Items', 'Listing', 'Mark', 'Name', 'NoResult', 'NotAllowed', 'Object', 'Objects', 'Opcode', 'OutOfMemory', 'Part',
+           'Items', 'Listing', 'Mark', 'Name', 'NoResult', 'NotAllowed', 'Object', 'Objects', 'Opcode', 'OtherForm', 'OutOfMemory', 'Part',
            'PicklestepError', 'PlainValue', 'ProgramError', 'PythonSource', 'Ran', 'Reach', 'Reached', 'Ref', 'Refused',
-           'Session', 'Shown', 'ShownObjects', 'TimedOut', 'TooLarge', 'Value', 'Where', 'calls', 'check', 'compare', 'listing',
+           'Session', 'Shown', 'ShownObjects', 'TimedOut', 'TooLarge', 'Value', 'Where', 'calls', 'check', 'compare', 'form', 'listing',
            'objects', 'source', 'tree']
 
 TYPE_CHECKING = False  # (`typing` would be an import)
@@ -23,11 +23,11 @@ if TYPE_CHECKING:
     from .comparing import Difference, compare
     from .errors import NoResult, NotAllowed, OutOfMemory, PicklestepError, ProgramError, Refused, TimedOut, TooLarge
     from .python_source import PythonSource, source
-    from .records import (Argument, Brief, Briefs, Change, End, Extension, Global, Item, Mark, Name, Object, Opcode, Ran, Reach, Ref, Shown,
-                          Value, Where)
+    from .records import (Argument, Brief, Briefs, Change, End, Extension, Global, Item, Mark, Name, Object, Opcode, OtherForm, Ran, Reach, Ref,
+                          Shown, Value, Where)
     from .scan.checking import check
     from .session import Session
-    from .tasks import calls, listing, objects
+    from .tasks import calls, form, listing, objects
     from .trees import Call, tree
     from .values import PlainValue
 

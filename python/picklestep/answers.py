@@ -7,9 +7,9 @@ import re
 from array import array
 from functools import cached_property
 from itertools import chain
-from typing import ClassVar, Dict, Iterator, List, Optional, Pattern, Sequence, Tuple, TypeVar, Union, overload
+from typing import Any, ClassVar, Iterator, List, Optional, Sequence, Tuple, TypeVar, Union, overload
 
-from . import texts
+from . import reaches, texts
 from .records import End, Item, Object, Opcode, Reach, Shown
 
 __all__ = ['Answer', 'Calls', 'Heap', 'Items', 'Listing', 'Objects', 'Part', 'Reached', 'ShownObjects']
@@ -31,17 +31,13 @@ class Answer(Sequence[Line]):
     '    0: N    NONE\\n    1: .    STOP\\nhighest protocol among opcodes = 0\\n'
     """
 
-    _line: ClassVar[Pattern[str]]
+    _lines: ClassVar['texts.LineReader[Any]']
     _what: ClassVar[str] = 'lines'
 
     def __init__(self, text: str, refused_at: Optional[int] = None) -> None:
         self.text = text
         self._span = (0, len(text))  # where its lines are in the text
         self._refused_at = refused_at  # the offset of a refused opcode, where the text does not show it
-
-    def _read(self, match: 're.Match[str]') -> Line:
-        """What a line of the text says."""
-        raise NotImplementedError
 
     @cached_property
     def _starts(self) -> 'array[int]':
@@ -55,7 +51,7 @@ class Answer(Sequence[Line]):
         >>> [match[0] for match in picklestep.objects(b'N.').matches()]
         ['#0 none']
         """
-        return self._line.finditer(self.text, *self._span)
+        return self._lines.pattern.finditer(self.text, *self._span)
 
     def __len__(self) -> int:
         return len(self._starts)
@@ -72,19 +68,20 @@ class Answer(Sequence[Line]):
         return self._at(self._starts[index])
 
     def _at(self, start: int) -> Line:
-        match = self._line.match(self.text, start)
+        match = self._lines.pattern.match(self.text, start)
         assert match is not None
-        return self._read(match)
+        line: Line = self._lines.read(match)
+        return line
 
     def __iter__(self) -> Iterator[Line]:
-        return map(self._read, self.matches())
+        return map(self._lines.read, self.matches())
 
     @cached_property
-    def _closing(self) -> Dict[str, str]:
-        """The closing lines, by their words. A line of which only a part was looked at is none of them."""
+    def _closing(self) -> texts.Closing:
+        """The closing lines. A line of which only a part was looked at is none of them."""
         start, end = self._span
         lines = self.text[max(start, end - _TAIL):end].split('\n')
-        return texts.closing_of(lines[1 if end - start > _TAIL else 0:-1])
+        return texts.Closing(texts.closing_of(lines[1 if end - start > _TAIL else 0:-1]))
 
     def _summary(self) -> str:
         return f'{len(self)} {self._what}'
@@ -110,11 +107,8 @@ class Listing(Answer[Opcode]):
     ('NONE', 2, 'stopped', 0)
     """
 
-    _line = texts.OPCODE
+    _lines = texts.OPCODES
     _what = 'opcodes'
-
-    def _read(self, match: 're.Match[str]') -> Opcode:
-        return texts.opcode_at(match)
 
     @cached_property
     def end(self) -> End:
@@ -124,10 +118,7 @@ class Listing(Answer[Opcode]):
         >>> picklestep.listing(b'N0.').end
         End(how='refused', code='S2', text='S2 stack underflow', offset=2, item=2)
         """
-        if 'refused' in self._closing:
-            code = self._closing['refused']
-            return End('refused', code.partition(' ')[0], code, self[-1].offset, len(self) - 1)
-        return texts.end_of(self._closing.get('fault', 'stopped'))
+        return self._closing.end_of_listing(lambda: (self[-1].offset, len(self) - 1))
 
     @property
     def protocol(self) -> Optional[int]:
@@ -137,8 +128,7 @@ class Listing(Answer[Opcode]):
         >>> picklestep.listing(b']K\\x01a.').protocol, picklestep.listing(b'').protocol
         (1, None)
         """
-        text = self._closing.get('highest protocol among opcodes')
-        return None if text is None else int(text)
+        return self._closing.protocol
 
     @property
     def kept(self) -> int:
@@ -148,7 +138,7 @@ class Listing(Answer[Opcode]):
         >>> picklestep.listing(b'N.N.').kept, picklestep.listing(b'N.N.', many=True).kept
         (2, 0)
         """
-        return _first_number(self._closing.get('kept', '0'))
+        return self._closing.kept
 
     @property
     def left(self) -> List[Tuple[int, int]]:
@@ -158,7 +148,7 @@ class Listing(Answer[Opcode]):
         >>> picklestep.listing(b'NN(N.').left
         [(2, 1)]
         """
-        return [(int(match[1]), int(match[2])) for match in texts.LEFT.finditer(self.text)]
+        return texts.left_in(self.text)
 
     def _summary(self) -> str:
         return f'{len(self)} opcodes, {self.end.text}'
@@ -173,11 +163,8 @@ class Heap(Answer[Object]):
     (1, 'none')
     """
 
-    _line = texts.OBJECT
+    _lines = texts.OBJECTS
     _what = 'objects'
-
-    def _read(self, match: 're.Match[str]') -> Object:
-        return texts.object_of(match[0])
 
 
 class Objects(Heap):
@@ -197,7 +184,7 @@ class Objects(Heap):
         >>> picklestep.objects(b'N0.').end
         End(how='refused', code='S2', text='S2 stack underflow', offset=2, item=2)
         """
-        return _end_of(self._closing, self._refused_at)
+        return self._closing.end(self._refused_at)
 
     @cached_property
     def results(self) -> Tuple[int, ...]:
@@ -207,8 +194,7 @@ class Objects(Heap):
         >>> picklestep.objects(b'NN\\x86.]K\\x07a.', many=True).results
         (2, 3)
         """
-        after = self.text.rfind('\n#') + 1
-        return tuple(int(match[1]) for match in texts.RESULT.finditer(self.text, after))
+        return texts.results_in(self.text, self.text.rfind('\n#') + 1)
 
     def _summary(self) -> str:
         return f'{len(self)} objects, {self.end.text}'
@@ -222,18 +208,12 @@ class Reached(Answer[Reach]):
     True
     """
 
-    _line = texts.REACHED
-
-    def _read(self, match: 're.Match[str]') -> Reach:
-        return texts.reach_of(match[0])
+    _lines = reaches.REACHES
 
     @cached_property
     def _totals(self) -> Tuple[int, int]:
         start, end = self._span
-        match = texts.COUNTS.search(self.text, max(start, end - _TAIL), end)
-        if match is None:
-            raise texts.LinesError(self.text[-_TAIL:])
-        return int(match[1]), int(match[2])
+        return reaches.counts_in(self.text, max(start, end - _TAIL), end)
 
     @property
     def imports(self) -> int:
@@ -263,7 +243,7 @@ class Reached(Answer[Reach]):
         >>> picklestep.calls(b'cos\\ngetcwd\\nR.').end
         End(how='refused', code='S2', text='S2 stack underflow', offset=11, item=1)
         """
-        return _end_of(self._closing, self._refused_at)
+        return self._closing.end(self._refused_at)
 
     def _summary(self) -> str:
         return f'{self.imports} imports, {self.calls} calls, {self.end.text}'
@@ -295,11 +275,11 @@ class Calls(Reached):
 
     def __init__(self, text: str, refused_at: Optional[int] = None) -> None:
         super().__init__(text, refused_at)
-        headings = list(texts.HEADING.finditer(text))
-        ends = [heading.start() for heading in headings[1:]] + [len(text)]
-        self._parts = tuple(Part(text, heading[1], heading.end() + 1, end) for heading, end in zip(headings, ends))
+        headings = reaches.headings_in(text)
+        ends = [heading.start for heading in headings[1:]] + [len(text)]
+        self._parts = tuple(Part(text, heading.words, heading.end + 1, end) for heading, end in zip(headings, ends))
         if headings:
-            self._span = (0, headings[0].start())
+            self._span = (0, headings[0].start)
 
     @property
     def parts(self) -> Tuple[Part, ...]:
@@ -339,7 +319,7 @@ class Calls(Reached):
         >>> picklestep.calls(b'N.cos\\ngetcwd\\n.', first=True).kept
         12
         """
-        return _first_number(self._closing.get('kept', '0'))
+        return self._closing.kept
 
 
 class Items(Answer[Item]):
@@ -351,11 +331,8 @@ class Items(Answer[Item]):
     ['NONE', 'STOP']
     """
 
-    _line = texts.ITEM
+    _lines = texts.ITEMS
     _what = 'items'
-
-    def _read(self, match: 're.Match[str]') -> Item:
-        return texts.item_at(match)
 
 
 class ShownObjects(Answer[Shown]):
@@ -367,24 +344,5 @@ class ShownObjects(Answer[Shown]):
     (3, [1, 0])
     """
 
-    _line = texts.SHOWN
+    _lines = texts.SHOWN
     _what = 'lines'
-
-    def _read(self, match: 're.Match[str]') -> Shown:
-        content = texts.object_of(match[2] + match[3]) if match[3] else None
-        return Shown(int(match[1]), int(match[2][1:]), content)
-
-
-def _end_of(closing: Dict[str, str], refused_at: Optional[int]) -> End:
-    """How reading ended, by the closing lines. Those of a part say it behind one word more."""
-    ends = closing.get('ends', '')
-    word, _, words = ends.partition(': ')
-    if 'refused' in closing or word == 'refused':
-        return texts.end_of_item(closing.get('refused', words), refused_at)
-    return texts.end_of(closing.get('fault') or closing.get('unsure') or words or 'stopped')
-
-
-def _first_number(text: str) -> int:
-    return int(text.partition(' ')[0])
-
-

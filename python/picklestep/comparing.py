@@ -40,8 +40,10 @@ class Difference:
         return f'{self.path}: {self.old} -> {self.new}' if self.how == 'changed' else f'{self.path}: {self.how} {self.old}{self.new}'
 
 
-def compare(old: Source, new: Source, *, many: bool = False, timeout: Optional[float] = None, memory: Optional[int] = None) -> List[Difference]:
+def compare(old: Source, new: Source, *, many: bool = False, unframed: bool = False, timeout: Optional[float] = None,
+            memory: Optional[int] = None) -> List[Difference]:
     r"""What two pickles differ in, in the order of the paths that lead there: none where the results are equal.
+    `many` and `unframed` are as for `tree`.
 
     Raises NoResult where one of them cannot be read to its STOP.
 
@@ -50,7 +52,7 @@ def compare(old: Source, new: Source, *, many: bool = False, timeout: Optional[f
     ['a'][1]: 2 -> 5
     ['a'][2]: added 6
     """
-    pair = [tree(pickle, many=many, timeout=timeout, memory=memory) for pickle in (old, new)]
+    pair = [tree(pickle, many=many, unframed=unframed, timeout=timeout, memory=memory) for pickle in (old, new)]
     return list(_differences(*pair))
 
 

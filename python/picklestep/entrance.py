@@ -7,6 +7,7 @@ So this file imports only what an interpreter has loaded when it starts (`from _
 a module for `python -m picklestep` and for pip's `picklestep`, and a script (`python -I entrance.py`) for the rest.
 """
 
+import io
 import os
 import sys
 
@@ -124,14 +125,79 @@ def _further_places() -> 'list[str]':
     return [path for path in named if os.path.isdir(path) and not os.path.samestat(os.stat(path), here)]
 
 
+# --- Its standard streams ---
+
+class _Unwritten(Exception):
+    """What standard output does not take. It is no OSError, so that no word takes it for a fault of its files."""
+
+
+class _Output(io.FileIO):
+    """Standard output, or standard error, whose failures nobody could read of. After the first write that fails it takes all, so that the end
+    of Python has nothing to say about it."""
+
+    has_failed = False
+
+    def write(self, data: 'bytes') -> int:  # type: ignore[override]
+        if self.has_failed:
+            return len(data)
+        try:
+            return super().write(data) or 0
+        except OSError as error:
+            self.has_failed = True
+            if self.fileno() == 2:
+                return len(data)
+            if isinstance(error, BrokenPipeError):  # (its reader has left, which `scan` answers in its way)
+                raise
+            raise _Unwritten(error.strerror) from None
+
+
+def _open_streams() -> None:
+    """Opens what is closed of the descriptors 0 to 2, for what is opened next (a pipe to the program) would be in its place. Reading from it
+    and writing to it fail as before."""
+    for number, way in enumerate((os.O_WRONLY, os.O_RDONLY, os.O_RDONLY)):
+        try:
+            os.fstat(number)
+        except OSError:
+            opened = os.open(os.devnull, way)
+            if opened == number:
+                os.set_inheritable(opened, True)
+    if sys.stdin is None:
+        sys.stdin = open(0, encoding='utf-8', closefd=False)
+    sys.stdout = _output(1, sys.stdout) or sys.stdout
+    sys.stderr = _output(2, sys.stderr) or sys.stderr
+
+
+def _output(number: int, now: 'object') -> 'io.TextIOWrapper | None':
+    """What takes the place of a stream, which is None where its descriptor is closed. None where the stream stays, as a console of Windows does."""
+    encoding, errors, is_by_lines = 'utf-8', 'backslashreplace', number == 2
+    if now is not None:
+        if not isinstance(now, io.TextIOWrapper) or type(getattr(now.buffer, 'raw', now.buffer)) is not io.FileIO:
+            return None
+        encoding, errors, is_by_lines = now.encoding, now.errors or 'strict', now.line_buffering or now.write_through
+    return io.TextIOWrapper(io.BufferedWriter(_Output(number, 'w', closefd=False)), encoding, errors, line_buffering=is_by_lines)
+
+
+def _finish(words: 'list[str]') -> int:
+    """Does what the words say, and writes all that is to be written: the one place that says it where this cannot be."""
+    try:
+        try:
+            return main(words)
+        finally:
+            sys.stdout.flush()
+    except (_Unwritten, BrokenPipeError) as error:
+        return _complain(f'cannot write: {getattr(error, "strerror", None) or error}')
+
+
 def run() -> None:
     """The entry point of pip's `picklestep`."""
-    sys.exit(main(sys.argv[1:]))
+    _open_streams()
+    sys.exit(_finish(sys.argv[1:]))
 
 
 def run_scan() -> None:
     """The entry point of pip's `picklestep-scan`, the older name of `picklestep scan`."""
-    sys.exit(main(['scan', *sys.argv[1:]]))
+    _open_streams()
+    sys.exit(_finish(['scan', *sys.argv[1:]]))
 
 
 if __name__ == '__main__':

@@ -13,6 +13,8 @@ def reason(error: Exception) -> str:
     """What is wrong, in the words of the command line: of a file that cannot be read, which and why."""
     if isinstance(error, OSError) and error.filename is not None:
         return f'cannot read {shown(str(error.filename))}: {error.strerror}'
+    if isinstance(error, BrokenPipeError):  # (the reader of standard output has left)
+        return f'cannot write: {error.strerror}'
     return str(error)
 
 

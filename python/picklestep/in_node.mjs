@@ -1,7 +1,7 @@
 // node in_node.mjs LIBRARY PAGES: answers another process by the library as a module, of at most so many pages of memory. A request on
-// standard input is a line `FUNCTION MODES LENGTHS` and so many bytes for each input (what comes before them is in MODES, or -, with commas as
-// in LENGTHS), its answer a line `ANSWER SIZE` and SIZE bytes. An instance whose memory grew is left after its answer, since a memory never
-// shrinks. It ends with its input.
+// standard input is a line `FUNCTION OPTIONS INPUTS` and the bytes of each input: OPTIONS has the number that comes before them, or -, and INPUTS,
+// with commas between them, how many bytes each has and, behind a slash, of how many of them its length counts one. Its answer is a line `ANSWER
+// SIZE` and SIZE bytes. An instance whose memory grew is left after its answer, since a memory never shrinks. It ends with its input.
 import { readFileSync, readSync, writeSync } from 'node:fs';
 import { setFlagsFromString } from 'node:v8';
 
@@ -51,17 +51,17 @@ let library = null, least = 0;
 // The arguments that say where the inputs are, or null where there is no room for them.
 function put(inputs) {
     const given = [];
-    for (const content of inputs) {
+    for (const { content, size } of inputs) {
         const place = library.take(BigInt(content.length + 1));
         if (!place) return null;
         new Uint8Array(library.memory.buffer).set(content, Number(place));
-        given.push(place, BigInt(content.length));
+        given.push(place, BigInt(content.length / size));
     }
     return given;
 }
 
 // The answer is read before the next one is asked for. What an answer that is none has taken goes with its instance.
-function ask(name, modes, inputs) {
+function ask(name, options, inputs) {
     if (!library) {
         library = new WebAssembly.Instance(module, {}).exports;
         least = library.memory.buffer.byteLength;
@@ -71,7 +71,7 @@ function ask(name, modes, inputs) {
     for (let room = 1 << 16; ; ) {
         const out = library.take(BigInt(room));
         if (!out) return OUT_OF_MEMORY;
-        const answer = library[name](...modes, ...given, out, BigInt(room), written);
+        const answer = library[name](...options, ...given, out, BigInt(room), written);
         const size = Number(new DataView(library.memory.buffer).getBigUint64(Number(written), true));
         const text = answer ? OUT_OF_MEMORY.text : new Uint8Array(library.memory.buffer).slice(Number(out), Number(out) + size);
         library.give(out);
@@ -86,9 +86,14 @@ function ask(name, modes, inputs) {
 
 const numbers = (word) => (word === '-' ? [] : word.split(',').map(Number));
 
+function readInput(word) {
+    const [length, size] = word.split('/').map(Number);
+    return { content: readBytes(length), size };
+}
+
 for (;;) {
-    const [name, modes, lengths] = readLine().split(' ');
-    const { answer, text } = ask(name, numbers(modes), numbers(lengths).map(readBytes));
+    const [name, options, inputs] = readLine().split(' ');
+    const { answer, text } = ask(name, numbers(options), inputs.split(',').map(readInput));
     if (answer || library.memory.buffer.byteLength > least + MOST_KEPT) library = null;
     writeAll(Buffer.concat([Buffer.from(`${answer} ${text.length}\n`), text]));
 }

@@ -8,11 +8,12 @@ import os
 import threading
 import weakref
 from pathlib import Path
-from typing import Optional, Tuple
+from typing import Optional
 
 from .errors import ProgramError
 from .place import node_path
 from .program import Process
+from .question import Question
 
 __all__ = ['InNode']
 
@@ -35,11 +36,11 @@ class _Link:
         self._held = bytearray()
         self.owner = os.getpid()
 
-    def ask(self, function: str, modes: Tuple[bool, ...], inputs: Tuple[bytes, ...]) -> Optional[bytes]:
+    def ask(self, asked: Question) -> Optional[bytes]:
         """The text, where it can be had in its memory. Raises EOFError or OSError where the process is gone."""
-        before = ','.join(str(int(mode)) for mode in modes) or '-'
-        sizes = ','.join(str(len(content)) for content in inputs)
-        data = f'{function} {before} {sizes}\n'.encode('ascii') + b''.join(inputs)
+        options = ','.join(map(str, asked.options)) or '-'
+        sizes = ','.join(f'{len(content)}/{size}' for content, size in asked.inputs)
+        data = f'{asked.function} {options} {sizes}\n'.encode('ascii') + b''.join(content for content, _ in asked.inputs)
         while data:
             data = data[os.write(self.process.stdin, data):]
         while b'\n' not in self._held:
@@ -83,13 +84,13 @@ class InNode:
         """A new lock. (In a copy of this process, which fork made, nobody would give back the one that a thread had.)"""
         self._turn = threading.Lock()
 
-    def ask(self, function: str, modes: Tuple[bool, ...], inputs: Tuple[bytes, ...], memory: int) -> Optional[bytes]:
+    def ask(self, asked: Question, memory: int) -> Optional[bytes]:
         """The text, or None where it cannot be had in that memory, which is the same for all, or where Node does not answer."""
         if memory < self._most:
             return None
         with self._turn:
             try:
-                return self._open().ask(function, modes, inputs)
+                return self._open().ask(asked)
             except (EOFError, OSError, ValueError, ProgramError):
                 self._close()
                 return None

@@ -11,14 +11,15 @@ import ctypes
 import os
 import threading
 from functools import lru_cache
-from typing import Any, Callable, Dict, List, Optional, Sequence, Tuple, Union, cast
+from typing import Any, Callable, List, Optional, Sequence, Union, cast
 
 from . import place
 from .errors import ProgramError
 from .in_node import InNode
 from .place import find_library, find_program, is_module
+from .question import FUNCTIONS, Question, question, question_of_edits
 
-__all__ = ['EDITED', 'MOST_BYTES', 'WORDS', 'answer', 'edited']
+__all__ = ['MOST_BYTES', 'answer', 'edited']
 
 # Inputs up to this size are asked about here. For a larger one the start of the program is a small part of its time.
 MOST_BYTES = 1 << 16
@@ -30,26 +31,6 @@ _OF_PROGRAM = 8 << 20
 _ROOM = 1 << 16
 
 _DONE, _NO_ROOM = 0, 3
-
-# The functions for the words of the program, and what comes before their other arguments. With other words the program is asked.
-WORDS: Dict[Tuple[str, ...], Tuple[str, Tuple[bool, ...]]] = {
-    ('list',): ('picklestep_list', (False,)),
-    ('list', '--many'): ('picklestep_list', (True,)),
-    ('objects',): ('picklestep_objects', (False,)),
-    ('objects', '--many'): ('picklestep_objects', (True,)),
-    ('calls',): ('picklestep_calls', ()),
-    ('calls', '--first'): ('picklestep_calls_first', ()),
-    ('calls', '--memo', 'kept'): ('picklestep_calls_one_memo', ()),
-}
-
-# The functions for the same words about a pickle as the lines of a conversation leave it.
-EDITED: Dict[Tuple[str, ...], str] = {
-    ('list',): 'picklestep_edited_list',
-    ('objects',): 'picklestep_edited_objects',
-    ('calls',): 'picklestep_edited_calls',
-    ('calls', '--first'): 'picklestep_edited_calls_first',
-    ('calls', '--memo', 'kept'): 'picklestep_edited_calls_one_memo',
-}
 
 
 class _Written(ctypes.Structure):
@@ -74,16 +55,15 @@ class _Library:
 
     def __init__(self, path: str) -> None:
         library = ctypes.CDLL(path)
-        self._limit: Callable[[int], None] = library.picklestep_limit_memory
-        library.picklestep_limit_memory.argtypes = [ctypes.c_size_t]
-        library.picklestep_limit_memory.restype = None
-        names = [(name, len(first), 1) for name, first in WORDS.values()] + [(name, 1, 2) for name in EDITED.values()]
-        self._functions = {name: _declared(library, name, modes, inputs) for name, modes, inputs in names}
+        self._limit: Any = library.picklestep_limit_memory
+        self._limit.argtypes = [ctypes.c_size_t]
+        self._limit.restype = None
+        self._functions = {name: _declared(library, name, *counts) for name, counts in FUNCTIONS.items()}
 
-    def ask(self, name: str, modes: Tuple[bool, ...], inputs: Tuple[bytes, ...], memory: int) -> Optional[bytes]:
+    def ask(self, asked: Question, memory: int) -> Optional[bytes]:
         """The text, where it can be had in so much memory."""
-        function = self._functions[name]
-        given = (*modes, *(part for content in inputs for part in (content, len(content))))
+        function = self._functions[asked.function]
+        given = (*asked.options, *(part for content, size in asked.inputs for part in (_aligned(content, size), len(content) // size)))
         out: Any = _room.out
         written = _room.written
         self._limit(memory)
@@ -94,13 +74,18 @@ class _Library:
         return ctypes.string_at(out, written.size) if answer == _DONE else None
 
 
-def _declared(library: ctypes.CDLL, name: str, modes: int, inputs: int) -> Callable[..., int]:
-    """A function of the library, with its types: so many modes and so many inputs come before the room for the text."""
+def _declared(library: ctypes.CDLL, name: str, options: int, inputs: int) -> Callable[..., int]:
+    """A function of the library, with its types: so many options and so many inputs come before the room for the text."""
     function: Any = getattr(library, name)
     given: List[Any] = [ctypes.c_char_p, ctypes.c_size_t] * inputs
-    function.argtypes = [*[ctypes.c_bool] * modes, *given, ctypes.c_void_p, ctypes.c_size_t, ctypes.POINTER(_Written)]
+    function.argtypes = [*[ctypes.c_uint32] * options, *given, ctypes.c_void_p, ctypes.c_size_t, ctypes.POINTER(_Written)]
     function.restype = ctypes.c_uint8
     return cast(Callable[..., int], function)
+
+
+def _aligned(content: bytes, size: int) -> Any:
+    """An input where the numbers in it may stand. (What is in bytes may stand anywhere.)"""
+    return content if size == 1 else ctypes.create_string_buffer(content)
 
 
 @lru_cache(maxsize=None)
@@ -124,28 +109,23 @@ def answer(words: Sequence[str], content: bytes, memory: Optional[int] = None) -
     >>> answer(['calls'], b'N' * 100_000) is None
     True
     """
-    if tuple(words) not in WORDS:
-        return None
-    function, modes = WORDS[tuple(words)]
-    return _ask(function, modes, (content,), memory)
+    return _ask(question(words, content), memory)
 
 
-def edited(words: Sequence[str], many: bool, content: bytes, script: bytes, memory: Optional[int] = None) -> Optional[bytes]:
+def edited(words: Sequence[str], many: bool, unframed: bool, content: bytes, script: bytes, memory: Optional[int] = None) -> Optional[bytes]:
     """What the program writes about the bytes that the lines of a script leave of these, in a conversation about one pickle or `many`. None where
     the program has to be asked.
 
-    >>> edited(['calls'], False, b'N' * 100_000, b'') is None
+    >>> edited(['calls'], False, False, b'N' * 100_000, b'') is None
     True
     """
-    name = tuple(word for word in words if word != '--many')
-    is_read_so = words[0] == 'calls' or many == ('--many' in words)  # (a listing is read as the conversation is)
-    return _ask(EDITED[name], (many,), (content, script), memory) if is_read_so and name in EDITED else None
+    return _ask(question_of_edits(words, many, unframed, content, script), memory)
 
 
-def _ask(function: str, modes: Tuple[bool, ...], inputs: Tuple[bytes, ...], memory: Optional[int]) -> Optional[bytes]:
+def _ask(asked: Optional[Question], memory: Optional[int]) -> Optional[bytes]:
     """What the library answers, if there is one and it is to be asked about so many bytes in so much memory."""
     most = _MOST_MEMORY if memory is None else min(_MOST_MEMORY, memory - _OF_PROGRAM)
-    if most <= 0 or sum(map(len, inputs)) > MOST_BYTES:
+    if asked is None or most <= 0 or sum(len(content) for content, _ in asked.inputs) > MOST_BYTES:
         return None
     library = _library(os.environ.get('PICKLESTEP_PROGRAM'), place._HERE)
-    return None if library is None else library.ask(function, modes, inputs, most)
+    return None if library is None else library.ask(asked, most)

@@ -6,13 +6,13 @@ lines whose offsets have as many digits begin their codes in the same column, so
 
 from __future__ import annotations
 
-from typing import AnyStr, Dict, Iterator, List, Optional, Tuple
+from typing import AnyStr, Dict, Iterator, List, Optional, Sequence, Tuple
 
 from .errors import ProgramError
 from .program import Process
 from .records import End
 from .sources import Input
-from .texts import CLOSING_BEGINS, end_of
+from .texts import end_of
 
 __all__ = ['Listed', 'in_columns', 'offset_of']
 
@@ -23,53 +23,63 @@ class Listed:
     A refused opcode is in no batch, since it does nothing; `refused` is its line then.
     """
 
-    def __init__(self, given: Input, many: bool = False, timeout: Optional[float] = None, memory: Optional[int] = None) -> None:
-        words = ['list', given.path, *(['--many'] if many else [])]
-        self._blocks = Process(words, given.files, memory).blocks(timeout)
+    def __init__(self, given: Input, words: Sequence[str] = (), timeout: Optional[float] = None, memory: Optional[int] = None) -> None:
+        """Starts a listing; `words` say how the input is read."""
+        self._blocks = Process(['list', given.path, *words], given.files, memory).blocks(timeout)
+        self._many = '--many' in words
         self._closing: Dict[str, str] = {}
         self._is_whole = False
         self.refused = ''
         self.places = 0
 
-    def batches(self) -> Iterator[Tuple[int, List[str]]]:
-        """Lines, and the column in which their codes begin. A line of what STOP left comes in no batch."""
+    def batches(self) -> Iterator[Tuple[int, str]]:
+        """The text of lines, each with its newline, and the column in which their codes begin. A line of what STOP left comes in no batch."""
         parts: List[bytes] = []  # of the line that is not at its end
-        held = ''
+        held = ''  # (the last line may be refused, which only the next one says)
         for block in self._blocks:
             whole, newline, rest = block.rpartition(b'\n')
             if not newline:
                 parts.append(rest)
                 continue
-            text = b''.join([*parts, whole]).decode('ascii')
+            text = held + b''.join([*parts, whole, newline]).decode('ascii')
             parts = [rest]
-            lines = [held, *text.split('\n')] if held else text.split('\n')
-            if text[0].isalpha() or CLOSING_BEGINS.search(text):
-                lines = self._without_closing(lines)
-            held = lines.pop() if lines else ''  # (it may be refused, which only the next line says)
-            yield from self._in_columns(lines)
+            last = text.rfind('\n', 0, -1) + 1
+            if text[last].isalpha() or self._many and '\nleft: ' in text:
+                text = self._without_closing(text)
+                last = text.rfind('\n', 0, -1) + 1
+            held = text[last:]
+            yield from self._in_columns(text[:last])
         if any(parts) or not self._is_whole:
             raise ProgramError('the program gave no whole answer')
         if 'refused' in self._closing:
             self.refused = held
             self.places += 1
-        elif held:
-            yield from self._in_columns([held])
+        else:
+            yield from self._in_columns(held)
 
-    def _without_closing(self, lines: List[str]) -> List[str]:
+    def _without_closing(self, text: str) -> str:
         """The lines of opcodes. What else there is, is kept by its words."""
         found = []
-        for line in lines:
+        for line in text.split('\n'):
             if line[:1].isalpha():
-                word, _, text = line.partition(' = ' if line.startswith('highest') else ': ')
-                self._closing[word] = text
+                word, _, rest = line.partition(' = ' if line.startswith('highest') else ': ')
+                self._closing[word] = rest
                 self._is_whole = self._is_whole or word not in ('left', 'kept')
             else:
                 found.append(line)
-        return found
+        return '\n'.join(found)
 
-    def _in_columns(self, lines: List[str]) -> Iterator[Tuple[int, List[str]]]:
-        self.places += len(lines)
-        return in_columns(lines, ':')
+    def _in_columns(self, text: str) -> Iterator[Tuple[int, str]]:
+        if not text:
+            return
+        self.places += text.count('\n')
+        last = text.rfind('\n', 0, -1) + 1
+        column = text.index(':') + 2
+        if text.index(':', last) + 2 - last == column:
+            yield column, text
+        else:
+            for column, lines in in_columns(text[:-1].split('\n'), ':'):
+                yield column, '\n'.join(lines) + '\n'
 
     @property
     def end(self) -> End:

@@ -1,8 +1,8 @@
 """What can be kept of a pickle that is cut off or damaged, as a pickle that reads to its STOP.
 
-Frames that do not fit are taken away, bytes that are no opcodes are cut off, and a STOP is added. What was under way is closed as picklers close
-it: what stands above a mark goes into the list, set or dictionary below the mark, else into a tuple. Nothing is called, and no state is given, that
-the pickle had not called and given by then.
+Frames that do not fit are taken away, a protocol that there is not is replaced, bytes that are no opcodes are cut off, and a STOP is added. What was
+under way is closed as picklers close it: what stands above a mark goes into the list, set or dictionary below the mark, else into a tuple. Nothing is
+called, and no state is given, that the pickle had not called and given by then.
 
 The edits are those of a session, so it is the proved program that makes them and says how the pickle ends.
 """
@@ -16,15 +16,14 @@ from .answers import Heap
 from .errors import PicklestepError
 from .records import Mark, Object
 from .session import Session
-from .sources import Source
-from .tasks import listing
+from .sources import Source, content_of
+from .tasks import ending, listing
+from .texts import FRAME_SIZE
 
 __all__ = ['Mended', 'TooCrooked', 'mended']
 
 # A pickle with more frames that do not fit, or more places to cut, is not mended.
 _MOST_ROUNDS = 200
-# The code of FRAME and its argument.
-_FRAME_SIZE = 9
 # So many objects are dropped one by one; more than these together with all down to the mark.
 _MOST_DROPPED = 1000
 # So many objects are looked at to see whether one can be a key.
@@ -32,6 +31,11 @@ _MOST_LOOKED_AT = 10_000
 
 # The faults of frames.
 _OF_FRAMES = ('F6', 'F7', 'F8')
+# The refusal of a PROTO whose protocol is above the highest, the protocol that has this opcode, and its size.
+_OF_PROTOCOL = 'S6'
+_HIGHEST = 5
+_OF_PROTO = 2
+_PROTO_SIZE = 2
 
 _UNHASHABLE = ('list', 'dict', 'set', 'bytearray')
 _FILLERS = {'list': 'APPENDS', 'set': 'ADDITEMS', 'dict': 'SETITEMS', 'append': 'APPENDS', 'add': 'ADDITEMS', 'set in': 'SETITEMS'}
@@ -63,34 +67,29 @@ def mended(source: Source) -> Mended:
     9: STOP added
     9: APPENDS added: 2 objects into list #0
     """
-    with Session(source) as session:
-        content = session.bytes()
+    content = content_of(source)
     steps: List[str] = []
     is_cut = False
     for _ in range(_MOST_ROUNDS):
-        with Session(content) as session:
-            fault = _fault(session)
-            if fault is None:
-                return Mended(_closed(session, steps) if is_cut else content, tuple(steps))
-        code, offset, text = fault
+        end = ending(content)
+        if end.code is None or end.offset is None:
+            return Mended(_closed(content, steps) if is_cut else content, tuple(steps))
+        code, offset, text = end.code, end.offset, end.text
         if code in _OF_FRAMES:
             content = _without_frame(content, offset, text, code == 'F8', steps)
+        elif code == _OF_PROTOCOL:
+            content = _with_protocol(content, offset, text, steps)
         else:
-            content, is_cut = _cut(content, offset, text, steps), True
+            content, is_cut = _cut(content, offset, f'refused, {text}' if end.how == 'refused' else text, steps), True
     raise TooCrooked(f'it has more than {_MOST_ROUNDS} faults')
 
 
-def _fault(session: Session) -> Optional[Tuple[str, int, str]]:
-    """What is wrong: a code, the offset, and the program's words. None where the pickle reads to a STOP."""
-    where = session.where()
-    end = where.end
-    if end.code not in _OF_FRAMES and where.places:
-        ran = session.run()
-        if ran.why == 'refused':
-            return 'S', session.where().offset, ran.text
-    if end.code is None or end.offset is None:
-        return None
-    return end.code, end.offset, end.text
+def _with_protocol(content: bytes, offset: int, text: str, steps: List[str]) -> bytes:
+    """The bytes with a PROTO that loaders know: of the protocol that the opcodes need. (Without one, names would be those of Python 2.)"""
+    known = content[:offset + 1] + bytes([_HIGHEST]) + content[offset + _PROTO_SIZE:]
+    protocol = listing(known).protocol or _OF_PROTO
+    steps.append(f'{offset}: PROTO {content[offset + 1]} replaced by PROTO {protocol}: {text}')
+    return content[:offset + 1] + bytes([protocol]) + content[offset + _PROTO_SIZE:]
 
 
 def _without_frame(content: bytes, offset: int, text: str, is_crossed: bool, steps: List[str]) -> bytes:
@@ -98,9 +97,9 @@ def _without_frame(content: bytes, offset: int, text: str, is_crossed: bool, ste
     if is_crossed:
         lines = listing(content)
         offset = next(opcode.offset for opcode in map(lines.__getitem__, range(len(lines) - 1, -1, -1)) if opcode.name == 'FRAME')
-    length = int.from_bytes(content[offset + 1:offset + _FRAME_SIZE], 'little')
+    length = int.from_bytes(content[offset + 1:offset + FRAME_SIZE], 'little')
     steps.append(f'{offset}: FRAME {length} taken away: {text}')
-    return content[:offset] + content[offset + _FRAME_SIZE:]
+    return content[:offset] + content[offset + FRAME_SIZE:]
 
 
 def _cut(content: bytes, offset: int, text: str, steps: List[str]) -> bytes:
@@ -112,17 +111,18 @@ def _cut(content: bytes, offset: int, text: str, steps: List[str]) -> bytes:
     return content[:offset] + b'N.'
 
 
-def _closed(session: Session, steps: List[str]) -> bytes:
-    """The pickle of a session that ends in NONE and STOP which were added, with what was under way closed."""
-    place = session.where().places - 2
-    session.goto(place)
-    closing = _Closing(session, place, steps)
-    if closing.close():
-        session.delete(closing.place)
-    ran = session.run()
-    if ran.why != 'end':
-        raise PicklestepError(f'what was under way cannot be closed: {ran.text}')
-    return session.bytes()
+def _closed(content: bytes, steps: List[str]) -> bytes:
+    """A pickle that ends in NONE and STOP which were added, with what was under way closed."""
+    with Session(content) as session:
+        place = session.where().places - 2
+        session.goto(place)
+        closing = _Closing(session, place, steps)
+        if closing.close():
+            session.delete(closing.place)
+        ran = session.run()
+        if ran.why != 'end':
+            raise PicklestepError(f'what was under way cannot be closed: {ran.text}')
+        return session.bytes()
 
 
 class _Closing:

@@ -36,6 +36,7 @@ __all__ = ['Process', 'find_program', 'run_program']
 _BLOCK = 1 << 20  # (also of a pipe where the system lets it be so large: fewer turns between the program and its reader)
 _HAS_MASKS = hasattr(signal, 'pthread_sigmask')  # (Windows has none)
 _HAS_POLL = hasattr(select, 'poll')  # (nor this)
+_GROUP: int = getattr(subprocess, 'CREATE_NEW_PROCESS_GROUP', 0)  # (Windows has these: Ctrl-C comes to none but the first)
 _HAS_LIFELINES = hasattr(fcntl, 'F_SETSIG')
 _LIMITED = ['/bin/sh', '-c', 'ulimit -v "$1" && shift && exec "$@"', 'sh']
 
@@ -71,7 +72,7 @@ class Process:
         try:
             self._popen = subprocess.Popen(command, stdin=subprocess.PIPE if stdin else subprocess.DEVNULL, stdout=subprocess.PIPE,
                                            stderr=subprocess.PIPE, bufsize=0, pass_fds=(*files, near) if _HAS_LIFELINES else tuple(files),
-                                           env=environment)
+                                           env=environment, creationflags=_GROUP)
             if _HAS_LIFELINES:
                 _end_with(near, self._popen.pid)
             _widen(self.stdout)

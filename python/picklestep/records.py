@@ -8,8 +8,8 @@ from typing import Any, Dict, Optional, Tuple, Union
 
 from .values import PLAIN_KINDS, Argument, PlainValue, argument_value, kind_value
 
-__all__ = ['Argument', 'Brief', 'Briefs', 'Change', 'End', 'Extension', 'Global', 'Item', 'Mark', 'Name', 'Object', 'Opcode', 'Ran',
-           'Reach', 'Ref', 'Shown', 'Value', 'Where']
+__all__ = ['Argument', 'Brief', 'Briefs', 'Change', 'End', 'Extension', 'Global', 'Item', 'Mark', 'Name', 'Object', 'Opcode',
+           'OtherForm', 'Ran', 'Reach', 'Ref', 'Shown', 'Value', 'Where']
 
 _SLOTS: Dict[str, Any] = {'slots': True} if sys.version_info >= (3, 10) else {}
 
@@ -43,6 +43,24 @@ class End:
         (True, False)
         """
         return self.how == 'stopped'
+
+    def __reduce__(self) -> Tuple[Any, ...]:
+        # (What a dataclass with slots does for this asks for its fields each time; `scan` hands over one for each pickle.)
+        return End, (self.how, self.code, self.text, self.offset, self.item)
+
+
+@dataclass(frozen=True, **_SLOTS)
+class OtherForm:
+    """Where a pickle is first in another form than picklers write, and why. `item` counts the opcodes before that, `offset` the bytes.
+
+    >>> import picklestep
+    >>> picklestep.form(b'](Ne.')
+    OtherForm(item=3, offset=3, reason='items that picklers give in another number at once')
+    """
+
+    item: int
+    offset: int
+    reason: str
 
 
 @dataclass(frozen=True, **_SLOTS)

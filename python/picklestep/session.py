@@ -18,7 +18,7 @@ from .errors import ProgramError, Refused, TimedOut
 from .program import Process, run_program
 from .records import Mark, Ran, Ref, Where
 from .sources import Input, OwnFile, Source, is_word
-from .tasks import AskedOfEdits, calls_of, listing_of
+from .tasks import AskedOfEdits, calls_of, frames_of, listing_of, modes
 
 __all__ = ['Session']
 
@@ -152,19 +152,20 @@ class Session(contextlib.AbstractContextManager['Session']):
 
     A place counts the opcodes before it; `at` names it by its offset in the pickle as it is. What the program refuses raises `Refused`,
     and the session is as it was before. With `window`, only that many steps are remembered to go back by; unless memory runs out the
-    answers are the same. `timeout` is in seconds for each line, and `memory` the most bytes of address space that the program may take.
+    answers are the same. `unframed` is as for `listing`; frames are not edited then. `timeout` is in seconds for each line, and `memory` the
+    most bytes of address space that the program may take.
 
     >>> with Session(b'cos\\ngetcwd\\n)R.') as session:
     ...     session.run().why, session.show(2)[0].object.kind
     ('end', 'call')
     """
 
-    def __init__(self, source: Source, window: Optional[int] = None, many: bool = False, *, timeout: Optional[float] = None,
-                 memory: Optional[int] = None) -> None:
+    def __init__(self, source: Source, window: Optional[int] = None, many: bool = False, *, unframed: bool = False,
+                 timeout: Optional[float] = None, memory: Optional[int] = None) -> None:
         self._limits = (timeout, memory)
         self._input = Input(source, own=True)
-        self._many = many
-        self._words = ['debug', self._input.path, *(['--many'] if many else [])]
+        self._many, self._unframed = many, unframed
+        self._words = ['debug', self._input.path, *modes(many, unframed)]
         try:
             talk = _Talk(Process([*self._words, *(['--window', str(index(window))] if window is not None else [])], self._input.files,
                                  memory, stdin=True), timeout)
@@ -433,22 +434,25 @@ class Session(contextlib.AbstractContextManager['Session']):
         (0, 'BININT1')
         """
         with self._asked() as asked:
-            return listing_of(asked, self._many)
+            return listing_of(asked, self._many, self._unframed)
 
     def calls(self, *, first: bool = False, memo_kept: bool = False, full: bool = False) -> Calls:
-        """What the pickle with the edits that are not undone imports and calls, as `picklestep.calls` tells it.
+        """What the pickle with the edits that are not undone imports and calls, as `picklestep.calls` tells it; of a pickle
+        that is read unframed without its FRAMEs.
 
         >>> with Session(b'.') as session:
         ...     session.insert(0, 'GLOBAL', 'os', 'getcwd'), session.calls()[0].text
         (0, "import 'os' 'getcwd' as #0")
         """
         with self._asked() as asked:
-            return calls_of(asked, first, memo_kept, full)
+            skip = frames_of(asked, not first) if self._unframed else ()
+            return calls_of(asked, first, memo_kept, full, skip)
 
     def _asked(self) -> AskedOfEdits:
         if not self._finalizer.alive:
             raise ValueError('the session is closed')
-        return AskedOfEdits(self._input.small_content(library.MOST_BYTES), self._many, b''.join(self._talk.edits()), self.bytes, *self._limits)
+        content = self._input.small_content(library.MOST_BYTES)
+        return AskedOfEdits(content, self._many, self._unframed, b''.join(self._talk.edits()), self.bytes, *self._limits)
 
     def save(self, path: Union[str, 'os.PathLike[str]']) -> None:
         """Writes the pickle with the edits that are not undone into a file, which may be the one that was opened.

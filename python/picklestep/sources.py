@@ -5,12 +5,12 @@ from __future__ import annotations
 import os
 import stat
 import tempfile
-from typing import Any, Optional, Protocol, Sequence, Union
+from typing import Any, Iterator, Optional, Protocol, Sequence, Union
 
 from .errors import ProgramError
 from .place import find_program, is_module
 
-__all__ = ['LIMIT', 'Input', 'OwnFile', 'Source', 'is_word', 'opens_descriptors', 'small_content']
+__all__ = ['LIMIT', 'Input', 'OwnFile', 'Source', 'content_of', 'is_word', 'opens_descriptors', 'small_content']
 
 class Readable(Protocol):
     """A binary file object, as far as it is needed."""
@@ -107,6 +107,19 @@ def small_content(source: Source, most: int) -> Optional[bytes]:
     return view.tobytes() if view.nbytes <= most else None
 
 
+def content_of(source: Source) -> bytes:
+    """The bytes of a source, up to one past the program's limit. Raises what `open` raises.
+
+    >>> content_of(bytearray(b'N.'))
+    b'N.'
+    """
+    if isinstance(source, (str, os.PathLike)):
+        with open(source, 'rb') as file:
+            return file.read(LIMIT + 1)
+    content: Any = source
+    return b''.join(_blocks(content)) if hasattr(content, 'read') else memoryview(content).tobytes()
+
+
 def _try(path: 'Union[str, os.PathLike[str]]') -> None:
     """Raises what `open` raises where a path cannot be opened. A FIFO is not opened twice: its writer would see that as its end."""
     mode = os.stat(path).st_mode
@@ -181,11 +194,17 @@ def _write_all(file: int, data: memoryview) -> None:
 
 
 def _copy(source: Readable, file: int) -> None:
-    """Copies what a file object gives, up to one byte past the program's limit."""
+    """Copies what a file object gives."""
+    for block in _blocks(source):
+        _write_all(file, block)
+
+
+def _blocks(source: Readable) -> Iterator[memoryview]:
+    """What a file object gives, up to one byte past the program's limit."""
     left = LIMIT + 1
     while left:
         block = memoryview(source.read(min(left, _BLOCK)))
         if not block:
             return
-        _write_all(file, block)
+        yield block
         left -= len(block)

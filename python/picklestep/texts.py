@@ -1,63 +1,74 @@
-"""The program's texts, read: quoted texts, numbers, names, and whole lines."""
+"""The program's texts, read: quoted texts, numbers, names, and whole lines. The lines of `calls` are in `reaches`.
+
+No other module has a pattern of them. What reads one line is a function `.._of`; what finds lines in a text is named by what it finds.
+"""
 
 from __future__ import annotations
 
 import re
 import struct
-from dataclasses import replace
-from typing import Callable, Dict, List, Optional, Sequence, Tuple, Union
+from dataclasses import dataclass
+from itertools import islice
+from typing import Callable, Dict, Generic, Iterator, List, NamedTuple, Optional, Pattern, Sequence, Set, Tuple, TypeVar, Union
 
-from .records import (Argument, Brief, Briefs, Change, End, Extension, Global, Item, Mark, Name, Object, Opcode, Reach, Ref, Value, Where)
+from .records import Argument, Change, End, Item, Mark, Object, Opcode, OtherForm, Ref, Shown, Where
 
-__all__ = ['BROKEN', 'CLOSING_BEGINS', 'COUNTS', 'GIVEN', 'HEADING', 'HELD', 'IN_HEADINGS', 'ITEM', 'LEFT', 'LinesError', 'MADE', 'NAME_AND_NUMBER',
-           'OBJECT', 'OFFSET', 'OFFSET_IN_BYTES', 'OPCODE', 'QUOTED', 'QUOTED_OR_NUMBER', 'REACHED', 'READONLY', 'RESULT', 'SHOWN', 'closing_of',
-           'container_in', 'holding', 'memo_of', 'object_of', 'opcode_of', 'reach_of', 'stack_of', 'stored_under', 'unquoted', 'where_of',
-           'with_offset']
+__all__ = ['Closing', 'FRAME_SIZE', 'HELD', 'MOST_OFFSET', 'HeldObject', 'ITEMS', 'ItemLine', 'Line', 'LineReader', 'LinesError', 'NAMED_BY_TEXTS', 'NUMBER',
+           'OBJECTS', 'OFFSET_IN_BYTES', 'OPCODES', 'QUOTED', 'SHOWN', 'as_made', 'begins_with_offset', 'broken_places', 'closing_of', 'container_in',
+           'end_of', 'frames_in', 'held_in', 'holding', 'item_line_of', 'left_in', 'line_of', 'lines_with_offsets', 'memo_of', 'number_of', 'object_of',
+           'offset_of_item', 'opcode_of', 'other_form', 'readonly_count', 'results_in', 'stack_of', 'stored_under', 'unquoted', 'where_of']
+
+Record = TypeVar('Record')
 
 QUOTED = r"'[^'\\]*(?:\\.[^'\\]*)*'"
-_NUMBER = r'-?[0-9]+|le:[0-9a-f]*|f8:[0-9a-f]{16}'
-_ATOM = re.compile(f'({QUOTED})|({_NUMBER})')
+NUMBER = r'-?[0-9]+|le:[0-9a-f]*|f8:[0-9a-f]{16}'
+_ATOM = re.compile(f'({QUOTED})|({NUMBER})')
 _OBJECT = re.compile(r'#([0-9]+) ([a-z-]+)')
 _PARTS = re.compile(r' \((#[^)]*)\)')
 _CHANGE = re.compile(r' (?:([+&!])#([0-9]+)|\[#([0-9]+)\]=#([0-9]+))')
 _CHANGES = {'+': 'append', '&': 'add', '!': 'state'}
-# What is under these headings the strict reading does not reach.
-HEADING = re.compile(r'^(a loader(?: that buffers frames| that keeps its buffer)? may go on):$', re.MULTILINE)
-# Each heading has these words, and hardly any other line.
-IN_HEADINGS = ' may go on:\n'
-COUNTS = re.compile(r'^([0-9]+) imports, ([0-9]+) calls$', re.MULTILINE)
-# A line of `calls`: its offset, its text and first word, and the name in it where the module is in quotes.
-REACHED = re.compile(rf"^ *([0-9]+): ((\w+)(?: ((?:raw )?{QUOTED} (?:(?:raw )?{QUOTED}|#[0-9]+)))?.*)$", re.MULTILINE)
-# A line with an offset, and its text; what may be the number of an object in that, beside texts.
-OFFSET = re.compile(r'^ *([0-9]+): (.*)$', re.MULTILINE)
-QUOTED_OR_NUMBER = re.compile(rf'{QUOTED}|#([0-9]+)')
-# In a listing: the beginning of an opcode's line, its name with the whole number that follows it, and where a closing line begins (that of an
-# opcode begins with a blank or a digit).
+# A line with an offset, and its text.
+_WITH_OFFSET = re.compile(r'^ *([0-9]+): (.*)$', re.MULTILINE)
+# In a listing: the beginning of an opcode's line.
 OFFSET_IN_BYTES = re.compile(rb'^ *([0-9]+): ', re.MULTILINE)
-NAME_AND_NUMBER = re.compile(rb'[ 0-9]*: \S+ +(\S+)(?: +(?:\(as )?([0-9]+)\)?)?.*\n')
-CLOSING_BEGINS = re.compile('\n[a-z]')
+# The most bytes of the beginning of an opcode's line, the code of FRAME behind it, and how many bytes that opcode has.
+MOST_OFFSET = 20
+_FRAME = b': \\x95 '
+FRAME_SIZE = 9
 # Lines of `objects`, `items` and `show`, and closing lines of which there may be several.
-OBJECT = re.compile(r'^#.*$', re.MULTILINE)
-ITEM = re.compile(r'^([> ])([* ]) *([0-9]+) +([0-9]+): ([A-Z][A-Z0-9_]*)(?: (.*))?$', re.MULTILINE)
-SHOWN = re.compile(r'^([0-9]+) (#[0-9]+)( .*)?$', re.MULTILINE)
-LEFT = re.compile(r'^left: ([0-9]+) objects, ([0-9]+) marks$', re.MULTILINE)
-RESULT = re.compile(r'^result #([0-9]+)$', re.MULTILINE)
-# The place of an item that has a breakpoint; the object that a line of `calls` makes, and the one that it makes or that is given something.
-BROKEN = re.compile(r'^[> ]\* *([0-9]+) ', re.MULTILINE)
-MADE = re.compile(' as #([0-9]+)$')
-GIVEN = re.compile(r' (?:as|to|in) #([0-9]+)$')
-# In lines of `objects`, as bytes: what an object holds (in parentheses what it was made of, then what was put in), and the beginning of a view.
+_OBJECT_LINE = re.compile(r'^#.*$', re.MULTILINE)
+_ITEM = re.compile(r'^([> ])([* ]) *([0-9]+) +([0-9]+): ([A-Z][A-Z0-9_]*)(?: (.*))?$', re.MULTILINE)
+_SHOWN = re.compile(r'^([0-9]+) (#[0-9]+)( .*)?$', re.MULTILINE)
+_LEFT = re.compile(r'^left: ([0-9]+) objects, ([0-9]+) marks$', re.MULTILINE)
+_RESULT = re.compile(r'^result #([0-9]+)$', re.MULTILINE)
+# The place of an item that has a breakpoint.
+_BROKEN = re.compile(r'^[> ]\* *([0-9]+) ', re.MULTILINE)
+# In lines of `objects`, as bytes: what an object holds (in parentheses what it was made of, then what was put in), the beginning of a view,
+# and an import by two texts. (In a text what was put in is all that is behind its beginning.)
 HELD = re.compile(rb'([ (+&!=]|\[)#([0-9]+)')
-READONLY = re.compile(rb'^#[0-9]+ readonly ', re.MULTILINE)
+_PUT_IN = re.compile(r' (?:[+&!]#|\[#).*')
+_HOW = {b'+': 'append', b'&': 'add', b'!': 'state', b'[': 'key', b'=': 'value'}
+_READONLY = re.compile(rb'^#[0-9]+ readonly ', re.MULTILINE)
+NAMED_BY_TEXTS = re.compile(rb'^#([0-9]+) stack-global \(#([0-9]+) #([0-9]+)\)', re.MULTILINE)
+_OTHER_FORM = re.compile(r'not in form: item ([0-9]+) at ([0-9]+): (.*)\n')
 _CONTAINER = re.compile(r'^begins like an? (.*): picklestep scan looks into it$', re.MULTILINE)
 _CLOSING = re.compile(r'(?:it (?=ends: ))?(refused|fault|unsure|left|kept|ends): (.*)|(highest protocol among opcodes) = (.*)|result #.*|'
                       r'[0-9]+ imports, .*|begins like .*')
 _WHERE = re.compile(r'at ([0-9]+) of ([0-9]+), offset ([0-9]+), buffers ([0-9]+), result (none|#[0-9]+(?: #[0-9]+)*), end (.*)')
 
 
-def holding(number: int) -> 're.Pattern[bytes]':
-    """Where lines of `objects` name this object, as bytes."""
-    return re.compile(rb'[ (+&![=]#%d(?![0-9])' % number)
+def other_form(text: str) -> Optional[OtherForm]:
+    """What the answer of `form` says, or None where the pickle is in the form.
+
+    >>> other_form('not in form: item 0 at 0: a number that has a shorter form\\n').offset
+    0
+    """
+    if text == 'in form\n':
+        return None
+    match = _OTHER_FORM.fullmatch(text)
+    if match is None:
+        raise LinesError('no answer of form')
+    return OtherForm(int(match[1]), int(match[2]), match[3])
 
 
 def stored_under(answer: str, key: int) -> Optional[int]:
@@ -68,11 +79,6 @@ def stored_under(answer: str, key: int) -> Optional[int]:
     """
     found = re.search(f' {key}=#([0-9]+)', answer)
     return None if found is None else int(found[1])
-
-
-def with_offset(end: End, offset: int) -> End:
-    """An end of reading with another offset, also in its text."""
-    return replace(end, offset=offset, text=re.sub(rf'(?<= at ){end.offset}$', str(offset), end.text))
 
 
 class LinesError(ValueError):
@@ -124,14 +130,13 @@ def opcode_of(line: str) -> Opcode:
     >>> opcode_of("   11: c        GLOBAL     'os' 'getcwd'")
     Opcode(offset=11, code=b'c', name='GLOBAL', argument=(b'os', b'getcwd'), note='', marks=1)
     """
-    match = OPCODE.match(line)
+    match = _OPCODE.match(line)
     if match is None:
         raise LinesError(line)
-    return opcode_at(match)
+    return _opcode_at(match)
 
 
-def opcode_at(match: 're.Match[str]') -> Opcode:
-    """The opcode of a line that matched."""
+def _opcode_at(match: 're.Match[str]') -> Opcode:
     offset, code, name, number, rest = match.groups()
     argument: Argument = None
     note = ''
@@ -141,16 +146,43 @@ def opcode_at(match: 're.Match[str]') -> Opcode:
         argument, end = _argument(rest, 0)
         if end < len(rest):
             note = rest[end:].strip(' ()')
-    return Opcode(int(offset), _CODES[code], name, argument, note, (match.start(3) - match.end(1) - 7) >> 2)
+    return Opcode(int(offset), _CODES[code], name, argument, note, _marks_at(match))
 
 
-# The codes as a listing shows them: four blanks for each mark are between them and the name, and one more.
+def _marks_at(match: 're.Match[str]') -> int:
+    """How many marks are open before the opcode of a line: four blanks for each are between the code and the name, and one more."""
+    return (match.start(3) - match.end(1) - 7) >> 2
+
+
+class Line(NamedTuple):
+    """An opcode as the listing shows it. `marks` is how many marks are open before it."""
+
+    offset: int
+    code: str
+    name: str
+    argument: str
+    marks: int
+
+
+def line_of(line: str) -> Line:
+    """The opcode that a line of a listing shows, with its argument as it stands there.
+
+    >>> line_of("   11: c        GLOBAL     'os' 'getcwd'")
+    Line(offset=11, code='c', name='GLOBAL', argument="'os' 'getcwd'", marks=1)
+    """
+    match = _OPCODE.match(line)
+    if match is None:
+        raise LinesError(line)
+    offset, code, name, number, argument = match.groups()
+    return Line(int(offset), code, name, number or argument or '', max(0, _marks_at(match)))
+
+
+# The codes as a listing shows them.
 _CODES = {**{f'\\x{code:02x}': bytes((code,)) for code in range(256)}, **{chr(code): bytes((code,)) for code in range(33, 127)}}
-OPCODE = re.compile(r'^ *([0-9]+): (\S+) +([A-Z][A-Z0-9_]*)(?: +(-?[0-9]+)$| +(.*))?$', re.MULTILINE)
+_OPCODE = re.compile(r'^ *([0-9]+): (\S+) +([A-Z][A-Z0-9_]*)(?: +(-?[0-9]+)$| +(.*))?$', re.MULTILINE)
 
 
-def item_at(match: 're.Match[str]') -> Item:
-    """The item of a line of `items` that matched."""
+def _item_at(match: 're.Match[str]') -> Item:
     cursor, flag, place, offset, name, rest = match.groups()
     return Item(int(place), int(offset), name, _argument(rest, 0)[0] if rest else None, cursor == '>', flag == '*')
 
@@ -214,6 +246,45 @@ def end_of_item(text: str, offset: Optional[int] = None) -> End:
     return End('refused', words.partition(' ')[0], words, offset, int(place.rpartition(' ')[2]))
 
 
+@dataclass(frozen=True)
+class Closing:
+    """The lines at the end of an answer, by their words."""
+
+    lines: Dict[str, str]
+
+    @property
+    def protocol(self) -> Optional[int]:
+        """The highest protocol among opcodes, if there are any."""
+        text = self.lines.get('highest protocol among opcodes')
+        return None if text is None else int(text)
+
+    @property
+    def kept(self) -> int:
+        """How many bytes are after STOP."""
+        return int(self.lines.get('kept', '0').partition(' ')[0])
+
+    @property
+    def is_refused(self) -> bool:
+        """Whether the last opcode was refused."""
+        return 'refused' in self.lines
+
+    def end_of_listing(self, last: Callable[[], Tuple[int, int]]) -> End:
+        """How reading ended, after a listing. Where the last opcode was refused, its offset and its place are asked for."""
+        if not self.is_refused:
+            return end_of(self.lines.get('fault', 'stopped'))
+        code = self.lines['refused']
+        offset, place = last()
+        return End('refused', code.partition(' ')[0], code, offset, place)
+
+    def end(self, refused_at: Optional[int]) -> End:
+        """How reading ended, after another answer. The lines of a part say it behind one word more."""
+        ends = self.lines.get('ends', '')
+        word, _, words = ends.partition(': ')
+        if self.is_refused or word == 'refused':
+            return end_of_item(self.lines.get('refused', words), refused_at)
+        return end_of(self.lines.get('fault') or self.lines.get('unsure') or words or 'stopped')
+
+
 def closing_of(lines: Sequence[str]) -> Dict[str, str]:
     """The closing lines at the end of lines, by their words.
 
@@ -271,200 +342,121 @@ def memo_of(line: str) -> Dict[int, int]:
     return {int(key): int(number) for key, number in pairs}
 
 
-class _Units:
-    """Reads what is in a line of `calls`: units with blanks between them, up to the word that ends them."""
+# --- Lines of one kind, read one after another ---
 
-    _token = re.compile(rf"[ ,]*({QUOTED}|#[0-9]+|[()]|\+[0-9]+|{_NUMBER}|[a-z-]+)")
+@dataclass(frozen=True)
+class LineReader(Generic[Record]):
+    """How lines of one kind are found in a text, and what each says."""
 
-    def __init__(self, text: str, at: int) -> None:
-        self.text = text
-        self.at = at
-
-    def peek(self) -> str:
-        """The next word, sign or quoted text; an empty one at the end."""
-        match = self._token.match(self.text, self.at)
-        return match[1] if match else ''
-
-    def take(self) -> str:
-        """The next word, sign or quoted text, which is gone over."""
-        match = self._token.match(self.text, self.at)
-        if match is None:
-            raise LinesError(self.text)
-        self.at = match.end()
-        return match[1]
-
-    def until(self, *words: str) -> List[Value]:
-        """The units up to one of these words, or up to the end."""
-        units: List[Value] = []
-        while self.peek() not in words and self.peek():
-            units.append(self.unit())
-        return units
-
-    def unit(self) -> Value:
-        """One unit: the items of a tuple, or a value."""
-        if self.peek() != '(':
-            return self.brief()
-        self.take()
-        items: List[Brief] = []
-        while self.peek()[:1] not in (')', '+'):
-            items.append(self.brief())
-        more = self._number_after(_MORE)
-        if self.take() != ')':
-            raise LinesError(self.text)
-        return Briefs(tuple(items), more)
-
-    def brief(self) -> Brief:
-        """One value."""
-        word = self.take()
-        if word[0] == "'":
-            return Brief('text', unquoted(word), self.more())
-        if word == 'raw':
-            return Brief('raw', unquoted(self.take()), self.more())
-        if word[0] == '#':
-            return Brief('object', Ref(int(word[1:])))
-        if word in _CONSTANTS:
-            return Brief(word, _CONSTANTS[word])
-        if word == 'global':
-            return Brief(word, self.named())
-        if word == 'ext':
-            return Brief(word, Extension(int(self.take())))
-        return self.payload(word)
-
-    def named(self) -> Union[Global, Ref]:
-        """What an object imports that is an argument; its number where its names are not known."""
-        module = self.brief()
-        if isinstance(module.value, Ref) and not _TEXT_NEXT.match(self.text, self.at):
-            return module.value
-        return _global(module, self.brief())
-
-    def payload(self, kind: str) -> Brief:
-        """The value after the word for its kind. Of a number that was cut the first bytes are shown."""
-        text = self.take()
-        if text == 'raw':
-            kind, text = f'raw {kind}', self.take()
-        more = self.more()
-        if text[0] == "'":
-            return Brief(kind, unquoted(text), more)
-        return Brief(kind, bytes.fromhex(text[3:]) if more else number_of(text), more)
-
-    def more(self) -> int:
-        """How many bytes were cut off a value: right behind it, as behind a comma are those of the list."""
-        return self._number_after(_CUT)
-
-    def _number_after(self, sign: 're.Pattern[str]') -> int:
-        match = sign.match(self.text, self.at)
-        if match is None:
-            return 0
-        self.at = match.end()
-        return int(match[1])
+    pattern: Pattern[str]
+    read: Callable[['re.Match[str]'], Record]
 
 
-_TEXT_NEXT = re.compile(" (?:raw )?'")
-# What was cut off: bytes of a value, values of a list.
-_CUT = re.compile(r'\+([0-9]+)')
-_MORE = re.compile(r', \+([0-9]+)')
-_CONSTANTS: Dict[str, Optional[bool]] = {'none': None, 'true': True, 'false': False}
+def _shown_at(match: 're.Match[str]') -> Shown:
+    return Shown(int(match[1]), int(match[2][1:]), object_of(match[2] + match[3]) if match[3] else None)
 
 
-def _part(brief: Brief) -> Union[bytes, Ref]:
-    """A part of a name: a text, or the object that it comes from."""
-    if isinstance(brief.value, (bytes, Ref)):
-        return brief.value
-    raise LinesError(str(brief))
+OPCODES = LineReader(_OPCODE, _opcode_at)
+OBJECTS = LineReader(_OBJECT_LINE, lambda match: object_of(match[0]))
+ITEMS = LineReader(_ITEM, _item_at)
+SHOWN = LineReader(_SHOWN, _shown_at)
 
 
-def _global(module: Brief, name: Brief) -> Global:
-    """What two parts name."""
-    raw = tuple(part for part, brief in (('module', module), ('name', name)) if brief.kind == 'raw')
-    return Global(_part(module), _part(name), raw)
+# --- What stands in a text ---
 
+def frames_in(listing: Union[bytes, bytearray]) -> Iterator[Tuple[int, int]]:
+    r"""The offset and the length of each FRAME in a listing: `calls` that leaves these bytes out reads a pickle unframed.
 
-def _brief(value: Value) -> Brief:
-    if isinstance(value, Brief):
-        return value
-    raise LinesError(str(value))
-
-
-def _name(what: str, units: List[Value]) -> Tuple[Name, List[Value]]:
-    """The name in front of units, and what comes after it. Only an import shows an object as a module: what is called is shown by its
-    own number where its names are no texts."""
-    first = _brief(units[0])
-    if isinstance(first.value, Extension):
-        return first.value, units[1:]
-    if isinstance(first.value, bytes) or what == 'import':
-        return _global(first, _brief(units[1])), units[2:]
-    if isinstance(first.value, Ref):
-        return first.value, units[1:]
-    raise LinesError(str(first))
-
-
-def _said(what: str, units: '_Units') -> Tuple[Optional[Global], List[Value]]:
-    """The names of Python 2 behind `for`, and what comes after them."""
-    units.take()
-    said, values = _name(what, units.until('as'))
-    if not isinstance(said, Global):
-        raise LinesError(str(said))
-    return said, values
-
-
-def reach_of(line: str) -> Reach:
-    """What a line of `calls` says.
-
-    >>> reach_of("   23: call 'posix' 'system' ('id') as #3").name
-    Global(module=b'posix', name=b'system')
-    >>> reach_of("    0: import 'builtins' 'eval' for '__builtin__' 'eval' as #0").said
-    Global(module=b'__builtin__', name=b'eval')
+    >>> list(frames_in(b"    0: \\x80 PROTO      4\n    2: \\x95 FRAME      2\n   11: X    BINUNICODE '9: \\x95 '\n"))
+    [(2, 9)]
     """
-    match = _REACH.match(line)
-    if match is None:
-        raise LinesError(line)
-    what, text = match[2], line[match.start(2):]
-    return _REACHES[what](int(match[1]), what, text, _Units(line, match.end()))
+    at = listing.find(_FRAME)
+    while at >= 0:
+        begin = max(0, at - MOST_OFFSET)
+        _, newline, offset = listing[begin:at].rpartition(b'\n')
+        if (newline or not begin) and offset.strip().isdigit():  # (else it stands in a text)
+            yield int(offset), FRAME_SIZE
+        at = listing.find(_FRAME, at + 1)
 
 
-def _named(offset: int, what: str, text: str, units: _Units) -> Reach:
-    """Lines that name what is imported or called, and end in the object that is made."""
-    name, values = _name(what, units.until('as', 'for'))
-    said = None
-    if units.peek() == 'for':
-        said, values = _said(what, units)
-    number = _last_number(units)
-    return Reach(offset, what, text, name=name, value=values[0] if values else None,
-                 keywords=values[1] if len(values) > 1 else None, number=number, said=said)
+def left_in(text: str) -> List[Tuple[int, int]]:
+    """How many objects and marks each STOP left, of those that left any."""
+    return [(int(match[1]), int(match[2])) for match in _LEFT.finditer(text)]
 
 
-def _last_number(units: _Units) -> int:
-    """The object that a line ends in, after the word before it."""
-    units.take()
-    return int(units.take()[1:])
+def results_in(text: str, start: int) -> Tuple[int, ...]:
+    """The numbers of the objects that STOP took, from a place of the text on."""
+    return tuple(int(match[1]) for match in _RESULT.finditer(text, start))
 
 
-def _state(offset: int, what: str, text: str, units: _Units) -> Reach:
-    value, = units.until('to')
-    return Reach(offset, what, text, value=value, target=_last_number(units))
+def broken_places(text: str) -> Set[int]:
+    """The places of items that have a breakpoint."""
+    return {int(match[1]) for match in _BROKEN.finditer(text)}
 
 
-def _filled(offset: int, what: str, text: str, units: _Units) -> Reach:
-    count = int(units.take())
-    return Reach(offset, what, text, count=count, target=_last_number(units))
+def lines_with_offsets(text: str) -> Iterator[Tuple[int, str]]:
+    """The offset that each line begins with, and what is behind it."""
+    return ((int(match[1]), match[2]) for match in _WITH_OFFSET.finditer(text))
 
 
-def _persistent(offset: int, what: str, text: str, units: _Units) -> Reach:
-    value, = units.until('as')
-    return Reach(offset, what, text, value=value, number=_last_number(units))
+def begins_with_offset(line: str) -> bool:
+    """Whether a line begins with an offset, as that of an opcode does."""
+    return _WITH_OFFSET.match(line) is not None
 
 
-def _buffer(offset: int, what: str, text: str, units: _Units) -> Reach:
-    count = int(units.take())
-    return Reach(offset, what, text, count=count, number=_last_number(units))
+def offset_of_item(listing: bytes, item: int) -> Optional[int]:
+    """The offset of the opcode at a place in a listing."""
+    found = next(islice(OFFSET_IN_BYTES.finditer(listing), item, None), None)
+    return None if found is None else int(found[1])
 
 
-def _readonly(offset: int, what: str, text: str, units: _Units) -> Reach:
-    target = int(units.take()[1:])
-    return Reach(offset, what, text, target=target, number=_last_number(units))
+class ItemLine(NamedTuple):
+    """A line of `items`: where the opcode is, its name, and its argument as it stands there."""
+
+    offset: str
+    name: str
+    argument: str
 
 
-_REACH = re.compile(r' *([0-9]+): ([a-z]+)')
-_REACHES: Dict[str, Callable[[int, str, str, _Units], Reach]] = {
-    'import': _named, 'inst': _named, 'call': _named, 'new': _named, 'state': _state, 'append': _filled, 'set': _filled, 'add': _filled,
-    'persistent': _persistent, 'buffer': _buffer, 'readonly': _readonly}
+def item_line_of(line: str) -> Optional[ItemLine]:
+    """What a line of `items` says, if it is one."""
+    match = _ITEM.match(line)
+    return None if match is None else ItemLine(match[4], match[5], match[6] or '')
+
+
+# --- Lines of `objects`, as bytes ---
+
+class HeldObject(NamedTuple):
+    """What an object holds: how it was put in ('' for what the object was made of), and the number."""
+
+    how: str
+    number: int
+
+
+def held_in(heap: Union[bytes, bytearray], start: int, end: int) -> Iterator[HeldObject]:
+    """What the object of a line holds, from a place of the line on.
+
+    >>> [tuple(held) for held in held_in(b'#3 list (#1) +#4', 0, 16)]
+    [('', 1), ('append', 4)]
+    """
+    return (HeldObject(_HOW.get(match[1][-1:], ''), int(match[2])) for match in HELD.finditer(heap, start, end))
+
+
+def holding(number: int) -> 're.Pattern[bytes]':
+    """Where lines name this object, which others hold."""
+    return re.compile(rb'[ (+&![=]#%d(?![0-9])' % number)
+
+
+def readonly_count(heap: Union[bytes, bytearray]) -> int:
+    """How many of the objects are views that can only be read."""
+    return len(_READONLY.findall(heap))
+
+
+def as_made(text: str) -> str:
+    """The line of an object, or its beginning, without what was put into it after it was made.
+
+    >>> as_made("inst 'a' 'b' (#1) +#4 !#5")
+    "inst 'a' 'b' (#1)"
+    """
+    at = text.rfind("'") + 1
+    return text[:at] + _PUT_IN.sub('', text[at:])

@@ -132,20 +132,22 @@ class _Maker:
 _MOST_DEPTH = 50
 
 
-def tree(pickle: Source, *, many: bool = False, timeout: Optional[float] = None, memory: Optional[int] = None) -> Any:
+def tree(pickle: Source, *, many: bool = False, unframed: bool = False, timeout: Optional[float] = None, memory: Optional[int] = None) -> Any:
     r"""The result of a pickle as nested Python data; with `many` the list of the results. Nothing is imported or called.
 
     Lists, dictionaries, sets, tuples and plain values are themselves, and shared as in the pickle. What is imported is a `Global` or an
     `Extension`, what comes from a call or from elsewhere a `Call`. A key or a member that has no hash is a `Ref` to its object.
+    `unframed` is as for `objects`.
 
     Raises NoResult where reading ended before the pickle's STOP.
 
     >>> tree(b'(X\x01\x00\x00\x00aG@\x04\x00\x00\x00\x00\x00\x00X\x01\x00\x00\x00bcos\ngetcwd\nd.')
     {'a': 2.5, 'b': Global(module=b'os', name=b'getcwd')}
     """
-    answer = objects(pickle, many=many, timeout=timeout, memory=memory)
+    answer = objects(pickle, many=many, unframed=unframed, timeout=timeout, memory=memory)
     if not answer.end.is_stopped or not answer.results:
-        raise NoResult(answer.end.text)
+        is_frame = answer.end.code in ('F6', 'F7', 'F8')
+        raise NoResult(answer.end.text + (' (unframed=True reads that frame)' if is_frame else ''))
     maker = _Maker(list(answer))
     results = [maker.at(number) for number in answer.results]
     return results if many else results[0]

@@ -11,4 +11,4 @@ def shown(text: str) -> str:
     >>> shown('a\\nb\\x1b[2J')
     'a\\\\nb\\\\x1b[2J'
     """
-    return ''.join(sign if sign.isprintable() else ascii(sign)[1:-1] for sign in text)
+    return text if text.isprintable() else ''.join(sign if sign.isprintable() else ascii(sign)[1:-1] for sign in text)

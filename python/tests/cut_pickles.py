@@ -1,6 +1,6 @@
 """Real pickles that are cut off at each place: what `mend` makes of them, beside what an unpickler had built by then.
 
-    cut_pickles.py [EVERY]      tries every cut of all of them (or each EVERY-th), and writes the number of pickles, cuts and faults
+    cut_pickles.py [EVERY [PROCESSES]]      tries every cut of all of them (or each EVERY-th), and writes the number of pickles, cuts and faults
 
 Nothing that a pickle names is imported: stand-ins write down what they are made of.
 """
@@ -11,6 +11,7 @@ import io
 import itertools
 import pickle
 import sys
+from multiprocessing import Pool
 from pathlib import Path
 from typing import Any, Dict, List, Optional, Tuple
 
@@ -212,18 +213,30 @@ def fault_of(data: bytes) -> str:
     return '' if made == wanted else f'{answer.steps}: {made} and not {wanted}'
 
 
+def cuts_with_faults(pickled: Tuple[str, bytes, int]) -> Tuple[int, List[str]]:
+    """Cuts a pickle at each place that is a multiple of a number. Answers how many cuts there are, and a line for each that has a fault."""
+    name, data, every = pickled
+    cuts = range(0, len(data), every)
+    found = ((cut, fault_of(data[:cut])) for cut in cuts)
+    return len(cuts), [f'{name} cut at {cut}: {fault[:600]}' for cut, fault in found if fault]
+
+
+def tried(pickles: Dict[str, bytes], every: int, processes: int) -> Tuple[int, List[str]]:
+    """The same of several pickles, by so many processes."""
+    counts, faults = 0, []
+    with Pool(processes) as pool:
+        for count, found in pool.imap_unordered(cuts_with_faults, [(name, data, every) for name, data in pickles.items()]):
+            counts += count
+            faults += found
+    return counts, faults
+
+
 def main() -> int:
     """Tries the cuts."""
-    every = int(sys.argv[1]) if len(sys.argv) > 1 else 1
-    pickles, cuts, faults = whole_pickles(), 0, 0
-    for name, data in pickles.items():
-        for cut in range(0, len(data), every):
-            cuts += 1
-            fault = fault_of(data[:cut])
-            if fault:
-                faults += 1
-                print(f'{name} cut at {cut}: {fault[:600]}', flush=True)
-    print(f'{len(pickles)} pickles, {cuts} cuts, {faults} faults')
+    every, processes, *_ = [*map(int, sys.argv[1:]), *(1, 2)[len(sys.argv) - 1:]]
+    pickles = whole_pickles()
+    cuts, faults = tried(pickles, every, processes)
+    print('\n'.join([*faults, f'{len(pickles)} pickles, {cuts} cuts, {len(faults)} faults']))
     return 1 if faults else 0
 
 

@@ -83,6 +83,47 @@ def django(folder: str) -> None:
     session.save()
 
 
+def file_caches(folder: str) -> None:
+    """Caches and queues that are folders with files: cachelib (Flask), dogpile, queuelib (Scrapy), Celery's files, Django's sessions."""
+    import celery
+    import django
+    from cachelib import FileSystemCache
+    from django.conf import settings
+    from dogpile.cache import make_region
+    from dogpile.cache.api import CachedValue
+    from queuelib import LifoDiskQueue
+    cache = FileSystemCache(f'{folder}/cachelib')
+    cache.set('harmless', {'number': 1})
+    cache.set('evil', Hostile())
+
+    # (as dogpile gives it to whatever keeps bytes)
+    os.mkdir(f'{folder}/dogpile')
+    region = make_region(serializer=pickle.dumps, deserializer=pickle.loads)
+    Path(folder, 'dogpile', 'value').write_bytes(region._serialized_cached_value(CachedValue(Hostile(), {'ct': 1700000000.5, 'v': 1})))
+
+    os.mkdir(f'{folder}/queuelib')
+    queue = LifoDiskQueue(f'{folder}/queuelib/p0')
+    for number in range(5):
+        queue.push(pickle.dumps({'number': number} if number != 3 else Hostile(), 4))
+    queue.close()
+
+    os.mkdir(f'{folder}/celery')
+    app = celery.Celery(broker='filesystem://')
+    folders = {name: f'{folder}/celery' for name in ('data_folder_in', 'data_folder_out', 'control_folder')}
+    app.conf.update(task_serializer='pickle', accept_content=['pickle'], broker_transport_options=folders)
+    app.send_task('module.task', args=(Hostile(),))
+
+    os.mkdir(f'{folder}/django')
+    settings.configure(SECRET_KEY='key of a test', SESSION_FILE_PATH=f'{folder}/django',
+                       SESSION_SERIALIZER='django.contrib.sessions.serializers.PickleSerializer')
+    django.setup()
+    from django.contrib.sessions.backends.file import SessionStore
+    for held in (Hostile(), ['x' * 5000, Hostile()]):
+        session = SessionStore()
+        session['evil'] = held
+        session.save()
+
+
 def requests_cache(path: str) -> None:
     from requests_cache.backends.sqlite import SQLitePickleDict
     cache = SQLitePickleDict(path, 'responses')

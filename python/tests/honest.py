@@ -2,7 +2,7 @@
 
     python3 honest.py FOLDER
 
-Each part is left out where its library or program is not here; a line says which.
+What a library or a program that is not here would write is left out; a line says which.
 """
 
 from __future__ import annotations
@@ -184,7 +184,11 @@ def of_pandas() -> None:
 def of_functions() -> None:
     """Functions and classes by dill and cloudpickle."""
     for module in ('dill', 'cloudpickle'):
-        writer = importlib.import_module(module)
+        try:
+            writer = importlib.import_module(module)
+        except ImportError as error:
+            print(error)
+            continue
         local = 5
         for protocol, (name, thing) in itertools.product((2, 4, 5), {'lambda': lambda x: x + local, 'sorted': sorted, 'values': values()['plain']}.items()):
             put('functions', f'{module}_{name}_{protocol}.pkl', writer.dumps(thing, protocol=protocol))
@@ -203,13 +207,24 @@ def of_commands() -> None:
     lines += ['xz --format=lzma -c tree/m.pkl >m.pkl.lzma', 'gzip -k tree/m.pkl -c >named.pkl.gz', 'xz -T2 -c tree/m.pkl >threads.pkl.xz', 'pigz -z -c tree/m.pkl >m.pkl.z']
     lines += ['zip -qr info.zip tree', 'zip -q0r info_0.zip tree', 'zip -qrX info_x.zip tree', 'zip -qry info_links.zip tree', 'zip -qr - tree | cat >info_pipe.zip']
     lines += ['7zz a -bd -tzip seven.zip tree', '7zz a -bd -tgzip seven.pkl.gz tree/m.pkl', '7zz a -bd -ttar seven.tar tree', '7zz a -bd -txz seven.pkl.xz tree/m.pkl']
-    for line in lines:
-        subprocess.run(['bash', '-c', f'command -v {line.split()[0]} >/dev/null && {line}'], cwd=os.path.dirname(tree.rstrip('/')), capture_output=True, check=False)
-    git = 'git init -q g && cd g && cp ../tree/a.txt . && git add -A && git -c user.email=a@b -c user.name=a commit -qm x && for f in tar zip tar.gz; do git archive -o ../git.$f HEAD; done'
-    subprocess.run(['bash', '-c', git], cwd=os.path.dirname(tree.rstrip('/')), capture_output=True, check=False)
+    lines += ['git init -q g && cd g && cp ../tree/a.txt . && git add -A && git -c user.email=a@b -c user.name=a commit -qm x && '
+              'for f in tar zip tar.gz; do git archive -o ../git.$f HEAD; done']
+    for program, own in itertools.groupby(sorted(lines), lambda line: line.split()[0]):
+        _run(program, list(own), os.path.dirname(tree.rstrip('/')))
     shutil.rmtree(os.path.join(FOLDER, 'commands', 'g'), ignore_errors=True)
     shutil.make_archive(path('commands', 'shutil'), 'zip', tree)
     shutil.make_archive(path('commands', 'shutil'), 'gztar', tree)
+
+
+def _run(program: str, lines: List[str], folder: str) -> None:
+    """Runs the lines of a program, or says that it is not here, or which of them failed."""
+    if shutil.which(program) is None:
+        print(f'no program {program}')
+        return
+    for line in lines:
+        run = subprocess.run(['bash', '-c', line], cwd=folder, capture_output=True, text=True, check=False)
+        if run.returncode != 0:
+            print(f'{line.partition(" && ")[0]}: status {run.returncode} {run.stderr.strip()[:100]}')
 
 
 MAKERS: List[Callable[[], None]] = [of_python, of_texts, of_torch, of_numpy, of_joblib, of_pandas, of_functions, of_commands]

@@ -150,10 +150,10 @@ class StoreCase(ScanCase):
         self.wait_for_port(port)
         return port
 
-    def memcached(self, *words: str) -> int:
+    def memcached(self, *words: str, tls: bool = True) -> int:
         """The port of a memcached server. With words for TLS it has another for that."""
         port = free_port()
-        first = [program('memcached'), '-l', f'{"notls:" if words else ""}127.0.0.1:{port}', '-U', '0', '-m', '400', '-I', '8m']
+        first = [program('memcached'), '-l', f'{"notls:" if words and tls else ""}127.0.0.1:{port}', '-U', '0', '-m', '400', '-I', '8m']
         self.server = self.start([*first, *words, *([] if os.getuid() else ['-u', 'root' if words else 'nobody'])])
         self.wait_for_port(port)
         return port

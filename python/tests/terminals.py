@@ -2,6 +2,7 @@
 
 from __future__ import annotations
 
+import fcntl
 import os
 import pty
 import re
@@ -18,6 +19,11 @@ _PACKAGE = os.path.dirname(os.path.dirname(os.path.abspath(picklestep.__file__))
 _CONTROL = re.compile(r'\x1b\[[0-9;?]*[a-zA-Z]|\x1b[=>]|\r|\x07')
 
 
+def _take_terminal() -> None:
+    """Makes standard input the terminal of the process, so that Ctrl-C reaches it."""
+    fcntl.ioctl(0, termios.TIOCSCTTY, 0)
+
+
 class Terminal:
     """The shell at a terminal of its own, with a home of its own for what was typed."""
 
@@ -29,7 +35,7 @@ class Terminal:
         path = os.pathsep.join([_PACKAGE, os.environ.get('PYTHONPATH', '')])
         known: Dict[str, str] = {**os.environ, 'PYTHONPATH': path, 'XDG_STATE_HOME': folder, 'TERM': 'dumb', 'COLUMNS': '200', **environment}
         self.process = subprocess.Popen([sys.executable, '-m', 'picklestep', 'shell', *words], stdin=slave, stdout=slave, stderr=slave,
-                                        cwd=folder, env=known, start_new_session=True)
+                                        cwd=folder, env=known, start_new_session=True, preexec_fn=_take_terminal)
         os.close(slave)
         self.read = ''
 
@@ -50,6 +56,16 @@ class Terminal:
             if not block:
                 return shown
             self.read += block.decode('utf-8', 'replace')
+
+    def raw_until(self, text: str, seconds: float = 200) -> str:
+        """What is shown up to the line that has a text, with all that a terminal obeys."""
+        deadline = time.monotonic() + seconds
+        while text not in self.read or '\n' not in self.read.rpartition(text)[2]:
+            if not select.select([self.master], [], [], max(0, deadline - time.monotonic()))[0]:
+                raise AssertionError(f'nothing more: {self.read[-500:]!r}')
+            self.read += os.read(self.master, 65536).decode('utf-8', 'replace')
+        shown, self.read = self.read, ''
+        return shown
 
     def type(self, line: str, *endings: str) -> str:
         """What is shown after a line was typed, without the line itself and the prompt."""

@@ -236,6 +236,16 @@ class Listings(unittest.TestCase):
         self.assertEqual(len(picklestep.listing(b'(N.N.')), 3)
 
 
+    def test_without_frames(self) -> None:
+        cut = b'\x80\x04\x95' + (6).to_bytes(8, 'little') + b']\x94K\x01a'
+        answer = picklestep.listing(cut, unframed=True)
+        self.assertEqual([opcode.name for opcode in answer], ['PROTO', 'FRAME', 'EMPTY_LIST', 'MEMOIZE', 'BININT1', 'APPEND'])
+        self.assertEqual((answer.end.code, answer.end.offset), ('F1', 16))
+        self.assertEqual(picklestep.objects(cut, unframed=True)[0].changes, (Change('append', 1),))
+        self.assertEqual([opcode.name for opcode in picklestep.listing(cut)], ['PROTO'])
+        self.assertEqual(len(picklestep.listing(cut + b'.N.', many=True, unframed=True)), 9)
+
+
 class ObjectLines(unittest.TestCase):
     """Objects, as the specification has them."""
 

@@ -84,6 +84,21 @@ class Tree(unittest.TestCase):
                 picklestep.tree(data, many=True)
 
 
+    def test_unframed(self) -> None:
+        """A frame whose length is false, read as Python's unpickler reads the bytes without it."""
+        for length in (3, 1 << 40):
+            data = crooked({'a': [1, 2]}, length)
+            with self.assertRaisesRegex(picklestep.NoResult, 'F[78] .*unframed=True'):
+                picklestep.tree(data)
+            self.assertEqual(picklestep.tree(data, unframed=True), pickle.loads(data[:2] + data[11:]))
+
+
+def crooked(value: Any, length: int) -> bytes:
+    """A pickle whose FRAME says another length."""
+    data = pickle.dumps(value, 4)
+    return data[:3] + length.to_bytes(8, 'little') + data[11:]
+
+
 class Compare(unittest.TestCase):
     """What two pickles differ in."""
 
@@ -132,6 +147,44 @@ class Compare(unittest.TestCase):
                     self.assertEqual(main([paths[place] for place in pair]), status)
                 self.assertEqual(out.getvalue(), said)
             self.assertIn('F3 truncated', errors.getvalue())
+
+    def test_unframed(self) -> None:
+        old, new = (crooked({'a': datetime.date(year, 1, 1)}, 1 << 40) for year in (2020, 2021))
+        self.assertEqual([str(each) for each in picklestep.compare(old, new, unframed=True)],
+                         [r"['a'].arguments[0]: b'\x07\xe4\x01\x01' -> b'\x07\xe5\x01\x01'"])
+        with tempfile.TemporaryDirectory() as folder, contextlib.redirect_stderr(io.StringIO()):
+            paths = [os.path.join(folder, name) for name in 'ab']
+            for path, data in zip(paths, (old, new + b'N')):
+                with open(path, 'wb') as file:
+                    file.write(data)
+            self.assertEqual(main(paths), 2)
+            with contextlib.redirect_stdout(io.StringIO()) as out:
+                self.assertEqual(main(['--unframed', *paths]), 1)
+            self.assertEqual([line.partition(' (')[0] for line in out.getvalue().splitlines()[1:]], [
+                "- call 'datetime' 'date'", "+ call 'datetime' 'date'", 'end: stopped -> F1 ended', 'behind STOP: 0 -> 1 bytes'])
+
+    def test_words_of_what_is_not_in_the_results(self) -> None:
+        call = b"cos\nsystem\n(S'id'\ntR"
+        lines = "{0} import 'os' 'system'\n{0} call 'os' 'system' (string 'id')\n"
+        rows = ((b'N.', call + b'0N.', lines.format('+')), (call + b'0N.', b'N.', lines.format('-')),
+                (b'K\x02.', call + b'0K\x03.', 'result: 2 -> 3\n' + lines.format('+')),
+                (b'N.', b'N.' + call + b'.', lines.format('+') + 'behind STOP: 0 -> 21 bytes\n'),
+                (b'N.', b'N.\xff', 'end: stopped -> F2 unknown opcode 0xff\nbehind STOP: 0 -> 1 bytes\n'),
+                (b'N.K\x01.', b'N.K\x02.', 'behind STOP: other bytes\n'),
+                (b'cos\nsystem\n0cos\nremove\n0N.', b'cos\nremove\n0cos\nsystem\n0N.', 'imports and calls: in another order\n'),
+                (call.replace(b'id', b'#1') + b'0N.', b']0' + call.replace(b'id', b'#2') + b'0N.',
+                 "- call 'os' 'system' (string '#1')\n+ call 'os' 'system' (string '#2')\n"),
+                (call + b'0N.', b']0' + call + b'0N.', ''), (b'\x80\x04N.', b'\x80\x02N.', ''), (b'N.\xff', b'N.\xff', ''))
+        with tempfile.TemporaryDirectory() as folder:
+            paths = [os.path.join(folder, name) for name in 'ab']
+            for *pair, said in rows:
+                for path, data in zip(paths, pair):
+                    with open(path, 'wb') as file:
+                        file.write(bytes(data))
+                with self.subTest(pair), contextlib.redirect_stdout(io.StringIO()) as out:
+                    self.assertEqual(main(paths), 1 if said else 0)
+                    self.assertEqual(out.getvalue(), said)
+                    self.assertEqual(bool(picklestep.compare(*pair)), 'result' in said)
 
 
 if __name__ == '__main__':

@@ -115,6 +115,39 @@ class Words(EntranceCase):
         self.assertEqual(run.stdout.split(), ['picklestep', 'picklestep.entrance', 'picklestep.place'])
 
 
+@unittest.skipIf(os.name == 'nt', 'a shell of POSIX is wanted')
+class Streams(EntranceCase):
+    """Output that cannot be written, and descriptors that are closed."""
+
+    def in_shell(self, way: str, words: str) -> 'tuple[int, str, str]':
+        run = self.start(['/bin/sh', '-c', f'"$@" {words}', 'sh', *ways()[way]])
+        return run.returncode, run.stdout, run.stderr
+
+    def setUp(self) -> None:
+        super().setUp()
+        self.file('a.pkl', HARMLESS)
+        self.file('b.pkl', HOSTILE)
+        self.file('cut.pkl', b']K\x01a')
+        self.file('script', b'where\nquit\n')
+
+    def test_output_that_cannot_be_written(self) -> None:
+        for words in ('diff a.pkl b.pkl', 'source a.pkl', 'mend cut.pkl', 'mend a.pkl out.pkl', 'shell a.pkl <script',
+                      'shell --batch script a.pkl', 'scan a.pkl', 'scan --json a.pkl', '--help', 'scan --help', '--version', 'view --no-browser a.pkl'):
+            for end, why in ((' >&-', 'Bad file descriptor'), (' >/dev/full', 'No space left on device')):
+                if end == ' >&-' or os.path.exists('/dev/full'):
+                    with self.subTest(words + end):
+                        self.assertEqual(self.in_shell('-m', words + end), (2, '', f'picklestep: cannot write: {why}\n'))
+
+    def test_closed_descriptors(self) -> None:
+        for way in ways():
+            with self.subTest(way):
+                self.assertEqual(self.in_shell(way, 'shell a.pkl <&-'), (2, '', 'picklestep: cannot read standard input: Bad file descriptor\n'))
+                self.assertEqual(self.in_shell(way, 'shell a.pkl <script >&- 2>&-'), (2, '', ''))
+                self.assertEqual(self.in_shell(way, 'mend cut.pkl <&- >&- 2>&-'), (2, '', ''))
+                self.assertEqual(self.in_shell(way, 'source none <&- 2>&-'), (2, '', ''))
+                self.assertEqual(self.in_shell(way, 'mend a.pkl <&- 2>&-'), (0, 'it is whole\n', ''))
+
+
 class HostileFolders(EntranceCase):
     """A folder from elsewhere, with a file for each module of the standard library."""
 

@@ -1,4 +1,4 @@
-"""What is marked without any list: 43 hostile files, each made here in a way of its own. Each only names what it would call; none is loaded."""
+"""What is marked without any list: 46 hostile files, each made here in a way of its own. Each only names what it would call; none is loaded."""
 
 from __future__ import annotations
 
@@ -76,6 +76,11 @@ FILES: Dict[str, bytes] = {
     'getattr': called('builtins', 'getattr', 'a', 'b') + b'.', 'methodcaller': called('operator', 'methodcaller', 'a') + b'.',
     'attrgetter': called('_operator', 'attrgetter', 'a') + b'.', 'importlib': called('importlib', 'import_module', 'a') + b'.',
     'ufunc': called('numpy.core', '_ufunc_reconstruct', 'os', 'system') + b'.', 'resolve': called('pkgutil', 'resolve_name', 'a') + b'.',
+    # what changes the tables by which later names are looked up
+    'old_names': b'c_compat_pickle\nNAME_MAPPING\n(' + text('json') + text('dumps') + b't(' + text('os') + text('system') + b'ts0'
+                 + called('json', 'dumps', 'id') + b'.',
+    'old_modules': b'\x80\x04' + text('pickle') + text('_compat_pickle.IMPORT_MAPPING') + b'\x93' + text('json') + text('os') + b's.',
+    'registry': b'ccopyreg\n_inverted_registry\nK\x01(' + text('os') + text('system') + b'ts.',
     'through': b'\x80\x04' + by_text('logging', 'os.system', 'id') + b'.',
     'inside': b'\x80\x04' + by_text('collections', 'OrderedDict.__class__.__subclasses__') + b'.',
     'worked_out': b'\x80\x04' + text('os') + called('module', 'name') + b'\x93)R.', 'number': b'\x80\x02\x82\x07)R.',
@@ -92,7 +97,7 @@ class Hostile(ScanCase):
     """All of them, without any list."""
 
     def test_each_is_marked(self) -> None:
-        self.assertEqual(len(FILES), 43)
+        self.assertEqual(len(FILES), 46)
         for name, content in FILES.items():
             with self.subTest(name):
                 looks = list(Judge().looks(self.look(f'{name}.bin', content)))

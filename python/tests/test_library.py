@@ -8,7 +8,7 @@ import threading
 import time
 import unittest
 from pathlib import Path
-from typing import List
+from typing import Any, List, Optional
 from unittest import mock
 
 import picklestep
@@ -24,6 +24,11 @@ HOSTILE = b'cposix\nsystem\n(X\x02\0\0\0idtR.'
 # A name of many bytes that is imported again and again: its answer grows as the square of its size.
 SQUARE = b'\x80\x04\x8c\x01m\x94X' + (30_000).to_bytes(4, 'little') + b'n' * 30_000 + b'\x940' + b'h\0h\x01\x930' * 5_000 + b'N.'
 MB = 1 << 20
+MODES: List[List[str]] = [[], ['--many'], ['--unframed'], ['--many', '--unframed']]
+READINGS = [['calls'], ['calls', '--first'], ['calls', '--memo', 'kept'], ['calls', '--full'], ['calls', '--first', '--full'],
+            ['calls', '--memo', 'kept', '--full']]
+WORDS = [*([task, *modes] for task in ('list', 'objects') for modes in MODES), *READINGS, ['calls', '--many'],
+         ['calls', '--skip', '3:2', '--skip', '9:40'], ['calls', '--full', '--skip', '0:1'], ['form']]
 
 
 def has_library() -> bool:
@@ -41,7 +46,7 @@ class Answers(unittest.TestCase):
     def test_real_pickles(self) -> None:
         self.assertGreater(len(PICKLES), 150)
         for path in PICKLES:
-            for words in library.WORDS:
+            for words in WORDS:
                 with self.subTest(path.name, words=words):
                     wanted = run_program([words[0], str(path), *words[1:]])
                     self.assertEqual(library.answer(words, path.read_bytes()), wanted)
@@ -52,25 +57,34 @@ class Answers(unittest.TestCase):
             content = bytearray(chance.choice(PICKLES).read_bytes()[:chance.randrange(2, 400)])
             for _ in range(chance.randrange(4)):
                 content[chance.randrange(len(content))] = chance.randrange(256)
-            words = chance.choice(list(library.WORDS))
-            self.assertEqual(library.answer(words, bytes(content)), self.wanted(list(words), bytes(content)))
+            words = chance.choice(WORDS)
+            self.assertEqual(library.answer(words, bytes(content)), self.wanted(words, bytes(content)))
 
     def test_what_edits_leave(self) -> None:
         """As the program answers of the bytes that it saves after the same lines."""
         script = b'insert 0 GLOBAL 6f730a6765746377640a\ngoto 1\nstep\ninsert 2 NONE\nundo\nnonsense\ndelete 3\nframe 2 2\nrun\n'
         for path in PICKLES[::5]:
-            for many in (False, True):
-                saved = self.saved(path, many, script)
-                for name in library.EDITED:
-                    words = [*name, '--many'] if many and name[0] != 'calls' else [*name]
-                    with self.subTest(path.name, words=words):
-                        self.assertEqual(library.edited(words, many, path.read_bytes(), script), self.wanted(words, saved))
+            for modes in MODES:
+                saved = self.saved(path, modes, script)
+                for words in [['list', *modes], ['objects', *modes], *READINGS]:
+                    with self.subTest(path.name, words=words, modes=modes):
+                        answer = library.edited(words, '--many' in modes, '--unframed' in modes, path.read_bytes(), script)
+                        self.assertEqual(answer, self.wanted(words, saved))
 
-    def saved(self, path: Path, many: bool, script: bytes) -> bytes:
+    def saved(self, path: Path, modes: List[str], script: bytes) -> bytes:
         with tempfile.TemporaryDirectory() as folder:
             out = Path(folder, 'saved')
-            run_program(['debug', str(path), *(['--many'] if many else []), '--save', str(out)], script=script)
+            run_program(['debug', str(path), *modes, '--save', str(out)], script=script)
             return out.read_bytes()
+
+    def test_what_the_program_is_asked(self) -> None:
+        for words in (['list', '--full'], ['objects', '--skip', '1:1'], ['calls', '--memo', 'lost'], ['calls', '--first', '--memo', 'kept'],
+                      ['calls', '--skip', '@holes'], ['calls', '--skip', '5:2', '--skip', '6:1'], ['calls', '--skip', f'{1 << 64}:1'],
+                      ['calls', '--unframed'], ['debug'], ['form', '--many']):
+            with self.subTest(words=words):
+                self.assertIsNone(library.answer(words, HOSTILE))
+        self.assertIsNone(library.edited(['list', '--many'], False, False, HOSTILE, b''))
+        self.assertIsNone(library.edited(['calls', '--skip', '1:1'], False, False, HOSTILE, b''))
 
     def test_an_answer_with_more_room(self) -> None:
         content = b'\x8c\xfa' + b'n' * 250 + b'0'
@@ -122,6 +136,9 @@ class InProcess(unittest.TestCase):
             self.assertEqual(picklestep.calls(b'NN00N0.').end.offset, 6)
             self.assertEqual(picklestep.objects(b'N0.').end.offset, 2)
             self.assertEqual(len(picklestep.listing(HOSTILE, memory=64 * MB)), 6)
+            self.assertEqual(len(picklestep.listing(b'\x95' + b'\xff' * 8 + HOSTILE, many=True, unframed=True)), 7)
+            self.assertIn('a' * 99, picklestep.calls(HOSTILE.replace(b'\x02', b'\x63').replace(b'id', b'a' * 99), full=True)[1].text)
+            self.assertEqual([reach.offset for reach in picklestep.calls(HOSTILE[:14] + b'....' + HOSTILE[14:], skip=[(14, 4)])], [0, 27])
 
     def test_a_limit_of_time_and_a_large_input_start_the_program(self) -> None:
         for ask in (lambda: picklestep.calls(HOSTILE, timeout=60), lambda: picklestep.calls(b'N' * library.MOST_BYTES + b'.')):
@@ -131,8 +148,8 @@ class InProcess(unittest.TestCase):
     def test_the_limit_of_size_is_that_of_all_inputs(self) -> None:
         half = library.MOST_BYTES // 2
         lines = b'step\n' * (half // 5)
-        self.assertIsNotNone(library.edited(['calls'], False, b'N.', lines))
-        self.assertIsNone(library.edited(['calls'], False, b'N' * (half + 8) + b'.', lines))
+        self.assertIsNotNone(library.edited(['calls'], False, False, b'N.', lines))
+        self.assertIsNone(library.edited(['calls'], False, False, b'N' * (half + 8) + b'.', lines))
 
     def test_a_limit_of_memory_stays_an_answer(self) -> None:
         self.assertIsNone(library.answer(['calls'], SQUARE))
@@ -173,7 +190,12 @@ class Scan(unittest.TestCase):
             self.assertEqual((started.call_count, len(found.imports), found.imports[0].count), (1, 1, 5000))
 
     def test_little_time(self) -> None:
-        with mock.patch('picklestep.scan.reading.library.answer', side_effect=AssertionError('it was asked here')):
+        answer = library.answer
+
+        def form_alone(words: List[str], *given: Any) -> Optional[bytes]:  # (whose time is in proportion to the bytes)
+            self.assertEqual(list(words), ['form'])
+            return answer(words, *given)
+        with mock.patch('picklestep.scan.reading.library.answer', side_effect=form_alone):
             self.assertEqual(len(look_at_bytes('a.pkl', HOSTILE, Options(Limits(seconds=0.9))).pickles), 1)
 
     def test_lines_are_counted(self) -> None:

@@ -9,21 +9,26 @@ import io
 import os
 import pickle
 import random
+import re
 import subprocess
 import sys
 import tempfile
 import unittest
+import zlib
 from collections import Counter
+from concurrent.futures import ThreadPoolExecutor
 from pathlib import Path
 from typing import Any, Iterator, List
 
 import cut_pickles
 import picklestep
+from examples_of_using import blocks, stories
 from pickles import real_pickles
 from picklestep.mending import TooCrooked, mended
 from scan_support import environment
 
 _FILLS = ('append ', 'set ', 'add ')
+_SHORT = 40  # bytes; there is little to cut
 
 VALUES: List[Any] = [
     {'user': 'bob', 'jobs': [1, 2.5, None, True], 'more': {'a': (1, 2), 'b': (1, 2, 3, 4, 5), 'c': {1, 2, 3}}},
@@ -58,6 +63,12 @@ def leaves(value: Any) -> Iterator[Any]:
 
 def reaches(source: bytes) -> List[str]:
     return [reach.text for reach in picklestep.calls(source)]
+
+
+def cuts_of(name: str, length: int) -> List[int]:
+    """Places as far from one another, of which the first is another one in each pickle."""
+    step = max(1, length // 12)
+    return list(range(zlib.crc32(name.encode()) % step, length, step))
 
 
 class Cuts(unittest.TestCase):
@@ -108,14 +119,18 @@ class Cuts(unittest.TestCase):
                     self.assertEqual(found, [text for text in whole if not text.startswith(_FILLS)][:len(found)])
 
     def test_loaded_is_what_was_built(self) -> None:
-        """Real pickles, each cut at some places, are loaded with harmless stand-ins."""
-        random.seed(4)
+        """Real pickles, fifty of them cut at every place, the others at some, are loaded with harmless stand-ins. (`cut_pickles.py` tries every cut
+        of all, which takes ten minutes of a processor.)"""
         found = cut_pickles.whole_pickles()
         self.assertGreater(len(found), 100)
-        for name, data in found.items():
-            for cut in random.sample(range(len(data)), min(4, len(data))):
+        whole = sorted((name for name in found if len(found[name]) > _SHORT), key=lambda name: len(found[name]))[:50]
+        cuts = [(name, cut) for name, data in found.items() for cut in (range(len(data)) if name in whole else cuts_of(name, len(data)))]
+        with ThreadPoolExecutor(os.cpu_count()) as workers:
+            faults = workers.map(lambda each: cut_pickles.fault_of(found[each[0]][:each[1]]), cuts)
+            for (name, cut), fault in zip(cuts, faults):
                 with self.subTest(name, cut=cut):
-                    self.assertEqual(cut_pickles.fault_of(data[:cut]), '')
+                    self.assertEqual(fault, '')
+        self.assertGreater(len(cuts), 5000)
 
     def test_real_pickles(self) -> None:
         """The kept ones, each cut at two places."""
@@ -151,13 +166,41 @@ class Crooked(unittest.TestCase):
                 if not data.startswith((b'N\x95', b'\x80')):
                     self.assertEqual(answer.content, content)
 
+    def test_protocols_that_are_none(self) -> None:
+        for data, content, step in ((b'\x80\x41N.', b'\x80\x02N.', '0: PROTO 65 replaced by PROTO 2: S6 bad protocol 65'),
+                                    (b'\x80\x06]\x94.', b'\x80\x04]\x94.', '0: PROTO 6 replaced by PROTO 4: S6 bad protocol 6'),
+                                    (b'N0\x80\xff\x8e\0\0\0\0\0\0\0\0.', b'N0\x80\x04\x8e\0\0\0\0\0\0\0\0.',
+                                     '2: PROTO 255 replaced by PROTO 4: S6 bad protocol 255')):
+            answer = mended(data)
+            self.assertEqual((answer.content, answer.steps), (content, (step,)))
+        cut = mended(b'\x80\x41]K\x01a')
+        self.assertEqual((cut.content, len(cut.steps)), (b'\x80\x02]K\x01a.', 2))
+
+    def test_a_first_opcode_that_is_refused(self) -> None:
+        answer = mended(b'0N.')
+        self.assertEqual((answer.content, answer.steps[0]), (b'N.', '0: 3 bytes cut off: refused, S2 stack underflow'))
+
     def test_too_crooked(self) -> None:
         with self.assertRaises(TooCrooked):
-            mended(b'N0\x95\x40\0\0\0\0\0\0' * 300)
+            mended(b'N' + b'\x95\xff\xff\0\0\0\0\0\0' * 300)
 
 
 class Words(unittest.TestCase):
     """`picklestep mend`."""
+
+    def test_the_example_of_the_page(self) -> None:
+        """The pickle of the story of the shell loads to what had been built."""
+        cut = next(data for name, data, _, _ in stories() if name == 'cut.pickle')
+        with tempfile.TemporaryDirectory() as folder:
+            Path(folder, 'cut.pickle').write_bytes(cut)
+            shown = '\n'.join(blocks('mend')[1]) + '\n'
+            for words, answer in re.findall(r'\$ picklestep (.*)\n((?:[^$].*\n)*)', shown):
+                done = subprocess.run([sys.executable, '-m', 'picklestep', *words.split()], cwd=folder, env=environment(), capture_output=True, text=True,
+                                      timeout=300, check=False)
+                self.assertEqual(done.stdout, answer)
+            built = {'due': datetime.date(2026, 11, 26), 'jobs': [1, 2]}
+            self.assertEqual(pickle.loads(Path(folder, 'mended.pickle').read_bytes()), built)
+            self.assertEqual(pickle.loads(cut + b'eu.'), built)
 
     def test_status_and_files(self) -> None:
         with tempfile.TemporaryDirectory() as folder:

@@ -10,7 +10,8 @@ from typing import Dict, Iterator, List, Union
 
 import picklestep
 from picklestep import Brief, Briefs, Extension, Global, Reach, Ref
-from picklestep.texts import OFFSET, reach_of
+from picklestep.reaches import reach_of
+from picklestep.texts import begins_with_offset
 from pickles import ROOT, real_pickles
 
 # Kinds of values that stand for themselves; all others but texts, objects and names are a word and a value.
@@ -113,7 +114,7 @@ class Lines(unittest.TestCase):
 
     def test_rows(self) -> None:
         rows = (ROOT / 'equipment' / 'calls.txt').read_text('ascii').splitlines()
-        lines = [line for line in rows if OFFSET.fullmatch(line)]
+        lines = [line for line in rows if begins_with_offset(line)]
         self.assertGreater(len(lines), 400)
         self.check(lines)
 

@@ -22,6 +22,7 @@ from typing import Dict, Set
 
 import picklestep.scan
 from picklestep.scan import Options, look
+from picklestep.scan.containers import CONTAINERS, STORES
 from picklestep.scan.names import Names
 from picklestep.scan.results import from_json, to_json
 from scan_support import HARMLESS, HOSTILE, MODELS, ScanCase, names_of, notes_of, places_of
@@ -133,6 +134,13 @@ class Containers(ScanCase):
         result = self.look('file', gzip.compress(HOSTILE[:9]) + gzip.compress(HOSTILE[9:]))
         self.assertEqual(names_of(result), ['posix.system'])
         self.assertIn('bytes stand behind the end of the stream', notes_of(result))
+
+    def test_each_kind_has_what_opens_it(self) -> None:
+        kinds = [*CONTAINERS, *STORES]
+        self.assertEqual(len({kind.name for kind in kinds}), len(kinds))
+        for entry in [*(kind.opener for kind in kinds), *(kind.opener_at_end for kind in kinds if kind.opener_at_end)]:
+            module, _, name = entry.partition(':')
+            self.assertTrue(callable(getattr(importlib.import_module(f'picklestep.scan.{module}'), name)), entry)
 
     def test_the_layout_of_old_joblib(self) -> None:
         result = self.look('old.joblib', b'ZF' + hex(len(HOSTILE)).ljust(19).encode() + zlib.compress(HOSTILE))

@@ -6,16 +6,19 @@ import gzip
 import io
 import lzma
 import os
+import struct
 import subprocess
 import sys
 import tarfile
 import time
 import unittest
+import unittest.mock
 import zlib
 
-from evasions import LOADERS, short, tries, wrapper
+from evasions import LOADERS, framed, short, tries, wrapper
 from picklestep.scan import Limits, Options, Result, look
 from picklestep.scan.allow import SETS, read_names
+from picklestep.scan.canonical import wide
 from scan_support import HARMLESS, HOSTILE, Made, ScanCase, names_of, notes_of, zip_of
 
 # What loads a try: Debian's Python, which has the libraries of Debian; elsewhere that of the tests.
@@ -81,9 +84,15 @@ class Whole(ScanCase):
     """Pickles with raw numbers between their opcodes."""
 
     def content(self, arrays: int) -> bytes:
-        """joblib's arrays in a list, and a call behind them."""
-        raw = b''.join(wrapper(b'u1', 5)[2:] + b'.\x80\x04N.' for _ in range(arrays))
-        return b'\x80\x04(' + raw + short(b'posix') + short(b'system') + b'\x93' + short(b'id') + b'\x85Rt.'
+        """joblib's arrays in a tuple, and a call behind them. A frame ends before each array."""
+        pieces = [b'('] + [wrapper(b'u1', 5)[2:]] * arrays
+        pieces[:2] = [b''.join(pieces[:2])]
+        call = short(b'posix') + short(b'system') + b'\x93' + short(b'id') + b'\x85Rt.'
+        raw = b''.join(self.framed(piece) + b'.\x80\x04N.' for piece in pieces)
+        return b'\x80\x04' + raw + self.framed(call)
+
+    def framed(self, piece: bytes) -> bytes:
+        return b'\x95' + struct.pack('<Q', len(piece)) + piece
 
     def test_a_call_behind_an_array_is_shown_where_it_is(self) -> None:
         content = self.content(3)
@@ -96,7 +105,7 @@ class Whole(ScanCase):
 
     def test_a_size_that_is_not_plain_is_told(self) -> None:
         content = self.content(1)
-        for one, other in ((b'M\x05\0\x85', b'M\x05\0)'), (short(b'u1'), short(b'x1')), (short(b'C'), short(b'X')), (b'K\x03', b'K\x04K\x03')):
+        for one, other in ((b'K\x05\x85', b'K\x05)'), (short(b'u1'), short(b'x1')), (short(b'C'), short(b'X')), (b'K\x03', b'K\x04K\x03')):
             self.assertIn(one, content)
             with self.subTest(other):
                 self.assertTrue(is_told(self.look('model.joblib', content.replace(one, other, 1))))
@@ -122,6 +131,24 @@ class Whole(ScanCase):
         self.assertIn(flags, content)
         result = self.look('model.joblib', content.replace(flags, flags[:-2] + b'?t'))
         self.assertIn('flags of a numpy.dtype that do not fit its fields', notes_of(result))
+
+    def test_more_opcodes_in_numbers_than_are_gone_over_are_told(self) -> None:
+        for raw, told in ((b'N0' * 1000, True), (b'N' * 2000, False), (b'N0' * 30, False)):
+            content = framed(b'\x80\x04', wrapper(b'u1', len(raw))[2:]) + raw + b'.'
+            with self.subTest(raw[:2]), unittest.mock.patch.object(wide, '_MOST', 100):
+                self.assertEqual(is_told(self.look('model.joblib', content)), told)
+
+    def test_another_form_is_told_with_its_place(self) -> None:
+        odd = b'\x80\x03(t.'
+        for before, content in ((b'', odd), (b'N.', odd), (b'N.' * 40_000, odd), (b'N.', b'\x80\x03(' + b'N' * 70_000 + b'(tt.')):
+            place = len(before) + content.index(b't')
+            with self.subTest(len(before), size=len(content)):
+                self.assertIn('not in the form that picklers write', notes_of(self.look('a.pkl', before + content)))
+                self.assertIn(f', at {place}', notes_of(self.look('a.pkl', before + content)))
+        content = self.content(3)
+        place = content.rindex(b'\x85Rt.')
+        result = self.look('model.joblib', content[:place] + b'0' + content[place + 1:])
+        self.assertIn('! : not in the form that picklers write: ', notes_of(result))
 
     def test_a_thousand_arrays(self) -> None:
         begin = time.process_time()
@@ -187,8 +214,21 @@ class LimitsOfAFile(ScanCase):
     """Processor time and memory of a file."""
 
     def test_processor_time(self) -> None:
-        result = self.look('a.pkl.gz', gzip.compress(HOSTILE[:-1] + b'(' + b'N' * 3_000_000 + b'l.'), Options(Limits(seconds=0.2)))
-        self.assertRegex(notes_of(result), '! .*(0.2 seconds|time or memory)')
+        result = self.look('a.pkl.gz', gzip.compress(HOSTILE[:-1] + b'(' + b'N' * 3_000_000 + b'l.'), Options(Limits(seconds=0.02)))
+        self.assertRegex(notes_of(result), '! .*(0.02 seconds|time or memory)')
+
+    def test_small_files_ask_for_the_processor_time_now_and_then(self) -> None:
+        asked, begin = 0, time.monotonic()
+        real = time.process_time
+
+        def process_time() -> float:
+            nonlocal asked
+            asked += 1
+            return real()
+        with unittest.mock.patch('time.process_time', process_time):
+            for _ in range(100):
+                self.look('a.pkl', HARMLESS)
+        self.assertLessEqual(asked, (time.monotonic() - begin) / 0.01 + 1)
 
     def test_what_unpacks_to_too_much(self) -> None:
         data = gzip.compress(HOSTILE + bytes(6_000_000))

@@ -12,6 +12,7 @@ import random
 import socket
 import struct
 import subprocess
+import sys
 import tarfile
 import threading
 import time
@@ -26,7 +27,7 @@ from picklestep.records import End
 from picklestep.scan import Options, blobs, look
 from picklestep.scan.blobs import Budget, Limits
 from picklestep.scan.reading import Summary
-from scan_support import (HARMLESS, HOSTILE, MODELS, Made, ScanCase, closing, entry, local, names_of, notes_of, places_of,
+from scan_support import (HARMLESS, HOSTILE, MODELS, Made, ScanCase, closing, entry, environment, local, names_of, notes_of, places_of,
                           zip_of)
 
 
@@ -53,6 +54,17 @@ class HostileZip(ScanCase):
             with self.assertRaises((zipfile.BadZipFile, RuntimeError, NotImplementedError)):
                 zipfile.ZipFile(io.BytesIO(data)).read('a')
             self.found(data)
+
+    def test_settings_of_lzma_that_are_none(self) -> None:
+        """zipfile reads the next member without trouble."""
+        written = io.BytesIO()
+        with zipfile.ZipFile(written, 'w') as archive:
+            archive.writestr(zipfile.ZipInfo('a.bin'), b'hello', zipfile.ZIP_LZMA)
+            archive.writestr(zipfile.ZipInfo('b.pkl'), HOSTILE)
+        data = bytearray(written.getvalue())
+        data[data.index(b'\x09\x04\x05\x00') + 4] = 0x80
+        self.assertEqual(zipfile.ZipFile(io.BytesIO(data)).read('b.pkl'), HOSTILE)
+        self.found(bytes(data), '! a.bin: ')
 
     def test_flags_of_encryption_on_a_plain_member(self) -> None:
         for method in (0, 8):
@@ -226,6 +238,24 @@ class Bombs(ScanCase):
         result = self.look('bomb.zip', bomb, Options(Limits(unpacked=10_000_000)))
         self.assertIn('! zeros: more than 10,000,000 bytes are unpacked', notes_of(result))
         self.assertIn('posix.system', names_of(self.look('bomb.zip', bomb)))
+
+    @unittest.skipUnless(hasattr(os, 'wait4'), 'the system does not say what a process took')
+    def test_the_limits_by_default(self) -> None:
+        """A minute of processor time and 1 GB are enough to say what is not looked at. (Bombs that take as long as that are timed by hand.)"""
+        zeros = gzip.compress(bytes(1 << 29), 1)
+        for name, data, told in (('zeros.gz', zeros, 'bytes that may be held at once'),
+                                 ('nested.gz', gzip.compress(gzip.compress(zeros)), 'bytes that may be held at once'),
+                                 ('long.pkl', b'\x80\x04\x8e' + struct.pack('<Q', 1 << 40) + bytes(20_000_000), 'truncated')):
+            with self.subTest(name), open(self.file('told', b''), 'w+') as out:
+                words = [sys.executable, '-m', 'picklestep', 'scan', str(self.file(name, data))]
+                started = subprocess.Popen(words, env=environment(), stdin=subprocess.DEVNULL, stdout=out)
+                _, status, used = os.wait4(started.pid, 0)
+                started.returncode = os.WEXITSTATUS(status)
+                out.seek(0)
+                self.assertIn(told, out.read())
+                self.assertEqual(started.returncode, 1)
+                self.assertLess(used.ru_utime + used.ru_stime, 60)
+                self.assertLess(used.ru_maxrss << 10, 1 << 30)
 
     def test_a_bomb_that_is_named_a_pickle(self) -> None:
         for name, data in (('a.pkl.gz', gzip.compress(b'N' * 9_000_000)), ('a.pkl.bz2', bz2.compress(b'N' * 9_000_000)),
@@ -585,7 +615,7 @@ class HostileFolders(ScanCase):
         self.assertIn('! : it changed while it was looked at', notes_of(result))
 
     def test_a_file_that_becomes_shorter(self) -> None:
-        path = self.file('a.zip', zip_of([Made(b'a.pkl', HOSTILE), Made(b'b.pkl', HARMLESS)]))
+        path = self.file('a.zip', zip_of([Made(b'a.pkl', HOSTILE), Made(b'b.pkl', HARMLESS), Made(b'c', bytes(100_000))]))
         read = blobs._read_at
         calls = iter(range(1000))
 

@@ -89,6 +89,23 @@ class Words(unittest.TestCase):
             self.assertEqual(session.run(), Ran(3, 'refused', 'refused, S3 no memo entry 0'))
             self.assertEqual((session.memo(), session.where().results, session.where().places), ({0: 0}, (0,), 5))
 
+    def test_without_frames(self) -> None:
+        cut = b'\x80\x04\x95' + (6).to_bytes(8, 'little') + b']\x94K\x01a'
+        with Session(cut, unframed=True) as session:
+            self.assertEqual(session.run(), Ran(6, 'end', 'end, F1 ended at 16'))
+            self.assertEqual(session.objects()[0].changes, (Change('append', 1),))
+            session.goto(0)
+            with self.assertRaisesRegex(Refused, 'E3'):
+                session.unframe(1)
+            self.assertEqual(session.replace(4, 'BININT1', 2), 4)
+            self.assertEqual(session.bytes(), cut[:14] + b'\x02a')
+            self.assertEqual([opcode.name for opcode in session.listing()], ['PROTO', 'FRAME', 'EMPTY_LIST', 'MEMOIZE', 'BININT1', 'APPEND'])
+        with Session(cut) as session:
+            self.assertEqual(session.where().places, 1)
+        with Session(cut[:-3] + b'cos\ngetcwd\n)R', unframed=True) as session:
+            session.replace(4, 'GLOBAL', 'os', 'getpid')
+            self.assertEqual([(reach.offset, reach.text) for reach in session.calls()], [(13, "import 'os' 'getpid' as #1"), (25, "call 'os' 'getpid' () as #3")])
+
     def test_a_window(self) -> None:
         with Session(b'N0' * 50 + b'N.', window=2) as session:
             self.assertEqual([session.goto(60), *(session.back() for _ in range(60))], list(range(60, -1, -1)))

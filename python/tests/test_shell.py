@@ -2,45 +2,29 @@
 
 from __future__ import annotations
 
+import collections
+import contextlib
 import os
 import pickle
 import pickletools
-import re
+import random
 import subprocess
 import sys
 import tempfile
 import time
 import unittest
 from pathlib import Path
-from typing import Iterator, List, Tuple
 
 import picklestep
+from examples_of_using import stories
 from picklestep.shell.complete import completions
 from picklestep.shell.explain import EFFECTS, EXPLAINED
 from picklestep.shell.shell import Shell, WordError
 from picklestep.shell.words import SAMPLE, WORDS
-from pickles import ROOT, real_pickles
+from pickles import real_pickles
 from terminals import Terminal
 
-_HEX = re.compile(r'\$ echo ([0-9a-f]+) \| xxd -r -p > (\S+)')
 _QUESTION = '(yes/no) '
-
-
-def stories() -> Iterator[Tuple[str, bytes, List[Tuple[str, str]]]]:
-    """The examples of docs/USING.md: a file, what is in it, and each line that is typed with what is shown then."""
-    text = (ROOT / 'docs' / 'USING.md').read_text(encoding='utf-8').partition('\n## shell\n')[2].partition('\n## ')[0]
-    for block in re.findall(r'(?:^    .*\n)+', text, re.MULTILINE):
-        lines = [line[4:] for line in block.splitlines()]
-        match = _HEX.fullmatch(lines[0])
-        if match is None:
-            continue
-        typed: List[Tuple[str, str]] = []
-        for line in lines[2:]:
-            if line.startswith('(pickle) '):
-                typed.append((line[9:], ''))
-            else:
-                typed[-1] = typed[-1][0], typed[-1][1] + line + '\n'
-        yield match[2], bytes.fromhex(match[1]), typed
 
 
 class AtATerminal(unittest.TestCase):
@@ -51,25 +35,27 @@ class AtATerminal(unittest.TestCase):
         self.addCleanup(folder.cleanup)
         self.folder = folder.name
 
-    def begun(self, data: bytes, name: str = 'a.pickle') -> Terminal:
-        """A shell that is being opened."""
-        Path(self.folder, name).write_bytes(data)
-        terminal = Terminal([name], self.folder)
+    def begun(self, data: bytes, *words: str) -> Terminal:
+        """A shell that is being opened. The last of the words is the file."""
+        words = words or ('a.pickle',)
+        Path(self.folder, words[-1]).write_bytes(data)
+        terminal = Terminal([*words], self.folder)
         self.addCleanup(terminal.process.wait)
         self.addCleanup(terminal.process.kill)
         return terminal
 
-    def opened(self, data: bytes, name: str = 'a.pickle') -> Terminal:
+    def opened(self, data: bytes, *words: str) -> Terminal:
         """A shell that waits for a line."""
-        terminal = self.begun(data, name)
+        terminal = self.begun(data, *words)
         terminal.until('(pickle) ')
         return terminal
 
     def test_stories_of_the_page(self) -> None:
         found = list(stories())
         self.assertEqual(len(found), 3)
-        for name, data, typed in found:
-            terminal = self.opened(data, name)
+        for name, data, words, typed in found:
+            self.assertEqual(words[-1], name)
+            terminal = self.opened(data, *words)
             for line, wanted in typed:
                 with self.subTest(name, line=line):
                     if _QUESTION in wanted:
@@ -120,6 +106,21 @@ class AtATerminal(unittest.TestCase):
         self.assertIn('>       2 ', terminal.type('\x10\x10\x10'))
         self.assertEqual((terminal.type('quit'), terminal.close()), ('', 0))
 
+    def test_an_interrupted_answer(self) -> None:
+        """Ctrl-C ends the answer and not the shell: what was edited is still there."""
+        terminal = self.opened(pickle.dumps([number % 256 for number in range(300_000)], 4))
+        terminal.type('insert 5 NONE')
+        terminal.type('where')
+        os.write(terminal.master, b'source full\n')
+        time.sleep(0.3)
+        os.write(terminal.master, b'\x03')  # (the system drops what was not read yet, perhaps with the next prompt)
+        self.assertIn('^C', terminal.raw_until('^C'))
+        time.sleep(0.5)
+        os.write(terminal.master, b'undo\n')
+        self.assertNotIn('217, 218', terminal.raw_until('undone 5'))
+        os.write(terminal.master, b'quit\n')
+        self.assertEqual(terminal.process.wait(60), 0)
+
     def test_prompt_toolkit(self) -> None:
         if subprocess.run([sys.executable, '-c', 'import prompt_toolkit'], stderr=subprocess.DEVNULL, check=False).returncode:
             self.skipTest('there is no prompt_toolkit')
@@ -133,6 +134,27 @@ class AtATerminal(unittest.TestCase):
         shown = terminal.until('never')
         self.assertIn('35: TUPLE2', shown)
         self.assertEqual(terminal.close(), 0)
+
+
+    def test_colours(self) -> None:
+        """Where rich is installed imports are yellow and calls red, at a terminal alone, and nowhere where that is not wanted."""
+        if subprocess.run([sys.executable, '-c', 'import rich'], stderr=subprocess.DEVNULL, check=False).returncode:
+            self.skipTest('there is no rich')
+        Path(self.folder, 'a.pickle').write_bytes(SAMPLE)
+        for wanted, environment in ((True, {}), (False, {'NO_COLOR': '1'}), (False, {'TERM': 'dumb'})):
+            terminal = Terminal(['a.pickle'], self.folder, **{'TERM': 'xterm-256color', 'PROMPT_TOOLKIT_NO_CPR': '1', **environment})
+            self.addCleanup(terminal.process.kill)
+            shown = terminal.raw_until('`help` shows the words.')
+            os.write(terminal.master, b'goto 8\r')
+            shown += terminal.raw_until('stack: ')
+            for colour, text in (('\x1b[33m', '<- import'), ('\x1b[1;31m', '<- call')):
+                is_coloured = any(colour in line and text in line for line in shown.split('\n'))
+                self.assertEqual(is_coloured, wanted, (text, environment, shown))
+            terminal.close()
+        path = {**os.environ, 'PYTHONPATH': os.path.dirname(os.path.dirname(picklestep.__file__)) + os.pathsep + os.environ.get('PYTHONPATH', '')}
+        piped = subprocess.run([sys.executable, '-m', 'picklestep', 'shell', 'a.pickle'], input='run\n', cwd=self.folder, capture_output=True, text=True,
+                               env={**path, 'TERM': 'xterm-256color', 'FORCE_COLOR': '1'}, timeout=300, check=False)
+        self.assertNotIn('\x1b', piped.stdout)
 
 
 class Words(unittest.TestCase):
@@ -211,6 +233,35 @@ class Words(unittest.TestCase):
         self.assertFalse(shell.is_unsaved)
         self.assertEqual(shell.obey('diff'), 'as the file')
 
+    def test_values_where_no_plain_one_is(self) -> None:
+        """The argument of the opcode that is there, if that can have it."""
+        shell = self.shell(SAMPLE)
+        for line, wanted in (('replace 0 4', '0: PROTO 4 (was PROTO 2)'), ('replace 2 9', '2: BINPUT 9 (was BINPUT 0)'),
+                             ("replace 1 ('a', 'b')", "1: GLOBAL 'a' 'b' (was GLOBAL 'oldapp.tasks' 'send')"),
+                             ("set 0 to ('c', 'd')", "1: GLOBAL 'c' 'd' (was GLOBAL 'a' 'b')"),
+                             ('replace 5 -inf', "5: BINFLOAT float('-inf') (was BININT1 3)"),
+                             ("replace 5 float('nan')", "5: BINFLOAT float('nan') (was BINFLOAT float('-inf'))")):
+            self.assertEqual(shell.obey(line), wanted)
+        shell.obey('replace 0 5')
+        self.assertEqual(shell.obey("replace 5 bytearray(b'x')"), "5: BYTEARRAY8 bytearray(b'x') (was BINFLOAT float('nan'))")
+
+    def test_again(self) -> None:
+        """`list` and `find` go on where they ended, as long as the cursor is where it was."""
+        shell = self.shell(b'K\x01' * 50 + b'0' * 49 + b'.')
+        self.assertEqual([shell.obey(line).split('\n')[0].split()[-3] for line in ('list', '', '')], ['0:', '40:', '80:'])
+        self.assertEqual([shell.obey(line).split('\n')[-1] for line in ('find POP', 'find POP', '')], ['at 50', 'at 51', 'at 52'])
+        shell.obey('step')
+        self.assertEqual(shell.obey('find POP').split('\n')[-1], 'at 50')
+
+    def test_texts_of_breaks_and_names_in_any_case(self) -> None:
+        shell = self.shell(SAMPLE)
+        self.assertEqual([shell.obey(line) for line in ("break text 'bob'", 'break opcode reduce')], ['1: text bob', '2: opcode REDUCE'])
+        self.assertEqual(shell.obey('explain reduce'), 'REDUCE: ' + EXPLAINED['REDUCE'])
+        deep = "''" + "+''" * 20_000
+        self.assertEqual(shell.obey(f'break text {deep}'), f'3: text {deep}')
+        with self.assertRaisesRegex(WordError, 'is no value'):
+            shell.obey(f'replace 3 {deep}')
+
     def test_rename_by_the_memo(self) -> None:
         names = b'\x8c\x0aold.module\x94\x8c\x01A\x94\x93h\x00\x8c\x01B\x93cold.module.inner\nC\nh\x00'
         shell = self.shell(b'\x80\x04(' + names + b't.')
@@ -224,20 +275,55 @@ class Words(unittest.TestCase):
         for line in ('bogus', 'goto', 'goto x', 'goto 99', 'goto @3', 'until 0', 'back', 'break depth x', 'break opcode NOPE', 'clear 7', 'go 99',
                      'who 99', 'show 99', 'memo 5', 'find nothing', 'hex 99', 'replace 10 1', 'replace 3 bob', "replace 3 {}", 'insert 99 1',
                      'delete 10', 'delete 99', 'frame 1', 'unframe 1', 'set 99 to 1', 'set 2', 'rename none other', 'undo', 'redo', 'save', 'help nope',
-                     'step x', "replace 3 BININT1 300", 'replace 3 NONE 1', 'replace 3 BININT1 hex zz', 'run on'):
+                     'step x', 'who', 'go', 'show x', 'clear', 'off', 'on', 'undo 2', 'where x', 'source x', 'list 1 2 3', 'list 99', 'replace', 'insert',
+                     'replace 8 7', 'set 3 to 1', 'set 4 to 1', 'break opcode', 'break text', 'rename oldapp',
+                     "replace 3 BININT1 300", 'replace 3 NONE 1', 'replace 3 BININT1 hex zz', 'run on'):
             with self.subTest(line):
-                if line == 'goto':
-                    shell.obey(line)
-                    continue
                 with self.assertRaises(WordError):
                     shell.obey(line)
                 self.assertEqual(shell.pickle.content(), SAMPLE)
         self.assertEqual(self.place(shell), 0)
 
+    def test_what_is_known_after_edits(self) -> None:
+        """The opcodes and the objects that they make are those that a shell finds which reads the edited pickle."""
+        rng = random.Random(51)
+        for name, data in sorted(real_pickles().items(), key=lambda each: len(each[1]))[10:130:6]:
+            with Shell(data, '', many=True) as shell:
+                for _ in range(12):
+                    place = rng.randrange(len(shell.pickle.lines) + 1)
+                    line = rng.choice((f'insert {place} NONE', f'insert {place} MARK', f'delete {place}', f'replace {place} NONE', f'frame {place} 2',
+                                       f'unframe {place}', f'goto {place}', 'undo', 'undo', 'redo'))
+                    with contextlib.suppress(WordError):
+                        shell.obey(line)
+                    with self.subTest(name, line=line), Shell(shell.pickle.content(), '', many=True) as fresh:
+                        self.assertEqual(shell.pickle.lines.makers.codes, fresh.pickle.lines.makers.codes)
+                        self.assertEqual(shell.pickle.lines.text, fresh.pickle.lines.text)
+                        made = len(fresh.pickle.final_text.split(b'\n')) - 1
+                        self.assertEqual([*map(shell.pickle.maker, range(made))], [*map(fresh.pickle.maker, range(made))])
+
+    def test_edits_behind_a_refused_opcode(self) -> None:
+        """Also where the first of several pickles leaves something on the stack, of which the listing has a line."""
+        for line, left in (('delete 4', b'NN.R.'), ('replace 4 True', b'NN.RI01\n.'), ('insert 4 MARK', b'NN.R(N.')):
+            with self.subTest(line), Shell(b'NN.RNN.'[:4] + b'N.', '', many=True) as shell:
+                shell.obey(line)
+                self.assertEqual(shell.pickle.content(), left)
+                self.assertEqual(len(shell.pickle.lines.makers.codes), len(shell.pickle.lines))
+
     def test_what_a_step_changed(self) -> None:
         shell = self.shell(b']q\x00K\x01a}K\x02Nsb.')
         said = [shell.obey('step').split('\n')[-1] for _ in range(4)]
-        self.assertEqual(said, ['made:  #0 []', 'stored: #0 []', 'made:  #1 1', 'changed: #0 [1]'])
+        self.assertEqual(said, ['made:  #0 []', 'stored: 0: #0 []', 'made:  #1 1', 'changed: #0 [1]'])
+
+    def test_what_steps_changed(self) -> None:
+        """Of several steps: what they made, what they changed that was there before, and what they stored, the latest of each."""
+        shell = self.shell(pickle.dumps({'a': [1, 2, {'x': (1, 2)}], 'b': 7}, 4))
+        shell.obey('step 5')
+        for line, wanted in (('step 5', ["made:  #1 'a', #2 []", "stored: 1: #1 'a', 2: #2 []"]), ('until 13', ['made:  #3 1, #4 2, #5 {}']), ('back 5', []),
+                             ('run', ['made:  6 more, #9 (1, 2), #10 \'b\', #11 7', "changed: #2 [1, 2, dict of 1], #0 {'a': list of 3, 'b': 7}",
+                                     "stored: 2 more, 4: #6 'x', 5: #9 (1, 2), 6: #10 'b'"])):
+            with self.subTest(line):
+                rows = shell.obey(line).split('\n')
+                self.assertEqual([row for row in rows if row.startswith(('made', 'changed', 'stored'))], wanted)
 
     def test_completions(self) -> None:
         shell = self.shell(SAMPLE)
@@ -267,7 +353,65 @@ class Words(unittest.TestCase):
         self.assertIn('the end: F1', self.shell(b'').obey('w'))
         for frame in (b'\x95\x07\0\0\0\0\0\0\0NN.', b'\x95\x01\0\0\0\0\0\0\0K\x01.', b'\x95\x03\0\0\0\0\0\0\0N\x95\1\0\0\0\0\0\0\0..'):
             with self.subTest(frame):
-                self.assertRegex(self.shell(b'\x80\x04' + frame).obey('run'), r'the end: F[678] .*\n\(What is .*`picklestep mend FILE OUT`')
+                said = self.shell(b'\x80\x04' + frame).obey('run')
+                self.assertRegex(said, r'the end: F[678] .*\n\(What is .*`picklestep shell --unframed FILE`.*`picklestep mend FILE OUT`')
+
+    def test_unframed(self) -> None:
+        """A pickle that was cut off is stepped to the cut, and what is imported up to there is renamed. That reading ends there is said."""
+        data = b'\x80\x04cold\nA\n\x95\x40\0\0\0\0\0\0\0cold\nB\n'
+        with self.assertRaisesRegex(picklestep.NoResult, 'F7 .*unframed=True'):
+            picklestep.tree(data)
+        with Shell(data, '', unframed=True) as shell:
+            self.assertIn('the end: F1 ended at 25', shell.obey('run'))
+            self.assertIn('(Reading ends early', shell.obey('rename old new'))
+            self.assertEqual(shell.pickle.content(), data.replace(b'old', b'new'))
+            for line in ('unframe 2', 'frame 3 1'):
+                with self.assertRaisesRegex(WordError, 'E3'):
+                    shell.obey(line)
+            self.assertIn('(was GLOBAL', shell.obey('rename new newer'))
+
+    def test_a_cut_pickle_with_a_frame(self) -> None:
+        """Read unframed, it shows what the whole one imports and calls up to the cut, breaks there, and is renamed."""
+        whole = pickle.dumps([collections.OrderedDict(a=1, b=[2, 3]), collections.Counter('hello')], 4)
+        found = list(pickletools.genops(whole))
+        offsets = {word: [position for opcode, _, position in found if opcode.code == code] for word, code in (('import', '\x93'), ('call', 'R'))}
+        with Shell(whole[:-3], '', unframed=True) as shell, Shell(whole, '') as framed:
+            places = len(shell.pickle.lines)
+            self.assertEqual(shell.obey(f'list 0 {places - 1}'), framed.obey(f'list 0 {places - 1}'))
+            rows = shell.obey(f'list 0 {places - 1}').split('\n')
+            for word in ('import', 'call'):
+                self.assertEqual([int(row[10:].partition(':')[0]) for row in rows if f'<- {word} ' in row], offsets[word])
+                shell.obey(f'goto {places}')
+                shell.obey(f'break {word} collections.Counter')
+                shell.obey('run back')
+                self.assertEqual(shell.pickle.session.where().offset, offsets[word][1])
+                shell.obey('clear 1')
+            self.assertEqual(shell.obey('calls').split('\n')[-1], f'2 imports, 3 calls, F1 ended at {len(whole) - 3}')
+            self.assertEqual(shell.obey('source').split('\n')[-1], 'stack = [[], _5, _24]')
+            shell.obey('rename collections:Counter Other')
+            self.assertEqual(shell.pickle.content(), whole[:-3].replace(b'\x07Counter', b'\x05Other'))
+            self.assertEqual(shell.obey('diff').split('\n')[-5:], [
+                'the results cannot be compared: F1 ended at 112', "- import 'collections' 'Counter'", "- call 'collections' 'Counter' (#)",
+                "+ import 'collections' 'Other'", "+ call 'collections' 'Other' (#)"])
+
+    def test_frames_that_do_not_fit(self) -> None:
+        """Read unframed, a whole pickle has its result, also where it has many frames."""
+        for count in (1, 3_000):
+            data = b'\x80\x04](' + (b'\x95' + b'\xff' * 8 + b'cold\nA\n)R') * count + b'e.'
+            with self.subTest(count), Shell(data, '', unframed=True) as shell:
+                self.assertEqual(shell.pickle.reaches.counts, (count, count))
+                shell.obey('replace 4 GLOBAL hex 6e65770a410a')
+                self.assertEqual(shell.obey('diff').split('\n')[-1], '[0].name: old.A -> new.A')
+
+    def test_what_an_opcode_takes_here(self) -> None:
+        shell = self.shell(b'](K\x01K\x02e}(K\x03NK\x04Nuc_\nC\n)R}b(0(NN10q\x000' + b'K\x09' * 6 + b'0' * 4 + b'\x86' + b'.')
+        said = {place: line for place in range(len(shell.pickle.lines)) for line in shell.obey(f'explain {place}').split('\n') if line.startswith('it takes')}
+        self.assertEqual(said, {
+            4: 'it takes list #0 [], the mark of 1, items #1 1, #2 2', 11: 'it takes dict #3 {}, the mark of 6, keys and values #4 3, #5 None, #6 4, #7 None',
+            16: 'it takes object #10 _.C(), state #11 {}', 18: 'it takes the mark of 17', 22: 'it takes the mark of 19, objects #12 None, #13 None',
+            23: 'it takes object #10 _.C()', 24: 'it takes object #3 dict of 2', 25: 'it takes object #3 dict of 2',
+            **{place: f'it takes object #{51 - place} 9' for place in range(32, 36)}, 37: 'it takes result #20 tuple of 2'})
+        self.assertEqual(self.place(shell), 0)
 
     def test_save(self) -> None:
         with tempfile.TemporaryDirectory() as folder:
@@ -294,6 +438,9 @@ class Words(unittest.TestCase):
                 done = subprocess.run(words, env=path, capture_output=True, text=True, timeout=300, check=False)
                 self.assertEqual((done.returncode, done.stderr), (status, errors))
             self.assertEqual(pickled.read_bytes(), SAMPLE.replace(b'K\x03', b'K\x04'))
+            script.write_bytes(b'where\n\xff\n')
+            done = subprocess.run(words, env=path, capture_output=True, text=True, timeout=300, check=False)
+            self.assertEqual((done.returncode, done.stderr), (2, f'picklestep: cannot read {script}: it is not UTF-8\n'))
             piped = subprocess.run([*words[:4], str(pickled)], input='run\nback\nlist\n', env={**path, 'TERM': 'xterm-256color', 'FORCE_COLOR': '1'},
                                    capture_output=True, text=True, timeout=300, check=False)
             self.assertEqual((piped.returncode, '\x1b' in piped.stdout, 'the end: stopped' in piped.stdout), (0, False, True))

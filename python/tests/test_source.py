@@ -22,6 +22,7 @@ from typing import Any, List, Tuple
 import picklestep
 from harmless import Maker, canonical, executed, opcodes_at_random
 from picklestep.python_source import main, source
+from picklestep.python_source.code import HEAD
 from picklestep.python_source.names import TAKEN
 from pickles import HOSTILE, real_pickles
 
@@ -39,6 +40,24 @@ def dumped(value: Any, seed: int) -> bytes:
         return file.getvalue()
     data = pickle.dumps(value, protocol)
     return pickletools.optimize(data) if how == 1 else data
+
+
+def records(rng: random.Random) -> List[Any]:
+    """Records with the same keys, and some parts of them once more."""
+    shared = [['x'], {'a': 1}, (1, 2), 'y' * 100, [[1], [2]]]
+    keys = [f'key {number}' for number in range(rng.randrange(1, 7))]
+    turn = rng.randrange(5)
+
+    def field(at: int, number: int) -> Any:
+        if rng.random() < 0.01:
+            return rng.choice([*shared, 'z' * rng.randrange(60, 90), None, {'b': [at]}])
+        return [at, f'text {at}', at * 0.5, ['a', str(at)], {'x': at, 'y': [at]}, (at, at), [(at, 'z'), [at]], None][(number * turn + number) % 8]
+
+    made: List[Any] = [{key: field(at, number) for number, key in enumerate(keys)} for at in range(rng.choice((5, 60, 800)))]
+    for _ in range(4):
+        part = rng.choice([*rng.choice([each for each in made if isinstance(each, dict)]).values()])
+        made += [part, part[-1:]] if isinstance(part, list) else [{'last': part}]
+    return [*made, made[1:3]]
 
 
 class Equality(unittest.TestCase):
@@ -61,6 +80,13 @@ class Equality(unittest.TestCase):
                 self.assertEqual(canonical(made), canonical(pickle.loads(data)), f'seed {seed}')
                 tried += 1
         self.assertGreaterEqual(tried, 10_000)
+
+    def test_records(self) -> None:
+        """Many containers of one shape, some of which are others, hold long texts, or have parts that are used again."""
+        for seed in range(120):
+            data = dumped(records(random.Random(seed)), seed)
+            self.assertEqual(canonical(executed(source(data).text)['result']), canonical(pickle.loads(data)), f'seed {seed}')
+
     def test_opcodes_at_random(self) -> None:
         pickles = [opcodes_at_random(seed) for seed in range(3000)]
         names = executed(source(b''.join(pickles), many=True).text)
@@ -169,6 +195,18 @@ class Shown(unittest.TestCase):
             with self.subTest(data):
                 self.assertTrue(source(data).text.endswith(ending), source(data).text)
 
+    def test_cut_within_a_frame(self) -> None:
+        """Read unframed, what the source has on its stack is what Python's unpickler has there of the same bytes without the FRAME."""
+        for value in ([collections.OrderedDict(a=1, b=[2, 3]), collections.Counter('hello')], {'user': 'bob', 'jobs': [1, 2.5, {'x': (1, b'y')}]}):
+            for protocol in (4, 5):
+                data = pickle.dumps(value, protocol)
+                for cut in range(11, len(data)):
+                    answer = source(data[:cut], unframed=True)
+                    self.assertIn(answer.end.code, ('F1', 'F3'))
+                    unpickler = Cut(io.BytesIO(data[:2] + data[11:answer.end.offset]))
+                    self.assertEqual(executed(answer.text)['stack'], unpickler.built(), answer.text)
+                self.assertEqual(executed(source(data, unframed=True).text)['result'], value)
+
     def test_names_that_clash_or_are_no_names(self) -> None:
         lines = list(source(b'(ca\nset\ncb\nset\ncb\nset\nca\n_3\nc\x01\nx y\nccl\nclass\nc__future__\ndivision\nt.'))
         self.assertEqual([line.partition('  # ')[0] for line in lines[2:-1]], [
@@ -263,9 +301,23 @@ class Words(unittest.TestCase):
                 self.assertEqual(self.said(path)[0], status)
             self.assertEqual(self.said('--many', path)[0], 1)
             with open(path, 'wb') as file:
+                file.write(pickle.dumps([7, 'x'], 4)[:-2])
+            self.assertEqual([self.said(path)[1].splitlines()[-1], self.said('--unframed', path)], ['stack = []', (1, HEAD + (
+                "# F1 ended at 20: reading ends here, and the stack is\nstack = [[], 7, 'x']\n"))])
+            with open(path, 'wb') as file:
                 file.write(b'X\x03\0\0\0\xe2\x82\xac.')
             self.assertIn("result = '\\u20ac'", self.said(path)[1])
             self.assertEqual(self.said(os.path.join(folder, 'none'))[0], 2)
+
+
+class Cut(pickle._Unpickler):  # type: ignore[name-defined,misc]
+    """Python's unpickler, of bytes that end before their STOP."""
+
+    def built(self) -> List[Any]:
+        """What is on its stack then."""
+        with contextlib.suppress(EOFError):
+            self.load()
+        return [*(each for section in self.metastack for each in section), *self.stack]
 
 
 _HERE = os.path.dirname(os.path.abspath(__file__))

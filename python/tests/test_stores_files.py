@@ -3,7 +3,9 @@
 from __future__ import annotations
 
 import base64
+import bz2
 import gzip
+import itertools
 import json
 import os
 import pickle
@@ -18,7 +20,7 @@ import time
 import unittest
 import zlib
 from pathlib import Path
-from typing import Any, List
+from typing import Any, Callable, Dict, List
 from unittest import mock
 
 from picklestep.scan import Limits, Options, Result, from_json, look
@@ -53,6 +55,14 @@ class Libraries(StoreCase):
         found = places(self.told('django.db'))
         self.assertEqual([place.split(' row ')[0] for place in found], ['cache_table.value', 'django_session.session_data'])
         self.assertTrue(all(' > (base64 at ' in place for place in found), found)
+
+    def test_caches_that_are_files(self) -> None:
+        self.fill(python_with('cachelib', 'dogpile.cache', 'queuelib', 'celery', 'django'), 'file_caches', str(self.folder))
+        self.assertEqual(places(self.told('cachelib')), ['(at 4)'])
+        self.assertRegex(' '.join(places(self.told('dogpile'))), r'^\(at [0-9]+\)$')
+        self.assertEqual(len(places(self.told('queuelib'))), 1)
+        self.assertRegex(' '.join(places(self.told('celery'))), r'^\(base64 at [0-9]+\)$')
+        self.assertEqual(len(places(self.told('django'))), 2)
 
     def test_requests_cache(self) -> None:
         self.fill(python_with('requests_cache'), 'requests_cache', str(self.folder / 'responses.sqlite'))
@@ -308,6 +318,36 @@ class Bytes(ScanCase):
             self.assertEqual(list(encodings.decoded(text)), alone)
             self.assertGreater(len(alone), 60)
 
+    def test_pickles_in_lists_of_checksums(self) -> None:
+        """Lines that are written alike are taken at once: a pickle in any of them is found, also in one that is broken in two."""
+        chosen = random.Random(3)
+        forms: Dict[str, Callable[[bytes], bytes]] = {
+            'base64': base64.b64encode, 'digits': lambda each: each.hex().encode(),
+            'base64 in JSON': lambda each: b'{"id": 7, "sum": "' + base64.urlsafe_b64encode(each).rstrip(b'=') + b'"},',
+            'base64 with a name': lambda each: base64.b64encode(each) + b'  ./folder/file7.txt',
+            'digits with a name': lambda each: each.hex().encode() + b' */folder/one/file7.txt',
+            'a name with digits': lambda each: b'a-long-name-of-a-file = ' + each.hex().encode() + b' .'}
+        planted = {*range(10), 100, 101, 199, *range(300, 310), 398, 399}
+        before = {3: [b'short'], 100: [b'', b'a line that is none of them: '], 300: [b'12'], 305: [b'12', b'34', b'56', b'78'], 307: [b'# 1', b'']}
+        for (name, form), end in itertools.product(forms.items(), (b'\n', b'\r\n')):
+            lines = []
+            for number in range(400):
+                line = form(HOSTILE + struct.pack('>I', number) + bytes(3) if number in planted else chosen.randbytes(32))
+                at = line.index(form(HOSTILE)[:20]) + 16 if number in planted else 0
+                is_broken = number in (5, 101, 309) and name in ('base64', 'digits', 'base64 in JSON')
+                lines += [*before.get(number, []), *([line[:at], line[at:]] if is_broken else [line])]
+            for last in (b'', end):
+                with self.subTest(name, end=end, last=last):
+                    inner = [each[2] for each in encodings.decoded(end.join(lines) + last)]
+                    found = {number for number in planted for each in inner if HOSTILE + struct.pack('>I', number) in each}
+                    self.assertEqual(found, planted)
+            result = self.look('a.txt', end.join(lines), EVERYWHERE)
+            self.assertGreaterEqual(names_of(result).count('posix.system'), len(planted), name)
+            self.assertEqual(notes_of(result), '')
+        large = b'cposix\nsystem\n(X' + struct.pack('<I', 9_000) + chosen.randbytes(9_000) + b'tR.'
+        for text in (base64.encodebytes(large), b'text:\n' + base64.encodebytes(large), b'\r\n\t'.join(base64.encodebytes(large).split())):
+            self.assertIn(large, [each[2] for each in encodings.decoded(text)])
+
     def test_a_checksum_that_begins_as_a_stream_leaves_no_note(self) -> None:
         begun = zlib.compress(bytes(range(200)), 0)[:32]
         result = self.look('a.json', b'{"sum": "' + begun.hex().encode() + b'"}', EVERYWHERE)
@@ -338,7 +378,7 @@ class Bytes(ScanCase):
                     result = self.look('a.bin', around + case + around, EVERYWHERE)
                     self.assertIn(f'(at {len(around)})', places_of(result))
                     self.assertTrue({'posix.system', 'os.system'} & set(names_of(result)))
-        self.assertEqual(self.look('b.bin', b'x ' + HOSTILE).pickles, ())
+        self.assertEqual(self.look('b.bin', b'x' * 100 + HOSTILE).pickles, ())
 
     def test_everywhere_finds_nothing_in_text_and_models(self) -> None:
         for path in (MODELS.parent.parent / 'test_scan.py', MODELS / 'numpy_objects.npy'):
@@ -353,6 +393,59 @@ class Bytes(ScanCase):
             with self.subTest(name):
                 result = self.look('a.bin', b' ' + content, EVERYWHERE)
                 self.assertIsNone(result.error)
+
+    def test_behind_a_few_bytes(self) -> None:
+        """In files and in values: signs of libraries, times, lengths and keys, before a pickle of any protocol, packed bytes or base64."""
+        class Evil:
+            def __reduce__(self) -> object:
+                return os.system, ('id',)
+        begins = [b'!', b'\0\0\0\0', struct.pack('I', 1_700_000_000), b'12345678', b'gz:', b'{"ct": 1700000000.5, "v": 1}|', b'\0\0\0\x24' + b'k' * 36]
+        plain = [pickle.dumps(Evil(), protocol) for protocol in range(6)]
+        gz = subprocess.run(['gzip', '-nc'], input=plain[0], capture_output=True, check=True).stdout
+        for begin in begins:
+            for inner in (*plain, zlib.compress(plain[4]), zlib.compress(plain[0], 0), gz, bz2.compress(plain[2])):
+                with self.subTest(begin, inner=inner):
+                    self.assertIn('posix.system', names_of(self.look('a.bin', begin + inner)))
+                    self.assertIn('posix.system', names_of(self.look_in_value(begin + inner)))
+        text = base64.b64encode(plain[4])
+        for value in (text, b'b64:' + text, b'.' + text + b':sign', json.dumps({'body': base64.b64encode(plain[0]).decode()}).encode(), plain[4].hex().encode()):
+            with self.subTest(value):
+                self.assertIn('posix.system', names_of(self.look('a.bin', value)))
+
+    def test_behind_arguments_of_megabytes(self) -> None:
+        """The import and the call are in another window than PROTO; names come from the memo."""
+        text = b'B' + struct.pack('<I', 5_000_000) + bytes(5_000_000)
+        held = b'\x80\x04\x8c\x05posix\x94\x8c\x06system\x94' + text + b'h\x00h\x01\x93\x8c\x02id\x85R.'
+        for content in (bytes(100) + held, b'x' * 100 + b'\x80\x02(' + text + text + HOSTILE):
+            self.assertIn('posix.system', names_of(self.look('a.bin', content, EVERYWHERE)))
+
+    def test_stores_in_values(self) -> None:
+        """A database in a value, and several pickles behind a few bytes."""
+        path = self.folder / 'inner.db'
+        connection = sqlite3.connect(path)
+        connection.execute('CREATE TABLE inside (v BLOB)')
+        connection.execute('INSERT INTO inside VALUES (?)', (HOSTILE,))
+        connection.commit()
+        connection.close()
+        self.assertEqual(places_of(self.look_in_value(path.read_bytes())), ['t.v row 1 > inside.v row 1'])
+        queue = b'\0\0\0\2' + b''.join(each + struct.pack('>I', len(each)) for each in (pickle.dumps([1], 4), HOSTILE))
+        self.assertIn('posix.system', names_of(self.look_in_value(queue)))
+
+    def test_lines_of_a_few_signs(self) -> None:
+        text = base64.b64encode(OLD * 2).decode()
+        for width in (4, 7, 8, 10):
+            for ends in ('\n', '\r\n'):
+                lines = ends.join(text[at:at + width] for at in range(0, len(text), width))
+                for value in (lines, f'-- some words\n\n{lines}\nand more\n'):
+                    with self.subTest(width, value=value[:20]):
+                        self.assertIn('posix.system', names_of(self.look_in_value(value.encode())))
+
+    def test_checksums_are_no_pickles(self) -> None:
+        """Lines of hexadecimal and base64 have opcodes and newlines enough for imports and calls."""
+        chosen = random.Random(3)
+        lines = b'\n'.join(chosen.randbytes(20).hex().encode() for _ in range(20_000))
+        self.assertEqual(self.look('a.txt', lines, EVERYWHERE).pickles, ())
+        self.assertIn('posix.system', names_of(self.look('b.txt', lines + b'\n' + HOSTILE + lines, EVERYWHERE)))
 
     def test_records_that_are_cut(self) -> None:
         record = len(HARMLESS).to_bytes(4, 'big') + HARMLESS
@@ -467,15 +560,6 @@ class Bytes(ScanCase):
         self.assertIn('! : Berkeley DB: the values of 1 keys are of a kind that is not read', notes_of(result))
         self.assertEqual(names_of(result), ['posix.system'])
         self.assertGreaterEqual(result.others, 0)
-
-    def test_what_is_not_opened_is_told(self) -> None:
-        lmdb = bytes(16) + b'\xde\xc0\xef\xbe' + bytes(100)
-        for begin, kind in ((b'REDIS0011\xfa', 'dump of Redis'), (lmdb, 'LMDB'), (b'PGDMP\x01', 'pg_dump'), (b'\x37\x7f\x06\x82' + bytes(40), 'SQLite'),
-                            (bytes(12) + b'\x62\x31\x05\0' + bytes(500), 'Berkeley DB of another kind')):
-            with self.subTest(kind):
-                result = self.look('a.bin', begin)
-                self.assertIn(kind, notes_of(result))
-                self.assertTrue(result.notes[0].missed)
 
 
 if __name__ == '__main__':

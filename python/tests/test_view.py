@@ -205,7 +205,8 @@ class Cutting(unittest.TestCase):
                 cutter.feed(text[at:at + size])
                 at += size
             self.assertEqual(into.text, whole.text)
-            self.assertEqual(into.starts, whole.starts)
+            self.assertEqual([*map(into.start, range(51))], [*map(whole.start, range(51))])
+            self.assertEqual([into.number_at(into.start(at)) for at in range(50)], [*range(50)])
         self.assertTrue(all(whole.raw(at).endswith("' (#1 #2)") for at in range(50)))
 
 

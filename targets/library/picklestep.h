@@ -24,14 +24,15 @@ enum {
     PICKLESTEP_DONE = 0,          /* the whole text is in `out` */
     PICKLESTEP_OUT_OF_MEMORY = 1, /* memory ran out, or the limit of the thread was met */
     PICKLESTEP_TOO_LARGE = 2,     /* the input has more than 1,073,741,824 bytes */
-    PICKLESTEP_NO_ROOM = 3        /* the text has no room in `out`: its size is told, so that one can ask again with that much room */
+    PICKLESTEP_NO_ROOM = 3,       /* the text has no room in `out`: its size is told, so that one can ask again with that much room */
+    PICKLESTEP_NO_TASK = 4        /* the options are not those of the function, or do not go together, or a hole does not stand behind the others */
 };
 
 /* What is told of a text, where the answer is PICKLESTEP_DONE or PICKLESTEP_NO_ROOM. */
 typedef struct {
     size_t size;    /* its bytes */
     uint8_t status; /* the status of the program: 1 where an opcode or a line is refused, the bytes have a fault, or the lines of `calls` end in
-                       `unsure:` or `kept:`, else 0 */
+                       `unsure:` or `kept:`, or a pickle is not in the form, else 0 */
 } picklestep_written;
 
 /* The opcodes of a pickle; with `many`, of several pickles that follow one another (`picklestep list FILE [--many]`). */
@@ -48,6 +49,10 @@ uint8_t picklestep_calls_first(const uint8_t *bytes, size_t length, uint8_t *out
 
 /* The same of pickles that one unpickler reads, which keeps its memo (`picklestep calls FILE --memo kept`). */
 uint8_t picklestep_calls_one_memo(const uint8_t *bytes, size_t length, uint8_t *out, size_t room, picklestep_written *written);
+
+/* Whether the bytes are one pickle in the form that picklers write, with nothing behind it, or the first place at which they are not, and why
+ * (`picklestep form FILE`). */
+uint8_t picklestep_form(const uint8_t *bytes, size_t length, uint8_t *out, size_t room, picklestep_written *written);
 
 /* The answers of a conversation: those to all lines of a script, of `script_length` bytes, in a session of a pickle, or with `many` of several
  * (`picklestep debug FILE [--many]`, with the script as its standard input). A conversation that goes on is asked with all lines so far. */
@@ -66,6 +71,36 @@ uint8_t picklestep_edited_calls_first(bool many, const uint8_t *bytes, size_t le
                                       size_t room, picklestep_written *written);
 uint8_t picklestep_edited_calls_one_memo(bool many, const uint8_t *bytes, size_t length, const uint8_t *script, size_t script_length,
                                          uint8_t *out, size_t room, picklestep_written *written);
+
+/* The options of the functions below, whose sum is given: those of the program. */
+enum {
+    PICKLESTEP_MANY = 1,      /* --many */
+    PICKLESTEP_UNFRAMED = 2,  /* --unframed (not for `calls_with`) */
+    PICKLESTEP_FIRST = 4,     /* --first (for calls) */
+    PICKLESTEP_MEMO_KEPT = 8, /* --memo kept (for calls, not with --first) */
+    PICKLESTEP_FULL = 16      /* --full (for calls) */
+};
+
+/* Bytes of an input that are left out (`--skip OFFSET:SIZE`). */
+typedef struct {
+    uint64_t offset;
+    uint64_t size;
+} picklestep_hole;
+
+/* The same texts as above, with options. `holes` are `count` of them, in order, none of which overlaps another (`count` may be 0): what is left is
+ * read, with the offsets of the input. With holes the input is copied. */
+uint8_t picklestep_list_with(uint32_t options, const uint8_t *bytes, size_t length, uint8_t *out, size_t room, picklestep_written *written);
+uint8_t picklestep_objects_with(uint32_t options, const uint8_t *bytes, size_t length, uint8_t *out, size_t room, picklestep_written *written);
+uint8_t picklestep_calls_with(uint32_t options, const picklestep_hole *holes, size_t count, const uint8_t *bytes, size_t length, uint8_t *out,
+                              size_t room, picklestep_written *written);
+uint8_t picklestep_debug_with(uint32_t options, const uint8_t *bytes, size_t length, const uint8_t *script, size_t script_length, uint8_t *out,
+                              size_t room, picklestep_written *written);
+uint8_t picklestep_edited_list_with(uint32_t options, const uint8_t *bytes, size_t length, const uint8_t *script, size_t script_length,
+                                    uint8_t *out, size_t room, picklestep_written *written);
+uint8_t picklestep_edited_objects_with(uint32_t options, const uint8_t *bytes, size_t length, const uint8_t *script, size_t script_length,
+                                       uint8_t *out, size_t room, picklestep_written *written);
+uint8_t picklestep_edited_calls_with(uint32_t options, const uint8_t *bytes, size_t length, const uint8_t *script, size_t script_length,
+                                     uint8_t *out, size_t room, picklestep_written *written);
 
 /* How many bytes of memory each call on this thread may hold at most from now on, besides `bytes` and `out`; SIZE_MAX, as at first, is no
  * limit. (The module for WebAssembly has no such function: there the limit is that of its memory.) */

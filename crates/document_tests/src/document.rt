@@ -2,7 +2,6 @@
 
 mod cost;
 mod hostile;
-mod many;
 mod memory;
 mod nest;
 mod rows;
@@ -11,39 +10,41 @@ mod worked;
 
 use crate::document::cost::edit_many;
 use crate::document::hostile::{CUTS, LENGTHS, end_of, first_wrong_cut, single_bytes};
-use crate::document::many::{MANY, MANY_EDITS, MANY_REFUSED};
 use crate::document::memory::edit_with_little;
 use crate::document::nest::put_and_back;
 use crate::document::rows::{
-    BESIDE_FRAMES, EMPTY_FRAMES, FRAMES, FRAMES_THAT_LIE, IN_FRAMES, NO_FRAMES, REFUSED,
+    BESIDE_FRAMES, EMPTY_FRAMES, FRAMES, FRAMES_THAT_LIE, IN_FRAMES, MANY, MANY_EDITS,
+    MANY_REFUSED, NO_FRAMES, REFUSED,
 };
 use crate::document::shown::{
-    Row, Spelled, Wrong, are_alike, have_same_ids, make, make_by_name, open, shows, swap_to,
-    written,
+    Row, Spelled, Wrong, are_alike, has_bytes_left, have_same_ids, make, make_by_name, open, shows,
+    swap_to, written,
 };
-use pickle_doc::{Document, Edit, EditFault, End, there_and_back};
+use pickle_doc::{Document, Edit, EditFault, there_and_back};
 use pickle_ops::Opcode;
 use std::alloc::Global;
 use std::test::Fail;
 
 /// Makes the edit of a row, takes it back, makes it again and takes it back again.
 fn try_row(alloc: Global, many: bool, row: &Row) -> Result<(), Wrong> {
-    let mut document = open(alloc, many, row.before.bytes)?;
-    shows(alloc, &document, &row.before)?;
-    let mut record = make(alloc, &mut document, &row.edit)?;
-    if record.place() != row.edit.place() {
+    let (bytes, text, edit, bytes_behind, text_behind) = row;
+    let (before, after) = ((*bytes, *text), (*bytes_behind, *text_behind));
+    let mut document = open(alloc, many, bytes)?;
+    shows(alloc, &document, before)?;
+    let mut record = make(alloc, &mut document, edit)?;
+    if record.place() != edit.place() {
         return Err(Wrong::Place);
     }
-    shows(alloc, &document, &row.after)?;
-    swap_to(alloc, &mut document, &mut record, &row.before)?;
-    swap_to(alloc, &mut document, &mut record, &row.after)?;
-    swap_to(alloc, &mut document, &mut record, &row.before)
+    shows(alloc, &document, after)?;
+    swap_to(alloc, &mut document, &mut record, before)?;
+    swap_to(alloc, &mut document, &mut record, after)?;
+    swap_to(alloc, &mut document, &mut record, before)
 }
 
 /// Tries a row of one pickle, and of many where that is the same: where no byte follows STOP.
 fn try_in_both(alloc: Global, row: &Row) -> Result<(), Wrong> {
     try_row(alloc, false, row)?;
-    if row.before.end == End::Stopped && !row.before.tail.is_empty() {
+    if has_bytes_left(alloc, row.0)? {
         return Ok(());
     }
     try_row(alloc, true, row)
@@ -53,7 +54,7 @@ fn try_in_both(alloc: Global, row: &Row) -> Result<(), Wrong> {
 fn first_wrong<'a>(alloc: Global, rows: &'a [Row]) -> Option<(&'a [u8], Wrong)> {
     for row in rows {
         if let Err(wrong) = try_in_both(alloc, row) {
-            return Some((row.before.bytes, wrong));
+            return Some((row.0, wrong));
         }
     }
     None
@@ -63,7 +64,7 @@ fn first_wrong<'a>(alloc: Global, rows: &'a [Row]) -> Option<(&'a [u8], Wrong)> 
 fn first_wrong_of_many<'a>(alloc: Global, rows: &'a [Row]) -> Option<(&'a [u8], Wrong)> {
     for row in rows {
         if let Err(wrong) = try_row(alloc, true, row) {
-            return Some((row.before.bytes, wrong));
+            return Some((row.0, wrong));
         }
     }
     None
@@ -101,19 +102,20 @@ fn edits_without_frames(rt: HostRuntime) {
 
 /// Makes the edit of a row by the call that has its name.
 fn try_by_name(alloc: Global, row: &Row) -> Result<(), Wrong> {
-    let mut document = open(alloc, false, row.before.bytes)?;
-    let record = make_by_name(alloc, &mut document, &row.edit)?;
-    if record.place() != row.edit.place() {
+    let (bytes, _, edit, bytes_behind, text_behind) = row;
+    let mut document = open(alloc, false, bytes)?;
+    let record = make_by_name(alloc, &mut document, edit)?;
+    if record.place() != edit.place() {
         return Err(Wrong::Place);
     }
-    shows(alloc, &document, &row.after)
+    shows(alloc, &document, (*bytes_behind, *text_behind))
 }
 
 /// The first row that goes wrong when the call with the name of its edit makes it, by its bytes, and what is wrong there.
 fn first_wrong_by_name<'a>(alloc: Global, rows: &'a [Row]) -> Option<(&'a [u8], Wrong)> {
     for row in rows {
         if let Err(wrong) = try_by_name(alloc, row) {
-            return Some((row.before.bytes, wrong));
+            return Some((row.0, wrong));
         }
     }
     None
@@ -134,8 +136,8 @@ fn edits_of_many_pickles(rt: HostRuntime) {
 #[test]
 fn many_pickles(rt: HostRuntime) -> Result<(), Fail> {
     for (k, want) in MANY.iter().enumerate() {
-        let document = Document::read_many(rt.alloc(), want.bytes)?;
-        assert_eq!(rt; shows(rt.alloc(), &document, want), Ok(()), "row {k}");
+        let document = Document::read_many(rt.alloc(), want.0)?;
+        assert_eq!(rt; shows(rt.alloc(), &document, *want), Ok(()), "row {k}");
     }
     Ok(())
 }
@@ -162,28 +164,23 @@ fn refusal_of(
 
 #[test]
 fn refused_edits(rt: HostRuntime) {
-    for (k, (bytes, edit, fault)) in REFUSED.iter().enumerate() {
-        assert_eq!(rt;
-            refusal_of(rt.alloc(), false, bytes, edit),
-            Ok(Some(*fault)),
-            "row {k}"
-        );
-        assert_eq!(rt;
-            refusal_of(rt.alloc(), true, bytes, edit),
-            Ok(Some(*fault)),
-            "row {k}, of many pickles"
-        );
+    for (bytes, edits) in &REFUSED {
+        for (edit, fault) in *edits {
+            for many in [false, true] {
+                let found = refusal_of(rt.alloc(), many, bytes, edit);
+                assert_eq!(rt; found, Ok(Some(*fault)), "{bytes:?}");
+            }
+        }
     }
 }
 
 #[test]
 fn refused_edits_of_many_pickles(rt: HostRuntime) {
-    for (k, (bytes, edit, fault)) in MANY_REFUSED.iter().enumerate() {
-        assert_eq!(rt;
-            refusal_of(rt.alloc(), true, bytes, edit),
-            Ok(Some(*fault)),
-            "row {k}"
-        );
+    for (bytes, edits) in &MANY_REFUSED {
+        for (edit, fault) in *edits {
+            let found = refusal_of(rt.alloc(), true, bytes, edit);
+            assert_eq!(rt; found, Ok(Some(*fault)), "{bytes:?}");
+        }
     }
 }
 

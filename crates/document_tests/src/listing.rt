@@ -1,9 +1,9 @@
-//! Listings over memory. The expected texts are what `pickletools.dis` prints for these bytes, in the listing's form of arguments,
-//! notes and closing lines.
+//! Listings and reports of documents, also of edited ones: what is written of their bytes alone. That is judged from outside, by the
+//! rows of equipment/texts.txt.
 
-use pickle_doc::{Document, LIMIT};
+use pickle_doc::{Document, End, LIMIT};
 use pickle_ops::{Opcode, op_of};
-use pickle_show::{list_bytes, write_listing};
+use pickle_show::{list_bytes, report_of_bytes, write_document_report, write_listing};
 use std::alloc::Global;
 use std::test::Fail;
 use test_equipment::{paper, taken};
@@ -11,155 +11,101 @@ use test_equipment::{paper, taken};
 /// A usual dump of a list, in a frame.
 const DUMP: &[u8] = b"\x80\x04\x95\x06\x00\x00\x00\x00\x00\x00\x00]\x94K\x01a.";
 
-/// Bytes and their listing with its status.
-const ROWS: [(&[u8], &str, u8); 5] = [
-    (
-        DUMP,
-        "    0: \\x80 PROTO      4\n    2: \\x95 FRAME      6\n   11: ]    EMPTY_LIST\n   12: \\x94 MEMOIZE    (as 0)\n   13: K    BININT1    1\n   15: a    APPEND\n   16: .    STOP\nhighest protocol among opcodes = 4\n",
-        0,
-    ),
-    // Something is left on the stack, and there are bytes after STOP.
-    (
-        b"(K\x01.XY",
-        "    0: (    MARK\n    1: K        BININT1    1\n    3: .        STOP\nleft: 0 objects, 1 marks\nkept: 2 bytes after STOP\nhighest protocol among opcodes = 1\n",
-        0,
-    ),
-    // An item that is refused, and a tail with a fault.
-    (
-        b"0.",
-        "    0: 0    POP\nrefused: S2 stack underflow\nhighest protocol among opcodes = 0\n",
-        1,
-    ),
-    (
-        b"N\x7f",
-        "    0: N    NONE\nfault: F2 unknown opcode 0x7f at 1\nhighest protocol among opcodes = 0\n",
-        1,
-    ),
-    (b"", "fault: F1 ended at 0\n", 1),
+/// Bytes with one pickle.
+const ONE: [&[u8]; 11] = [
+    DUMP,
+    b"(K\x01.XY",
+    b"0.",
+    b"N\x7f",
+    b"",
+    b"cos\ngetcwd\n)R.",
+    b"ccollections\nOrderedDict\n)R(K\x01K\x02u.",
+    b"N(0.",
+    b"\x97\x98.",
+    b"K\x01q\x00K\x02q\x00h\x07.",
+    b"X\x05\x00\x00\x00ab",
 ];
 
-/// Bytes and their listing as many pickles, with its status.
-const MANY: [(&[u8], &str, u8); 12] = [
-    (b"", "fault: F1 ended at 0\n", 1),
-    (
-        b"N.K\x01.",
-        "    0: N    NONE\n    1: .    STOP\n    2: K    BININT1    1\n    4: .    STOP\nhighest protocol among opcodes = 1\n",
-        0,
-    ),
-    // The last pickle has no STOP.
-    (
-        b"N.N",
-        "    0: N    NONE\n    1: .    STOP\n    2: N    NONE\nfault: F1 ended at 3\nhighest protocol among opcodes = 0\n",
-        1,
-    ),
-    // A byte after STOP is no opcode.
-    (
-        b"(N.\xff",
-        "    0: (    MARK\n    1: N        NONE\n    2: .        STOP\nleft: 0 objects, 1 marks\nfault: F2 unknown opcode 0xff at 3\nhighest protocol among opcodes = 0\n",
-        1,
-    ),
-    // A mark that is left is not open in the next pickle.
-    (
-        b"(N.N.",
-        "    0: (    MARK\n    1: N        NONE\n    2: .        STOP\nleft: 0 objects, 1 marks\n    3: N    NONE\n    4: .    STOP\nhighest protocol among opcodes = 0\n",
-        0,
-    ),
-    // Both leave something.
-    (
-        b"NN.(N.",
-        "    0: N    NONE\n    1: N    NONE\n    2: .    STOP\nleft: 1 objects, 0 marks\n    3: (    MARK\n    4: N        NONE\n    5: .        STOP\nleft: 0 objects, 1 marks\nhighest protocol among opcodes = 0\n",
-        0,
-    ),
-    // What is left is no operand of the next pickle.
-    (
-        b"NN.0",
-        "    0: N    NONE\n    1: N    NONE\n    2: .    STOP\nleft: 1 objects, 0 marks\n    3: 0    POP\nrefused: S2 stack underflow\nhighest protocol among opcodes = 0\n",
-        1,
-    ),
-    // The memo is empty again.
-    (
-        b"Nq\x00.h\x00.",
-        "    0: N    NONE\n    1: q    BINPUT     0\n    3: .    STOP\n    4: h    BINGET     0\nrefused: S3 no memo entry 0\nhighest protocol among opcodes = 1\n",
-        1,
-    ),
-    (
-        b"N\x94.N\x94.",
-        "    0: N    NONE\n    1: \\x94 MEMOIZE    (as 0)\n    2: .    STOP\n    3: N    NONE\n    4: \\x94 MEMOIZE    (as 0)\n    5: .    STOP\nhighest protocol among opcodes = 4\n",
-        0,
-    ),
-    // One frame round two pickles.
-    (
-        b"\x95\x04\x00\x00\x00\x00\x00\x00\x00N.N.",
-        "    0: \\x95 FRAME      4\n    9: N    NONE\n   10: .    STOP\n   11: N    NONE\n   12: .    STOP\nhighest protocol among opcodes = 4\n",
-        0,
-    ),
-    // A mark of the second pickle has its own note.
-    (
-        b"(N.N(0.",
-        "    0: (    MARK\n    1: N        NONE\n    2: .        STOP\nleft: 0 objects, 1 marks\n    3: N    NONE\n    4: (    MARK\n    5: 0        POP        (MARK at 4)\n    6: .    STOP\nhighest protocol among opcodes = 0\n",
-        0,
-    ),
-    // STOP without an object.
-    (
-        b".N.",
-        "    0: .    STOP\nrefused: S2 stack underflow\nhighest protocol among opcodes = 0\n",
-        1,
-    ),
+/// Bytes with several.
+const SEVERAL: [&[u8]; 15] = [
+    b"",
+    b"N.K\x01.",
+    b"N.N",
+    b"N.\xff",
+    b"(N.\xff",
+    b"(N.N.",
+    b"NN.(N.",
+    b"NN.0",
+    b"Nq\x00.h\x00.",
+    b"N\x94.N\x94.",
+    b"\x95\x04\x00\x00\x00\x00\x00\x00\x00N.N.",
+    b"(N.N(0.",
+    b".N.",
+    b"K\x01.]N.0",
+    b"]q\x00(h\x00h\x00e.]q\x00(h\x00h\x00e.",
 ];
 
-/// The dump with BININT2 instead of BININT1.
-const REPLACED: &str =
-    "    0: \\x80 PROTO      4\n    2: \\x95 FRAME      7\n   11: ]    EMPTY_LIST\n   12: \\x94 MEMOIZE    (as 0)\n   13: M    BININT2    513\n   16: a    APPEND\n   17: .    STOP\nhighest protocol among opcodes = 4\n";
-
-/// The same without APPEND.
-const DELETED: &str =
-    "    0: \\x80 PROTO      4\n    2: \\x95 FRAME      6\n   11: ]    EMPTY_LIST\n   12: \\x94 MEMOIZE    (as 0)\n   13: M    BININT2    513\n   16: .    STOP\nleft: 1 objects, 0 marks\nhighest protocol among opcodes = 4\n";
-
-/// Whether bytes have this listing, without a document and by their document.
-fn is_listed(
-    alloc: Global,
-    many: bool,
-    bytes: &[u8],
-    text: &str,
-    status: u8,
-) -> Result<bool, Fail> {
+/// The listing of bytes and its status, where that of a document is the same.
+fn listed(alloc: Global, document: &Document, bytes: &[u8]) -> Result<Option<Vec<u8>>, Fail> {
     if bytes.len() > LIMIT {
-        return Ok(false);
+        return Ok(None);
     }
     let mut sink = paper(alloc)?;
-    let first = list_bytes(alloc, many, bytes, &mut sink)?;
-    let document = if many {
-        Document::read_many(alloc, bytes)?
-    } else {
-        Document::read(alloc, bytes)?
-    };
-    let mut again = paper(alloc)?;
-    let second = write_listing(alloc, &document, &mut again)?;
-    Ok(
-        taken(sink)?.as_slice() == text.as_bytes()
-            && taken(again)?.as_slice() == text.as_bytes()
-            && (first, second) == (status, status),
-    )
+    let first = list_bytes(alloc, document.is_many(), false, bytes, &mut sink)?;
+    let text = taken(sink)?;
+    let mut sink = paper(alloc)?;
+    let second = write_listing(alloc, document, &mut sink)?;
+    let is_so = taken(sink)?.as_slice() == text.as_slice() && first == second;
+    Ok(is_so.then_some(text))
 }
 
-/// Read as many pickles, bytes have the same listing, but where bytes follow STOP.
+/// The report of bytes and its status, where that of a document is the same.
+fn reported(alloc: Global, document: &Document, bytes: &[u8]) -> Result<Option<Vec<u8>>, Fail> {
+    if bytes.len() > LIMIT {
+        return Ok(None);
+    }
+    let mut sink = paper(alloc)?;
+    let first = report_of_bytes(alloc, document.is_many(), false, bytes, &mut sink)?;
+    let text = taken(sink)?;
+    let mut sink = paper(alloc)?;
+    let second = write_document_report(alloc, document, &mut sink)?;
+    let is_so = taken(sink)?.as_slice() == text.as_slice() && first == second;
+    Ok(is_so.then_some(text))
+}
+
+/// Whether two texts are there; whether they are the same.
+fn compared(left: Option<Vec<u8>>, right: Option<Vec<u8>>) -> (bool, bool) {
+    match (left, right) {
+        (Some(left), Some(right)) => (true, left.as_slice() == right.as_slice()),
+        _ => (false, false),
+    }
+}
+
+/// Read as many pickles, bytes have the same listing and the same report, but where bytes follow STOP.
 #[test]
-fn rows(rt: HostRuntime) -> Result<(), Fail> {
-    for (k, (bytes, text, status)) in ROWS.iter().enumerate() {
-        let found = is_listed(rt.alloc(), false, bytes, text, *status)?;
-        assert!(rt; found, "row {k}");
-        let is_alone = !text.contains("kept: ");
-        let found = is_listed(rt.alloc(), true, bytes, text, *status)?;
-        assert_eq!(rt; found, is_alone, "row {k} as many");
+fn one_pickle(rt: HostRuntime) -> Result<(), Fail> {
+    for bytes in &ONE {
+        let one = Document::read(rt.alloc(), bytes)?;
+        let many = Document::read_many(rt.alloc(), bytes)?;
+        let is_same = one.tail().is_empty() || one.end() != End::Stopped;
+        let first = listed(rt.alloc(), &one, bytes)?;
+        let second = listed(rt.alloc(), &many, bytes)?;
+        assert_eq!(rt; compared(first, second), (true, is_same), "{bytes:?}");
+        let first = reported(rt.alloc(), &one, bytes)?;
+        let second = reported(rt.alloc(), &many, bytes)?;
+        assert_eq!(rt; compared(first, second), (true, is_same), "{bytes:?}");
     }
     Ok(())
 }
 
 #[test]
 fn many_pickles(rt: HostRuntime) -> Result<(), Fail> {
-    for (k, (bytes, text, status)) in MANY.iter().enumerate() {
-        let found = is_listed(rt.alloc(), true, bytes, text, *status)?;
-        assert!(rt; found, "row {k}");
+    for bytes in &SEVERAL {
+        let document = Document::read_many(rt.alloc(), bytes)?;
+        let text = listed(rt.alloc(), &document, bytes)?;
+        assert!(rt; text.is_some(), "{bytes:?}");
+        let text = reported(rt.alloc(), &document, bytes)?;
+        assert!(rt; text.is_some(), "{bytes:?}");
     }
     Ok(())
 }
@@ -170,25 +116,21 @@ fn edited_many(rt: HostRuntime) -> Result<(), Fail> {
     let mut document = Document::read_many(rt.alloc(), b"N.N.")?;
     let op = op_of(rt.alloc(), Opcode::BinInt1, b"\x07")?;
     let _record = document.insert(1, op)?;
-    let mut sink = paper(rt.alloc())?;
-    write_listing(rt.alloc(), &document, &mut sink)?;
-    let wanted =
-        "    0: N    NONE\n    1: K    BININT1    7\n    3: .    STOP\nleft: 1 objects, 0 marks\n    4: N    NONE\n    5: .    STOP\nhighest protocol among opcodes = 1\n";
-    assert_eq!(rt; taken(sink)?.as_slice(), wanted.as_bytes());
+    let text = listed(rt.alloc(), &document, b"NK\x07.N.")?;
+    assert!(rt; text.is_some());
     Ok(())
 }
 
+/// The dump with BININT2 instead of BININT1, and then without APPEND.
 #[test]
 fn edited(rt: HostRuntime) -> Result<(), Fail> {
     let mut document = Document::read(rt.alloc(), DUMP)?;
     let op = op_of(rt.alloc(), Opcode::BinInt2, b"\x01\x02")?;
     let _record = document.replace(4, op)?;
-    let mut sink = paper(rt.alloc())?;
-    write_listing(rt.alloc(), &document, &mut sink)?;
-    assert_eq!(rt; taken(sink)?.as_slice(), REPLACED.as_bytes());
+    let replaced: &[u8] = b"\x80\x04\x95\x07\x00\x00\x00\x00\x00\x00\x00]\x94M\x01\x02a.";
+    assert!(rt; listed(rt.alloc(), &document, replaced)?.is_some());
     let _record = document.delete(5)?;
-    let mut sink = paper(rt.alloc())?;
-    write_listing(rt.alloc(), &document, &mut sink)?;
-    assert_eq!(rt; taken(sink)?.as_slice(), DELETED.as_bytes());
+    let deleted: &[u8] = b"\x80\x04\x95\x06\x00\x00\x00\x00\x00\x00\x00]\x94M\x01\x02.";
+    assert!(rt; listed(rt.alloc(), &document, deleted)?.is_some());
     Ok(())
 }

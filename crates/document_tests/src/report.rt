@@ -1,151 +1,79 @@
-//! Texts over memory. The expected ones were worked out by hand or by a slow reference, from what the texts are to be.
+//! Texts of machines, and reports of documents, to sinks that fail and where requests for memory are refused; and large texts. What the
+//! others are is judged from outside, by the rows of equipment/texts.txt and equipment/conversations.txt.
 
 mod devices;
 
-use crate::report::devices::{Text, every_break};
+use crate::report::devices::{Text, every_break, text_of};
 use pickle_doc::{DocFault, Document};
 use pickle_machine::Machine;
-use pickle_show::{TextStop, write_document_report, write_memo, write_show, write_stack};
+use pickle_show::{TextStop, write_document_report, write_show};
 use std::alloc::Global;
 use std::test::Fail;
 use test_equipment::{insist_on_paper, paper, taken, written_out};
 
-/// Reports, with their status.
-const REPORTS: [(&[u8], &str, u8); 11] = [
-    // A usual dump of a list.
-    (
-        b"\x80\x04\x95\x06\x00\x00\x00\x00\x00\x00\x00]\x94K\x01a.",
-        "#0 list +#1\n#1 int 1\nresult #0\n",
-        0,
-    ),
-    // A call of os.getcwd.
-    (
-        b"cos\ngetcwd\n)R.",
-        "#0 global 'os' 'getcwd'\n#1 tuple\n#2 call (#0 #1)\nresult #2\n",
-        0,
-    ),
-    // An ordered dictionary.
-    (
-        b"ccollections\nOrderedDict\n)R(K\x01K\x02u.",
-        "#0 global 'collections' 'OrderedDict'\n#1 tuple\n#2 call (#0 #1) [#3]=#4\n#3 int 1\n#4 int 2\nresult #2\n",
-        0,
-    ),
-    // POP drops a mark.
-    (b"N(0.", "#0 none\nresult #0\n", 0),
-    // A buffer, and a view of it.
-    (
-        b"\x97\x98.",
-        "#0 buffer 0\n#1 readonly (#0)\nresult #1\n",
-        0,
-    ),
-    // A memo entry that is not there.
-    (
-        b"K\x01q\x00K\x02q\x00h\x07.",
-        "#0 int 1\n#1 int 2\nrefused: item 4: S3 no memo entry 7\n",
-        1,
-    ),
-    // An item that is refused at once.
-    (b"0.", "refused: item 0: S2 stack underflow\n", 1),
-    // No bytes, an argument cut short, and a byte that is no opcode.
-    (b"", "fault: F1 ended at 0\n", 1),
-    (b"X\x05\x00\x00\x00ab", "fault: F3 truncated at 0\n", 1),
-    (b"N\x7f", "#0 none\nfault: F2 unknown opcode 0x7f at 1\n", 1),
-    // Objects of every kind, with changes of every kind.
-    (
-        b"N\x88\x89J\xff\xff\xff\xffI12\n\x8a\x02\xff\x00\x8a\x11\x01\x00\x00\x00\x00\x00\x00\x00\x00\x00\x00\x00\x00\x00\x00\x00\x00L5L\nF1.5\nG?\xf0\x00\x00\x00\x00\x00\x00U\x02'\\S'a'\n\x8c\x02h\nVz\nC\x01\x80\x96\x01\x00\x00\x00\x00\x00\x00\x00b0000000000000000)NN\x87]Na(NNe0\x8f(NN\x900(NN\x910}NNs(NNu0cm\nf\n)RNb0\x8c\x01m\x8c\x01n\x93)\x810cm\nf\n)}\x920(Nim\nf\n0(cm\nf\nNo0Pid\n0NQ0\x82\x050\x97\x98.",
-        "#0 none\n#1 true\n#2 false\n#3 int -1\n#4 int-line '12'\n#5 int 255\n#6 int le:0100000000000000000000000000000000\n#7 long-line '5L'\n#8 float-line '1.5'\n#9 float f8:3ff0000000000000\n#10 string '\\'\\\\'\n#11 string-line '\\'a\\''\n#12 text 'h\\x0a'\n#13 text-line 'z'\n#14 bytes '\\x80'\n#15 bytearray 'b'\n#16 tuple\n#17 none\n#18 none\n#19 tuple (#16 #17 #18)\n#20 list +#21 +#22 +#23\n#21 none\n#22 none\n#23 none\n#24 set &#25 &#26\n#25 none\n#26 none\n#27 none\n#28 none\n#29 frozenset (#27 #28)\n#30 dict [#31]=#32 [#33]=#34\n#31 none\n#32 none\n#33 none\n#34 none\n#35 global 'm' 'f'\n#36 tuple\n#37 call (#35 #36) !#38\n#38 none\n#39 text 'm'\n#40 text 'n'\n#41 stack-global (#39 #40)\n#42 tuple\n#43 new (#41 #42)\n#44 global 'm' 'f'\n#45 tuple\n#46 dict\n#47 new-ex (#44 #45 #46)\n#48 none\n#49 inst 'm' 'f' (#48)\n#50 global 'm' 'f'\n#51 none\n#52 obj (#50 #51)\n#53 persistent 'id'\n#54 none\n#55 persistent (#54)\n#56 ext 5\n#57 buffer 0\n#58 readonly (#57)\nresult #58\n",
-        0,
-    ),
+/// Objects of every kind, with changes of every kind.
+const ALL_KINDS: &[u8] =
+    b"N\x88\x89J\xff\xff\xff\xffI12\n\x8a\x02\xff\x00\x8a\x11\x01\x00\x00\x00\x00\x00\x00\x00\x00\x00\x00\x00\x00\x00\x00\x00\x00L5L\nF1.5\nG?\xf0\x00\x00\x00\x00\x00\x00U\x02'\\S'a'\n\x8c\x02h\nVz\nC\x01\x80\x96\x01\x00\x00\x00\x00\x00\x00\x00b0000000000000000)NN\x87]Na(NNe0\x8f(NN\x900(NN\x910}NNs(NNu0cm\nf\n)RNb0\x8c\x01m\x8c\x01n\x93)\x810cm\nf\n)}\x920(Nim\nf\n0(cm\nf\nNo0Pid\n0NQ0\x82\x050\x97\x98.";
+
+/// A list appended to itself by way of the memo.
+const BY_MEMO: &[u8] = b"]q\x00(h\x00h\x00e.";
+
+const CALL: &[u8] = b"cos\ngetcwd\n)R.";
+
+const ORDERED: &[u8] = b"ccollections\nOrderedDict\n)R(K\x01K\x02u.";
+
+/// A memo entry that is not there.
+const NO_ENTRY: &[u8] = b"K\x01q\x00K\x02q\x00h\x07.";
+
+/// Bytes whose report is written.
+const REPORTS: [&[u8]; 11] = [
+    b"\x80\x04\x95\x06\x00\x00\x00\x00\x00\x00\x00]\x94K\x01a.",
+    CALL,
+    ORDERED,
+    b"N(0.",
+    b"\x97\x98.",
+    NO_ENTRY,
+    b"0.",
+    b"",
+    b"X\x05\x00\x00\x00ab",
+    b"N\x7f",
+    ALL_KINDS,
 ];
 
-/// Reports of many pickles, with their status.
-const MANY: [(&[u8], &str, u8); 8] = [
-    (b"N.K\x01.", "#0 none\n#1 int 1\nresult #0\nresult #1\n", 0),
-    // Buffers count from 0 again.
-    (
-        b"\x97.\x97.",
-        "#0 buffer 0\n#1 buffer 0\nresult #0\nresult #1\n",
-        0,
-    ),
-    (
-        b"N.\xff",
-        "#0 none\nresult #0\nfault: F2 unknown opcode 0xff at 2\n",
-        1,
-    ),
-    (
-        b"N.N",
-        "#0 none\n#1 none\nresult #0\nfault: F1 ended at 3\n",
-        1,
-    ),
-    (
-        b"Nq\x00.h\x00.",
-        "#0 none\nresult #0\nrefused: item 3: S3 no memo entry 0\n",
-        1,
-    ),
-    (
-        b"K\x01.]N.0",
-        "#0 int 1\n#1 list\n#2 none\nresult #0\nresult #2\nrefused: item 5: S2 stack underflow\n",
-        1,
-    ),
-    // An object of the second pickle is changed, and has its own number.
-    (
-        b"]q\x00(h\x00h\x00e.]q\x00(h\x00h\x00e.",
-        "#0 list +#0 +#0\n#1 list +#1 +#1\nresult #0\nresult #1\n",
-        0,
-    ),
-    (b".N.", "refused: item 0: S2 stack underflow\n", 1),
+/// Many pickles whose report is written.
+const MANY: [&[u8]; 8] = [
+    b"N.K\x01.",
+    b"\x97.\x97.",
+    b"N.\xff",
+    b"N.N",
+    b"Nq\x00.h\x00.",
+    b"K\x01.]N.0",
+    b"]q\x00(h\x00h\x00e.]q\x00(h\x00h\x00e.",
+    b".N.",
 ];
 
-/// What is shown of an object after this many opcodes.
-const SHOWN: [(&[u8], usize, u32, &str); 5] = [
-    // A list appended to itself by way of the memo.
-    (
-        b"]q\x00(h\x00h\x00e.",
-        6,
-        0,
-        "0 #0 list +#0 +#0\n1 #0\n1 #0\n",
-    ),
-    // A call.
-    (
-        b"cos\ngetcwd\n)R.",
-        4,
-        2,
-        "0 #2 call (#0 #1)\n1 #0 global 'os' 'getcwd'\n1 #1 tuple\n",
-    ),
-    // A dictionary that has a key twice, and itself as a value.
-    (
-        b"(K\x01K\x02tq\x010}q\x00h\x01K\x03s(h\x01h\x00u.",
-        15,
-        3,
-        "0 #3 dict [#2]=#4 [#2]=#3\n1 #2 tuple (#0 #1)\n2 #0 int 1\n2 #1 int 2\n1 #4 int 3\n1 #2\n1 #3\n",
-    ),
-    // A tuple that holds an object twice.
-    (b"N2\x86.", 3, 1, "0 #1 tuple (#0 #0)\n1 #0 none\n1 #0\n"),
-    // An ordered dictionary.
-    (
-        b"ccollections\nOrderedDict\n)R(K\x01K\x02u.",
-        7,
-        2,
-        "0 #2 call (#0 #1) [#3]=#4\n1 #0 global 'collections' 'OrderedDict'\n1 #1 tuple\n1 #3 int 1\n1 #4 int 2\n",
-    ),
+/// Objects that are shown after this many opcodes.
+const SHOWN: [(&[u8], usize, u32); 5] = [
+    (BY_MEMO, 6, 0),
+    (CALL, 4, 2),
+    // a dictionary that has a key twice, and itself as a value
+    (b"(K\x01K\x02tq\x010}q\x00h\x01K\x03s(h\x01h\x00u.", 15, 3),
+    (b"N2\x86.", 3, 1),
+    (ORDERED, 7, 2),
 ];
 
-/// The stack after this many opcodes.
-const STACKS: [(&[u8], usize, &str); 7] = [
-    (b"]q\x00(h\x00h\x00e.", 5, "stack #0 (2 #0 #0\n"),
-    (b"]q\x00(h\x00h\x00e.", 6, "stack #0\n"),
-    (b"]2a.", 2, "stack #0 #0\n"),
-    (b"]2a.", 3, "stack #0\n"),
-    (b"N(N(NN.", 6, "stack #0 (1 #1 (3 #2 #3\n"),
-    (b"((.", 2, "stack (0 (1\n"),
-    (b"N.", 0, "stack\n"),
-];
-
-/// The memo after this many opcodes.
-const MEMOS: [(&[u8], usize, &str); 3] = [
-    (b"Nq\x05N\x94.", 4, "memo 1=#1 5=#0\n"),
-    (b"K\x01q\x00K\x02q\x00h\x07.", 3, "memo 0=#0\n"),
-    (b"N.", 1, "memo\n"),
+/// The stack and the memo after this many opcodes.
+const STACKS_AND_MEMOS: [(&[u8], usize, Text<'static>); 10] = [
+    (BY_MEMO, 5, Text::Stack),
+    (BY_MEMO, 6, Text::Stack),
+    (b"]2a.", 2, Text::Stack),
+    (b"]2a.", 3, Text::Stack),
+    (b"N(N(NN.", 6, Text::Stack),
+    (b"((.", 2, Text::Stack),
+    (b"N.", 0, Text::Stack),
+    (b"Nq\x05N\x94.", 4, Text::Memo),
+    (NO_ENTRY, 3, Text::Memo),
+    (b"N.", 1, Text::Memo),
 ];
 
 /// The machine after this many opcodes of a pickle, or nothing where memory is refused.
@@ -176,67 +104,18 @@ pub fn opened(alloc: Global, many: bool, bytes: &[u8]) -> Result<Document, DocFa
     }
 }
 
+/// The text and the status of a report, or nothing where memory is refused.
+fn try_report(alloc: Global, many: bool, bytes: &[u8]) -> Option<(Vec<u8>, u8)> {
+    let document = opened(alloc, many, bytes).ok()?;
+    let mut sink = paper(alloc).ok()?;
+    let status = write_document_report(alloc, &document, &mut sink).ok()?;
+    let text = taken(sink).ok()?;
+    Some((text, status))
+}
+
 /// The text and the status of a report.
-fn reported(alloc: Global, many: bool, bytes: &[u8]) -> Result<(Vec<u8>, u8), Fail> {
-    let document = opened(alloc, many, bytes)?;
-    let mut sink = paper(alloc)?;
-    let status = write_document_report(alloc, &document, &mut sink)?;
-    Ok((taken(sink)?, status))
-}
-
-#[test]
-fn reports(rt: HostRuntime) -> Result<(), Fail> {
-    for (bytes, text, status) in &REPORTS {
-        for many in [false, true] {
-            let found = reported(rt.alloc(), many, bytes)?;
-            assert_eq!(rt; found.0.as_slice(), text.as_bytes());
-            assert_eq!(rt; found.1, *status);
-        }
-    }
-    Ok(())
-}
-
-#[test]
-fn reports_of_many(rt: HostRuntime) -> Result<(), Fail> {
-    for (bytes, text, status) in &MANY {
-        let found = reported(rt.alloc(), true, bytes)?;
-        assert_eq!(rt; found.0.as_slice(), text.as_bytes());
-        assert_eq!(rt; found.1, *status);
-    }
-    Ok(())
-}
-
-#[test]
-fn shown_objects(rt: HostRuntime) -> Result<(), Fail> {
-    for (bytes, count, id, text) in &SHOWN {
-        let machine = machine_of(rt.alloc(), bytes, *count)?;
-        let mut sink = paper(rt.alloc())?;
-        write_show(rt.alloc(), &machine, *id, &mut sink)?;
-        assert_eq!(rt; taken(sink)?.as_slice(), text.as_bytes());
-    }
-    Ok(())
-}
-
-#[test]
-fn stacks(rt: HostRuntime) -> Result<(), Fail> {
-    for (bytes, count, text) in &STACKS {
-        let machine = machine_of(rt.alloc(), bytes, *count)?;
-        let mut sink = paper(rt.alloc())?;
-        write_stack(&machine, &mut sink)?;
-        assert_eq!(rt; taken(sink)?.as_slice(), text.as_bytes());
-    }
-    Ok(())
-}
-
-#[test]
-fn memos(rt: HostRuntime) -> Result<(), Fail> {
-    for (bytes, count, text) in &MEMOS {
-        let machine = machine_of(rt.alloc(), bytes, *count)?;
-        let mut sink = paper(rt.alloc())?;
-        write_memo(&machine, &mut sink)?;
-        assert_eq!(rt; taken(sink)?.as_slice(), text.as_bytes());
-    }
-    Ok(())
+fn reported(alloc: Global, many: bool, bytes: &[u8]) -> Result<(Vec<u8>, u8), DocFault> {
+    try_report(alloc, many, bytes).ok_or(DocFault::Memory)
 }
 
 /// A tuple in a tuple, and so on: each is one line, the innermost the last.
@@ -267,53 +146,51 @@ fn deep_object(rt: HostRuntime) -> Result<(), Fail> {
 /// Every text goes to sinks that fail at each of their calls in turn: each takes a beginning and is not called again.
 #[test]
 fn failing_sinks(rt: HostRuntime) -> Result<(), Fail> {
-    for (k, (bytes, count, id, text)) in SHOWN.iter().enumerate() {
+    for (bytes, count, id) in &SHOWN {
         let machine = machine_of(rt.alloc(), bytes, *count)?;
-        let found = every_break(rt.alloc(), &machine, Text::Show(*id), text.as_bytes());
-        assert!(rt; found > 0, "shown {k}");
+        let found = every_break(rt.alloc(), &machine, Text::Show(*id))?;
+        assert!(rt; found > 0, "object of {bytes:?}");
     }
-    for (k, (bytes, count, text)) in STACKS.iter().enumerate() {
+    for (bytes, count, text) in &STACKS_AND_MEMOS {
         let machine = machine_of(rt.alloc(), bytes, *count)?;
-        let found = every_break(rt.alloc(), &machine, Text::Stack, text.as_bytes());
-        assert!(rt; found > 0, "stack {k}");
+        let found = every_break(rt.alloc(), &machine, *text)?;
+        assert!(rt; found > 0, "stack or memo of {bytes:?}");
     }
-    for (k, (bytes, count, text)) in MEMOS.iter().enumerate() {
-        let machine = machine_of(rt.alloc(), bytes, *count)?;
-        let found = every_break(rt.alloc(), &machine, Text::Memo, text.as_bytes());
-        assert!(rt; found > 0, "memo {k}");
-    }
-    for (k, (bytes, text, _)) in REPORTS.iter().enumerate() {
+    for bytes in &REPORTS {
         let machine = Machine::new(rt.alloc());
         let report = Text::Report { bytes, many: false };
-        let found = every_break(rt.alloc(), &machine, report, text.as_bytes());
-        assert!(rt; found > 0, "report {k}");
+        let found = every_break(rt.alloc(), &machine, report)?;
+        assert!(rt; found > 0, "report of {bytes:?}");
     }
     Ok(())
 }
 
 #[test]
-fn failing_sinks_of_many(rt: HostRuntime) {
-    for (k, (bytes, text, _)) in MANY.iter().enumerate() {
+fn failing_sinks_of_many(rt: HostRuntime) -> Result<(), Fail> {
+    for bytes in &MANY {
         let machine = Machine::new_many(rt.alloc());
         let report = Text::Report { bytes, many: true };
-        let found = every_break(rt.alloc(), &machine, report, text.as_bytes());
-        assert!(rt; found > 0, "report {k}");
+        let found = every_break(rt.alloc(), &machine, report)?;
+        assert!(rt; found > 0, "report of {bytes:?}");
     }
+    Ok(())
 }
 
-/// The objects of the last report, as a machine shows them: the report without its closing line.
+/// The objects of all kinds, as a machine shows them: the report without its closing line.
 #[test]
 fn failing_sinks_of_objects(rt: HostRuntime) -> Result<(), Fail> {
-    let (bytes, text, _) = REPORTS[10];
-    let document = Document::read(rt.alloc(), bytes)?;
-    let machine = machine_of(rt.alloc(), bytes, document.len())?;
-    let objects = text.strip_suffix("result #58\n").unwrap_or_default();
-    let found = every_break(rt.alloc(), &machine, Text::Objects, objects.as_bytes());
-    assert!(rt; found > 0);
-    let list = text.get(..8).unwrap_or_default();
-    assert_eq!(rt; list, "#0 none\n");
-    let found = every_break(rt.alloc(), &machine, Text::Object(0), b"#0 none");
-    assert!(rt; found > 0);
+    let document = Document::read(rt.alloc(), ALL_KINDS)?;
+    let machine = machine_of(rt.alloc(), ALL_KINDS, document.len())?;
+    let (report, _) = reported(rt.alloc(), false, ALL_KINDS)?;
+    let end = b"result #58\n".as_slice();
+    let (objects, closing) = report.split_at(report.len().saturating_sub(end.len()));
+    assert_eq!(rt; closing, end);
+    let text = text_of(rt.alloc(), &machine, Text::Objects)?;
+    assert_eq!(rt; text.as_slice(), objects);
+    assert!(rt; every_break(rt.alloc(), &machine, Text::Objects)? > 0);
+    let text = text_of(rt.alloc(), &machine, Text::Object(0))?;
+    assert_eq!(rt; text.as_slice(), b"#0 none".as_slice());
+    assert!(rt; every_break(rt.alloc(), &machine, Text::Object(0))? > 0);
     Ok(())
 }
 
@@ -344,41 +221,43 @@ fn is_answer(taken: &[u8], text: &[u8], answer: Result<(), TextStop>) -> bool {
 }
 
 /// A report where one request for memory may be refused, and asked for again then.
-fn report_with_little(
-    alloc: Global,
-    many: bool,
-    bytes: &[u8],
-    text: &str,
-    status: u8,
-) -> Result<bool, Fail> {
+fn report_with_little(alloc: Global, many: bool, bytes: &[u8]) -> Result<bool, Fail> {
+    let (text, status) = match try_report(alloc, many, bytes) {
+        Some(found) => found,
+        None => reported(alloc, many, bytes)?,
+    };
     let document = insist_on_reading(alloc, many, bytes)?;
     let mut sink = insist_on_paper(alloc)?;
     let answer = write_document_report(alloc, &document, &mut sink);
     let answer = written_out(&mut sink, answer);
     let written = sink.into_inner().into_inner();
     match answer {
-        Ok(found) => Ok(found == status && written.as_slice() == text.as_bytes()),
+        Ok(found) => Ok(found == status && written.as_slice() == text.as_slice()),
         Err(stop) => {
             let (again, found) = reported(alloc, many, bytes)?;
-            let is_whole = again.as_slice() == text.as_bytes() && found == status;
-            Ok(is_whole && is_answer(&written, text.as_bytes(), Err(stop)))
+            let is_whole = again.as_slice() == text.as_slice() && found == status;
+            Ok(is_whole && is_answer(&written, &text, Err(stop)))
         }
     }
 }
 
 /// What an object shows, where one request for memory may be refused, and asked for again then.
-fn show_with_little(alloc: Global, machine: &Machine, id: u32, text: &str) -> Result<bool, Fail> {
+fn show_with_little(alloc: Global, machine: &Machine, id: u32) -> Result<bool, Fail> {
+    let text = match text_of(alloc, machine, Text::Show(id)) {
+        Ok(text) => text,
+        Err(_) => text_of(alloc, machine, Text::Show(id))?,
+    };
     let mut sink = insist_on_paper(alloc)?;
     let answer = write_show(alloc, machine, id, &mut sink);
     let answer = written_out(&mut sink, answer);
     let written = sink.into_inner().into_inner();
-    if !is_answer(&written, text.as_bytes(), answer) {
+    if !is_answer(&written, &text, answer) {
         return Ok(false);
     }
     let mut again = insist_on_paper(alloc)?;
     let second = write_show(alloc, machine, id, &mut again);
     match written_out(&mut again, second) {
-        Ok(()) => Ok(again.into_inner().into_inner().as_slice() == text.as_bytes()),
+        Ok(()) => Ok(again.into_inner().into_inner().as_slice() == text.as_slice()),
         // (the only refused request is that of the sink here)
         Err(_) => Ok(answer.is_ok()),
     }
@@ -387,14 +266,14 @@ fn show_with_little(alloc: Global, machine: &Machine, id: u32, text: &str) -> Re
 /// Run with each request for memory refused in turn.
 #[test]
 fn refused_memory(rt: HostRuntime) -> Result<(), Fail> {
-    for (k, (bytes, text, status)) in REPORTS.iter().enumerate() {
-        let is_right = report_with_little(rt.alloc(), false, bytes, text, *status)?;
-        assert!(rt; is_right, "report {k}");
+    for bytes in &REPORTS {
+        let is_right = report_with_little(rt.alloc(), false, bytes)?;
+        assert!(rt; is_right, "report of {bytes:?}");
     }
-    for (k, (bytes, count, id, text)) in SHOWN.iter().enumerate() {
+    for (bytes, count, id) in &SHOWN {
         let machine = insist_on_running(rt.alloc(), bytes, *count)?;
-        let is_right = show_with_little(rt.alloc(), &machine, *id, text)?;
-        assert!(rt; is_right, "shown {k}");
+        let is_right = show_with_little(rt.alloc(), &machine, *id)?;
+        assert!(rt; is_right, "object of {bytes:?}");
     }
     Ok(())
 }
@@ -402,9 +281,9 @@ fn refused_memory(rt: HostRuntime) -> Result<(), Fail> {
 /// The same of many pickles.
 #[test]
 fn refused_memory_of_many(rt: HostRuntime) -> Result<(), Fail> {
-    for (k, (bytes, text, status)) in MANY.iter().enumerate() {
-        let is_right = report_with_little(rt.alloc(), true, bytes, text, *status)?;
-        assert!(rt; is_right, "report {k}");
+    for bytes in &MANY {
+        let is_right = report_with_little(rt.alloc(), true, bytes)?;
+        assert!(rt; is_right, "report of {bytes:?}");
     }
     Ok(())
 }

@@ -18,6 +18,7 @@ use Rattle.pickle_doc.proofs.Units.{length_bytes}
 use Rattle.pickle_doc.proofs.Readers.{sizes-less}
 use Rattle.pickle_doc.proofs.Lists.{within, get-within, get-behind}
 use Rattle.pickle_doc.proofs.Frames.{member_plain}
+use Rattle.pickle_doc.proofs.Opcodes.{frame_length}
 
 same_item : (xs : List Item) (j k : ℕ) (x y : Item) → j ≡ k → slice_get xs j ≡ Some x → slice_get xs k ≡ Some y → x ≡ y
 same_item xs j k x y at e f =
@@ -91,7 +92,7 @@ more-more a s t n = elim (cases_lt s (t + n)) [
   | inr high ↦ le-ltb s (t + n) high ∙ sym (le-ltb (a + s) (a + t + n) (omega (arith, high)))
 ]
 
-walk-plain : (items : List Item) (left f j k : ℕ) → k ≤ length items → NoFrameBetween 0 k items → frame_left_open left f j k items ≡ (if nat_lt (sizes (take k items)) left then Some f else None)
+walk-plain : (items : List Item) (left f j k : ℕ) → k ≤ length items → NoFrameBetween 0 k items → frame_left_open false left f j k items ≡ (if nat_lt (sizes (take k items)) left then Some f else None)
 walk-plain items left f j zero l h = refl
 walk-plain [] left f j (suc k) l h = absurd (omega arith)
 walk-plain (i ∷ items) left f j (suc k) l h =
@@ -100,7 +101,7 @@ walk-plain (i ∷ items) left f j (suc k) l h =
     rw n (ind ∙ ap (λ (b : Bool). if b then Some f else None) (less-less (item_size i) (sizes (take k items)) left))
 
 walk-last : (items : List Item) (left f j p k : ℕ) (i : Item) → slice_get items p ≡ Some i → is_frame i.op.opcode ≡ true → p < k → k ≤ length items → NoFrameBetween (suc p) k items
-    → frame_left_open left f j k items ≡ (if nat_lt (sizes (take k items)) (sizes (take (suc p) items) + frame_number i.op) then Some (j + p) else None)
+    → frame_left_open false left f j k items ≡ (if nat_lt (sizes (take k items)) (sizes (take (suc p) items) + frame_number i.op) then Some (j + p) else None)
 walk-last [] left f j p k i e hit b l h = cc
 walk-last (x ∷ items) left f j zero zero i e hit b l h = absurd (omega arith)
 walk-last (x ∷ items) left f j (suc p) zero i e hit b l h = absurd (omega arith)
@@ -123,7 +124,7 @@ walk-last (x ∷ items) left f j (suc p) (suc k) i e hit b l h =
     ind ∙ ap (λ (b : Bool). if b then Some (j + 1 + p) else None) (more-more (item_size x) s t n) ∙ ap (λ (m : ℕ). if nat_lt (item_size x + s) (item_size x + t + n) then Some m else None) end
 
 walk-bookmark : (items : List Item) (f : FramePlace) (k : ℕ) (i : Item) → IsFrameBefore f k items → k ≤ length items → slice_get items f.place ≡ Some i
-    → frame_left_open 0 0 0 k items ≡ (if nat_lt (sizes (take k items)) (f.behind + frame_number i.op) then Some f.place else None)
+    → frame_left_open false 0 0 0 k items ≡ (if nat_lt (sizes (take k items)) (f.behind + frame_number i.op) then Some f.place else None)
 walk-bookmark items f k i h l e =
     let same = same_item items f.place f.place h.item i refl h.there e in
     let hit : is_frame i.op.opcode ≡ true = ap (λ (y : Item). is_frame y.op.opcode) (sym same) ∙ h.frame in
@@ -139,25 +140,35 @@ pub begins : (items : List Item) (f : FramePlace) (k : ℕ) → IsFrameBefore f 
 begins items f k h = omega (arith, h.behind, sizes-less items (f.place + 1) k (omega (arith, h.before)))
 
 pub walk-open : (items : List Item) (f : FramePlace) (k number offset : ℕ) (i : Item) → IsFrameBefore f k items → k ≤ length items → slice_get items f.place ≡ Some i → number ≡ frame_number i.op
-    → offset ≡ sizes (take k items) → offset - f.behind < number → Some f.place ≡ frame_left_open 0 0 0 k items
+    → offset ≡ sizes (take k items) → offset - f.behind < number → Some f.place ≡ frame_left_open false 0 0 0 k items
 walk-open items f k number offset i h l e n o less =
     let low : sizes (take k items) < f.behind + frame_number i.op = omega (arith, n, o, less, begins items f k h) in
     sym (walk-bookmark items f k i h l e ∙ ap (λ (b : Bool). if b then Some f.place else None) (lt-ltb (sizes (take k items)) (f.behind + frame_number i.op) low))
 
 pub walk-closed : (items : List Item) (f : FramePlace) (k number offset : ℕ) (i : Item) → IsFrameBefore f k items → k ≤ length items → slice_get items f.place ≡ Some i → number ≡ frame_number i.op
-    → offset ≡ sizes (take k items) → number ≤ offset - f.behind → None ≡ frame_left_open 0 0 0 k items
+    → offset ≡ sizes (take k items) → number ≤ offset - f.behind → None ≡ frame_left_open false 0 0 0 k items
 walk-closed items f k number offset i h l e n o less =
     let high : f.behind + frame_number i.op ≤ sizes (take k items) = omega (arith, n, o, less, begins items f k h) in
     sym (walk-bookmark items f k i h l e ∙ ap (λ (b : Bool). if b then Some f.place else None) (le-ltb (sizes (take k items)) (f.behind + frame_number i.op) high))
 
-pub walk-none : (items : List Item) (k : ℕ) → k ≤ length items → NoFrameBetween 0 k items → None ≡ frame_left_open 0 0 0 k items
+pub walk-none : (items : List Item) (k : ℕ) → k ≤ length items → NoFrameBetween 0 k items → None ≡ frame_left_open false 0 0 0 k items
 walk-none items k l h =
     let no : nat_lt (sizes (take k items)) 0 ≡ false = le-ltb (sizes (take k items)) 0 (omega arith) in
     sym (walk-plain items 0 0 0 k l h ∙ ap (λ (b : Bool). if b then Some 0 else None) no)
 
+-- where all items are loose no frame is open
+walk-loose : (items : List Item) (f j k : ℕ) → None ≡ frame_left_open true 0 f j k items
+walk-loose items f j zero = refl
+walk-loose [] f j (suc k) = refl
+walk-loose (i ∷ items) f j (suc k) = let none : 0 - item_size i ≡ 0 = omega arith in rw none (walk-loose items f (j + 1) k)
+
+pub none-loose : (loose : Bool) (items : List Item) (k : ℕ) → loose ≡ true → None ≡ frame_left_open loose 0 0 0 k items
+none-loose true items k e = walk-loose items 0 0 k
+none-loose false items k e = cc
+
 -- ---- the first place of items that were read
 
-pub first-bookmark : {many : Bool} (bytes : List ℕ) (items : List Item) (tail : List ℕ) (e : Option TailFault) → AreParts many bytes items tail e → length bytes ≤ size_limit → IsBookmark (record { place = 0; offset = 0; frame = None }) items
+pub first-bookmark : {many loose : Bool} (bytes : List ℕ) (items : List Item) (tail : List ℕ) (e : Option TailFault) → AreParts many loose bytes items tail e → length bytes ≤ size_limit → IsBookmark (record { place = 0; offset = 0; frame = None }) items
 first-bookmark bytes items tail e h small =
     let total = length-append (bytes_of (operations items)) tail in
     let size = length_bytes items in
@@ -170,19 +181,20 @@ first-bookmark bytes items tail e h small =
 abbrev pub FramesAreNine : List Item → Type 0
 FramesAreNine items = (j : ℕ) (i : Item) → slice_get items j ≡ Some i → is_frame i.op.opcode ≡ true → item_size i ≡ 9
 
-pub frames-nine : (units : List DocUnit) → AllByRecursion IsUnit units → FramesAreNine (flat units)
-frames-nine [] h j i e f = cc
-frames-nine (Loose x ∷ units) h zero i e f =
+pub frames-nine : (loose : Bool) (units : List DocUnit) → AllByRecursion (IsUnit loose) units → FramesAreNine (flat units)
+frames-nine loose [] h j i e f = cc
+frames-nine loose (Loose x ∷ units) h zero i e f =
     let same : i ≡ x = cc in
-    let c : true ≡ false = sym f ∙ ap is_frame_item same ∙ h.0.no_frame in cc
-frames-nine (Loose x ∷ units) h (suc j) i e f = frames-nine units h.1 j i e f
-frames-nine (Frame id members extra ∷ units) h zero i e f =
+    let long = frame_length x.op.opcode x.op.arg (ap is_frame_item (sym same) ∙ f) h.0.spelled.arg in
+    ap item_size same ∙ omega (arith, long)
+frames-nine loose (Loose x ∷ units) h (suc j) i e f = frames-nine loose units h.1 j i e f
+frames-nine loose (Frame id members extra ∷ units) h zero i e f =
     let same : i ≡ frame_item id (sizes members + extra) = cc in ap item_size same
-frames-nine (Frame id members extra ∷ units) h (suc j) i e f = elim (cases_lt j (length members)) [
+frames-nine loose (Frame id members extra ∷ units) h (suc j) i e f = elim (cases_lt j (length members)) [
   | inl low ↦
       let here : slice_get members j ≡ Some i = sym (get-within members (flat units) j low) ∙ e in
-      let c : true ≡ false = sym f ∙ member_plain members j i h.0 here in cc
-  | inr high ↦ frames-nine units h.1 (j - length members) i (sym (get-behind members (flat units) j high) ∙ e) f
+      let c : true ≡ false = sym f ∙ member_plain loose members j i h.0.0 h.0.1 here in cc
+  | inr high ↦ frames-nine loose units h.1 (j - length members) i (sym (get-behind members (flat units) j high) ∙ e) f
 ]
 
 alike-frame : (x y : Item) → AreAlike x.op y.op → is_frame x.op.opcode ≡ is_frame y.op.opcode

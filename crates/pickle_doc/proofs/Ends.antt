@@ -37,7 +37,7 @@ finish_cases true false none f = refl
 finish_cases false many none f = refl
 
 pub finish_from : (d : Contents) → finish_by (is_stopped d) (ended_by d) ≡ finish_of d
-finish_from d = rw (stops_are d.many (items_of d)) (finish_cases (ends_with_stop (items_of d)) d.many (length d.tail == 0) (fault_in_tail (open_of d.units) d.tail))
+finish_from d = rw (stops_are d.many (items_of d)) (finish_cases (ends_with_stop (items_of d)) d.many (length d.tail == 0) (fault_in_tail d.loose (open_of d.units) d.tail))
 
 -- where an item ended the reading
 stopped_by : (b : Bool) → finish_by b None ≡ finish.Stopped
@@ -57,8 +57,8 @@ fault_cases false many false x f e = refl
 
 pub stopped_at : (d : Contents) (f : TailFault) → ended_by d ≡ Some f → is_stopped d ≡ (length d.tail == 0 && ends_with_stop (items_of d))
 stopped_at d f e =
-    fault_cases (ends_with_stop (items_of d)) d.many (length d.tail == 0) (fault_in_tail (open_of d.units) d.tail) f
-    (ap (λ (b : Bool). fault_unless b (fault_in_tail (open_of d.units) d.tail)) (sym (stops_are d.many (items_of d))) ∙ e)
+    fault_cases (ends_with_stop (items_of d)) d.many (length d.tail == 0) (fault_in_tail d.loose (open_of d.units) d.tail) f
+    (ap (λ (b : Bool). fault_unless b (fault_in_tail d.loose (open_of d.units) d.tail)) (sym (stops_are d.many (items_of d))) ∙ e)
 
 pub finish_at : (d : Contents) (f : TailFault) (b : Bool) → ended_by d ≡ Some f → (length d.tail == 0 && ends_with_stop (items_of d)) ≡ b → finish_by b (Some f) ≡ finish_of d
 finish_at d f b e is =
@@ -76,7 +76,7 @@ finish_one d f m e = sym (finish_at d f false e (go (ends_with_stop (items_of d)
     by false x h = refl
 
     goes : (ends_with_stop (items_of d) && not false) ≡ false
-    goes = sym stop ∙ by (stops d.many (items_of d)) (fault_in_tail (open_of d.units) d.tail) e
+    goes = sym stop ∙ by (stops d.many (items_of d)) (fault_in_tail d.loose (open_of d.units) d.tail) e
 
     go : (last none : Bool) → (last && not false) ≡ false → (none && last) ≡ false
     go true none h = cc
@@ -93,7 +93,7 @@ first false b e = cc
 pub stopped_last : (d : Contents) → IsFormed d → finish_of d ≡ finish.Stopped → ends_with_stop (items_of d) ≡ true
 stopped_last d h e = go (ended_by d) (stops d.many (items_of d)) (is_stopped d) (ended d h) (finish_from d ∙ e) (stops_are d.many (items_of d)) refl
   where
-    go : (x : Option TailFault) (b s : Bool) → IsEnd b (open_of d.units) d.tail x → finish_by s x ≡ finish.Stopped → b ≡ (ends_with_stop (items_of d) && not d.many)
+    go : (x : Option TailFault) (b s : Bool) → IsEnd d.loose b (open_of d.units) d.tail x → finish_by s x ≡ finish.Stopped → b ≡ (ends_with_stop (items_of d) && not d.many)
         → s ≡ is_stopped d → ends_with_stop (items_of d) ≡ true
     go None true s i f p q = first (ends_with_stop (items_of d)) (not d.many) (sym p)
     go None false s i f p q = absurd i

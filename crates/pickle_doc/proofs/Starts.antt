@@ -66,16 +66,16 @@ pub record CanStart (r : EditRecord) (items : List Item) : Type 0 where
   pub frame : sizes (renumbered r.frame items) ≡ sizes items
   pub small : sizes (swapped_items r items) ≤ size_limit
 
-pub can_start : {many : Bool} (r : EditRecord) (items : List Item) (tail : List ℕ) (f : Option TailFault) (next start : ℕ) (d e : Contents) → contents_of many items tail next ≡ d
-    → IsKept many items tail f next start → EditLeads r d e → CanStart r items
+pub can_start : {many loose : Bool} (r : EditRecord) (items : List Item) (tail : List ℕ) (f : Option TailFault) (next start : ℕ) (d e : Contents) → contents_of many loose items tail next ≡ d
+    → IsKept many loose items tail f next start → EditLeads r d e → CanStart r items
 can_start r items tail f next start d e is h l =
     let own = items_are items tail f next start d is h in
     let doc = document items tail f next start d is h in
     let to : items_of e ≡ swapped_items r items = sym l.items ∙ ap (swapped_items r) own in
     let before : AgreeBefore r.place items (items_of e) = rw own at l.before in
     let can : CanSwap r items = rw own at l.can in
-    let nine : FramesAreNine items = rw own at (frames-nine d.units doc.formed.units) in
+    let nine : FramesAreNine items = rw own at (frames-nine d.loose d.units doc.formed.units) in
     record {
-      frame = same_sizes r.change r.place r.frame items (items_of e) can.place can.frame to before nine (frames-nine e.units l.document.formed.units);
+      frame = same_sizes r.change r.place r.frame items (items_of e) can.place can.frame to before nine (frames-nine e.loose e.units l.document.formed.units);
       small = omega (arith, ap sizes to, length_document e, l.within);
     }

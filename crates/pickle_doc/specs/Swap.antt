@@ -48,6 +48,7 @@ pub record EditLeads (r : EditRecord) (d e : Contents) : Type 0 where
   pub can : CanSwap r (items_of d)
   pub items : swapped_items r (items_of d) ≡ items_of e
   pub many : d.many ≡ e.many
+  pub loose : d.loose ≡ e.loose
   pub tail : d.tail ≡ e.tail
   pub ended : ended_by d ≡ ended_by e
   pub next : d.next ≡ e.next

@@ -29,7 +29,7 @@ impl Document {
         ensures room { length (flat (deleted k self.now.contents.units)) ≤ length (items_of self.now.contents) }
     {
         let size = self.items.at(k).op.size() as u64;
-        let frame = resized(&self.items, self.bookmark, k, size, 0);
+        let frame = resized(&self.items, self.loose, self.bookmark, k, size, 0);
         EditRecord {
             place: k,
             change: ItemChange::Take,

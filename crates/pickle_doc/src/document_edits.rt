@@ -150,10 +150,10 @@ impl Document {
     /// 0 the frame is empty, and item k may be a FRAME. The record leads back.
     ///
     /// The first that applies: `NoSuchItem` (E1) where there are fewer items from item k on, `FrameItem` (E3) where one of them is
-    /// FRAME, `AfterStop` (E4) where the FRAME would be after STOP, `AlreadyFramed` (E6) where one of them is a member, or
-    /// with count 0 where the FRAME would be in a frame or in its bytes in the tail, `TooManyItems` (E7) where all identities
-    /// are given, `TooLarge` (E8) where there would be more bytes than `LIMIT`; then `Memory` (M), only where there is no room
-    /// and none could be had. Then nothing is changed.
+    /// FRAME or all items are loose, since frames were not looked at, `AfterStop` (E4) where the FRAME would be after STOP,
+    /// `AlreadyFramed` (E6) where one of them is a member, or with count 0 where the FRAME would be in a frame or in its bytes in the
+    /// tail, `TooManyItems` (E7) where all identities are given, `TooLarge` (E8) where there would be more bytes than `LIMIT`; then
+    /// `Memory` (M), only where there is no room and none could be had. Then nothing is changed.
     pub fn frame(&mut self, k: usize, count: usize) -> Result<EditRecord, EditFault>
         ensures fault { IfErr result (λ f. (frame_fault self.old.contents k count ≡ Some f) ⊎ ((f ≡ EditFault.Memory) × (frame_fault self.old.contents k count ≡ None))) }
         ensures memory { OnErr result (frame_fault self.old.contents k count ≡ None → self.old.room ≡ 0) }
@@ -171,8 +171,8 @@ impl Document {
     /// Takes the frame away whose FRAME is item k; its members stay, as loose items. The record leads back. This takes no
     /// memory.
     ///
-    /// The first that applies: `NoSuchItem` (E1) where there is no item k, `FrameItem` (E3) where it is no FRAME, `OpenFrame` (E5)
-    /// where its frame reaches into the tail. Then nothing is changed.
+    /// The first that applies: `NoSuchItem` (E1) where there is no item k, `FrameItem` (E3) where it is no FRAME or all items are
+    /// loose, since frames were not looked at, `OpenFrame` (E5) where its frame reaches into the tail. Then nothing is changed.
     pub fn unframe(&mut self, k: usize) -> Result<EditRecord, EditFault>
         ensures fault { IfErr result (λ f. Some f ≡ unframe_fault self.old.contents k) }
         ensures err { OnErr result (self.new ≡ self.old) }

@@ -31,7 +31,7 @@ impl<'a> DocumentItems<'a> {
 
     /// A reader of the items of this document.
     pub fn new(document: &'a Document) -> DocumentItems<'a>
-        ensures value { result ≡ record { rest = document_bytes document.now.contents; left = 0 } }
+        ensures value { result ≡ record { loose = document.now.contents.loose; rest = document_bytes document.now.contents; left = 0 } }
         ensures document { IsDocument document.now.contents }
         ensures again { IsReadAgain document.now.contents }
         ensures small { length (document_bytes document.now.contents) ≤ size_limit }
@@ -41,7 +41,7 @@ impl<'a> DocumentItems<'a> {
             document,
             place: 0,
             ahead: document.total() - tail.len() as u64,
-            behind: Items::new(tail),
+            behind: Items::new_as(document.is_loose(), tail),
         }
     }
 }

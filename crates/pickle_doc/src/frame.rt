@@ -25,13 +25,16 @@ impl Document {
         if count > len - k {
             return Some(EditFault::NoSuchItem);
         }
+        if self.loose {
+            return Some(EditFault::FrameItem);
+        }
         if has_frame(&self.items, k, k + count) {
             return Some(EditFault::FrameItem);
         }
         if self.is_after_stop(k) {
             return Some(EditFault::AfterStop);
         }
-        if unfinished_frame(&self.items, self.bookmark, k).is_some() {
+        if unfinished_frame(&self.items, self.loose, self.bookmark, k).is_some() {
             return Some(EditFault::AlreadyFramed);
         }
         // A FRAME has nine bytes: its opcode, and eight of its number.

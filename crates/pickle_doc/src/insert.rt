@@ -43,7 +43,7 @@ impl Document {
         ensures room { length (flat (inserted k (new_item self.now.contents op) self.now.contents.units)) ≡ length (items_of self.now.contents) + 1 }
     {
         let size = op.arg().len() as u64 + 1;
-        let frame = resized(&self.items, self.bookmark, k, 0, size);
+        let frame = resized(&self.items, self.loose, self.bookmark, k, 0, size);
         EditRecord {
             place: k,
             change: ItemChange::Put(Item {

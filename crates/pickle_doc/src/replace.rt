@@ -50,7 +50,7 @@ impl Document {
         let id = item.id;
         let old = item.op.size() as u64;
         let size = op.arg().len() as u64 + 1;
-        let frame = resized(&self.items, self.bookmark, k, old, size);
+        let frame = resized(&self.items, self.loose, self.bookmark, k, old, size);
         EditRecord {
             place: k,
             change: ItemChange::Set(Item { id, op }),

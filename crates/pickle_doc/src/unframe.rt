@@ -19,6 +19,9 @@ impl Document {
         match self.items.get(k) {
             None => Some(EditFault::NoSuchItem),
             Some(item) => {
+                if self.loose {
+                    return Some(EditFault::FrameItem);
+                }
                 if !is_frame(item.op.opcode()) {
                     return Some(EditFault::FrameItem);
                 }

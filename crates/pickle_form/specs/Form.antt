@@ -13,7 +13,7 @@ use Rattle.pickle_form.specs.declared.reason.Other.{Other}
 use Rattle.pickle_form.specs.declared.run.Run.{Run}
 use Rattle.pickle_form.specs.Spelled.{or_else, other_argument}
 use Rattle.pickle_form.specs.Run.{begin_run, other_run, after_run, first_here}
-use Rattle.pickle_form.specs.Held.{Held, nothing_held, role_of, other_row, next}
+use Rattle.pickle_form.specs.Held.{Held, nothing_held, role_of, other_behind_two, other_row, next}
 
 -- what the opcodes before a place come to
 pub record Before : Type 0 where
@@ -25,10 +25,12 @@ begin = record { run = begin_run; held = nothing_held }
 
 -- why no pickler writes this opcode here: the first rule that it breaks
 abbrev pub reason_of : Operation → Before → Option Reason
-reason_of o b = or_else (other_argument o.opcode o.arg) (or_else (other_run o b.run) (other_row (first_here o b.run) (row_of o) b.held))
+reason_of o b =
+    or_else (other_argument o.opcode o.arg)
+    (or_else (other_run o b.run) (or_else (other_behind_two o.opcode b.held) (other_row (first_here o b.run) (row_of o) (role_of o.opcode o.arg) b.held)))
 
 abbrev pub after : Operation → Before → Before
-after o b = record { run = after_run o b.run; held = next (row_of o) (role_of o.opcode o.arg) b.held }
+after o b = record { run = after_run o b.run; held = next (first_here o b.run) (row_of o) (role_of o.opcode o.arg) b.held }
 
 -- ---- the end
 

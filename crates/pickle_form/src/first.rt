@@ -5,12 +5,13 @@ ghost use Rattle.pickle_ops.specs.Spelling.{size_of};
 ghost use Rattle.pickle_ops.specs.Row.{row_of};
 ghost use Rattle.pickle_doc.specs.Document.{size_limit};
 ghost use Rattle.pickle_form.specs.Form.{fault_reason, at_place, reason_of, IsFirstOther};
+ghost use Rattle.pickle_form.specs.Held.{role_of};
 ghost use Rattle.pickle_form.specs.Inside.{before};
 
 use crate::held::Held;
 use crate::reason::{Other, Reason};
-use crate::role::role_of;
-use crate::run::Run;
+use crate::role::{Role, role_of};
+use crate::run::{Run, is_reduce};
 use crate::spelled::other_argument;
 use pickle_doc::{ItemSource, Items, NextRef, TailFault, is_stop};
 use pickle_ops::{OpRef, Row};
@@ -29,8 +30,9 @@ fn fault_reason(fault: TailFault) -> Reason
 }
 
 /// Why no pickler writes this opcode here: the first rule that it breaks.
-fn reason_of(op: &OpRef<'_>, row: Row, run: &Run, held: &Held) -> Option<Reason>
+fn reason_of(op: &OpRef<'_>, row: Row, role: Role, run: &Run, held: &Held) -> Option<Reason>
     requires row { row ≡ row_of op.now }
+    requires role { role ≡ role_of op.now.opcode op.now.arg }
     requires small { run.now.loose + size_of op.now < 2 ^ 63 }
     ensures { result ≡ reason_of op.now (before run.now held.now) }
 {
@@ -40,7 +42,10 @@ fn reason_of(op: &OpRef<'_>, row: Row, run: &Run, held: &Held) -> Option<Reason>
     if let Some(why) = run.other(op) {
         return Some(why);
     }
-    held.other(run.first_here(op), row)
+    if let Some(why) = held.other_behind_two(is_reduce(op.opcode())) {
+        return Some(why);
+    }
+    held.other(run.first_here(op), row, role)
 }
 
 /// What is at a place.
@@ -79,11 +84,12 @@ pub fn first_other(alloc: Global, bytes: &[u8]) -> Result<Option<Other>, AllocEr
             }
             NextRef::Item(op) => {
                 let row = Row::of_ref(&op);
-                if let Some(why) = reason_of(&op, row, &run, &held) {
+                let role = role_of(&op);
+                if let Some(why) = reason_of(&op, row, role, &run, &held) {
                     return Ok(Some(at_place(place, offset, why)));
                 }
+                held.perform(run.first_here(&op), row, role)?;
                 run = run.after(&op);
-                held.perform(row, role_of(&op))?;
                 offset += op.size() as u64;
                 place += 1;
                 if !is_stop(op.opcode()) {

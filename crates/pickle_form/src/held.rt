@@ -1,8 +1,8 @@
 //! The stack, the marks and the memo, of whose objects only the role is kept.
 
-ghost use Rattle.std.specs.Prelude.{◌≡◌};
+ghost use Rattle.std.specs.Prelude.{◌≡◌, ◌≤◌};
 ghost use Rattle.std.specs.Option.{unwrap_or};
-ghost use Rattle.pickle_form.specs.Held.{is_so, is_name_role, is_there, is_buffer, is_dict, is_callable, is_arguments, is_target, if_paired};
+ghost use Rattle.pickle_form.specs.Held.{is_so, is_name_role, is_there, is_buffer, is_dict, is_callable, is_arguments, is_target, if_paired, is_sized, is_instance, is_state, has_right_size, cut_role, is_batch};
 
 use crate::reason::Reason;
 use crate::role::Role;
@@ -112,6 +112,60 @@ fn or_value(role: Option<Role>) -> Role
     }
 }
 
+/// Whether there is what INST or OBJ made.
+fn is_instance(role: Option<Role>) -> bool
+    ensures { result ≡ is_so is_instance role }
+{
+    match role {
+        Some(role) => role.is_instance(),
+        None => false,
+    }
+}
+
+/// Whether an object gets a state so.
+fn is_state(filling: Filling) -> bool
+    ensures { result ≡ is_state filling }
+{
+    matches!(filling, Filling::Build)
+}
+
+/// Whether sizes are looked at in a pickle of at least this protocol.
+fn is_sized(protocol: u64) -> bool
+    ensures { result ≡ is_sized protocol }
+{
+    0 < protocol && protocol != 2
+}
+
+/// Whether a tuple of so many objects is made so in a pickle of at least this protocol.
+fn has_right_size(protocol: u64, count: usize, role: Role) -> bool
+    ensures { result ≡ has_right_size protocol count role }
+{
+    !role.is_tuple()
+        || !is_sized(protocol)
+        || 4 <= count
+        || count == 2
+        || (protocol < 3 && 0 < count)
+}
+
+/// The role of what is made of the objects above a mark.
+fn cut_role(protocol: u64, count: usize, role: Role) -> Role
+    ensures { result ≡ cut_role protocol count role }
+{
+    if role.is_tuple() && 3 <= protocol && count == 2 {
+        Role::Two
+    } else {
+        role
+    }
+}
+
+/// Whether so many objects are items, each of this many of them, that picklers put into an object at once.
+fn is_batch(protocol: u64, count: usize, objects: usize, role: Role) -> bool
+    requires { objects ≤ 2 }
+    ensures { result ≡ is_batch protocol count objects role }
+{
+    !is_sized(protocol) || (role.least() * objects <= count && count <= 1000 * objects)
+}
+
 /// Why keys have no values.
 fn if_paired(filling: Filling, count: usize, rest: Option<Reason>) -> Option<Reason>
     ensures { result ≡ if_paired filling count rest }
@@ -129,10 +183,11 @@ fn if_paired(filling: Filling, count: usize, rest: Option<Reason>) -> Option<Rea
 }
 
 impl Held {
-    ghost use Rattle.std.specs.Prelude.{◌≡◌, ◌-◌, ◌+◌, ◌<◌, ◌==◌, ◌&&◌, ◌≤◌, ◌^◌, not, nat_lt, nat_le, length, take, slice_get, OnOk, Option, Some, None};
+    ghost use Rattle.std.specs.Prelude.{◌≡◌, ◌-◌, ◌+◌, ◌*◌, ◌<◌, ◌==◌, ◌&&◌, ◌||◌, ◌≤◌, ◌^◌, not, nat_lt, nat_le, length, take, slice_get, OnOk, Option, Some, None};
     ghost use Rattle.std.specs.Option.{unwrap_or};
     ghost use Rattle.pickle_ops.specs.Row.{count_of, values_of};
-    ghost use Rattle.pickle_form.specs.Held.{nothing_held, below, above, between, deep, under, at_key, other_call, other_taking, other_cutting, is_next_key, other_row, without, cut, push, top, keep, next};
+    ghost use Rattle.pickle_form.specs.Spelled.{unless};
+    ghost use Rattle.pickle_form.specs.Held.{nothing_held, below, above, between, deep, under, at_key, other_call, other_taking, other_cutting, is_next_key, other_batch, other_state, is_two, other_row, without, cut, push, top, keep, fill, next};
 
     /// Nothing is there.
     pub fn new(alloc: Global) -> Held
@@ -242,11 +297,14 @@ impl Held {
     }
 
     /// Why nothing is made so of the objects above the topmost mark.
-    fn other_cutting(&self, cutting: Cutting) -> Option<Reason>
-        ensures { result ≡ other_cutting cutting self.now }
+    fn other_cutting(&self, protocol: u64, role: Role, cutting: Cutting) -> Option<Reason>
+        ensures { result ≡ other_cutting protocol role cutting self.now }
     {
         match cutting {
-            Cutting::Any => None,
+            Cutting::Any => unless(
+                has_right_size(protocol, self.above(), role),
+                Reason::TupleSize,
+            ),
             Cutting::Pairs => if_paired(Filling::SetItem, self.above(), None),
             Cutting::Callable => {
                 if self.above() < 1 {
@@ -257,20 +315,51 @@ impl Held {
         }
     }
 
+    /// Why the top is no state of the object below it.
+    fn other_state(&self, protocol: u64, filling: Filling) -> Option<Reason>
+        ensures { result ≡ other_state protocol filling self.now }
+    {
+        if !is_state(filling) {
+            return None;
+        }
+        if protocol == 2 {
+            return None;
+        }
+        if !self.top().is_null() {
+            return None;
+        }
+        unless(is_instance(self.deep(filling.values())), Reason::NoState)
+    }
+
     /// Why the topmost object or objects do not go into the one below them.
-    fn other_change(&self, filling: Filling) -> Option<Reason>
-        ensures { result ≡ other_row 0 (Row.Change filling) self.now }
+    fn other_change(&self, protocol: u64, filling: Filling) -> Option<Reason>
+        ensures { result ≡ other_row protocol (Row.Change filling) Role.Value self.now }
     {
         if self.above() < filling.values() + 1 {
             return Some(Reason::TooFew);
         }
         let target = self.deep(filling.values());
-        unless(is_target(filling, target), Reason::WrongTarget)
+        if is_target(filling, target) {
+            self.other_state(protocol, filling)
+        } else {
+            Some(Reason::WrongTarget)
+        }
+    }
+
+    /// Why so many items do not go at once into the object under the topmost mark.
+    fn other_batch(&self, protocol: u64, filling: Filling) -> Option<Reason>
+        ensures { result ≡ other_batch protocol filling self.now }
+    {
+        let target = or_value(self.under());
+        unless(
+            is_batch(protocol, self.above(), filling.values(), target),
+            Reason::BatchSize,
+        )
     }
 
     /// Why the objects above the topmost mark do not go into the one under it.
-    fn other_cut_change(&self, filling: Filling) -> Option<Reason>
-        ensures { result ≡ other_row 0 (Row.CutChange filling) self.now }
+    fn other_cut_change(&self, protocol: u64, filling: Filling) -> Option<Reason>
+        ensures { result ≡ other_row protocol (Row.CutChange filling) Role.Value self.now }
     {
         if self.marks.is_empty() {
             return Some(Reason::NoMark);
@@ -278,13 +367,17 @@ impl Held {
         if self.between() < 1 {
             return Some(Reason::TooFew);
         }
-        let last = unless(is_target(filling, self.under()), Reason::WrongTarget);
+        let last = if is_target(filling, self.under()) {
+            self.other_batch(protocol, filling)
+        } else {
+            Some(Reason::WrongTarget)
+        };
         if_paired(filling, self.above(), last)
     }
 
     /// Why nothing is dropped in a pickle of at least this protocol.
     fn other_pop(&self, protocol: u64) -> Option<Reason>
-        ensures { result ≡ other_row protocol Row.Pop self.now }
+        ensures { result ≡ other_row protocol Row.Pop Role.Value self.now }
     {
         if 0 < self.above() {
             return None;
@@ -308,7 +401,7 @@ impl Held {
 
     /// Why the memo does not keep the top under this key.
     fn other_put(&self, key: u64, protocol: u64) -> Option<Reason>
-        ensures { result ≡ other_row protocol (Row.Put key) self.now }
+        ensures { result ≡ other_row protocol (Row.Put key) Role.Value self.now }
     {
         if self.above() < 1 {
             return Some(Reason::TooFew);
@@ -318,7 +411,7 @@ impl Held {
 
     /// Why the top is not made read only.
     fn other_view(&self) -> Option<Reason>
-        ensures { result ≡ other_row 0 Row.ReadOnly self.now }
+        ensures { result ≡ other_row 0 Row.ReadOnly Role.Value self.now }
     {
         if self.above() < 1 {
             return Some(Reason::TooFew);
@@ -326,9 +419,16 @@ impl Held {
         unless(is_buffer(self.deep(0)), Reason::NotBuffer)
     }
 
-    /// Why no pickler does this, in a pickle of at least this protocol.
-    pub fn other(&self, protocol: u64, row: Row) -> Option<Reason>
-        ensures { result ≡ other_row protocol row self.now }
+    /// Why a marked tuple of two, if it is the top, is not followed by this: by a call, or not.
+    pub fn other_behind_two(&self, calls: bool) -> Option<Reason>
+        ensures { result ≡ unless (not (is_two (top self.now)) || calls) Reason.TupleSize }
+    {
+        unless(!self.top().is_two() || calls, Reason::TupleSize)
+    }
+
+    /// Why no pickler does this, which makes an object of this role if it makes one, in a pickle of at least this protocol.
+    pub fn other(&self, protocol: u64, row: Row, role: Role) -> Option<Reason>
+        ensures { result ≡ other_row protocol row role self.now }
     {
         match row {
             Row::Nothing => None,
@@ -347,10 +447,10 @@ impl Held {
                 if self.marks.is_empty() {
                     return Some(Reason::NoMark);
                 }
-                self.other_cutting(cutting)
+                self.other_cutting(protocol, role, cutting)
             }
-            Row::Change(filling) => self.other_change(filling),
-            Row::CutChange(filling) => self.other_cut_change(filling),
+            Row::Change(filling) => self.other_change(protocol, filling),
+            Row::CutChange(filling) => self.other_cut_change(protocol, filling),
             Row::Pop => self.other_pop(protocol),
             Row::PopMark => unless(!self.marks.is_empty(), Reason::NoMark),
             Row::Dup => None,
@@ -413,9 +513,30 @@ impl Held {
         Ok(())
     }
 
+    /// In a pickle of at least this protocol the top has got items, which may be a full batch.
+    fn fill(&mut self, protocol: u64, full: bool) -> Result<(), AllocError>
+        ensures ok { OnOk result (self.new ≡ fill protocol full self.old) }
+    {
+        if is_sized(protocol) {
+            let role = self.top().filled(full);
+            self.lose(1);
+            self.push(role)?;
+        }
+        Ok(())
+    }
+
+    /// The objects above the topmost mark go into the one under it, in a pickle of at least this protocol.
+    fn fill_marked(&mut self, protocol: u64, filling: Filling) -> Result<(), AllocError>
+        ensures ok { OnOk result (self.new ≡ next protocol (Row.CutChange filling) Role.Value self.old) }
+    {
+        let full = self.above() == 1000 * filling.values();
+        self.cut();
+        self.fill(protocol, full)
+    }
+
     /// A mark is set.
     fn mark(&mut self) -> Result<(), AllocError>
-        ensures ok { OnOk result (self.new ≡ next Row.Mark Role.Value self.old) }
+        ensures ok { OnOk result (self.new ≡ next 0 Row.Mark Role.Value self.old) }
     {
         self.marks.push(self.cells.len())?;
         Ok(())
@@ -423,7 +544,7 @@ impl Held {
 
     /// What is on top is dropped, or the topmost mark.
     fn drop_top(&mut self)
-        ensures { self.new ≡ next Row.Pop Role.Value self.old }
+        ensures { self.new ≡ next 0 Row.Pop Role.Value self.old }
     {
         if 0 < self.above() {
             self.lose(1);
@@ -432,9 +553,10 @@ impl Held {
         }
     }
 
-    /// Does what an opcode does that makes an object of this role, if it makes one. It fails only where memory runs out.
-    pub fn perform(&mut self, row: Row, role: Role) -> Result<(), AllocError>
-        ensures ok { OnOk result (self.new ≡ next row role self.old) }
+    /// Does what an opcode does that makes an object of this role, if it makes one, in a pickle of at least this protocol. It fails only where
+    /// memory runs out.
+    pub fn perform(&mut self, protocol: u64, row: Row, role: Role) -> Result<(), AllocError>
+        ensures ok { OnOk result (self.new ≡ next protocol row role self.old) }
     {
         match row {
             Row::Nothing => Ok(()),
@@ -451,17 +573,15 @@ impl Held {
                 self.push(role)
             }
             Row::Cut(_) => {
+                let role = cut_role(protocol, self.above(), role);
                 self.cut();
                 self.push(role)
             }
             Row::Change(filling) => {
                 self.lose(filling.values());
-                Ok(())
+                self.fill(protocol, false)
             }
-            Row::CutChange(_) => {
-                self.cut();
-                Ok(())
-            }
+            Row::CutChange(filling) => self.fill_marked(protocol, filling),
             Row::Pop => {
                 self.drop_top();
                 Ok(())

@@ -51,6 +51,10 @@ pub enum Reason {
     NoMark,
     /// The stack has too few objects above the topmost mark.
     TooFew,
+    /// A tuple of up to three objects stands behind a mark.
+    TupleSize,
+    /// Items go into an object in another number than picklers give at once.
+    BatchSize,
     /// A key has no value.
     OddItems,
     /// What is called is no import, nothing that a call made, and nothing from outside.
@@ -59,6 +63,8 @@ pub enum Reason {
     NotArguments,
     /// Items or a state go into what picklers give none.
     WrongTarget,
+    /// BUILD gives None.
+    NoState,
     /// READONLY_BUFFER finds no buffer.
     NotBuffer,
     /// Objects are dropped, and nothing comes back from the memo.
@@ -103,10 +109,13 @@ impl Reason {
             Reason::NoKey => "a memo key under which nothing is kept",
             Reason::NoMark => "no mark is open",
             Reason::TooFew => "too few objects above the topmost mark",
+            Reason::TupleSize => "a tuple that has a shorter form",
+            Reason::BatchSize => "items that picklers give in another number at once",
             Reason::OddItems => "a key without a value",
             Reason::NotCallable => "a call of what picklers do not call",
             Reason::NotArguments => "arguments that picklers do not give",
             Reason::WrongTarget => "items or a state for what picklers give none",
+            Reason::NoState => "a state that is None",
             Reason::NotBuffer => "READONLY_BUFFER of what is no buffer",
             Reason::Dropped => "objects are dropped that no pickler drops",
             Reason::LeftOver => "STOP where the stack has not one object",

@@ -13,22 +13,36 @@ pub enum Role {
     Absent,
     /// Nothing but to put it somewhere.
     Value,
+    /// None, which is no state.
+    Null,
     /// A text that is no plain name.
     Text,
     /// A text that is a plain name, which may be that of an import.
     Name,
     /// A tuple, which may be arguments.
     Tuple,
+    /// A tuple of two objects behind a mark, which is arguments at once.
+    Two,
     /// A list, which gets items by APPEND and APPENDS.
     List,
+    /// A list behind a full batch of items.
+    MoreList,
     /// A dictionary, which gets items by SETITEM and SETITEMS, or is the keywords of a call.
     Dict,
+    /// A dictionary behind a full batch of items.
+    MoreDict,
+    /// A dictionary that has its items, which may be the keywords of a call.
+    FilledDict,
     /// A set, which gets items by ADDITEMS.
     Set,
+    /// A set behind a full batch of items.
+    MoreSet,
     /// What was imported, which may be called.
     Import,
     /// What a call made, which may be called, and gets items and a state.
     Made,
+    /// What INST or OBJ made, which gets a state of any kind besides.
+    Instance,
     /// What a persistent id stands for, which may be called.
     Outside,
     /// A buffer from outside.
@@ -36,8 +50,8 @@ pub enum Role {
 }
 
 impl Role {
-    ghost use Rattle.std.specs.Prelude.{◌≡◌};
-    ghost use Rattle.pickle_form.specs.Held.{is_name_role, is_there, is_buffer, is_dict, is_callable, is_arguments, is_target};
+    ghost use Rattle.std.specs.Prelude.{◌≡◌, ◌<◌, ◌≤◌, ◌*◌};
+    ghost use Rattle.pickle_form.specs.Held.{is_name_role, is_there, is_buffer, is_dict, is_two, is_tuple, is_null, is_instance, is_callable, is_arguments, is_target, least_of, filled_role};
 
     /// Whether it is a plain name.
     pub fn is_name(self) -> bool
@@ -64,7 +78,40 @@ impl Role {
     pub fn is_dict(self) -> bool
         ensures { result ≡ is_dict self }
     {
-        matches!(self, Role::Dict)
+        match self {
+            Role::Dict => true,
+            Role::MoreDict => true,
+            Role::FilledDict => true,
+            _ => false,
+        }
+    }
+
+    /// Whether it is a marked tuple of two.
+    pub fn is_two(self) -> bool
+        ensures { result ≡ is_two self }
+    {
+        matches!(self, Role::Two)
+    }
+
+    /// Whether it is None.
+    pub fn is_null(self) -> bool
+        ensures { result ≡ is_null self }
+    {
+        matches!(self, Role::Null)
+    }
+
+    /// Whether INST or OBJ made it.
+    pub fn is_instance(self) -> bool
+        ensures { result ≡ is_instance self }
+    {
+        matches!(self, Role::Instance)
+    }
+
+    /// Whether it is a tuple.
+    pub fn is_tuple(self) -> bool
+        ensures { result ≡ is_tuple self }
+    {
+        matches!(self, Role::Tuple)
     }
 
     /// Whether picklers call it.
@@ -74,6 +121,7 @@ impl Role {
         match self {
             Role::Import => true,
             Role::Made => true,
+            Role::Instance => true,
             Role::Outside => true,
             _ => false,
         }
@@ -85,7 +133,9 @@ impl Role {
     {
         match self {
             Role::Tuple => true,
+            Role::Two => true,
             Role::Made => true,
+            Role::Instance => true,
             _ => false,
         }
     }
@@ -96,10 +146,51 @@ impl Role {
     {
         match self {
             Role::Made => true,
+            Role::Instance => true,
             Role::List => matches!(filling, Filling::Append),
+            Role::MoreList => matches!(filling, Filling::Append),
             Role::Dict => matches!(filling, Filling::SetItem),
+            Role::MoreDict => matches!(filling, Filling::SetItem),
             Role::Set => matches!(filling, Filling::Add),
+            Role::MoreSet => matches!(filling, Filling::Add),
             _ => false,
+        }
+    }
+
+    /// The least number of items that picklers put into it at once.
+    pub fn least(self) -> usize
+        ensures count { result ≡ least_of self }
+        ensures few { result ≤ 2 }
+    {
+        match self {
+            Role::MoreList => 1,
+            Role::MoreDict => 0,
+            Role::Set => 1,
+            Role::MoreSet => 0,
+            _ => 2,
+        }
+    }
+
+    /// What it is behind items, which may be a full batch.
+    pub fn filled(self, full: bool) -> Role
+        ensures { result ≡ filled_role full self }
+    {
+        match self {
+            Role::List => if full { Role::MoreList } else { Role::Value },
+            Role::MoreList => if full { Role::MoreList } else { Role::Value },
+            Role::Dict => if full {
+                Role::MoreDict
+            } else {
+                Role::FilledDict
+            },
+            Role::MoreDict => if full {
+                Role::MoreDict
+            } else {
+                Role::FilledDict
+            },
+            Role::Set => if full { Role::MoreSet } else { Role::Value },
+            Role::MoreSet => if full { Role::MoreSet } else { Role::Value },
+            _ => self,
         }
     }
 }
@@ -120,6 +211,7 @@ pub(crate) fn role_of(op: &OpRef<'_>) -> Role
     ensures { result ≡ role_of op.now.opcode op.now.arg }
 {
     match op.opcode() {
+        Opcode::None => Role::Null,
         Opcode::ShortBinUnicode => text_role(op.payload()),
         Opcode::BinUnicode => text_role(op.payload()),
         Opcode::EmptyTuple => Role::Tuple,
@@ -141,8 +233,8 @@ pub(crate) fn role_of(op: &OpRef<'_>) -> Role
         Opcode::Reduce => Role::Made,
         Opcode::NewObj => Role::Made,
         Opcode::NewObjEx => Role::Made,
-        Opcode::Inst => Role::Made,
-        Opcode::Obj => Role::Made,
+        Opcode::Inst => Role::Instance,
+        Opcode::Obj => Role::Instance,
         Opcode::PersId => Role::Outside,
         Opcode::BinPersId => Role::Outside,
         _ => Role::Value,

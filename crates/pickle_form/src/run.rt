@@ -58,7 +58,7 @@ fn is_stop(opcode: Opcode) -> bool
 }
 
 /// Whether an opcode is REDUCE.
-fn is_reduce(opcode: Opcode) -> bool
+pub fn is_reduce(opcode: Opcode) -> bool
     ensures { result ≡ is_reduce opcode }
 {
     matches!(opcode, Opcode::Reduce)

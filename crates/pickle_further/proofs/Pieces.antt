@@ -18,8 +18,8 @@ pub nothing_written : (a : Told) (text : List ℕ) → CutsText a a text stop.Me
 nothing_written a text = (text, WroteAllBut-none a text)
 
 some_text : (how : Manner) (p : Pickles) (bytes : List ℕ) → AreBytes bytes → (o : Output) × IsCallsText how p bytes o
-some_text how pickles.First bytes are = let d = some_document false bytes are in (document_calls how pickles.First d.0, (d.0, d.1, refl))
-some_text how pickles.All bytes are = let d = some_document true bytes are in (document_calls how pickles.All d.0, (d.0, d.1, refl))
+some_text how pickles.First bytes are = let d = some_document false false bytes are in (document_calls how pickles.First d.0, (d.0, d.1, refl))
+some_text how pickles.All bytes are = let d = some_document true false bytes are in (document_calls how pickles.All d.0, (d.0, d.1, refl))
 some_text how pickles.OneMemo bytes are = (kept_calls how bytes, refl)
 
 pub no_text_yet : (how : Manner) (p : Pickles) (bytes : List ℕ) (a : Told) → AreBytes bytes → CutsCallsText how p bytes a a stop.Memory

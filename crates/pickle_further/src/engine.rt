@@ -9,7 +9,8 @@ use crate::machine::LoaderMachine;
 use crate::way::{Spot, Way};
 use pickle_doc::TailFault;
 use pickle_holes::Holes;
-use pickle_ops::{FrontFault, Page};
+use pickle_io::Page;
+use pickle_ops::FrontFault;
 use pickle_show::{Closing, Course, Naming, TextStop, write_line};
 use std::alloc::Global;
 

@@ -15,9 +15,9 @@ use crate::parts::{find_loss, write_found, write_from};
 use crate::way::{Pickles, Spot, Way};
 use pickle_doc::Items;
 use pickle_holes::Holes;
+use pickle_io::{Failed, Page, write_all, write_decimal};
 use pickle_lenient::Frames;
 use pickle_machine::Machine;
-use pickle_ops::{Failed, Page, write_all, write_decimal};
 use pickle_show::{Closing, Detail, Ending, Naming, Ran, TextStop, run_items, write_end};
 use std::alloc::Global;
 

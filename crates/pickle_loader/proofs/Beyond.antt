@@ -11,6 +11,8 @@ use Rattle.pickle_ops.specs.declared.kind.Kind.TheVariants as kind
 use Rattle.pickle_ops.specs.declared.row.Row.TheVariants as row
 use Rattle.pickle_ops.specs.declared.row.Taking.TheVariants as taking
 use Rattle.pickle_ops.specs.declared.row.Cutting.TheVariants as cutting
+use Rattle.pickle_ops.specs.Table.{form_of}
+use Rattle.pickle_ops.specs.Shape.{value_fault}
 use Rattle.pickle_ops.specs.Argument.{number_of, integer_of}
 use Rattle.pickle_ops.specs.Spelling.{Operation}
 use Rattle.pickle_ops.specs.Row.{row_of_opcode, kind_of_opcode, kind_of}
@@ -25,7 +27,7 @@ use Rattle.pickle_loader.specs.Dispatch.{dispatch, load_op}
 use Rattle.pickle_loader.specs.Told.{told_of, acts_told, protocol_after}
 use Rattle.pickle_loader.specs.Values.{origin, IsFrom, Knows}
 use Rattle.pickle_loader.specs.Laws.{sections, entries, IsSame}
-use Rattle.pickle_loader.specs.Beyond.{less_of, StepFollows, MapsNew, WideMovesAreFollowed}
+use Rattle.pickle_loader.specs.Beyond.{HasValue, less_of, StepFollows, MapsNew, WideMovesAreFollowed}
 use Rattle.pickle_show.proofs.Steps.{is_there}
 use Rattle.pickle_loader.proofs.Images.{image, on_top_image}
 use Rattle.pickle_loader.proofs.Pushes.{Good}
@@ -97,23 +99,23 @@ view_less h true is =
     (subst (λ (v : Value). RowGood h row.Nothing kind.None h.proto (viewed h.w v (unpickler h))) (sym value) (string_viewed h o.0.kind o.2))
 
 -- the method of an opcode is right for the row that asks for less
-wide_good : (h : Here) (o : Opcode) (arg : List ℕ) → RowGood h (asks_less (row_of_opcode o arg) h.s) (kind_of_opcode o arg) (protocol_after o arg h.proto) (dispatch h.w o arg (unpickler h))
-wide_good h op.Proto arg = proto_by h (nat_le (number_of form.U1 arg) 5) (number_of form.U1 arg)
-wide_good h op.Ext1 arg = ext_less h (integer_of form.U1 arg)
-wide_good h op.Ext2 arg = ext_less h (integer_of form.U2 arg)
-wide_good h op.Ext4 arg = ext_less h (integer_of form.S4 arg)
-wide_good h op.ReadOnlyBuffer arg = view_less h (takes_string h.s) refl
-wide_good h op.Reduce arg = reduce_less h (takes_call 0 h.s)
-wide_good h op.NewObj arg = newobj_less h (takes_call 0 h.s)
-wide_good h op.NewObjEx arg = newobj_ex_less h (takes_call_with h.s)
-wide_good h op.Obj arg = obj_less h (takes_obj h.s) refl
-wide_good h o arg = opcode_good h o arg
+wide_good : (h : Here) (o : Opcode) (arg : List ℕ) → value_fault (form_of o) arg ≡ None → RowGood h (asks_less (row_of_opcode o arg) h.s) (kind_of_opcode o arg) (protocol_after o arg h.proto) (dispatch h.w o arg (unpickler h))
+wide_good h op.Proto arg v = proto_by h (nat_le (number_of form.U1 arg) 5) (number_of form.U1 arg)
+wide_good h op.Ext1 arg v = ext_less h (integer_of form.U1 arg)
+wide_good h op.Ext2 arg v = ext_less h (integer_of form.U2 arg)
+wide_good h op.Ext4 arg v = ext_less h (integer_of form.S4 arg)
+wide_good h op.ReadOnlyBuffer arg v = view_less h (takes_string h.s) refl
+wide_good h op.Reduce arg v = reduce_less h (takes_call 0 h.s)
+wide_good h op.NewObj arg v = newobj_less h (takes_call 0 h.s)
+wide_good h op.NewObjEx arg v = newobj_ex_less h (takes_call_with h.s)
+wide_good h op.Obj arg v = obj_less h (takes_obj h.s) refl
+wide_good h o arg v = opcode_good h o arg v
 
-op_good : (h : Here) (o : Operation) (b : Bool) → refusal_of (less_of o h.s) h.s ≡ None
+op_good : (h : Here) (o : Operation) (b : Bool) → HasValue o → refusal_of (less_of o h.s) h.s ≡ None
     → Good h.V h.w h.s.heap h.acts (next_of (less_of o h.s) (kind_of o) h.place h.s) (fresh_acts h (less_of o h.s) (next_of (less_of o h.s) (kind_of o) h.place h.s)) (protocol_after o.opcode o.arg h.proto)
     (if b then Raised h.acts else dispatch h.w o.opcode o.arg (unpickler h))
-op_good h o true e = raised_good h.V h.w h.s.heap h.acts (next_of (less_of o h.s) (kind_of o) h.place h.s) _ (protocol_after o.opcode o.arg h.proto) h.acts refl
-op_good h o false e = wide_good h o.opcode o.arg e
+op_good h o true v e = raised_good h.V h.w h.s.heap h.acts (next_of (less_of o h.s) (kind_of o) h.place h.s) _ (protocol_after o.opcode o.arg h.proto) h.acts refl
+op_good h o false v e = wide_good h o.opcode o.arg v e
 
 -- ---- one step
 
@@ -146,14 +148,14 @@ follows_by w V s t acts new proto (Stopped v q) maps good = (same_of w V t q.pro
 follows_by w V s t acts new proto (Raised done) maps good = good
 
 pub wide_moves_are_followed : WideMovesAreFollowed
-wide_moves_are_followed w V s t u o place running same moved maps =
+wide_moves_are_followed w V s t u o place value running same moved maps =
     let h : Here = record { V = V; w = w; s = s; proto = u.proto; acts = u.acts; place = place; knows = same.objects } in
     let now : fresh s ≡ s = fresh_same s running in
     let step : outcome (refusal_of (less_of o s) s) (next_of (less_of o s) (kind_of o) place s) ≡ Ok t = subst (λ (f : State). outcome (refusal_of (less_of o s) f) (next_of (less_of o s) (kind_of o) place f) ≡ Ok t) now moved in
     let both = has_moved (refusal_of (less_of o s) s) (next_of (less_of o s) (kind_of o) place s) t step in
     let good : Good V w s.heap u.acts t (acts_told V u.proto s t (event_of (less_of o s) (before_of s) t)) (protocol_after o.opcode o.arg u.proto) (load_op w o (image V s u.proto u.acts)) =
     subst (λ (t : State). Good V w s.heap u.acts t (acts_told V u.proto s t (event_of (less_of o s) (before_of s) t)) (protocol_after o.opcode o.arg u.proto) (load_op w o (image V s u.proto u.acts))) both.1
-    (op_good h o (w.fails (unpickler h) o) both.0) in
+    (op_good h o (w.fails (unpickler h) o) value both.0) in
     let is : u ≡ image V s u.proto u.acts = same_image w V s u same in
     follows_by w V s t u.acts (acts_told V u.proto s t (event_of (less_of o s) (before_of s) t)) (protocol_after o.opcode o.arg u.proto) (load_op w o u) maps
     (subst (λ (x : Unpickler). Good V w s.heap u.acts t (acts_told V u.proto s t (event_of (less_of o s) (before_of s) t)) (protocol_after o.opcode o.arg u.proto) (load_op w o x)) (sym is) good)

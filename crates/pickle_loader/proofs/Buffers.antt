@@ -18,7 +18,7 @@ use Rattle.pickle_lenient.specs.Lenient.{Lenient, lenient}
 use Rattle.pickle_lenient.proofs.Behind.{lenient_more}
 use Rattle.pickle_lenient.specs.Stream.{first_read, joined, ends_in, refilled, framed, settled, taken_as, plain, within, across, taken}
 use Rattle.pickle_show.specs.declared.report.Closing.{Closing}
-use Rattle.pickle_show.specs.declared.naming.Detail.TheVariants as detail
+use Rattle.pickle_show.specs.declared.naming.Detail.{Detail}
 use Rattle.pickle_further.specs.declared.way.Way.{Way}
 use Rattle.pickle_further.specs.Going.{Standing, Going as Gone, used_op, moved_so, gone_to, gone_by, going, stands_after}
 use Rattle.pickle_further.specs.Parts.{ignoring, standing_first}
@@ -28,7 +28,7 @@ use Rattle.pickle_loader.specs.Onward.{stands_behind, stands_on, stands, protoco
 
 -- ---- what is taken where nothing is lost
 
-none_of : (a b : Bool) → (a || b) ≡ false → (a ≡ false) × (b ≡ false)
+pub none_of : (a b : Bool) → (a || b) ≡ false → (a ≡ false) × (b ≡ false)
 none_of true b e = absurd cc
 none_of false b e = (refl, e)
 
@@ -148,18 +148,18 @@ item_of w q on lost =
 
 -- ---- along the items
 
-record Alike (V : ℕ → Value) (w : Way) (bytes : List ℕ) (k : ℕ) (q : Standing) : Type 0 where
-  stood : stands (ignoring w.pickles) (standing_first detail.Cut w.pickles bytes) k ≡ Some (unbuffered q)
-  acts : acts_before V w (standing_first detail.Cut w.pickles bytes) k ≡ acts_before V (ignoring w.pickles) (standing_first detail.Cut w.pickles bytes) k
-  proto : protocol w (standing_first detail.Cut w.pickles bytes) k ≡ protocol (ignoring w.pickles) (standing_first detail.Cut w.pickles bytes) k
+pub record Alike (how : Detail) (V : ℕ → Value) (w : Way) (bytes : List ℕ) (k : ℕ) (q : Standing) : Type 0 where
+  pub stood : stands (ignoring w.pickles) (standing_first how w.pickles bytes) k ≡ Some (unbuffered q)
+  pub acts : acts_before V w (standing_first how w.pickles bytes) k ≡ acts_before V (ignoring w.pickles) (standing_first how w.pickles bytes) k
+  pub proto : protocol w (standing_first how w.pickles bytes) k ≡ protocol (ignoring w.pickles) (standing_first how w.pickles bytes) k
 
-alike_first : (V : ℕ → Value) (w : Way) (bytes : List ℕ) (q : Standing) → stands w (standing_first detail.Cut w.pickles bytes) 0 ≡ Some q → Alike V w bytes 0 q
+alike_first : (how : Detail) (V : ℕ → Value) (w : Way) (bytes : List ℕ) (q : Standing) → stands w (standing_first how w.pickles bytes) 0 ≡ Some q → Alike how V w bytes 0 q
 unfolding acts_before protocol stands
-alike_first V w bytes q e =
-    let same : standing_first detail.Cut w.pickles bytes ≡ q = cc in
+alike_first how V w bytes q e =
+    let same : standing_first how w.pickles bytes ≡ q = cc in
     record { stood = ap (λ (x : Standing). Some (unbuffered x)) same; acts = refl; proto = refl }
 
-goes_on : (q p : Standing) (g : Gone) (c : Option Closing) → g.gone.closing ≡ c → stands_behind q g ≡ Some p → g.gone.closing ≡ None
+pub goes_on : (q p : Standing) (g : Gone) (c : Option Closing) → g.gone.closing ≡ c → stands_behind q g ≡ Some p → g.gone.closing ≡ None
 goes_on q p g None is e = is
 goes_on q p g (Some c) is e = let bad : None ≡ Some p = ap (λ (b : Bool). if b then None else Some (stands_after q g)) (sym (ap is_some is)) ∙ e in absurd cc
 
@@ -167,11 +167,11 @@ flat_behind : (q p : Standing) (g : Gone) (b : Bool) → (if b then None else So
 flat_behind q p g true e = absurd cc
 flat_behind q p g false e = let same : stands_after q g ≡ p = cc in ap (λ (x : Standing). Some (unbuffered x)) same
 
-alike_next : (V : ℕ → Value) (w : Way) (bytes : List ℕ) (k : ℕ) (q r : Standing) → stands w (standing_first detail.Cut w.pickles bytes) k ≡ Some q → stands_behind q (going w q) ≡ Some r → (going w q).gone.lost ≡ false
-    → Alike V w bytes k q → Alike V w bytes (suc k) r
+alike_next : (how : Detail) (V : ℕ → Value) (w : Way) (bytes : List ℕ) (k : ℕ) (q r : Standing) → stands w (standing_first how w.pickles bytes) k ≡ Some q → stands_behind q (going w q) ≡ Some r → (going w q).gone.lost ≡ false
+    → Alike how V w bytes k q → Alike how V w bytes (suc k) r
 unfolding acts_before protocol stands
-alike_next V w bytes k q r stood leads lost alike =
-    let first : Standing = standing_first detail.Cut w.pickles bytes in
+alike_next how V w bytes k q r stood leads lost alike =
+    let first : Standing = standing_first how w.pickles bytes in
     let on : (going w q).gone.closing ≡ None = goes_on q r (going w q) (going w q).gone.closing refl leads in
     let x = item_of w q on lost in
     record {
@@ -192,26 +192,26 @@ alike_next V w bytes k q r stood leads lost alike =
           ∙ ap (λ (o : Option Standing). protocol_on (ignoring w.pickles) o (protocol (ignoring w.pickles) first k)) (sym alike.stood);
     }
 
-stands_next : (way : Way) (from : Standing) (n : ℕ) → stands way from (suc n) ≡ stands_on way (stands way from n)
+pub stands_next : (way : Way) (from : Standing) (n : ℕ) → stands way from (suc n) ≡ stands_on way (stands way from n)
 unfolding stands
 stands_next way from n = refl
 
-record Stood (w : Way) (x : Option Standing) (r : Standing) : Type 0 where
-  before : Standing
-  there : x ≡ Some before
-  leads : stands_behind before (going w before) ≡ Some r
+pub record Stood (w : Way) (x : Option Standing) (r : Standing) : Type 0 where
+  pub before : Standing
+  pub there : x ≡ Some before
+  pub leads : stands_behind before (going w before) ≡ Some r
 
-stood_before : (w : Way) (x : Option Standing) (r : Standing) → stands_on w x ≡ Some r → Stood w x r
+pub stood_before : (w : Way) (x : Option Standing) (r : Standing) → stands_on w x ≡ Some r → Stood w x r
 stood_before w None r e = absurd cc
 stood_before w (Some q) r e = record { before = q; there = refl; leads = e }
 
-alike_all : (V : ℕ → Value) (w : Way) (bytes : List ℕ) (k : ℕ) (q : Standing) → stands w (standing_first detail.Cut w.pickles bytes) k ≡ Some q → NoneLost w (standing_first detail.Cut w.pickles bytes) k → Alike V w bytes k q
-alike_all V w bytes zero q e none = alike_first V w bytes q e
-alike_all V w bytes (suc k) r e none =
-    let x = stood_before w (stands w (standing_first detail.Cut w.pickles bytes) k) r (sym (stands_next w (standing_first detail.Cut w.pickles bytes) k) ∙ e) in
-    alike_next V w bytes k x.before r x.there x.leads (none k x.before (omega arith) x.there) (alike_all V w bytes k x.before x.there (λ j s less there. none j s (omega (arith, less)) there))
+pub alike_all : (how : Detail) (V : ℕ → Value) (w : Way) (bytes : List ℕ) (k : ℕ) (q : Standing) → stands w (standing_first how w.pickles bytes) k ≡ Some q → NoneLost w (standing_first how w.pickles bytes) k → Alike how V w bytes k q
+alike_all how V w bytes zero q e none = alike_first how V w bytes q e
+alike_all how V w bytes (suc k) r e none =
+    let x = stood_before w (stands w (standing_first how w.pickles bytes) k) r (sym (stands_next w (standing_first how w.pickles bytes) k) ∙ e) in
+    alike_next how V w bytes k x.before r x.there x.leads (none k x.before (omega arith) x.there) (alike_all how V w bytes k x.before x.there (λ j s less there. none j s (omega (arith, less)) there))
 
 pub buffered_is_read : BufferedIsRead
-buffered_is_read V w bytes k q e none =
-    let x = alike_all V w bytes k q e none in
+buffered_is_read how V w bytes k q e none =
+    let x = alike_all how V w bytes k q e none in
     (x.stood, x.acts)

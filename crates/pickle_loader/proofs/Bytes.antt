@@ -28,7 +28,7 @@ use Rattle.pickle_loader.specs.Unpickler.{Step, Ran, Stopped, Raised}
 use Rattle.pickle_loader.specs.Dispatch.{Loaded, Going, Ended, Failed, loaded, acts_of, load_op, dispatch, load_item, load}
 use Rattle.pickle_loader.specs.Reader.{Fetched, NoFetch, fetch, frame_left, Fetches, opened, StopsEndFrames}
 use Rattle.pickle_loader.specs.Told.{told_of, told_at, told}
-use Rattle.pickle_loader.specs.Laws.{Follows}
+use Rattle.pickle_loader.specs.Laws.{Follows, Holds}
 use Rattle.pickle_loader.specs.Bytes.{Loading, goes_on, load_fetched, load_next, load_bytes, BytesAreListed, NothingElse}
 use Rattle.pickle_loader.proofs.Still.{move_to}
 use Rattle.pickle_loader.proofs.Listing.{loads_are_listed, next_load, never_stop, ran_by}
@@ -126,7 +126,7 @@ fetches_all : (many : Bool) (bytes : List ℕ) (d : Contents) → IsRead many by
 fetches_all many bytes d r =
     let small : length (document_bytes d) < 2 ^ 64 = subst (λ (l : List ℕ). length l < 2 ^ 64) (sym r.reads.whole) r.small in
     subst (λ (l : List ℕ). Fetches (length d.tail) (opened l) (ops_of d)) r.reads.whole
-    (ops_are_fetched d r.reads.document.formed small (elim r.stops [
+    (ops_are_fetched d r.reads.document.formed r.reads.framing small (elim r.stops [
       | inl one ↦ inl (r.reads.mode ∙ one)
       | inr ends ↦ inr ends
     ]))
@@ -139,7 +139,7 @@ same_load w many bytes d (suc m) reads small within listed =
     let all : suc m + 0 ≡ suc m = omega arith in
     let first : FetchesFor (suc m + 0) (opened bytes) (ops_of d) =
     subst (λ (k : ℕ). FetchesFor k (opened bytes) (ops_of d)) (sym all)
-    (subst (λ (l : List ℕ). FetchesFor (suc m) (opened l) (ops_of d)) reads.whole (fetched_for d m reads.document.formed less (none_listed d m listed))) in
+    (subst (λ (l : List ℕ). FetchesFor (suc m) (opened l) (ops_of d)) reads.whole (fetched_for d m reads.document.formed reads.framing less (none_listed d m listed))) in
     (along_for w many bytes (ops_of d) (suc m) 0 first within).same
 
 pub bytes_are_listed : BytesAreListed
@@ -169,6 +169,11 @@ front_of : (w : World) (V : ℕ → Value) (acts : List Act) (s : State) (l : Lo
 front_of w V acts s (Going u) f = ([], append-nil (told_of u.acts) ∙ f.1)
 front_of w V acts s (Ended v u) f = ([], append-nil (told_of u.acts) ∙ f.1)
 front_of w V acts s (Failed done) f = f
+
+holds_of : (w : World) (V : ℕ → Value) (acts : List Act) (s : State) (l : Loaded) → Follows w V acts s l → Holds w V s l
+holds_of w V acts s (Going u) f = f.0
+holds_of w V acts s (Ended v u) f = f.0
+holds_of w V acts s (Failed done) f = tt
 
 pub run_before : (from : State) (ops : List Operation) (n m : ℕ) (t : State) → run from ops n ≡ Some t → m ≤ n → (s : State) × (run from ops m ≡ Some s)
 run_before from ops zero m t e h = let none : 0 ≡ m = omega (arith, h) in (t, ap (run from ops) (sym none) ∙ e)
@@ -229,11 +234,11 @@ whole_tail d true false f one e some is = absurd cc
 whole_tail d false c None one e some is = let wrong : false ≡ true = some in cc
 whole_tail d false c (Some f) one e some is = absurd cc
 
-no_tail : (d : Contents) → IsFormed d → d.many ≡ true → finish_of d ≡ finish.Stopped → length d.tail ≡ 0
+pub no_tail : (d : Contents) → IsFormed d → d.many ≡ true → finish_of d ≡ finish.Stopped → length d.tail ≡ 0
 no_tail d formed one e =
     let ends : stops d.many (items_of d) ≡ false = stops_are d.many (items_of d) ∙ ap (λ (m : Bool). ends_with_stop (items_of d) && not m) one ∙ nothing (ends_with_stop (items_of d)) in
-    let some : IsSome (fault_in_tail (open_of d.units) d.tail) = subst (λ (b : Bool). IsTail b (open_of d.units) d.tail) ends formed.tail in
-    is_none (length d.tail) (whole_tail d (is_stopped d) (ends_with_stop (items_of d)) (fault_in_tail (open_of d.units) d.tail) one e some refl)
+    let some : IsSome (fault_in_tail d.loose (open_of d.units) d.tail) = subst (λ (b : Bool). IsTail d.loose b (open_of d.units) d.tail) ends formed.tail in
+    is_none (length d.tail) (whole_tail d (is_stopped d) (ends_with_stop (items_of d)) (fault_in_tail d.loose (open_of d.units) d.tail) one e some refl)
   where
     nothing : (b : Bool) → (b && not true) ≡ false
     nothing true = refl
@@ -243,7 +248,7 @@ no_tail d formed one e =
     is_none n e = grind arith
 
 -- the last item of a document that stops is STOP
-last_stop : (items : List Item) → ends_with_stop items ≡ true → (n : ℕ) × (o : Operation) × (length (operations items) ≡ suc n) × (slice_get (operations items) n ≡ Some o) × (is_stop o.opcode ≡ true)
+pub last_stop : (items : List Item) → ends_with_stop items ≡ true → (n : ℕ) × (o : Operation) × (length (operations items) ≡ suc n) × (slice_get (operations items) n ≡ Some o) × (is_stop o.opcode ≡ true)
 last_stop [] e = absurd cc
 last_stop (i ∷ []) e = (0, i.op, refl, refl, e)
 last_stop (i ∷ j ∷ items) e = let more = last_stop (j ∷ items) e in (suc more.0, more.1, ap suc more.2, more.3, more.4)
@@ -300,7 +305,7 @@ read_through : (many : Bool) (bytes : List ℕ) (d : Contents) → ReadsAs many 
 read_through many bytes d reads small false e whole = record { reads = reads; small = small; stops = inl e }
 read_through many bytes d reads small true e whole =
     let less : length (document_bytes d) < 2 ^ 64 = subst (λ (l : List ℕ). length l < 2 ^ 64) (sym reads.whole) small in
-    record { reads = reads; small = small; stops = inr (stops_end_frames d reads.document.formed less (reads.mode ∙ e) whole) }
+    record { reads = reads; small = small; stops = inr (stops_end_frames d reads.document.formed reads.framing less (reads.mode ∙ e) whole) }
 
 reached_within : (d : Contents) → reached (start d.many) (ops_of d) (length (ops_of d)) ≤ length (ops_of d)
 reached_within d = let far = is_reached (start d.many) (ops_of d) (length (ops_of d)) in far.within
@@ -331,18 +336,22 @@ nothing_else how w many bytes d reads small status =
     let stopped : finish_of d ≡ finish.Stopped = status_finish d (finish_of d) (closing_none d k (refused_on (item_at d k) far.state) none zero_status) in
     let last : run (start many) (ops_of d) (length (ops_of d)) ≡ Some far.state = subst (λ (b : Bool). run (start b) (ops_of d) (length (ops_of d)) ≡ Some far.state) r.reads.mode (ap (run (start d.many) (ops_of d)) (sym all) ∙ far.is) in (
       law.0,
-      λ n. elim (cases_lt n (length (ops_of d))) [
-        | inl less ↦
-            let before = run_before (start many) (ops_of d) (length (ops_of d)) n far.state last (omega (arith, less)) in
-            let front = front_of w law.0 _ before.0 (load_bytes w many bytes n).now (law.1 n before.0 before.1 (omega (arith, less, place))) in
-            let more = told_more law.0 many (ops_of d) (length (ops_of d)) n (omega (arith, less)) in
-            let done : List Act = told_of (acts_of (load_bytes w many bytes n).now) in
-            (front.0 ++ more.0, joined done front.0 more.0 (told law.0 many (ops_of d) n) (told law.0 many (ops_of d) (length (ops_of d))) front.1 more.1)
-        | inr far_off ↦
-            let front = front_of w law.0 _ far.state (load_bytes w many bytes (length (ops_of d))).now (law.1 (length (ops_of d)) far.state last (omega (arith, place))) in
-            let place : n ≡ length (ops_of d) + (n - length (ops_of d)) = omega (arith, far_off) in
-            let same : acts_of (load_bytes w many bytes n).now ≡ acts_of (load_bytes w many bytes (length (ops_of d))).now =
-            ap (λ (m : ℕ). acts_of (load_bytes w many bytes m).now) place ∙ all_over w many bytes d (n - length (ops_of d)) r stopped in
-            (front.0, ap (λ (l : List Act). told_of l ++ front.0) same ∙ front.1)
-      ],
+      record {
+        acts = λ n. elim (cases_lt n (length (ops_of d))) [
+          | inl less ↦
+              let before = run_before (start many) (ops_of d) (length (ops_of d)) n far.state last (omega (arith, less)) in
+              let front = front_of w law.0 _ before.0 (load_bytes w many bytes n).now (law.1 n before.0 before.1 (omega (arith, less, place))) in
+              let more = told_more law.0 many (ops_of d) (length (ops_of d)) n (omega (arith, less)) in
+              let done : List Act = told_of (acts_of (load_bytes w many bytes n).now) in
+              (front.0 ++ more.0, joined done front.0 more.0 (told law.0 many (ops_of d) n) (told law.0 many (ops_of d) (length (ops_of d))) front.1 more.1)
+          | inr far_off ↦
+              let front = front_of w law.0 _ far.state (load_bytes w many bytes (length (ops_of d))).now (law.1 (length (ops_of d)) far.state last (omega (arith, place))) in
+              let place : n ≡ length (ops_of d) + (n - length (ops_of d)) = omega (arith, far_off) in
+              let same : acts_of (load_bytes w many bytes n).now ≡ acts_of (load_bytes w many bytes (length (ops_of d))).now =
+              ap (λ (m : ℕ). acts_of (load_bytes w many bytes m).now) place ∙ all_over w many bytes d (n - length (ops_of d)) r stopped in
+              (front.0, ap (λ (l : List Act). told_of l ++ front.0) same ∙ front.1)
+        ];
+        values = λ n s e.
+            holds_of w law.0 (told law.0 many (ops_of d) n) s (load_bytes w many bytes n).now (law.1 n s e (omega (arith, place, run_within (start many) (ops_of d) n s e)));
+      },
     )

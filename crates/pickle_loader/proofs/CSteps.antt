@@ -11,6 +11,8 @@ use Rattle.pickle_ops.specs.declared.kind.Kind.{Kind}
 use Rattle.pickle_ops.specs.declared.kind.Kind.TheVariants as kind
 use Rattle.pickle_ops.specs.declared.row.Filling.{Filling}
 use Rattle.pickle_ops.specs.declared.row.Filling.TheVariants as filling
+use Rattle.pickle_ops.specs.Table.{form_of}
+use Rattle.pickle_ops.specs.Shape.{text_of, value_fault}
 use Rattle.pickle_ops.specs.Argument.{number_of, integer_of, first_text, second_text}
 use Rattle.pickle_loader.specs.Environment.{PyType, PyStr, PyTuple, PyList, PyDict, PySet, PyFrozenSet, PyByteArray, PyMemoryView, PyOther, Value, Plain, Own, Foreign, is_elsewhere, Line, Given, Act, Make, Find, Extension, Call, New, NewEx, Instance, SetState, Fill, Persist, View, Method, Reply, Raises, Answers, Unpickler, World}
 use Rattle.pickle_loader.specs.Unpickler as py
@@ -21,6 +23,7 @@ use Rattle.pickle_loader.specs.CUnpickler as inc
 use Rattle.pickle_loader.specs.CUnpickler.{CUnpickler, CStep, CRan, CStopped, CRaised, is_tuple, is_dict, are_call, are_call_with, are_pairs, seen}
 use Rattle.pickle_loader.specs.CLoad.{only_if, asked, raises, as_in_c}
 use Rattle.pickle_loader.proofs.FlatStacks.{one_stack}
+use Rattle.pickle_loader.proofs.Keys.{plain_key, plain_int, quoted_text}
 
 -- ---- the same step
 
@@ -408,57 +411,66 @@ freezes w u f =
     (λ vs q g. asks w Method q (λ v r. inc.make PyFrozenSet vs r) (λ v r. py.make PyFrozenSet vs r) g (λ v r h. makes PyFrozenSet vs r h))
 
 -- what the function of an opcode does, where what it asks first is so
-pub dispatched : (w : World) (o : Opcode) (arg : List ℕ) (u : CUnpickler) → Fenced u → Same (inc.dispatch w o arg u) (if raises (asked w o arg (seen u)) then Raised u.acts else loop.dispatch (as_in_c w) o arg (seen u))
-dispatched w op.Proto arg u f = protos (nat_le (number_of form.U1 arg) 5) (number_of form.U1 arg) u f
-dispatched w op.Frame arg u f = (f, refl)
-dispatched w op.PersId arg u f = gets w _ u f
-dispatched w op.BinPersId arg u f = pops 1 u (λ vs q. inc.get w (Persist (Given (item 0 vs))) q) (λ vs q. py.get (as_in_c w) (Persist (Given (item 0 vs))) q) f (λ vs q g. gets w (Persist (Given (item 0 vs))) q g)
-dispatched w op.ByteArray8 arg u f = makes PyByteArray _ u f
-dispatched w op.NextBuffer arg u f = gets w _ (record u { buffers = u.buffers + 1 }) f
-dispatched w op.ReadOnlyBuffer arg u f = readonly w u f
-dispatched w op.Tuple arg u f = gathers PyTuple u f
-dispatched w op.EmptyTuple arg u f = makes PyTuple [] u f
-dispatched w op.Tuple1 arg u f = tuples 1 u f
-dispatched w op.Tuple2 arg u f = tuples 2 u f
-dispatched w op.Tuple3 arg u f = tuples 3 u f
-dispatched w op.EmptyList arg u f = makes PyList [] u f
-dispatched w op.EmptyDict arg u f = makes PyDict [] u f
-dispatched w op.EmptySet arg u f = makes PySet [] u f
-dispatched w op.FrozenSet arg u f = freezes w u f
-dispatched w op.List arg u f = gathers PyList u f
-dispatched w op.Dict arg u f = dicts w u f
-dispatched w op.Inst arg u f = insts w (first_text arg) (second_text arg) u f
-dispatched w op.Obj arg u f = objs w u f
-dispatched w op.NewObj arg u f = calls w (λ vs. New (item 0 vs) (item 1 vs)) u f
-dispatched w op.NewObjEx arg u f = calls_with w u f
-dispatched w op.Global arg u f = gets w _ u f
-dispatched w op.StackGlobal arg u f =
+pub dispatched : (w : World) (o : Opcode) (arg : List ℕ) (u : CUnpickler) → value_fault (form_of o) arg ≡ None → Fenced u → Same (inc.dispatch w o arg u) (if raises (asked w o arg (seen u)) then Raised u.acts else loop.dispatch (as_in_c w) o arg (seen u))
+dispatched w op.Proto arg u v f = protos (nat_le (number_of form.U1 arg) 5) (number_of form.U1 arg) u f
+dispatched w op.Frame arg u v f = (f, refl)
+dispatched w op.PersId arg u v f = gets w _ u f
+dispatched w op.BinPersId arg u v f = pops 1 u (λ vs q. inc.get w (Persist (Given (item 0 vs))) q) (λ vs q. py.get (as_in_c w) (Persist (Given (item 0 vs))) q) f (λ vs q g. gets w (Persist (Given (item 0 vs))) q g)
+dispatched w op.ByteArray8 arg u v f = makes PyByteArray _ u f
+dispatched w op.NextBuffer arg u v f = gets w _ (record u { buffers = u.buffers + 1 }) f
+dispatched w op.ReadOnlyBuffer arg u v f = readonly w u f
+dispatched w op.Tuple arg u v f = gathers PyTuple u f
+dispatched w op.EmptyTuple arg u v f = makes PyTuple [] u f
+dispatched w op.Tuple1 arg u v f = tuples 1 u f
+dispatched w op.Tuple2 arg u v f = tuples 2 u f
+dispatched w op.Tuple3 arg u v f = tuples 3 u f
+dispatched w op.EmptyList arg u v f = makes PyList [] u f
+dispatched w op.EmptyDict arg u v f = makes PyDict [] u f
+dispatched w op.EmptySet arg u v f = makes PySet [] u f
+dispatched w op.FrozenSet arg u v f = freezes w u f
+dispatched w op.List arg u v f = gathers PyList u f
+dispatched w op.Dict arg u v f = dicts w u f
+dispatched w op.Inst arg u v f = insts w (first_text arg) (second_text arg) u f
+dispatched w op.Obj arg u v f = objs w u f
+dispatched w op.NewObj arg u v f = calls w (λ vs. New (item 0 vs) (item 1 vs)) u f
+dispatched w op.NewObjEx arg u v f = calls_with w u f
+dispatched w op.Global arg u v f = gets w _ u f
+dispatched w op.StackGlobal arg u v f =
     pops 2 u (λ vs q. inc.only_if (is_str w (item 1 vs)) q (inc.only_if (is_str w (item 0 vs)) q (inc.get w (Find q.proto (Given (item 0 vs)) (Given (item 1 vs))) q)))
     (λ vs q. if is_str (as_in_c w) (item 1 vs) then (if is_str (as_in_c w) (item 0 vs) then py.get (as_in_c w) (Find q.proto (Given (item 0 vs)) (Given (item 1 vs))) q else Raised q.acts) else Raised q.acts) f
     (λ vs q g. names w (Find q.proto (Given (item 0 vs)) (Given (item 1 vs))) vs q g)
-dispatched w op.Ext1 arg u f = extends w (integer_of form.U1 arg) (int_lt (pos 0) (integer_of form.U1 arg)) u f
-dispatched w op.Ext2 arg u f = extends w (integer_of form.U2 arg) (int_lt (pos 0) (integer_of form.U2 arg)) u f
-dispatched w op.Ext4 arg u f = extends w (integer_of form.S4 arg) (int_lt (pos 0) (integer_of form.S4 arg)) u f
-dispatched w op.Reduce arg u f = calls w (λ vs. Call (item 0 vs) (item 1 vs)) u f
-dispatched w op.Pop arg u f = dropped w u (flat_load_pop u.stack) (one_stack.drops (as_in_c w) u.stack (seen u) (one u f))
-dispatched w op.PopMark arg u f = cuts u (λ items q. inc.tell w Method q) (λ items q. py.tell (as_in_c w) Method q) f (λ vs q g. tells w Method q g)
-dispatched w op.Dup arg u f = tops u (λ v. CRan (inc.push v u)) (λ v. Ran (py.append v (seen u))) f (λ v. pushed v u f)
-dispatched w op.Get arg u f = found _ u f
-dispatched w op.BinGet arg u f = found _ u f
-dispatched w op.LongBinGet arg u f = found _ u f
-dispatched w op.Put arg u f = puts w (number_of form.Decimal arg) u f
-dispatched w op.BinPut arg u f = puts w (number_of form.U1 arg) u f
-dispatched w op.LongBinPut arg u f = puts w (number_of form.U4 arg) u f
-dispatched w op.Memoize arg u f = puts w (length u.memo) u f
-dispatched w op.Append arg u f = pops_into w 1 filling.Append u f
-dispatched w op.Appends arg u f = cuts_into w filling.Append u f
-dispatched w op.SetItem arg u f = pops_into w 2 filling.SetItem u f
-dispatched w op.SetItems arg u f = setitems w u f
-dispatched w op.AddItems arg u f = cuts_into w filling.Add u f
-dispatched w op.Build arg u f = builds w u f
-dispatched w op.Mark arg u f = marks u f
-dispatched w op.Stop arg u f = pops 1 u (λ vs q. CStopped (item 0 vs) q) (λ vs q. Stopped (item 0 vs) q) f (λ vs q g. (g, refl))
-dispatched w _ arg u f = pushed _ u f
+dispatched w op.Ext1 arg u v f = extends w (integer_of form.U1 arg) (int_lt (pos 0) (integer_of form.U1 arg)) u f
+dispatched w op.Ext2 arg u v f = extends w (integer_of form.U2 arg) (int_lt (pos 0) (integer_of form.U2 arg)) u f
+dispatched w op.Ext4 arg u v f = extends w (integer_of form.S4 arg) (int_lt (pos 0) (integer_of form.S4 arg)) u f
+dispatched w op.Reduce arg u v f = calls w (λ vs. Call (item 0 vs) (item 1 vs)) u f
+dispatched w op.Pop arg u v f = dropped w u (flat_load_pop u.stack) (one_stack.drops (as_in_c w) u.stack (seen u) (one u f))
+dispatched w op.PopMark arg u v f = cuts u (λ items q. inc.tell w Method q) (λ items q. py.tell (as_in_c w) Method q) f (λ vs q g. tells w Method q g)
+dispatched w op.Dup arg u v f = tops u (λ v. CRan (inc.push v u)) (λ v. Ran (py.append v (seen u))) f (λ v. pushed v u f)
+dispatched w op.Get arg u v f =
+    subst (λ (x : Option ℕ). Same (inc.with_key x u (λ key. inc.load_get key u)) (loop.with_int (loop.int_key (text_of arg)) (seen u) (λ key. py.load_get key (seen u)))) (sym (plain_key arg v))
+    (subst (λ (x : Option ℕ). Same (inc.load_get (number_of form.Decimal arg) u) (loop.with_int x (seen u) (λ key. py.load_get key (seen u)))) (sym (plain_int arg v))
+    (found (lookup (is_at (nat_cmp (number_of form.Decimal arg))) u.memo) u f))
+dispatched w op.BinGet arg u v f = found _ u f
+dispatched w op.LongBinGet arg u v f = found _ u f
+dispatched w op.Put arg u v f =
+    subst (λ (x : Option ℕ). Same (inc.with_key x u (λ key. inc.load_put w key u)) (loop.with_int (loop.int_key (text_of arg)) (seen u) (λ key. py.load_put (as_in_c w) key (seen u)))) (sym (plain_key arg v))
+    (subst (λ (x : Option ℕ). Same (inc.load_put w (number_of form.Decimal arg) u) (loop.with_int x (seen u) (λ key. py.load_put (as_in_c w) key (seen u)))) (sym (plain_int arg v))
+    (puts w (number_of form.Decimal arg) u f))
+dispatched w op.String arg u v f =
+    let k : Kind = kind.LegacyLine (text_of arg) in
+    subst (λ (b : Bool). Same (if b then inc.load_literal k u else CRaised u.acts) (if b then py.load_literal k (seen u) else Raised u.acts)) (sym (quoted_text arg v)) (pushed (Plain k) u f)
+dispatched w op.BinPut arg u v f = puts w (number_of form.U1 arg) u f
+dispatched w op.LongBinPut arg u v f = puts w (number_of form.U4 arg) u f
+dispatched w op.Memoize arg u v f = puts w (length u.memo) u f
+dispatched w op.Append arg u v f = pops_into w 1 filling.Append u f
+dispatched w op.Appends arg u v f = cuts_into w filling.Append u f
+dispatched w op.SetItem arg u v f = pops_into w 2 filling.SetItem u f
+dispatched w op.SetItems arg u v f = setitems w u f
+dispatched w op.AddItems arg u v f = cuts_into w filling.Add u f
+dispatched w op.Build arg u v f = builds w u f
+dispatched w op.Mark arg u v f = marks u f
+dispatched w op.Stop arg u v f = pops 1 u (λ vs q. CStopped (item 0 vs) q) (λ vs q. Stopped (item 0 vs) q) f (λ vs q g. (g, refl))
+dispatched w _ arg u v f = pushed _ u f
 
 -- GET and PUT of a key
 pub gets_key : (key : ℕ) (u : CUnpickler) → Fenced u → Same (inc.load_get key u) (py.load_get key (seen u))

@@ -55,7 +55,7 @@ record Far (V : ℕ → Value) (p : Pickles) (d : Contents) (n : ℕ) : Type 0 w
 
 -- ---- behind the last item
 
-going_end : (p : Pickles) (q : Standing) → q.rest ≡ [] → going (ignoring p) q ≡ over q.state (closing.Fault (tail.Front fault.Ended) q.at.offset)
+pub going_end : (p : Pickles) (q : Standing) → q.rest ≡ [] → going (ignoring p) q ≡ over q.state (closing.Fault (tail.Front fault.Ended) q.at.offset)
 unfolding going
 going_end p q e = ap (gone_by (ignoring p) q) (ap (taken frames.Ignored q.at.left) e ∙ none_taken frames.Ignored q.at.left)
 
@@ -94,18 +94,18 @@ far_more : (V : ℕ → Value) (p : Pickles) (d : Contents) (n : ℕ) (q : Stand
 far_more V p d n q formed small anew mode t is less =
     let after = run_before (start d.many) (ops_of d) (length (ops_of d)) (suc n) t.last t.runs (omega (arith, less)) in
     let m = move_to (start d.many) (ops_of d) n after.0 after.1 in
-    let beside = beside_all V p d formed small anew mode n m.before q m.reached is in
+    let beside = beside_all detail.Cut V p d formed small anew mode n m.before q m.reached is in
     record {
       place = suc n;
       within = omega (arith, less);
-      acts = acts_next V p d n m.before after.0 m.item q formed small anew m.there m.reached after.1 (accepted_move m.item n m.before after.0 m.accepted m.leads) is beside;
+      acts = acts_next detail.Cut V p d n m.before after.0 m.item q formed small anew m.there m.reached after.1 (accepted_move m.item n m.before after.0 m.accepted m.leads) is beside;
       here = inr refl;
     }
 
 far_end : (V : ℕ → Value) (p : Pickles) (d : Contents) (n : ℕ) (q : Standing) → IsFormed d → length (document_bytes d) < 2 ^ 64 → begins_anew p ≡ true → d.many ≡ are_many p → (t : IsThrough d)
     → stands (ignoring p) (First p d) n ≡ Some q → n ≡ length (ops_of d) → Far V p d n → Far V p d (suc n)
 far_end V p d n q formed small anew mode t is last far =
-    let beside = beside_all V p d formed small anew mode n t.last q (ap (run (start d.many) (ops_of d)) last ∙ t.runs) is in
+    let beside = beside_all detail.Cut V p d formed small anew mode n t.last q (ap (run (start d.many) (ops_of d)) last ∙ t.runs) is in
     let none : q.rest ≡ [] = ap (λ (x : Standing). x.rest) beside.stands_there ∙ rest_end d n last t.tail in
     let ends = going_end p q none in
     record {

@@ -47,7 +47,7 @@ taken n xs rest e = ap (λ (m : ℕ). take m (xs ++ rest)) (sym e) ∙ take-appe
 dropped : (n : ℕ) (xs rest : List ℕ) → length xs ≡ n → drop n (xs ++ rest) ≡ rest
 dropped n xs rest e = ap (λ (m : ℕ). drop m (xs ++ rest)) (sym e) ∙ drop-append_seam xs rest
 
-file_gives : (n : ℕ) (xs rest : List ℕ) → length xs ≡ n → from_file n (xs ++ rest) ≡ Some (piece InFile xs rest)
+pub file_gives : (n : ℕ) (xs rest : List ℕ) → length xs ≡ n → from_file n (xs ++ rest) ≡ Some (piece InFile xs rest)
 file_gives n xs rest e =
     ap (λ (b : Bool). if b then Some (record { bytes = take n (xs ++ rest); after = record { frame = None; file = drop n (xs ++ rest) } }) else None) (fits n xs rest e)
     ∙ ap (λ (l : List ℕ). Some (record { bytes = l; after = record { frame = None; file = drop n (xs ++ rest) } })) (taken n xs rest e)
@@ -64,7 +64,7 @@ in_frame file zero xs rest e = refl
 in_frame file (suc n) [] rest e = absurd (omega (arith, e))
 in_frame file (suc n) (x ∷ xs) rest e = refl
 
-reads : (s : Side) (n : ℕ) (xs rest : List ℕ) → length xs ≡ n → read n (at_side s (xs ++ rest)) ≡ Some (piece s xs rest)
+pub reads : (s : Side) (n : ℕ) (xs rest : List ℕ) → length xs ≡ n → read n (at_side s (xs ++ rest)) ≡ Some (piece s xs rest)
 reads (InFrame file) n xs rest e = in_frame file n xs rest e ∙ frame_gives file n xs rest e
 reads InFile n xs rest e = file_gives n xs rest e
 
@@ -89,7 +89,7 @@ reads_text : (s : Side) (text rest : List ℕ) → list_any is_newline text ≡ 
 reads_text (InFrame file) text rest e = some_frame file text rest ∙ ap (line_in_frame file) (line_found text rest e)
 reads_text InFile text rest e = ap (line_in_file (text ++ 10 ∷ rest)) (line_found text rest e)
 
-reads_line : (s : Side) (arg rest : List ℕ) → IsLine arg → read_line (at_side s (arg ++ rest)) ≡ Some (piece s arg rest)
+pub reads_line : (s : Side) (arg rest : List ℕ) → IsLine arg → read_line (at_side s (arg ++ rest)) ≡ Some (piece s arg rest)
 reads_line s arg rest (text, clean, is) =
     ap (λ (l : List ℕ). read_line (at_side s (l ++ rest))) is
     ∙ ap (λ (l : List ℕ). read_line (at_side s l)) (append_assoc text (10 ∷ []) rest)
@@ -144,7 +144,7 @@ reads_none : (s : Side) (arg rest : List ℕ) → length arg ≡ 0 → read_arg 
 reads_none s [] rest e = refl
 reads_none s (b ∷ arg) rest e = absurd (omega (arith, e))
 
-front_number : (w : ℕ) (l : List ℕ) → little_number w (take w l) ≡ little_number w l
+pub front_number : (w : ℕ) (l : List ℕ) → little_number w (take w l) ≡ little_number w l
 front_number w l = little_from-take 0 w w l (omega arith)
 
 reads_two : (s : Side) (first second rest : List ℕ) → IsLine first → IsLine second → read_arg form.Two (at_side s ((first ++ second) ++ rest)) ≡ Some (piece s (first ++ second) rest)
@@ -153,7 +153,7 @@ reads_two s first second rest a b =
     ∙ reads_both s first second rest (read_line (at_side s (first ++ (second ++ rest)))) (λ bytes q. read_line q) (reads_line s first (second ++ rest) a) (reads_line s second rest b)
 
 -- an argument is read whole, whatever follows
-reads_arg : (s : Side) (f : Form) (arg rest : List ℕ) → IsArg f arg → value_fault f arg ≡ None → read_arg f (at_side s (arg ++ rest)) ≡ Some (piece s arg rest)
+pub reads_arg : (s : Side) (f : Form) (arg rest : List ℕ) → IsArg f arg → value_fault f arg ≡ None → read_arg f (at_side s (arg ++ rest)) ≡ Some (piece s arg rest)
 reads_arg s form.Empty arg rest h v = reads_none s arg rest h
 reads_arg s form.U1 arg rest h v = reads s 1 arg rest h
 reads_arg s form.U2 arg rest h v = reads s 2 arg rest h
@@ -206,12 +206,12 @@ frame_ends : (most : ℕ) (ops : List Operation) (file : List ℕ) → Fetches m
 frame_ends most [] file h = h
 frame_ends most (o ∷ ops) file (after, is, more) = (after, is, more)
 
-last_member : (most : ℕ) (b : Bool) (i : Item) (rest file : List ℕ) (ops : List Operation) → IsPlain i → is_stop i.op.opcode ≡ b → Fetches most (at_side (InFrame file) rest) ops → Fetches most (at_side InFile file) ops
+last_member : (most : ℕ) (b : Bool) (i : Item) (rest file : List ℕ) (ops : List Operation) → IsPlain false i → is_stop i.op.opcode ≡ b → Fetches most (at_side (InFrame file) rest) ops → Fetches most (at_side InFile file) ops
     → Fetches most (at_side (InFrame file) (spelling i.op ++ rest)) (i.op ∷ ops)
 last_member most true i rest file ops plain is here left = (at_side InFile file, fetches_op (InFrame file) i.op rest plain.spelled ∙ ap (fetched i.op) (leaves_frame i.op.opcode i.op.arg rest file is), left)
 last_member most false i rest file ops plain is here left = (at_side (InFrame file) rest, fetches_op (InFrame file) i.op rest plain.spelled ∙ ap (fetched i.op) (stays_in_frame i.op.opcode i.op.arg rest file plain.no_frame is), here)
 
-members_fetched : (most : ℕ) (members : List Item) (rest file : List ℕ) (ops : List Operation) → AllByRecursion IsPlain members → OnlyLastStops false members → Fetches most (at_side (InFrame file) rest) ops → Fetches most (at_side InFile file) ops
+members_fetched : (most : ℕ) (members : List Item) (rest file : List ℕ) (ops : List Operation) → AllByRecursion (IsPlain false) members → OnlyLastStops false members → Fetches most (at_side (InFrame file) rest) ops → Fetches most (at_side InFile file) ops
     → Fetches most (at_side (InFrame file) (bytes_of (operations members) ++ rest)) (operations members ++ ops)
 members_fetched most [] rest file ops plain only here left = here
 members_fetched most (i ∷ []) rest file ops plain only here left =
@@ -264,7 +264,7 @@ behind_frame most extra (v ∷ units) tail id members only more =
     subst (λ (n : ℕ). Fetches most (at_side (InFrame (drop n rest)) (take n rest)) (operations (flat (v ∷ units))) × Fetches most (at_side InFile (drop n rest)) (operations (flat (v ∷ units)))) none
     (frame_ends most (operations (flat (v ∷ units))) rest more, more)
 
-frame_fetched : (most : ℕ) (id : ℕ) (members : List Item) (extra : ℕ) (items : List Item) (tail : List ℕ) → AllByRecursion IsPlain members → OnlyLastStops false members → sizes members + extra < 2 ^ 64
+frame_fetched : (most : ℕ) (id : ℕ) (members : List Item) (extra : ℕ) (items : List Item) (tail : List ℕ) → AllByRecursion (IsPlain false) members → OnlyLastStops false members → sizes members + extra < 2 ^ 64
     → Fetches most (at_side (InFrame (drop extra (bytes_of (operations items) ++ tail))) (take extra (bytes_of (operations items) ++ tail))) (operations items)
     → Fetches most (at_side InFile (drop extra (bytes_of (operations items) ++ tail))) (operations items)
     → Fetches most (at_side InFile (bytes_of (operations (frame_item id (sizes members + extra) ∷ (members ++ items))) ++ tail)) (operations (frame_item id (sizes members + extra) ∷ (members ++ items)))
@@ -287,7 +287,7 @@ frame_fetched most id members extra items tail plain only small here left =
     subst (λ (l : List ℕ). Fetches most (at_side InFile l) (o ∷ operations (members ++ items))) (sym (append_assoc (spelling o) (bytes_of (operations (members ++ items))) tail))
     (after, fetches_op InFile o rest (spelled_frame id number) ∙ ap (fetched o) frame, more)
 
-units_fetched : (most : ℕ) (units : List DocUnit) (tail : List ℕ) → length tail ≤ most → AllByRecursion IsUnit units → OnlyLastOpen units → StopsEndFrames units → open_of units ≤ length tail → sizes (flat units) + length tail < 2 ^ 64
+units_fetched : (most : ℕ) (units : List DocUnit) (tail : List ℕ) → length tail ≤ most → AllByRecursion (IsUnit false) units → OnlyLastOpen units → StopsEndFrames units → open_of units ≤ length tail → sizes (flat units) + length tail < 2 ^ 64
     → Fetches most (at_side InFile (bytes_of (operations (flat units)) ++ tail)) (operations (flat units))
 units_fetched most [] tail few plain only ends reach small = omega (arith, few)
 units_fetched most (Loose i ∷ units) tail few plain only ends reach small =
@@ -301,7 +301,7 @@ units_fetched most (Frame id members extra ∷ units) tail few plain only ends r
     let more = units_fetched most units tail few plain.1 (open_rest (Frame id members extra) units only) ends.1 (open_more (Frame id members extra) units (length tail) reach) fewer in
     let both = behind_frame most extra units tail id members only more in
     let extra_small : extra ≤ length tail = extra_within id members extra units (length tail) only reach in
-    frame_fetched most id members extra (flat units) tail plain.0 ends.0 (omega (arith, small, sum, sizes-append members (flat units), extra_small)) both.0 both.1
+    frame_fetched most id members extra (flat units) tail plain.0.0 ends.0 (omega (arith, small, sum, sizes-append members (flat units), extra_small)) both.0 both.1
 
 -- ---- one pickle
 
@@ -326,9 +326,9 @@ one_ends (Frame id members extra ∷ units) h =
     (only_left members (flat units) inner, one_ends units (only_right members (flat units) inner))
 
 pub ops_are_fetched : OpsAreFetched
-ops_are_fetched d formed small which =
+ops_are_fetched d formed framed small which =
     let size : length (document_bytes d) ≡ length (bytes_of (ops_of d)) + length d.tail = length-append (bytes_of (ops_of d)) d.tail in
-    units_fetched (length d.tail) d.units d.tail (omega arith) formed.units formed.last_open
+    units_fetched (length d.tail) d.units d.tail (omega arith) (subst (λ (w : Bool). AllByRecursion (IsUnit w) d.units) framed formed.units) formed.last_open
     (elim which [
       | inl one ↦ one_ends d.units (subst (λ (b : Bool). OnlyLastStops b (items_of d)) one formed.last_stops)
       | inr ends ↦ ends

@@ -36,7 +36,7 @@ use Rattle.pickle_loader.specs.Dispatch.{dispatch}
 use Rattle.pickle_loader.specs.Told.{told_of, protocol_after}
 use Rattle.pickle_loader.specs.Laws.{entries, IsSame}
 use Rattle.pickle_loader.specs.Whole.{IsWhole}
-use Rattle.pickle_loader.specs.Beyond.{is_missing, RaisesAt, Comes}
+use Rattle.pickle_loader.specs.Beyond.{HasValue, is_missing, RaisesAt, Comes}
 use Rattle.pickle_loader.specs.Onward.{load_keyed, dispatch_as, load_taken}
 use Rattle.pickle_loader.proofs.Cuts.{drop_none, take_none}
 use Rattle.pickle_loader.proofs.Methods.{Here, unpickler, fresh_acts, RowGood, raised_good, memo_get_good, put_good}
@@ -50,7 +50,7 @@ use Rattle.pickle_loader.proofs.Steps.{a_step_beyond}
 
 -- the row is that of the operation; or the operation is a FRAME, and the row that of a key
 pub data IsItem (o : Operation) (r : Row) : Type 0 where
-  Itself : r ≡ row_of o → IsItem o r
+  Itself : r ≡ row_of o → HasValue o → IsItem o r
   Gets : (key : ℕ) → o ≡ frame_op 0 → r ≡ row.Get key → IsItem o r
   Puts : (key : ℕ) → o ≡ frame_op 0 → r ≡ row.Put key → IsItem o r
 
@@ -71,9 +71,9 @@ ok_lenient l is some k e = subst (λ (x : Lenient). IsItem x.op x.row × (0 < x.
 err_lenient : (f : FrontFault) → AreLenient (Err f)
 err_lenient f l e = absurd cc
 
-taken_lenient : (size : ℕ) (f : Front) → 0 < size → AreLenient (taken_so size f)
-taken_lenient size (Whole o arg rest) some = ok_lenient _ (Itself refl) some
-taken_lenient size _ some = err_lenient fault.Truncated
+taken_lenient : (size : ℕ) (f : Front) → front_fault f ≡ None → 0 < size → AreLenient (taken_so size f)
+taken_lenient size (Whole o arg rest) good some = ok_lenient _ (Itself refl good) some
+taken_lenient size _ good some = err_lenient fault.Truncated
 
 keyed_lenient : (code key size : ℕ) (a b : Bool) → 0 < size → (code == 103) ≡ a → (code == 112) ≡ b → AreLenient (odd_so (option_map (sized size) (if a then Some (row.Get key) else (if b then Some (row.Put key) else None))))
 keyed_lenient code key size true b some e f = ok_lenient _ (Gets key refl refl) some
@@ -92,12 +92,12 @@ odd_lenient : (bytes : List ℕ) → AreLenient (odd bytes)
 odd_lenient [] = err_lenient fault.BadArgument
 odd_lenient (code ∷ rest) = to_lenient code rest (position is_newline rest)
 
-mended_lenient : (size : ℕ) (f : Front) (x : Option FrontFault) → 0 < size → AreLenient (mended_so size f x)
-mended_lenient size f None some = taken_lenient size f some
-mended_lenient size f (Some g) some = err_lenient fault.Truncated
+mended_lenient : (size : ℕ) (f : Front) (x : Option FrontFault) → front_fault f ≡ x → 0 < size → AreLenient (mended_so size f x)
+mended_lenient size f None good some = taken_lenient size f good some
+mended_lenient size f (Some g) good some = err_lenient fault.Truncated
 
 line_lenient : (b : Bool) (bytes : List ℕ) → 0 < length bytes → AreLenient (if b then cut_line bytes else Err fault.Truncated)
-line_lenient true bytes some = mended_lenient (length bytes) (front_of (mended bytes)) (front_fault (front_of (mended bytes))) some
+line_lenient true bytes some = mended_lenient (length bytes) (front_of (mended bytes)) (front_fault (front_of (mended bytes))) refl some
 line_lenient false bytes some = err_lenient fault.Truncated
 
 cut_lenient : (bytes : List ℕ) → AreLenient (cut bytes)
@@ -109,14 +109,14 @@ faulty_lenient bytes fault.BadArgument = odd_lenient bytes
 faulty_lenient bytes fault.Truncated = cut_lenient bytes
 faulty_lenient bytes f = err_lenient f
 
-at_lenient : (bytes : List ℕ) (f : Front) (x : Option FrontFault) → AreLenient (lenient_at bytes f x)
-at_lenient bytes (Whole o arg rest) None = ok_lenient _ (Itself refl) (omega arith)
-at_lenient bytes _ None = err_lenient fault.Truncated
-at_lenient bytes f (Some g) = faulty_lenient bytes g
+at_lenient : (bytes : List ℕ) (f : Front) (x : Option FrontFault) → front_fault f ≡ x → AreLenient (lenient_at bytes f x)
+at_lenient bytes (Whole o arg rest) None good = ok_lenient _ (Itself refl good) (omega arith)
+at_lenient bytes _ None good = err_lenient fault.Truncated
+at_lenient bytes f (Some g) good = faulty_lenient bytes g
 
 all_lenient : (bytes : List ℕ) → AreLenient (lenient bytes)
 unfolding lenient
-all_lenient bytes = at_lenient bytes (front_of bytes) (front_fault (front_of bytes))
+all_lenient bytes = at_lenient bytes (front_of bytes) (front_fault (front_of bytes)) refl
 
 ok_item : (t : Taken) → IsItem t.op t.row × (0 < t.size) → AreItems (Ok t)
 ok_item t is k e = subst (λ (x : Taken). IsItem x.op x.row × (0 < x.size)) (ok_same t k (Ok t) refl e) is
@@ -259,17 +259,17 @@ frame_comes w V s u place r running whole same right one =
     (one_comes h r (frame_op 0) (if w.fails (unpickler h) (frame_op 0) then Raised h.acts else load_keyed w r (unpickler h)) running whole (right_or h r (frame_op 0) (w.fails (unpickler h) (frame_op 0)) (load_keyed w r (unpickler h)) (right h))))
 
 -- an operation whose row is its own
-own_dispatch : (w : World) (o : Opcode) (arg : List ℕ) (r : Row) (u : Unpickler) → r ≡ row_of (record { opcode = o; arg = arg }) → dispatch_as w r o arg u ≡ dispatch w o arg u
+pub own_dispatch : (w : World) (o : Opcode) (arg : List ℕ) (r : Row) (u : Unpickler) → r ≡ row_of (record { opcode = o; arg = arg }) → dispatch_as w r o arg u ≡ dispatch w o arg u
 own_dispatch w op.Frame arg r u e = ap (λ (x : Row). load_keyed w x u) e
 own_dispatch w _ arg r u e = refl
 
 item_comes : (w : World) (V : ℕ → Value) (s : State) (u : Unpickler) (place : ℕ) (o : Operation) (r : Row) → IsWhole s → s.stopped ≡ false → IsSame w V s u → IsItem o r → ItemComes w V s u place o r
 unfolding ItemComes
-item_comes w V s u place o r whole running same (Itself is) =
+item_comes w V s u place o r whole running same (Itself is value) =
     subst (λ (x : Step). Comes w V s u (loader_move o.opcode r s) (protocol_after o.opcode o.arg u.proto) (if w.fails u o then Raised u.acts else x) (moved_so (loader_move o.opcode r s) (used_op (loader_move o.opcode r s) o) place s))
     (sym (own_dispatch w o.opcode o.arg r u is))
     (subst (λ (x : Row). Comes w V s u (loader_move o.opcode x s) (protocol_after o.opcode o.arg u.proto) (if w.fails u o then Raised u.acts else dispatch w o.opcode o.arg u) (moved_so (loader_move o.opcode x s) (used_op (loader_move o.opcode x s) o) place s))
-    (sym is) (a_step_beyond w V s u o place whole running same))
+    (sym is) (a_step_beyond w V s u o place value whole running same))
 item_comes w V s u place o r whole running same (Gets key a b) =
     subst (λ (x : Operation). ItemComes w V s u place x r) (sym a)
     (subst (λ (x : Row). ItemComes w V s u place (frame_op 0) x) (sym b) (frame_comes w V s u place (row.Get key) running whole same (λ h. get_right h key) refl))

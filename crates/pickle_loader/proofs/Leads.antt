@@ -111,7 +111,7 @@ move_stop true r s e = absurd cc
 move_stop false r s e = fill_stop (fill_of r s) r s e
 
 item_stop : (o : Operation) (r : Row) → IsItem o r → r ≡ row.Stop → o.opcode ≡ op.Stop
-item_stop o r (Itself is) e = stop_only o.opcode o.arg (sym is ∙ e)
+item_stop o r (Itself is value) e = stop_only o.opcode o.arg (sym is ∙ e)
 item_stop o r (Gets key a b) e = let no_stop : row.Get key ≡ row.Stop = sym b ∙ e in absurd cc
 item_stop o r (Puts key a b) e = let no_stop : row.Put key ≡ row.Stop = sym b ∙ e in absurd cc
 
@@ -125,7 +125,7 @@ stop_is _ e = absurd cc
 
 -- the row of STOP is its own
 pub stop_row : (o : Operation) (r : Row) → IsItem o r → o.opcode ≡ op.Stop → r ≡ row.Stop
-stop_row o r (Itself is) e = is ∙ go o.opcode o.arg e
+stop_row o r (Itself is value) e = is ∙ go o.opcode o.arg e
   where
     go : (p : Opcode) (arg : List ℕ) → p ≡ op.Stop → row_of (record { opcode = p; arg = arg }) ≡ row.Stop
     go op.Stop arg e = refl

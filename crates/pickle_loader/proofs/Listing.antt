@@ -21,11 +21,13 @@ use Rattle.pickle_loader.specs.Environment.{Value, Plain, Act, Unpickler, World}
 use Rattle.pickle_loader.specs.Unpickler.{Step, Ran, Stopped, Raised}
 use Rattle.pickle_loader.specs.Dispatch.{dispatch, load_op, Loaded, Going, Ended, Failed, loaded, new_unpickler, load_item, load}
 use Rattle.pickle_loader.specs.Told.{told_of, acts_told, told_on, told_at, told, protocol_after, protocol_next, protocol_at}
+use Rattle.pickle_loader.specs.Beyond.{HasValue}
 use Rattle.pickle_loader.specs.Laws.{IsResult, Follows, LoadsAreListed}
 use Rattle.pickle_loader.proofs.Images.{image}
 use Rattle.pickle_loader.specs.Values.{Knows}
 use Rattle.pickle_loader.proofs.Pushes.{Good, top_value}
 use Rattle.pickle_loader.proofs.Methods.{Here, unpickler, fresh_acts, raised_good}
+use Rattle.pickle_loader.proofs.Keys.{has_value}
 use Rattle.pickle_loader.proofs.Opcodes.{opcode_good}
 use Rattle.pickle_loader.proofs.Still.{still, keeps_many, grows, fresh_running, fresh_many, fresh_same, fresh_begun, stop_only, move_to, none_before}
 
@@ -46,10 +48,10 @@ stop_ends u q false v p acts e = absurd cc
 pub never_stop : (w : World) (o : Opcode) (arg : List ℕ) (u q : Unpickler) → o ≡ op.Stop → dispatch w o arg u ≡ Ran q → ⊥
 never_stop w o arg u q is e = stop_ends u q (nat_le 1 (length u.stack)) _ _ _ (ap (λ (x : Opcode). dispatch w x arg u) (sym is) ∙ e)
 
-op_good : (h : Here) (o : Operation) (b : Bool) → refusal_of (row_of o) h.s ≡ None → Good h.V h.w h.s.heap h.acts (next_of (row_of o) (kind_of o) h.place h.s) (fresh_acts h (row_of o) (next_of (row_of o) (kind_of o) h.place h.s)) (protocol_after o.opcode o.arg h.proto)
+op_good : (h : Here) (o : Operation) (b : Bool) → HasValue o → refusal_of (row_of o) h.s ≡ None → Good h.V h.w h.s.heap h.acts (next_of (row_of o) (kind_of o) h.place h.s) (fresh_acts h (row_of o) (next_of (row_of o) (kind_of o) h.place h.s)) (protocol_after o.opcode o.arg h.proto)
     (if b then Raised h.acts else dispatch h.w o.opcode o.arg (unpickler h))
-op_good h o true e = raised_good h.V h.w h.s.heap h.acts (next_of (row_of o) (kind_of o) h.place h.s) _ (protocol_after o.opcode o.arg h.proto) h.acts refl
-op_good h o false e = opcode_good h o.opcode o.arg e
+op_good h o true v e = raised_good h.V h.w h.s.heap h.acts (next_of (row_of o) (kind_of o) h.place h.s) _ (protocol_after o.opcode o.arg h.proto) h.acts refl
+op_good h o false v e = opcode_good h o.opcode o.arg v e
 
 pub ran_by : (b : Bool) (acts : List Act) (x : Step) (q : Unpickler) → (if b then Raised acts else x) ≡ Ran q → x ≡ Ran q
 ran_by true acts x q e = absurd cc
@@ -80,36 +82,36 @@ leads_on h before o (Stopped v q) is running told agrees good = (good.0 ∙ ap (
 leads_on h before o (Raised done) is running told agrees good = (good.0, good.1 ∙ ap (λ (l : List Act). l ++ tells h o) told)
 
 -- an item on an unpickler that holds what the state holds
-item_on : (h : Here) (before : List Act) (o : Operation) → refusal_of (row_of o) h.s ≡ None → h.s.stopped ≡ false → told_of h.acts ≡ before
+item_on : (h : Here) (before : List Act) (o : Operation) → HasValue o → refusal_of (row_of o) h.s ≡ None → h.s.stopped ≡ false → told_of h.acts ≡ before
     → ((q : Unpickler) → load_op h.w o (unpickler h) ≡ Ran q → length h.s.heap < length (after_item h o).heap → h.V (length h.s.heap) ≡ top_value q.stack)
     → Standing h.V h.w (before ++ tells h o) (protocol_after o.opcode o.arg h.proto) (after_item h o) (loaded (load_op h.w o (unpickler h)))
-item_on h before o accepted running told agrees =
-    leads_on h before o (load_op h.w o (unpickler h)) refl running told agrees (op_good h o (h.w.fails (unpickler h) o) accepted)
+item_on h before o value accepted running told agrees =
+    leads_on h before o (load_op h.w o (unpickler h)) refl running told agrees (op_good h o (h.w.fails (unpickler h) o) value accepted)
 
 -- the same of the unpickler that the state tells of
-item_by : (V : ℕ → Value) (w : World) (s f : State) (proto : ℕ) (acts before : List Act) (n : ℕ) (o : Operation) → fresh s ≡ f → Knows w V acts s.heap → refusal_at o s ≡ None → told_of acts ≡ before
+item_by : (V : ℕ → Value) (w : World) (s f : State) (proto : ℕ) (acts before : List Act) (n : ℕ) (o : Operation) → HasValue o → fresh s ≡ f → Knows w V acts s.heap → refusal_at o s ≡ None → told_of acts ≡ before
     → ((q : Unpickler) → loaded (load_op w o (image V f proto acts)) ≡ Going q → length s.heap < length (next o n s).heap → V (length s.heap) ≡ top_value q.stack)
     → Standing V w (before ++ acts_told V proto (fresh s) (next o n s) (event_of (row_of o) (before_of (fresh s)) (next o n s))) (protocol_after o.opcode o.arg proto) (next o n s) (loaded (load_op w o (image V f proto acts)))
-item_by V w s f proto acts before n o is knows accepted told agrees =
+item_by V w s f proto acts before n o value is knows accepted told agrees =
     let here : Here = record { V = V; w = w; s = fresh s; proto = proto; acts = acts; place = n; knows = subst (λ (l : List Object). Knows w V acts l) (sym (fresh_heap s)) knows } in
     let size : length (fresh s).heap ≡ length s.heap = ap length (fresh_heap s) in
     subst (λ (g : State). Standing V w (before ++ acts_told V proto (fresh s) (next o n s) (event_of (row_of o) (before_of (fresh s)) (next o n s))) (protocol_after o.opcode o.arg proto) (next o n s) (loaded (load_op w o (image V g proto acts)))) is
-    (item_on here before o accepted (fresh_running s) told
+    (item_on here before o value accepted (fresh_running s) told
     (λ q e more. ap V size ∙ agrees q (ap (λ (g : State). loaded (load_op w o (image V g proto acts))) (sym is) ∙ ap loaded e) (omega (arith, size, more))))
 
-step_by : (V : ℕ → Value) (w : World) (many : Bool) (s : State) (proto : ℕ) (before : List Act) (n : ℕ) (o : Operation) (l : Loaded) → s.many ≡ many → (many ≡ false → s.results ≡ []) → refusal_at o s ≡ None
+step_by : (V : ℕ → Value) (w : World) (many : Bool) (s : State) (proto : ℕ) (before : List Act) (n : ℕ) (o : Operation) (l : Loaded) → HasValue o → s.many ≡ many → (many ≡ false → s.results ≡ []) → refusal_at o s ≡ None
     → Standing V w before proto s l
     → ((q : Unpickler) → load_item w many (Some o) l ≡ Going q → length s.heap < length (next o n s).heap → V (length s.heap) ≡ top_value q.stack)
     → Standing V w (before ++ acts_told V proto (fresh s) (next o n s) (event_of (row_of o) (before_of (fresh s)) (next o n s))) (protocol_after o.opcode o.arg proto) (next o n s) (load_item w many (Some o) l)
-step_by V w many s proto before n o (Going u) mode few accepted st agrees =
+step_by V w many s proto before n o (Going u) value mode few accepted st agrees =
     let Result : Unpickler → Type 0 = λ (x : Unpickler). Standing V w (before ++ acts_told V proto (fresh s) (next o n s) (event_of (row_of o) (before_of (fresh s)) (next o n s))) (protocol_after o.opcode o.arg proto) (next o n s) (loaded (load_op w o x)) in
-    subst Result (sym st.0) (item_by V w s (fresh s) proto u.acts before n o refl st.1 accepted st.2 (λ q e more. agrees q (ap (λ (x : Unpickler). loaded (load_op w o x)) st.0 ∙ e) more))
-step_by V w true s proto before n o (Ended v u) mode few accepted st agrees =
+    subst Result (sym st.0) (item_by V w s (fresh s) proto u.acts before n o value refl st.1 accepted st.2 (λ q e more. agrees q (ap (λ (x : Unpickler). loaded (load_op w o x)) st.0 ∙ e) more))
+step_by V w true s proto before n o (Ended v u) value mode few accepted st agrees =
     let none : proto ≡ 0 = st.3 in
     let Result : ℕ → Type 0 = λ (p : ℕ). Standing V w (before ++ acts_told V p (fresh s) (next o n s) (event_of (row_of o) (before_of (fresh s)) (next o n s))) (protocol_after o.opcode o.arg p) (next o n s) (loaded (load_op w o (new_unpickler u.acts))) in
-    subst Result (sym none) (item_by V w s (begun s) 0 u.acts before n o (fresh_begun s (st.2 ∙ mode)) st.1 accepted st.0 agrees)
-step_by V w false s proto before n o (Ended v u) mode few accepted st agrees = let none : length s.results ≡ 0 = ap length (few refl) in absurd (omega (arith, none, st.4))
-step_by V w many s proto before n o (Failed done) mode few accepted st agrees =
+    subst Result (sym none) (item_by V w s (begun s) 0 u.acts before n o value (fresh_begun s (st.2 ∙ mode)) st.1 accepted st.0 agrees)
+step_by V w false s proto before n o (Ended v u) value mode few accepted st agrees = let none : length s.results ≡ 0 = ap length (few refl) in absurd (omega (arith, none, st.4))
+step_by V w many s proto before n o (Failed done) value mode few accepted st agrees =
     let more : List Act = acts_told V proto (fresh s) (next o n s) (event_of (row_of o) (before_of (fresh s)) (next o n s)) in
     (st.0 ++ more, sym (append_assoc (told_of done) st.0 more) ∙ ap (λ (l : List Act). l ++ more) st.1)
 
@@ -148,16 +150,16 @@ unfolding run
 run_zero many ops s e = cc
 
 pub along : (V : ℕ → Value) (w : World) (many : Bool) (ops : List Operation) → Agrees V w many ops → ((n : ℕ) (s : State) (o : Operation) → many ≡ false → run (start many) ops n ≡ Some s → slice_get ops n ≡ Some o → s.results ≡ [])
-    → (n : ℕ) (s : State) → run (start many) ops n ≡ Some s → Inv V w many ops n s
-along V w many ops agrees few zero s e = subst (λ (x : State). Inv V w many ops 0 x) (run_zero many ops s e) (start_inv V w many ops)
-along V w many ops agrees few (suc n) t e =
+    → ((n : ℕ) (o : Operation) → slice_get ops n ≡ Some o → HasValue o) → (n : ℕ) (s : State) → run (start many) ops n ≡ Some s → Inv V w many ops n s
+along V w many ops agrees few values zero s e = subst (λ (x : State). Inv V w many ops 0 x) (run_zero many ops s e) (start_inv V w many ops)
+along V w many ops agrees few values (suc n) t e =
     let m = move_to (start many) ops n t e in
     let s : State = m.before in
     let o : Operation = m.item in
-    let before : Inv V w many ops n s = along V w many ops agrees few n s m.reached in
+    let before : Inv V w many ops n s = along V w many ops agrees few values n s m.reached in
     let loads = next_load w many ops n o m.there in
     let stands : Standing V w (told V many ops n ++ acts_told V (protocol_at ops n) (fresh s) (next o n s) (event_of (row_of o) (before_of (fresh s)) (next o n s))) (protocol_after o.opcode o.arg (protocol_at ops n)) (next o n s) (load_item w many (Some o) (load w many ops n)) =
-    step_by V w many s (protocol_at ops n) (told V many ops n) n o (load w many ops n) before.mode (λ one. few n s o one m.reached m.there) m.accepted before.stands
+    step_by V w many s (protocol_at ops n) (told V many ops n) n o (load w many ops n) (values n o m.there) before.mode (λ one. few n s o one m.reached m.there) m.accepted before.stands
     (λ q f more. agrees n s t q m.reached e (loads ∙ f) (subst (λ (x : State). length s.heap < length x.heap) m.leads more)) in
     let at : Standing V w (told V many ops n ++ acts_told V (protocol_at ops n) (fresh s) t (event_of (row_of o) (before_of (fresh s)) t)) (protocol_after o.opcode o.arg (protocol_at ops n)) t (load_item w many (Some o) (load w many ops n)) =
     subst (λ (x : State). Standing V w (told V many ops n ++ acts_told V (protocol_at ops n) (fresh s) x (event_of (row_of o) (before_of (fresh s)) x)) (protocol_after o.opcode o.arg (protocol_at ops n)) x (load_item w many (Some o) (load w many ops n))) m.leads stands in
@@ -270,5 +272,5 @@ few_results d formed n s o one e f =
 pub loads_are_listed : LoadsAreListed
 loads_are_listed w d formed = (
   value_of w d.many (ops_of d),
-  λ n s e. follows_by (value_of w d.many (ops_of d)) w _ _ s _ (along (value_of w d.many (ops_of d)) w d.many (ops_of d) (agrees_of w d.many (ops_of d)) (few_results d formed) n s e).stands,
+  λ n s e. follows_by (value_of w d.many (ops_of d)) w _ _ s _ (along (value_of w d.many (ops_of d)) w d.many (ops_of d) (agrees_of w d.many (ops_of d)) (few_results d formed) (has_value d formed) n s e).stands,
 )

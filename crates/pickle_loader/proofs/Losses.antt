@@ -9,17 +9,17 @@ use Rattle.pickle_loader.specs.Onward.{stands_behind, stands_on, stands, NoneLos
 
 -- ---- from the item behind
 
-shifted : (w : Way) (p r : Standing) (j : ℕ) → stands_behind p (going w p) ≡ Some r → stands w p (suc j) ≡ stands w r j
+pub shifted : (w : Way) (p r : Standing) (j : ℕ) → stands_behind p (going w p) ≡ Some r → stands w p (suc j) ≡ stands w r j
 unfolding stands
 shifted w p r zero e = e
 shifted w p r (suc j) e = ap (stands_on w) (shifted w p r j e)
 
-over : (w : Way) (p : Standing) (j : ℕ) → stands_behind p (going w p) ≡ None → stands w p (suc j) ≡ None
+pub over : (w : Way) (p : Standing) (j : ℕ) → stands_behind p (going w p) ≡ None → stands w p (suc j) ≡ None
 unfolding stands
 over w p zero e = e
 over w p (suc j) e = ap (stands_on w) (over w p j e)
 
-first_is : (w : Way) (p q : Standing) → stands w p 0 ≡ Some q → p ≡ q
+pub first_is : (w : Way) (p q : Standing) → stands w p 0 ≡ Some q → p ≡ q
 unfolding stands
 first_is w p q e = cc
 

@@ -1,5 +1,5 @@
 -- The unpickler raises where something is missing.
-use Rattle.std.proofs.Common.{◌≡◌, ℕ, ◌+◌, ◌-◌, Bool, true, false, cond, List, [], ◌∷◌, length, map, take, drop, Option, Some, None, refl, sym, ap, ◌∙◌, arith}
+use Rattle.std.proofs.Common.{◌≡◌, ℕ, ◌+◌, ◌-◌, Bool, true, false, cond, List, [], ◌∷◌, length, map, take, drop, Option, Some, None, refl, sym, ap, subst, ◌∙◌, arith}
 use Rattle.std.proofs.lemmas.Bool.{ltb-false, leb-false}
 use Rattle.std.proofs.lemmas.List.{length-map, length-take-le}
 use Rattle.std.specs.Prelude.{◌%◌, ◌==◌, ◌||◌, nat_le, nat_lt, is_some, if◌then◌else◌}
@@ -17,6 +17,8 @@ use Rattle.pickle_ops.specs.declared.row.Cutting.{Cutting}
 use Rattle.pickle_ops.specs.declared.row.Cutting.TheVariants as cutting
 use Rattle.pickle_ops.specs.declared.row.Filling.{Filling}
 use Rattle.pickle_ops.specs.declared.row.Filling.TheVariants as filling
+use Rattle.pickle_ops.specs.Table.{form_of}
+use Rattle.pickle_ops.specs.Shape.{value_fault}
 use Rattle.pickle_ops.specs.Argument.{number_of}
 use Rattle.pickle_ops.specs.Spelling.{Operation}
 use Rattle.pickle_ops.specs.Row.{count_of, values_of, row_of_opcode}
@@ -26,11 +28,12 @@ use Rattle.pickle_machine.specs.State.{Marked, State}
 use Rattle.pickle_machine.specs.Move.{unless, if_deep, if_paired, if_target, if_viewable, object_meets, taking_refusal, cutting_refusal, deep, under, cut, last_of, without, memo_at, refusal_of}
 use Rattle.pickle_machine.specs.Loader.{takes_call, takes_call_with, takes_obj, takes_string, asks_less, is_inst}
 use Rattle.pickle_loader.specs.Environment.{Value, Act, Given, Persist, Find, Call, New, NewEx, SetState, Method, PyTuple, PyList, PyFrozenSet, PyDict, Unpickler}
-use Rattle.pickle_loader.specs.Unpickler.{Step, Ran, Stopped, Raised, append, ask, make, get, if_able, can_call, can_call_with, is_str, viewed, fills, fill_pairs, pop, item, on_top, to_mark, pop_mark, instantiated, load_pop, load_pop_mark, load_get, got, tell}
-use Rattle.pickle_loader.specs.Dispatch.{dispatch, load_op}
+use Rattle.pickle_loader.specs.Unpickler.{Step, Ran, Stopped, Raised, append, ask, make, get, if_able, can_call, can_call_with, is_str, viewed, fills, fill_pairs, pop, item, on_top, to_mark, pop_mark, instantiated, load_pop, load_pop_mark, load_get, load_put, got, tell}
+use Rattle.pickle_loader.specs.Dispatch.{with_int, dispatch, load_op}
 use Rattle.pickle_loader.specs.Laws.{sections, entries}
 use Rattle.pickle_loader.specs.Beyond.{is_missing, WhatIsMissingRaises}
 use Rattle.pickle_loader.proofs.Images.{image, pop_image, mark_image, lookup_image}
+use Rattle.pickle_loader.proofs.Keys.{plain_int}
 use Rattle.pickle_loader.proofs.Methods.{Here, unpickler}
 use Rattle.pickle_loader.proofs.Beyond.{same_image}
 
@@ -192,47 +195,50 @@ view_misses h false = top_misses h (λ v. viewed h.w v (unpickler h)) (if_viewab
 
 -- ---- opcodes
 
-missing : (h : Here) (o : Opcode) (arg : List ℕ) → is_inst o ≡ false → Misses h (refusal_of (asks_less (row_of_opcode o arg) h.s) h.s) (dispatch h.w o arg (unpickler h))
-missing h op.Inst arg i = absurd cc
-missing h op.BinPersId arg i = take_misses h taking.One (λ vs q. get h.w (Persist (Given (item 0 vs))) q)
-missing h op.Tuple1 arg i = take_misses h taking.One (λ items q. make PyTuple items q)
-missing h op.Tuple2 arg i = take_misses h taking.Two (λ items q. make PyTuple items q)
-missing h op.Tuple3 arg i = take_misses h taking.Three (λ items q. make PyTuple items q)
-missing h op.StackGlobal arg i =
+missing : (h : Here) (o : Opcode) (arg : List ℕ) → value_fault (form_of o) arg ≡ None → is_inst o ≡ false → Misses h (refusal_of (asks_less (row_of_opcode o arg) h.s) h.s) (dispatch h.w o arg (unpickler h))
+missing h op.Inst arg v i = absurd cc
+missing h op.BinPersId arg v i = take_misses h taking.One (λ vs q. get h.w (Persist (Given (item 0 vs))) q)
+missing h op.Tuple1 arg v i = take_misses h taking.One (λ items q. make PyTuple items q)
+missing h op.Tuple2 arg v i = take_misses h taking.Two (λ items q. make PyTuple items q)
+missing h op.Tuple3 arg v i = take_misses h taking.Three (λ items q. make PyTuple items q)
+missing h op.StackGlobal arg v i =
     take_misses h taking.Names (λ vs q. if is_str h.w (item 1 vs) then (if is_str h.w (item 0 vs) then get h.w (Find q.proto (Given (item 0 vs)) (Given (item 1 vs))) q else Raised q.acts) else Raised q.acts)
-missing h op.Reduce arg i = call_misses h (takes_call 0 h.s) (λ vs q. if_able h.w (can_call (item 0 vs) (item 1 vs)) q (get h.w (Call (item 0 vs) (item 1 vs)) q))
-missing h op.NewObj arg i = call_misses h (takes_call 0 h.s) (λ vs q. if_able h.w (can_call (item 0 vs) (item 1 vs)) q (get h.w (New (item 0 vs) (item 1 vs)) q))
-missing h op.NewObjEx arg i = call_with_misses h (takes_call_with h.s) (λ vs q. if_able h.w (can_call_with h.w (item 0 vs) (item 1 vs) (item 2 vs)) q (get h.w (NewEx (item 0 vs) (item 1 vs) (item 2 vs)) q))
-missing h op.Tuple arg i = any_misses h (λ items q. make PyTuple items q)
-missing h op.List arg i = any_misses h (λ items q. make PyList items q)
-missing h op.FrozenSet arg i = any_misses h (λ items q. ask h.w Method q (λ v r. make PyFrozenSet items r))
-missing h op.Dict arg i = pairs_misses h (λ items q. ask h.w Method q (λ v r. if length items % 2 == 0 then make PyDict items r else Raised r.acts))
-missing h op.Obj arg i = obj_misses h (takes_obj h.s)
-missing h op.ReadOnlyBuffer arg i = view_misses h (takes_string h.s)
-missing h op.Append arg i = change_misses h filling.Append (λ vs target q. fills h.w filling.Append target vs q)
-missing h op.SetItem arg i = change_misses h filling.SetItem (λ vs target q. fills h.w filling.SetItem target vs q)
-missing h op.Build arg i = change_misses h filling.Build (λ vs target q. tell h.w (SetState target (item 0 vs)) q)
-missing h op.Appends arg i = cut_change_misses h filling.Append (λ items target q. fills h.w filling.Append target items q)
-missing h op.SetItems arg i = cut_change_misses h filling.SetItem (λ items target q. fill_pairs h.w target items q)
-missing h op.AddItems arg i = cut_change_misses h filling.Add (λ items target q. fills h.w filling.Add target items q)
-missing h op.Pop arg i = pop_misses h
-missing h op.PopMark arg i = pop_mark_misses h
-missing h op.Dup arg i = top_misses h (λ v. Ran (append v (unpickler h))) None never_none
-missing h op.Get arg i = get_misses h (number_of form.Decimal arg)
-missing h op.BinGet arg i = get_misses h (number_of form.U1 arg)
-missing h op.LongBinGet arg i = get_misses h (number_of form.U4 arg)
-missing h op.Put arg i = top_misses h (λ v. tell h.w Method (record (unpickler h) { memo = insert_entry nat_cmp (entries h.V h.s.memo) (number_of form.Decimal arg) v })) None never_none
-missing h op.BinPut arg i = top_misses h (λ v. tell h.w Method (record (unpickler h) { memo = insert_entry nat_cmp (entries h.V h.s.memo) (number_of form.U1 arg) v })) None never_none
-missing h op.LongBinPut arg i = top_misses h (λ v. tell h.w Method (record (unpickler h) { memo = insert_entry nat_cmp (entries h.V h.s.memo) (number_of form.U4 arg) v })) None never_none
-missing h op.Memoize arg i = top_misses h (λ v. tell h.w Method (record (unpickler h) { memo = insert_entry nat_cmp (entries h.V h.s.memo) (length (entries h.V h.s.memo)) v })) None never_none
-missing h op.Stop arg i = by_test h (nat_le 1 (length h.s.top)) refusal.Underflow None _ (pop_short h 1 (λ vs q. Stopped (item 0 vs) q)) (λ _. misses_never h None _ never_none)
-missing h o arg i = misses_never h None _ never_none
+missing h op.Reduce arg v i = call_misses h (takes_call 0 h.s) (λ vs q. if_able h.w (can_call (item 0 vs) (item 1 vs)) q (get h.w (Call (item 0 vs) (item 1 vs)) q))
+missing h op.NewObj arg v i = call_misses h (takes_call 0 h.s) (λ vs q. if_able h.w (can_call (item 0 vs) (item 1 vs)) q (get h.w (New (item 0 vs) (item 1 vs)) q))
+missing h op.NewObjEx arg v i = call_with_misses h (takes_call_with h.s) (λ vs q. if_able h.w (can_call_with h.w (item 0 vs) (item 1 vs) (item 2 vs)) q (get h.w (NewEx (item 0 vs) (item 1 vs) (item 2 vs)) q))
+missing h op.Tuple arg v i = any_misses h (λ items q. make PyTuple items q)
+missing h op.List arg v i = any_misses h (λ items q. make PyList items q)
+missing h op.FrozenSet arg v i = any_misses h (λ items q. ask h.w Method q (λ v r. make PyFrozenSet items r))
+missing h op.Dict arg v i = pairs_misses h (λ items q. ask h.w Method q (λ v r. if length items % 2 == 0 then make PyDict items r else Raised r.acts))
+missing h op.Obj arg v i = obj_misses h (takes_obj h.s)
+missing h op.ReadOnlyBuffer arg v i = view_misses h (takes_string h.s)
+missing h op.Append arg v i = change_misses h filling.Append (λ vs target q. fills h.w filling.Append target vs q)
+missing h op.SetItem arg v i = change_misses h filling.SetItem (λ vs target q. fills h.w filling.SetItem target vs q)
+missing h op.Build arg v i = change_misses h filling.Build (λ vs target q. tell h.w (SetState target (item 0 vs)) q)
+missing h op.Appends arg v i = cut_change_misses h filling.Append (λ items target q. fills h.w filling.Append target items q)
+missing h op.SetItems arg v i = cut_change_misses h filling.SetItem (λ items target q. fill_pairs h.w target items q)
+missing h op.AddItems arg v i = cut_change_misses h filling.Add (λ items target q. fills h.w filling.Add target items q)
+missing h op.Pop arg v i = pop_misses h
+missing h op.PopMark arg v i = pop_mark_misses h
+missing h op.Dup arg v i = top_misses h (λ v. Ran (append v (unpickler h))) None never_none
+missing h op.Get arg v i =
+    subst (λ (x : Option ℕ). Misses h (refusal_of (row.Get (number_of form.Decimal arg)) h.s) (with_int x (unpickler h) (λ key. load_get key (unpickler h)))) (sym (plain_int arg v)) (get_misses h (number_of form.Decimal arg))
+missing h op.BinGet arg v i = get_misses h (number_of form.U1 arg)
+missing h op.LongBinGet arg v i = get_misses h (number_of form.U4 arg)
+missing h op.Put arg v i =
+    subst (λ (x : Option ℕ). Misses h (refusal_of (row.Put (number_of form.Decimal arg)) h.s) (with_int x (unpickler h) (λ key. load_put h.w key (unpickler h)))) (sym (plain_int arg v))
+    (top_misses h (λ v. tell h.w Method (record (unpickler h) { memo = insert_entry nat_cmp (entries h.V h.s.memo) (number_of form.Decimal arg) v })) None never_none)
+missing h op.BinPut arg v i = top_misses h (λ v. tell h.w Method (record (unpickler h) { memo = insert_entry nat_cmp (entries h.V h.s.memo) (number_of form.U1 arg) v })) None never_none
+missing h op.LongBinPut arg v i = top_misses h (λ v. tell h.w Method (record (unpickler h) { memo = insert_entry nat_cmp (entries h.V h.s.memo) (number_of form.U4 arg) v })) None never_none
+missing h op.Memoize arg v i = top_misses h (λ v. tell h.w Method (record (unpickler h) { memo = insert_entry nat_cmp (entries h.V h.s.memo) (length (entries h.V h.s.memo)) v })) None never_none
+missing h op.Stop arg v i = by_test h (nat_le 1 (length h.s.top)) refusal.Underflow None _ (pop_short h 1 (λ vs q. Stopped (item 0 vs) q)) (λ _. misses_never h None _ never_none)
+missing h o arg v i = misses_never h None _ never_none
 
 raised_by : (h : Here) (o : Operation) (b : Bool) → dispatch h.w o.opcode o.arg (unpickler h) ≡ Raised h.acts → (if b then Raised h.acts else dispatch h.w o.opcode o.arg (unpickler h)) ≡ Raised h.acts
 raised_by h o true e = refl
 raised_by h o false e = e
 
 pub what_is_missing_raises : WhatIsMissingRaises
-what_is_missing_raises w V s u o r same inst refused lacks =
+what_is_missing_raises w V s u o r value same inst refused lacks =
     let h : Here = record { V = V; w = w; s = s; proto = u.proto; acts = u.acts; place = 0; knows = same.objects } in
-    ap (load_op w o) (same_image w V s u same) ∙ raised_by h o (w.fails (unpickler h) o) (missing h o.opcode o.arg inst r refused lacks)
+    ap (load_op w o) (same_image w V s u same) ∙ raised_by h o (w.fails (unpickler h) o) (missing h o.opcode o.arg value inst r refused lacks)

@@ -1,6 +1,6 @@
 -- Along the items that loaders take, what is told of the unpickler is a beginning of what their lines tell.
 use Rattle.std.proofs.Common.{◌≡◌, ◌⊎◌, ℕ, ◌-◌, ◌<◌, Bool, true, false, List, [], ◌∷◌, ◌++◌, length, drop, Option, Some, None, Ok, Err, refl, sym, ap, subst, ◌∙◌, inl, inr, arith}
-use Rattle.std.specs.Prelude.{◌&&◌, ◌==◌, slice_get, if◌then◌else◌, Result}
+use Rattle.std.specs.Prelude.{◌&&◌, ◌==◌, slice_get, if◌then◌else◌, Result, ⊤}
 use Rattle.std.proofs.lemmas.List.{append-nil}
 use Rattle.pickle_ops.specs.declared.fault.FrontFault.{FrontFault}
 use Rattle.pickle_ops.specs.declared.opcode.Opcode.{Opcode}
@@ -8,6 +8,7 @@ use Rattle.pickle_ops.specs.declared.opcode.Opcode.TheVariants as op
 use Rattle.pickle_ops.specs.declared.row.Row.{Row}
 use Rattle.pickle_ops.specs.declared.row.Row.TheVariants as row
 use Rattle.pickle_ops.specs.Spelling.{Operation}
+use Rattle.pickle_ops.specs.Object.{Object}
 use Rattle.pickle_doc.specs.DocUnit.{is_stop}
 use Rattle.pickle_machine.specs.declared.refusal.Refusal.{Refusal}
 use Rattle.pickle_machine.specs.declared.loader.LoaderMove.{LoaderMove}
@@ -28,7 +29,8 @@ use Rattle.pickle_loader.specs.Environment.{Value, Act, Unpickler, World}
 use Rattle.pickle_loader.specs.Unpickler.{Step, Ran, Stopped, Raised, item}
 use Rattle.pickle_loader.specs.Dispatch.{dispatch, Loaded, Going, Ended, Failed, loaded, acts_of, new_unpickler}
 use Rattle.pickle_loader.specs.Told.{told_of, acts_told, protocol_after}
-use Rattle.pickle_loader.specs.Laws.{IsSame, IsResult}
+use Rattle.pickle_loader.specs.Values.{Knows}
+use Rattle.pickle_loader.specs.Laws.{IsSame, IsResult, Holds}
 use Rattle.pickle_loader.specs.Whole.{IsWhole}
 use Rattle.pickle_loader.specs.Beyond.{StepFollows, MapsNew, RaisesAt, RaisesIn, Moves, Comes}
 use Rattle.pickle_loader.specs.Onward.{dispatch_as, load_taken, Onward, again, reads_on, stands_behind, protocol_read, acts_gone}
@@ -93,8 +95,31 @@ gone_with p t item a c = record {
   state = state_after p item.op.opcode a;
 }
 
+-- what is held behind an item: what the state says; and where the lines end there, other than by STOP, it raised
+abbrev pub Raises : Loaded → Type 0
+Raises (Going u) = ⊥
+Raises (Ended v u) = ⊥
+Raises (Failed done) = ⊤
+
+abbrev pub EndsWith : Option Closing → Loaded → Type 0
+EndsWith None l = ⊤
+EndsWith (Some closing.Stopped) l = ⊤
+EndsWith (Some (closing.Refused place r)) l = Raises l
+EndsWith (Some (closing.Fault f offset)) l = Raises l
+
+pub record HoldsBehind (w : World) (V : ℕ → Value) (g : Gone) (l : Loaded) : Type 0 where
+  pub holds : Holds w V g.state l
+  pub ends : EndsWith g.gone.closing l
+
+pub failed_ends : (c : Option Closing) (done : List Act) → EndsWith c (Failed done)
+failed_ends None done = tt
+failed_ends (Some closing.Stopped) done = tt
+failed_ends (Some (closing.Refused place r)) done = tt
+failed_ends (Some (closing.Fault f offset)) done = tt
+
 abbrev After : (p : Pickles) → Turn p → Taken → Step → Gone → Type 0
-After p t item step g = Along t.w t.V p (t.acts ++ acts_gone t.V t.proto t.q g) (protocol_after item.op.opcode item.op.arg t.proto) (stands_behind t.q g) (after p t item step)
+After p t item step g =
+    Along t.w t.V p (t.acts ++ acts_gone t.V t.proto t.q g) (protocol_after item.op.opcode item.op.arg t.proto) (stands_behind t.q g) (after p t item step) × HoldsBehind t.w t.V g (loaded step)
 
 -- what is told is what the line tells
 acts_same : (p : Pickles) (t : Turn p) (item : Taken) (a : State) → IsItem item.op item.row → moved_so (move_of p t item) (used_op (move_of p t item) item.op) t.q.at.place (fresh t.q.state) ≡ Ok a
@@ -109,11 +134,11 @@ acts_same p t item a is moved =
 
 -- it raised
 raised_turn : (p : Pickles) (t : Turn p) (item : Taken) (a : State) (done : List Act) (c : Option Closing) → Begins (t.acts ++ acts_gone t.V t.proto t.q (gone_with p t item a None)) (Failed done) → After p t item (Raised done) (gone_with p t item a c)
-raised_turn p t item a done None begins = (begins, λ e. absurd cc)
-raised_turn p t item a done (Some c) begins = (begins, inl refl)
+raised_turn p t item a done None begins = ((begins, λ e. absurd cc), record { holds = tt; ends = tt })
+raised_turn p t item a done (Some c) begins = ((begins, inl refl), record { holds = tt; ends = failed_ends (Some c) done })
 
 raises_turn : (p : Pickles) (t : Turn p) (item : Taken) (a : State) (step : Step) (acts : List Act) (c : Closing) → acts ≡ t.acts ++ acts_gone t.V t.proto t.q (gone_with p t item a None) → RaisesIn acts step → After p t item step (gone_with p t item a (Some c))
-raises_turn p t item a (Raised done) acts c e raises = ((raises.0, raises.1 ∙ e), inl refl)
+raises_turn p t item a (Raised done) acts c e raises = (((raises.0, raises.1 ∙ e), inl refl), record { holds = tt; ends = failed_ends (Some c) done })
 raises_turn p t item a (Ran q) acts c e raises = absurd raises
 raises_turn p t item a (Stopped v q) acts c e raises = absurd raises
 
@@ -158,19 +183,19 @@ ran_turn p t item a u acts is loads moved e whole follows =
     let stays : state_after p item.op.opcode a ≡ a = keeps_not p item.op.opcode a running in
     let on : fresh a ≡ a = fresh_same a (both.0.stopped ∙ fresh_running t.q.state) in
     let many : a.many ≡ are_many p = both.0.many ∙ fresh_many t.q.state ∙ t.many in
+    let same : IsSame t.w t.V (fresh (state_after p item.op.opcode a)) u = subst (λ (f : State). IsSame t.w t.V f u) (sym (ap fresh stays ∙ on)) follows.0 in
     subst (λ (c : Option Closing). After p t item (Ran u) (gone_with p t item a c)) (sym (not_stopped p item.op.opcode (length (drop item.size t.q.rest)) running)) (
       (
-        subst (λ (f : State). IsSame t.w t.V f u) (sym (ap fresh stays ∙ on)) follows.0,
-        follows.2 ∙ ap (protocol_after item.op.opcode item.op.arg) t.at,
-        follows.1 ∙ e,
+        (same, follows.2 ∙ ap (protocol_after item.op.opcode item.op.arg) t.at, follows.1 ∙ e),
+        λ reads. record {
+          rest = refl;
+          left = refl;
+          whole = subst (λ (x : State). IsWhole x) (sym stays) whole;
+          many = ap (λ (x : State). x.many) stays ∙ many;
+          few = λ one. ap (λ (x : State). x.results) stays ∙ both.0.results ∙ fresh_results t.q.state ∙ t.few one;
+        },
       ),
-      λ reads. record {
-        rest = refl;
-        left = refl;
-        whole = subst (λ (x : State). IsWhole x) (sym stays) whole;
-        many = ap (λ (x : State). x.many) stays ∙ many;
-        few = λ one. ap (λ (x : State). x.results) stays ∙ both.0.results ∙ fresh_results t.q.state ∙ t.few one;
-      },
+      record { holds = same; ends = tt },
     )
 
 -- ---- where STOP ends a pickle
@@ -223,21 +248,35 @@ record Stop (p : Pickles) (t : Turn p) (item : Taken) (a : State) (v : Value) (u
   ends : a.stopped ≡ a.many
   same : IsSame t.w t.V a u
 
+pub state_heap : (p : Pickles) (o : Opcode) (a : State) → (state_after p o a).heap ≡ a.heap
+state_heap p o a = go (keeps p o)
+  where
+    go : (b : Bool) → (if b then cleared a else a).heap ≡ a.heap
+    go true = refl
+    go false = refl
+
+-- the objects stay
+stop_knows : (p : Pickles) (t : Turn p) (item : Taken) (a : State) (v : Value) (u : Unpickler) (acts : List Act) → Stop p t item a v u acts → Knows t.w t.V u.acts (state_after p item.op.opcode a).heap
+stop_knows p t item a v u acts x = subst (λ (h : List Object). Knows t.w t.V u.acts h) (sym (state_heap p item.op.opcode a)) x.same.objects
+
 stop_over : (p : Pickles) (t : Turn p) (item : Taken) (a : State) (v : Value) (u : Unpickler) (acts : List Act) → Stop p t item a v u acts → (reads_on p (Ended v u) ≡ false) ⊎ (drop item.size t.q.rest ≡ [])
     → After p t item (Stopped v u) (gone_with p t item a (Some closing.Stopped))
-stop_over p t item a v u acts x over = (([], append-nil (told_of u.acts) ∙ x.done ∙ x.told), over)
+stop_over p t item a v u acts x over = ((([], append-nil (told_of u.acts) ∙ x.done ∙ x.told), over), record { holds = stop_knows p t item a v u acts x; ends = tt })
 
 -- a loop of loads, and one unpickler that loads again
 next_all : (t : Turn pickles.All) (item : Taken) (a : State) (v : Value) (u : Unpickler) (acts : List Act) → Stop pickles.All t item a v u acts → After pickles.All t item (Stopped v u) (gone_with pickles.All t item a None)
 next_all t item a v u acts x =
     let begins : fresh a ≡ begun a = fresh_begun a (x.ends ∙ x.many) in (
       (
-        subst (λ (f : State). IsSame t.w t.V f (new_unpickler u.acts)) (sym begins) (record { stack = refl; metastack = refl; memo = refl; buffers = refl; objects = x.same.objects }),
-        stop_protocol item.op.opcode item.op.arg t.proto (stop_is item.op.opcode x.stop),
-        x.done ∙ x.told,
-        refl,
+        (
+          subst (λ (f : State). IsSame t.w t.V f (new_unpickler u.acts)) (sym begins) (record { stack = refl; metastack = refl; memo = refl; buffers = refl; objects = x.same.objects }),
+          stop_protocol item.op.opcode item.op.arg t.proto (stop_is item.op.opcode x.stop),
+          x.done ∙ x.told,
+          refl,
+        ),
+        λ reads. record { rest = refl; left = refl; whole = x.whole; many = x.many; few = λ one. absurd cc },
       ),
-      λ reads. record { rest = refl; left = refl; whole = x.whole; many = x.many; few = λ one. absurd cc },
+      record { holds = stop_knows pickles.All t item a v u acts x; ends = tt },
     )
 
 cleared_state : (o : Opcode) (a : State) → is_stop o ≡ true → state_after pickles.OneMemo o a ≡ cleared a
@@ -247,18 +286,21 @@ next_memo : (t : Turn pickles.OneMemo) (item : Taken) (a : State) (v : Value) (u
 next_memo t item a v u acts x =
     let is : state_after pickles.OneMemo item.op.opcode a ≡ cleared a = cleared_state item.op.opcode a x.stop in (
       (
-        subst (λ (f : State). IsSame t.w t.V (fresh f) (again pickles.OneMemo u)) (sym is) (record { stack = refl; metastack = refl; memo = x.same.memo; buffers = x.same.buffers; objects = x.same.objects }),
-        stop_protocol item.op.opcode item.op.arg t.proto (stop_is item.op.opcode x.stop),
-        x.done ∙ x.told,
-        refl,
+        (
+          subst (λ (f : State). IsSame t.w t.V (fresh f) (again pickles.OneMemo u)) (sym is) (record { stack = refl; metastack = refl; memo = x.same.memo; buffers = x.same.buffers; objects = x.same.objects }),
+          stop_protocol item.op.opcode item.op.arg t.proto (stop_is item.op.opcode x.stop),
+          x.done ∙ x.told,
+          refl,
+        ),
+        λ reads. record {
+          rest = refl;
+          left = refl;
+          whole = subst (λ (f : State). IsWhole f) (sym is) (whole_cleared a x.whole);
+          many = ap (λ (f : State). f.many) is ∙ x.many;
+          few = λ one. ap (λ (f : State). f.results) is;
+        },
       ),
-      λ reads. record {
-        rest = refl;
-        left = refl;
-        whole = subst (λ (f : State). IsWhole f) (sym is) (whole_cleared a x.whole);
-        many = ap (λ (f : State). f.many) is ∙ x.many;
-        few = λ one. ap (λ (f : State). f.results) is;
-      },
+      record { holds = stop_knows pickles.OneMemo t item a v u acts x; ends = tt },
     )
 
 stop_turn : (p : Pickles) (t : Turn p) (item : Taken) (a : State) (v : Value) (u : Unpickler) (acts : List Act) (b : Bool) → stops p (length (drop item.size t.q.rest)) ≡ b → Stop p t item a v u acts
@@ -311,7 +353,7 @@ last_turn p t item a step acts None loads is moved e whole maps moves = going_tu
 last_turn p t item a step acts (Some r) loads is moved e whole maps moves = raises_turn p t item a step acts (closing.Refused t.q.at.place r) e moves
 
 refused_turn : (p : Pickles) (t : Turn p) (item : Taken) (step : Step) (c : Closing) → RaisesAt (told_of t.r.acts) step → After p t item step (over t.q.state c)
-refused_turn p t item (Raised done) c e = (([], ap (λ (l : List Act). l ++ []) (e ∙ t.told)), inl refl)
+refused_turn p t item (Raised done) c e = ((([], ap (λ (l : List Act). l ++ []) (e ∙ t.told)), inl refl), record { holds = tt; ends = failed_ends (Some c) done })
 refused_turn p t item (Ran u) c e = absurd e
 refused_turn p t item (Stopped v u) c e = absurd e
 
@@ -333,13 +375,6 @@ read_on p t x (Err f) = record x { now = Failed t.r.acts }
 abbrev RightNew : (p : Pickles) → Turn p → Onward → Gone → Type 0
 RightNew p t x g = (u : Unpickler) → x.now ≡ Going u → length t.q.state.heap < length g.state.heap → t.V (length t.q.state.heap) ≡ top_value u.stack
 
-pub state_heap : (p : Pickles) (o : Opcode) (a : State) → (state_after p o a).heap ≡ a.heap
-state_heap p o a = go (keeps p o)
-  where
-    go : (b : Bool) → (if b then cleared a else a).heap ≡ a.heap
-    go true = refl
-    go false = refl
-
 right_maps : (way : Way) (t : Turn way.pickles) (item : Taken) (x : Onward) (z : Result State Refusal) (a : State) → z ≡ Ok a → RightNew way.pickles t (after way.pickles t item (load_taken t.w item t.r)) (gone_to way t.q item (move_of way.pickles t item) z)
     → Maps way.pickles t (load_taken t.w item t.r) a
 right_maps way t item x (Ok b) a e right =
@@ -351,6 +386,7 @@ right_maps way t item x (Err r) a e right = λ u is more. absurd cc
 pub read_turn : (way : Way) (t : Turn way.pickles) (x : Onward) (y : Result Taken FrontFault) → ((item : Taken) → y ≡ Ok item → IsItem item.op item.row)
     → RightNew way.pickles t (read_on way.pickles t x y) (gone_by way t.q y)
     → Along t.w t.V way.pickles (t.acts ++ acts_gone t.V t.proto t.q (gone_by way t.q y)) (protocol_read y t.proto) (stands_behind t.q (gone_by way t.q y)) (read_on way.pickles t x y)
+    × HoldsBehind t.w t.V (gone_by way t.q y) (read_on way.pickles t x y).now
 read_turn way t x (Ok item) items right =
     let m : LoaderMove = move_of way.pickles t item in
     let z : Result State Refusal = moved_so m (used_op m item.op) t.q.at.place t.q.state in
@@ -360,4 +396,4 @@ read_turn way t x (Ok item) items right =
     (subst (λ (y : Result State Refusal). Comes t.w t.V (fresh t.q.state) t.r m (protocol_after item.op.opcode item.op.arg t.r.proto) (load_taken t.w item t.r) y) same
     (an_item_beyond t.w t.V (fresh t.q.state) t.r t.q.at.place item (whole_fresh t.q.state t.whole) (fresh_running t.q.state) t.same is))
     (λ a e. right_maps way t item x z a e right)
-read_turn way t x (Err f) items right = (([], ap (λ (l : List Act). l ++ []) t.told), inl refl)
+read_turn way t x (Err f) items right = ((([], ap (λ (l : List Act). l ++ []) t.told), inl refl), record { holds = tt; ends = tt })

@@ -35,7 +35,7 @@ FetchesFor (suc n) r (o ∷ ops) = (after : Reader) × (fetch r ≡ Fetch o afte
 abbrev IsQuietFor : ℕ → ℕ → List Operation → Type 0
 IsQuietFor zero left ops = ⊤
 IsQuietFor (suc n) left [] = ⊤
-IsQuietFor (suc n) left (o ∷ ops) = ((is_stop o.opcode && nat_lt 0 (left_behind left o)) ≡ false) × IsQuietFor n (left_behind left o) ops
+IsQuietFor (suc n) left (o ∷ ops) = ((is_stop o.opcode && nat_lt 0 (left_behind false left o)) ≡ false) × IsQuietFor n (left_behind false left o) ops
 
 -- a reader before bytes, the first of which are those of a frame
 data IsAt (left : ℕ) (bytes : List ℕ) (r : Reader) : Type 0 where
@@ -56,24 +56,24 @@ begins_frame _ arg rest e = absurd cc
 record Next (o : Operation) (left : ℕ) (rest : List ℕ) (r : Reader) : Type 0 where
   after : Reader
   is : fetch r ≡ Fetch o after
-  at : (is_stop o.opcode && nat_lt 0 (left_behind left o)) ≡ false → IsAt (left_behind left o) rest after
+  at : (is_stop o.opcode && nat_lt 0 (left_behind false left o)) ≡ false → IsAt (left_behind false left o) rest after
 
-behind_plain : (left : ℕ) (o : Operation) → is_frame o.opcode ≡ false → left_behind left o ≡ left - size_of o
+behind_plain : (left : ℕ) (o : Operation) → is_frame o.opcode ≡ false → left_behind false left o ≡ left - size_of o
 behind_plain left o plain = ap (λ (b : Bool). cond b (little_number 8 o.arg) (left - size_of o)) plain
 
-behind_frame : (left : ℕ) (o : Operation) → is_frame o.opcode ≡ true → left_behind left o ≡ little_number 8 o.arg
+behind_frame : (left : ℕ) (o : Operation) → is_frame o.opcode ≡ true → left_behind false left o ≡ little_number 8 o.arg
 behind_frame left o is = ap (λ (b : Bool). cond b (little_number 8 o.arg) (left - size_of o)) is
 
-in_file : (o : Operation) (left : ℕ) (rest : List ℕ) (b : Bool) → is_frame o.opcode ≡ b → left ≡ 0 → FitsFrame left o → Next o left rest (at_side InFile (spelling o ++ rest))
+in_file : (o : Operation) (left : ℕ) (rest : List ℕ) (b : Bool) → is_frame o.opcode ≡ b → left ≡ 0 → FitsFrame false left o → Next o left rest (at_side InFile (spelling o ++ rest))
 in_file o left rest true is none fits =
-    let size : left_behind left o ≡ little_number 8 o.arg = behind_frame left o is in
+    let size : left_behind false left o ≡ little_number 8 o.arg = behind_frame left o is in
     record {
       after = at_side (InFrame (drop (little_number 8 o.arg) rest)) (take (little_number 8 o.arg) rest);
       is = fetches_op InFile o rest fits.spelled ∙ ap (fetched o) (begins_frame o.opcode o.arg rest is);
       at = λ quiet. Inside (ap (λ (n : ℕ). at_side (InFrame (drop n rest)) (take n rest)) (sym size));
     }
 in_file o left rest false is none fits =
-    let size : left_behind left o ≡ left - size_of o = behind_plain left o is in
+    let size : left_behind false left o ≡ left - size_of o = behind_plain left o is in
     record {
       after = at_side InFile rest;
       is = fetches_op InFile o rest fits.spelled ∙ ap (fetched o) (stays_in_file o.opcode o.arg rest is);
@@ -86,20 +86,20 @@ stop_left zero b s e = refl
 stop_left (suc n) true s e = let some : nat_lt 0 (suc n) ≡ true = lt-ltb 0 (suc n) (omega arith) in let two : true ≡ false = sym some ∙ e in absurd cc
 stop_left (suc n) false s e = absurd cc
 
-in_frame : (o : Operation) (left : ℕ) (rest : List ℕ) (b : Bool) → is_stop o.opcode ≡ b → is_frame o.opcode ≡ false → size_of o ≤ left → FitsFrame left o
+in_frame : (o : Operation) (left : ℕ) (rest : List ℕ) (b : Bool) → is_stop o.opcode ≡ b → is_frame o.opcode ≡ false → size_of o ≤ left → FitsFrame false left o
     → Next o left rest (at_side (InFrame (drop (left - size_of o) rest)) (spelling o ++ take (left - size_of o) rest))
 in_frame o left rest true stop plain within fits =
-    let size : left_behind left o ≡ left - size_of o = behind_plain left o plain in
+    let size : left_behind false left o ≡ left - size_of o = behind_plain left o plain in
     let file : List ℕ = drop (left - size_of o) rest in
     record {
       after = at_side InFile file;
       is = fetches_op (InFrame file) o (take (left - size_of o) rest) fits.spelled ∙ ap (fetched o) (leaves_frame o.opcode o.arg (take (left - size_of o) rest) file stop);
       at = λ quiet.
-          let none : left_behind left o ≡ 0 = stop_left (left_behind left o) (is_stop o.opcode) stop quiet in
+          let none : left_behind false left o ≡ 0 = stop_left (left_behind false left o) (is_stop o.opcode) stop quiet in
           Outside none (ap (λ (l : List ℕ). at_side InFile l) (ap (λ (n : ℕ). drop n rest) (sym size ∙ none) ∙ drop_zero rest));
     }
 in_frame o left rest false stop plain within fits =
-    let size : left_behind left o ≡ left - size_of o = behind_plain left o plain in
+    let size : left_behind false left o ≡ left - size_of o = behind_plain left o plain in
     let file : List ℕ = drop (left - size_of o) rest in
     record {
       after = at_side (InFrame file) (take (left - size_of o) rest);
@@ -131,7 +131,7 @@ split_frame o left rest within =
 next_as : (o : Operation) (left : ℕ) (rest : List ℕ) (r x : Reader) → fetch r ≡ fetch x → Next o left rest x → Next o left rest r
 next_as o left rest r x e n = record { after = n.after; is = e ∙ n.is; at = n.at }
 
-next_inside : (o : Operation) (left : ℕ) (rest : List ℕ) → FitsFrame left o → Next o left rest (at_side (InFrame (drop left (spelling o ++ rest))) (take left (spelling o ++ rest)))
+next_inside : (o : Operation) (left : ℕ) (rest : List ℕ) → FitsFrame false left o → Next o left rest (at_side (InFrame (drop left (spelling o ++ rest))) (take left (spelling o ++ rest)))
 next_inside o zero rest fits =
     let one : drop 0 (spelling o ++ rest) ≡ spelling o ++ rest = drop_zero (spelling o ++ rest) in
     subst (λ (l : List ℕ). Next o 0 rest (at_side (InFrame l) [])) (sym one)
@@ -141,7 +141,7 @@ next_inside o (suc n) rest fits =
     let plain : is_frame o.opcode ≡ false = no_frame (is_frame o.opcode) (suc n) fits.frame (omega arith) in
     subst (λ (r : Reader). Next o (suc n) rest r) (sym (split_frame o (suc n) rest within)) (in_frame o (suc n) rest (is_stop o.opcode) refl plain within fits)
 
-next_at : (o : Operation) (left : ℕ) (rest : List ℕ) (r : Reader) → FitsFrame left o → IsAt left (spelling o ++ rest) r → Next o left rest r
+next_at : (o : Operation) (left : ℕ) (rest : List ℕ) (r : Reader) → FitsFrame false left o → IsAt left (spelling o ++ rest) r → Next o left rest r
 next_at o left rest r fits (Outside none is) = subst (λ (x : Reader). Next o left rest x) (sym is) (in_file o left rest (is_frame o.opcode) refl none fits)
 next_at o left rest r fits (Inside is) = subst (λ (x : Reader). Next o left rest x) (sym is) (next_inside o left rest fits)
 
@@ -152,7 +152,7 @@ none_more zero r ops e = tt
 none_more (suc n) r [] e = tt
 none_more (suc n) r (o ∷ ops) e = absurd cc
 
-fits_fetched : (many : Bool) (ops : List Operation) (n left : ℕ) (tail : List ℕ) (e : Option TailFault) (r : Reader) → FitsFrom many left ops tail e → IsQuietFor n left ops → IsAt left (bytes_of ops ++ tail) r → FetchesFor (suc n) r ops
+fits_fetched : (many : Bool) (ops : List Operation) (n left : ℕ) (tail : List ℕ) (e : Option TailFault) (r : Reader) → FitsFrom many false left ops tail e → IsQuietFor n left ops → IsAt left (bytes_of ops ++ tail) r → FetchesFor (suc n) r ops
 fits_fetched many [] n left tail e r fits quiet at = tt
 fits_fetched many (o ∷ ops) zero left tail e r fits quiet at =
     let next = next_at o left (bytes_of ops ++ tail) r fits.0 (subst (λ (l : List ℕ). IsAt left l r) (append_assoc (spelling o) (bytes_of ops) tail) at) in
@@ -161,7 +161,7 @@ fits_fetched many (o ∷ ops) (suc n) left tail e r fits quiet at =
     let next = next_at o left (bytes_of ops ++ tail) r fits.0 (subst (λ (l : List ℕ). IsAt left l r) (append_assoc (spelling o) (bytes_of ops) tail) at) in (
       next.after,
       next.is,
-      by_last (ends_reading many o.opcode) fits.1 (λ is last. none_more (suc n) next.after ops last.none) (λ is more. fits_fetched many ops n (left_behind left o) tail e next.after more quiet.1 (next.at quiet.0)),
+      by_last (ends_reading many o.opcode) fits.1 (λ is last. none_more (suc n) next.after ops last.none) (λ is more. fits_fetched many ops n (left_behind false left o) tail e next.after more quiet.1 (next.at quiet.0)),
     )
 
 -- ---- along a document
@@ -173,7 +173,7 @@ quiet_for d k (suc m) [] many there out = tt
 quiet_for d k (suc m) (o ∷ ops) many there out =
     let first : 0 + k ≡ k = omega arith in
     let here : item_at d k ≡ Some o = subst (λ (m : ℕ). item_at d m ≡ Some o) first (there 0 o refl) in
-    let next : left_at d (suc k) ≡ left_behind (left_at d k) o = ap (λ (x : Option Operation). left_on x (left_at d k)) here in
+    let next : left_at d (suc k) ≡ left_behind false (left_at d k) o = ap (λ (x : Option Operation). left_on x (left_at d k)) here in
     let at : is_inside true (Some o) (left_at d k) ≡ false =
     subst (λ (b : Bool). is_inside b (Some o) (left_at d k) ≡ false) many (subst (λ (x : Option Operation). is_inside d.many x (left_at d k) ≡ false) here (subst (λ (m : ℕ). is_inside d.many (item_at d m) (left_at d m) ≡ false) first (out 0 (omega arith)))) in
     let step : (i : ℕ) → suc i + k ≡ i + suc k = λ i. omega arith in (
@@ -188,7 +188,7 @@ no_stop : (a b : Bool) → (a && not false) ≡ false → (a && b) ≡ false
 no_stop true b e = absurd cc
 no_stop false b e = refl
 
-one_fetched : (ops : List Operation) (n left : ℕ) (tail : List ℕ) (e : Option TailFault) (r : Reader) → FitsFrom false left ops tail e → IsAt left (bytes_of ops ++ tail) r → FetchesFor n r ops
+one_fetched : (ops : List Operation) (n left : ℕ) (tail : List ℕ) (e : Option TailFault) (r : Reader) → FitsFrom false false left ops tail e → IsAt left (bytes_of ops ++ tail) r → FetchesFor n r ops
 one_fetched ops zero left tail e r fits at = tt
 one_fetched [] (suc n) left tail e r fits at = tt
 one_fetched (o ∷ ops) (suc n) left tail e r fits at =
@@ -196,18 +196,18 @@ one_fetched (o ∷ ops) (suc n) left tail e r fits at =
       next.after,
       next.is,
       by_last (ends_reading false o.opcode) fits.1 (λ is last. none_more n next.after ops last.none)
-          (λ is more. one_fetched ops n (left_behind left o) tail e next.after more (next.at (no_stop (is_stop o.opcode) (nat_lt 0 (left_behind left o)) is))),
+          (λ is more. one_fetched ops n (left_behind false left o) tail e next.after more (next.at (no_stop (is_stop o.opcode) (nat_lt 0 (left_behind false left o)) is))),
     )
 
 -- the bytes of a document are those of its opcodes
-pub fetched_for : (d : Contents) (n : ℕ) → IsFormed d → length (document_bytes d) < 2 ^ 64 → first_inside d n ≡ None → FetchesFor (suc n) (opened (document_bytes d)) (ops_of d)
-fetched_for d n formed small none = go d.many refl
+pub fetched_for : (d : Contents) (n : ℕ) → IsFormed d → d.loose ≡ false → length (document_bytes d) < 2 ^ 64 → first_inside d n ≡ None → FetchesFor (suc n) (opened (document_bytes d)) (ops_of d)
+fetched_for d n formed framed small none = go d.many refl
   where
     size : length (document_bytes d) ≡ length (bytes_of (ops_of d)) + length d.tail
     size = length-append (bytes_of (ops_of d)) d.tail
 
-    fits : FitsFrom d.many 0 (ops_of d) d.tail (ended_by d)
-    fits = document_fits d formed (omega (arith, small, size, length_bytes (items_of d), formed.reach))
+    fits : FitsFrom d.many false 0 (ops_of d) d.tail (ended_by d)
+    fits = subst (λ (w : Bool). FitsFrom d.many w 0 (ops_of d) d.tail (ended_by d)) framed (document_fits d formed (omega (arith, small, size, length_bytes (items_of d), formed.reach)))
 
     go : (b : Bool) → d.many ≡ b → FetchesFor (suc n) (opened (document_bytes d)) (ops_of d)
     go true many =
@@ -218,7 +218,7 @@ fetched_for d n formed small none = go d.many refl
         (λ i less. subst (λ (m : ℕ). is_inside d.many (item_at d m) (left_at d m) ≡ false) (sym (same i)) (none_before d n i none less)))
         (Outside refl refl)
     go false one =
-        one_fetched (ops_of d) (suc n) 0 d.tail (ended_by d) (opened (document_bytes d)) (subst (λ (b : Bool). FitsFrom b 0 (ops_of d) d.tail (ended_by d)) one fits) (Outside refl refl)
+        one_fetched (ops_of d) (suc n) 0 d.tail (ended_by d) (opened (document_bytes d)) (subst (λ (b : Bool). FitsFrom b false 0 (ops_of d) d.tail (ended_by d)) one fits) (Outside refl refl)
 
 -- ---- as far as the lines go
 

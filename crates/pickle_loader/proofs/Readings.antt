@@ -38,7 +38,7 @@ use Rattle.pickle_show.specs.declared.naming.Naming.{Naming}
 use Rattle.pickle_show.specs.Event.{before_of, event_of}
 use Rattle.pickle_show.specs.Naming.{naming_after}
 use Rattle.pickle_show.specs.Calls.{naming_on, naming_at}
-use Rattle.pickle_show.specs.declared.naming.Detail.TheVariants as detail
+use Rattle.pickle_show.specs.declared.naming.Detail.{Detail}
 use Rattle.pickle_further.specs.declared.way.Pickles.{Pickles}
 use Rattle.pickle_further.specs.declared.way.Pickles.TheVariants as pickles
 use Rattle.pickle_further.specs.declared.way.Way.{Way}
@@ -83,13 +83,13 @@ next_offset (i ∷ items) zero o e =
 next_offset (i ∷ items) (suc j) o e = omega (arith, next_offset items j o e)
 
 -- each operation that fits is spelled
-spelled_at : (many : Bool) (ops : List Operation) (left : ℕ) (tail : List ℕ) (f : Option TailFault) (j : ℕ) (o : Operation) → FitsFrom many left ops tail f → slice_get ops j ≡ Some o → IsSpelled o
-spelled_at many [] left tail f j o fits e = absurd cc
-spelled_at many (p ∷ ops) left tail f zero o fits e = let same : p ≡ o = cc in subst (λ (x : Operation). IsSpelled x) same fits.0.spelled
-spelled_at many (p ∷ ops) left tail f (suc j) o fits e =
+spelled_at : (many loose : Bool) (ops : List Operation) (left : ℕ) (tail : List ℕ) (f : Option TailFault) (j : ℕ) (o : Operation) → FitsFrom many loose left ops tail f → slice_get ops j ≡ Some o → IsSpelled o
+spelled_at many loose [] left tail f j o fits e = absurd cc
+spelled_at many loose (p ∷ ops) left tail f zero o fits e = let same : p ≡ o = cc in subst (λ (x : Operation). IsSpelled x) same fits.0.spelled
+spelled_at many loose (p ∷ ops) left tail f (suc j) o fits e =
     by_last (ends_reading many p.opcode) fits.1
     (λ is last. let bad : None ≡ Some o = ap (λ (l : List Operation). slice_get l j) (sym last.none) ∙ e in absurd cc)
-    (λ is more. spelled_at many ops (left_behind left p) tail f j o more e)
+    (λ is more. spelled_at many loose ops (left_behind loose left p) tail f j o more e)
 
 -- what loaders read at the front of a spelling
 read_so : (bytes : List ℕ) (o : Operation) (behind : List ℕ) → bytes ≡ spelling o ++ behind → IsSpelled o → lenient bytes ≡ Ok (record { op = o; row = row_of o; size = size_of o })
@@ -109,12 +109,12 @@ reads_item d j o formed small there =
     rest_is (items_of d) d.tail j
     ∙ ap (λ (l : List Operation). bytes_of l ++ d.tail) (drop_next (ops_of d) j o there)
     ∙ append_assoc (spelling o) (bytes_of (drop (suc j) (ops_of d))) d.tail in
-    read_so (drop (offset_of d j) (document_bytes d)) o behind here (spelled_at d.many (ops_of d) 0 d.tail (ended_by d) j o fits there)
+    read_so (drop (offset_of d j) (document_bytes d)) o behind here (spelled_at d.many d.loose (ops_of d) 0 d.tail (ended_by d) j o fits there)
 
 -- ---- one item
 
 -- the event of a row that asks for less is that of the row
-event_less : (r : Row) (s : State) (b : Before) (t : State) → event_of (asks_less r s) b t ≡ event_of r b t
+pub event_less : (r : Row) (s : State) (b : Before) (t : State) → event_of (asks_less r s) b t ≡ event_of r b t
 event_less (row.Take taking.Call) s b t = either (takes_call 0 s)
   where
     either : (c : Bool) → event_of (cond c (row.Take taking.Two) (row.Take taking.Call)) b t ≡ event_of (row.Take taking.Call) b t
@@ -146,7 +146,7 @@ event_less row.ReadOnly s b t = either (takes_string s)
 event_less r s b t = refl
 
 -- what an item comes to that the machine accepts
-abbrev item_taken : Operation → Taken
+abbrev pub item_taken : Operation → Taken
 item_taken o = record { op = o; row = row_of o; size = size_of o + 0; left = 0; lost = false }
 
 gone_item : (p : Pickles) (q : Standing) (o : Operation) (t : State) → loader_move o.opcode (row_of o) (fresh q.state) ≡ one_move (asks_less (row_of o) (fresh q.state)) → move_as (asks_less (row_of o) (fresh q.state)) o q.at.place q.state ≡ Ok t
@@ -156,7 +156,7 @@ gone_item p q o t one moves =
     ap (λ (m : LoaderMove). gone_to (ignoring p) q (item_taken o) m (moved_so m (used_op m o) q.at.place q.state)) one
     ∙ ap (λ (x : Result State Refusal). gone_to (ignoring p) q (item_taken o) (one_move (asks_less (row_of o) (fresh q.state))) (then_as (one_move (asks_less (row_of o) (fresh q.state))) o q.at.place x)) moves
 
-going_item : (p : Pickles) (q : Standing) (o : Operation) (t : State) → q.at.left ≡ 0 → lenient q.rest ≡ Ok (record { op = o; row = row_of o; size = size_of o })
+pub going_item : (p : Pickles) (q : Standing) (o : Operation) (t : State) → q.at.left ≡ 0 → lenient q.rest ≡ Ok (record { op = o; row = row_of o; size = size_of o })
     → loader_move o.opcode (row_of o) (fresh q.state) ≡ one_move (asks_less (row_of o) (fresh q.state)) → move_as (asks_less (row_of o) (fresh q.state)) o q.at.place q.state ≡ Ok t
     → (taken frames.Ignored q.at.left q.rest ≡ Ok (item_taken o)) × (going (ignoring p) q ≡ gone_to (ignoring p) q (item_taken o) (one_move (asks_less (row_of o) (fresh q.state))) (Ok t))
 unfolding going taken
@@ -167,14 +167,14 @@ going_item p q o t none reads one moves =
 -- ---- along the items
 
 -- where both stand
-pub record Beside (V : ℕ → Value) (p : Pickles) (d : Contents) (k : ℕ) (s : State) (q : Standing) : Type 0 where
-  pub stands_there : q ≡ standing_at detail.Cut d k s
-  pub acts : acts_before V (ignoring p) (standing_first detail.Cut p (document_bytes d)) k ≡ told V d.many (ops_of d) k
-  pub proto : protocol (ignoring p) (standing_first detail.Cut p (document_bytes d)) k ≡ protocol_at (ops_of d) k
+pub record Beside (how : Detail) (V : ℕ → Value) (p : Pickles) (d : Contents) (k : ℕ) (s : State) (q : Standing) : Type 0 where
+  pub stands_there : q ≡ standing_at how d k s
+  pub acts : acts_before V (ignoring p) (standing_first how p (document_bytes d)) k ≡ told V d.many (ops_of d) k
+  pub proto : protocol (ignoring p) (standing_first how p (document_bytes d)) k ≡ protocol_at (ops_of d) k
 
-stands_zero : (p : Pickles) (bytes : List ℕ) (q : Standing) → stands (ignoring p) (standing_first detail.Cut p bytes) 0 ≡ Some q → standing_first detail.Cut p bytes ≡ q
+stands_zero : (how : Detail) (p : Pickles) (bytes : List ℕ) (q : Standing) → stands (ignoring p) (standing_first how p bytes) 0 ≡ Some q → standing_first how p bytes ≡ q
 unfolding stands
-stands_zero p bytes q e = cc
+stands_zero how p bytes q e = cc
 
 run_zero : (from : State) (ops : List Operation) (s : State) → run from ops 0 ≡ Some s → from ≡ s
 unfolding run
@@ -184,16 +184,16 @@ no_sizes : (items : List Item) → sizes (take 0 items) ≡ 0
 no_sizes [] = refl
 no_sizes (x ∷ items) = refl
 
-first_stands : (p : Pickles) (d : Contents) → d.many ≡ are_many p → standing_first detail.Cut p (document_bytes d) ≡ standing_at detail.Cut d 0 (start d.many)
-first_stands p d mode =
+pub first_stands : (how : Detail) (p : Pickles) (d : Contents) → d.many ≡ are_many p → standing_first how p (document_bytes d) ≡ standing_at how d 0 (start d.many)
+first_stands how p d mode =
     let none : 0 ≡ offset_of d 0 = sym (no_sizes (items_of d)) in
-    ap (λ (b : Bool). record { state = start b; rest = document_bytes d; at = record { offset = 0; place = 0; left = 0 }; naming = naming_at detail.Cut d 0 }) (sym mode)
-    ∙ ap (λ (l : List ℕ). record { state = start d.many; rest = l; at = record { offset = 0; place = 0; left = 0 }; naming = naming_at detail.Cut d 0 }) (sym (drop_zero (document_bytes d)))
-    ∙ ap (λ (n : ℕ). record { state = start d.many; rest = drop n (document_bytes d); at = record { offset = n; place = 0; left = 0 }; naming = naming_at detail.Cut d 0 }) none
+    ap (λ (b : Bool). record { state = start b; rest = document_bytes d; at = record { offset = 0; place = 0; left = 0 }; naming = naming_at how d 0 }) (sym mode)
+    ∙ ap (λ (l : List ℕ). record { state = start d.many; rest = l; at = record { offset = 0; place = 0; left = 0 }; naming = naming_at how d 0 }) (sym (drop_zero (document_bytes d)))
+    ∙ ap (λ (n : ℕ). record { state = start d.many; rest = drop n (document_bytes d); at = record { offset = n; place = 0; left = 0 }; naming = naming_at how d 0 }) none
 
-beside_first : (V : ℕ → Value) (p : Pickles) (d : Contents) (s : State) (q : Standing) → d.many ≡ are_many p → start d.many ≡ s → standing_first detail.Cut p (document_bytes d) ≡ q → Beside V p d 0 s q
+beside_first : (how : Detail) (V : ℕ → Value) (p : Pickles) (d : Contents) (s : State) (q : Standing) → d.many ≡ are_many p → start d.many ≡ s → standing_first how p (document_bytes d) ≡ q → Beside how V p d 0 s q
 unfolding acts_before protocol told protocol_at
-beside_first V p d s q mode e f = record { stands_there = sym f ∙ first_stands p d mode ∙ ap (standing_at detail.Cut d 0) e; acts = refl; proto = refl }
+beside_first how V p d s q mode e f = record { stands_there = sym f ∙ first_stands how p d mode ∙ ap (standing_at how d 0) e; acts = refl; proto = refl }
 
 -- where it stood before
 record Came (way : Way) (x : Option Standing) (p : Standing) : Type 0 where
@@ -205,11 +205,11 @@ came : (way : Way) (x : Option Standing) (p : Standing) → stands_on way x ≡ 
 came way None p e = absurd cc
 came way (Some q) p e = record { before = q; stood = refl; leads = behind_is q p (going way q) (is_some (going way q).gone.closing) e }
 
-stands_next : (p : Pickles) (bytes : List ℕ) (n : ℕ) → stands (ignoring p) (standing_first detail.Cut p bytes) (suc n) ≡ stands_on (ignoring p) (stands (ignoring p) (standing_first detail.Cut p bytes) n)
+stands_next : (how : Detail) (p : Pickles) (bytes : List ℕ) (n : ℕ) → stands (ignoring p) (standing_first how p bytes) (suc n) ≡ stands_on (ignoring p) (stands (ignoring p) (standing_first how p bytes) n)
 unfolding stands
-stands_next p bytes n = refl
+stands_next how p bytes n = refl
 
-anew_state : (p : Pickles) (o : Opcode) (t : State) → begins_anew p ≡ true → state_after p o t ≡ t
+pub anew_state : (p : Pickles) (o : Opcode) (t : State) → begins_anew p ≡ true → state_after p o t ≡ t
 anew_state pickles.First o t e = refl
 anew_state pickles.All o t e = refl
 anew_state pickles.OneMemo o t e = absurd cc
@@ -234,14 +234,14 @@ named (row.Put key) n m = go (nat_le (2 ^ 64) key)
 named r n m = refl
 
 -- the standing behind an item
-next_stands : (p : Pickles) (d : Contents) (k : ℕ) (s t : State) (o : Operation) → begins_anew p ≡ true → item_at d k ≡ Some o → run (start d.many) (ops_of d) (suc k) ≡ Some t
-    → stands_after (standing_at detail.Cut d k s) (gone_to (ignoring p) (standing_at detail.Cut d k s) (item_taken o) (one_move (asks_less (row_of o) (fresh s))) (Ok t)) ≡ standing_at detail.Cut d (suc k) t
-next_stands p d k s t o anew there to =
+pub next_stands : (how : Detail) (p : Pickles) (d : Contents) (k : ℕ) (s t : State) (o : Operation) → begins_anew p ≡ true → item_at d k ≡ Some o → run (start d.many) (ops_of d) (suc k) ≡ Some t
+    → stands_after (standing_at how d k s) (gone_to (ignoring p) (standing_at how d k s) (item_taken o) (one_move (asks_less (row_of o) (fresh s))) (Ok t)) ≡ standing_at how d (suc k) t
+next_stands how p d k s t o anew there to =
     let state : state_after p o.opcode t ≡ t = anew_state p o.opcode t anew in
     let size : offset_of d k + (size_of o + 0) ≡ offset_of d (suc k) = omega (arith, next_offset (items_of d) k o there) in
     let place : k + 1 ≡ suc k = omega arith in
-    let names : naming_on (Some o) (Some t) (naming_at detail.Cut d k) ≡ naming_at detail.Cut d (suc k) =
-    ap (λ (x : Option State). naming_on (Some o) x (naming_at detail.Cut d k)) (sym to) ∙ ap (λ (x : Option Operation). naming_on x (run (start d.many) (ops_of d) (suc k)) (naming_at detail.Cut d k)) (sym there) in
+    let names : naming_on (Some o) (Some t) (naming_at how d k) ≡ naming_at how d (suc k) =
+    ap (λ (x : Option State). naming_on (Some o) x (naming_at how d k)) (sym to) ∙ ap (λ (x : Option Operation). naming_on x (run (start d.many) (ops_of d) (suc k)) (naming_at how d k)) (sym there) in
     let rest : drop (size_of o + 0) (drop (offset_of d k) (document_bytes d)) ≡ drop (offset_of d (suc k)) (document_bytes d) =
     drop_more (offset_of d k) (size_of o + 0) (document_bytes d) ∙ ap (λ (n : ℕ). drop n (document_bytes d)) size in
     ap (λ (m : Naming). record {
@@ -249,16 +249,16 @@ next_stands p d k s t o anew there to =
       rest = drop (size_of o + 0) (drop (offset_of d k) (document_bytes d));
       at = record { offset = offset_of d k + (size_of o + 0); place = k + 1; left = 0 };
       naming = m;
-    }) (named (row_of o) (length (state_after p o.opcode t).heap) (naming_at detail.Cut d k))
+    }) (named (row_of o) (length (state_after p o.opcode t).heap) (naming_at how d k))
     ∙ ap (λ (x : State). record {
       state = x;
       rest = drop (size_of o + 0) (drop (offset_of d k) (document_bytes d));
       at = record { offset = offset_of d k + (size_of o + 0); place = k + 1; left = 0 };
-      naming = naming_on (Some o) (Some x) (naming_at detail.Cut d k);
+      naming = naming_on (Some o) (Some x) (naming_at how d k);
     }) state
-    ∙ ap (λ (l : List ℕ). record { state = t; rest = l; at = record { offset = offset_of d k + (size_of o + 0); place = k + 1; left = 0 }; naming = naming_on (Some o) (Some t) (naming_at detail.Cut d k) }) rest
-    ∙ ap (λ (n : ℕ). record { state = t; rest = drop (offset_of d (suc k)) (document_bytes d); at = record { offset = n; place = k + 1; left = 0 }; naming = naming_on (Some o) (Some t) (naming_at detail.Cut d k) }) size
-    ∙ ap (λ (n : ℕ). record { state = t; rest = drop (offset_of d (suc k)) (document_bytes d); at = record { offset = offset_of d (suc k); place = n; left = 0 }; naming = naming_on (Some o) (Some t) (naming_at detail.Cut d k) }) place
+    ∙ ap (λ (l : List ℕ). record { state = t; rest = l; at = record { offset = offset_of d k + (size_of o + 0); place = k + 1; left = 0 }; naming = naming_on (Some o) (Some t) (naming_at how d k) }) rest
+    ∙ ap (λ (n : ℕ). record { state = t; rest = drop (offset_of d (suc k)) (document_bytes d); at = record { offset = n; place = k + 1; left = 0 }; naming = naming_on (Some o) (Some t) (naming_at how d k) }) size
+    ∙ ap (λ (n : ℕ). record { state = t; rest = drop (offset_of d (suc k)) (document_bytes d); at = record { offset = offset_of d (suc k); place = n; left = 0 }; naming = naming_on (Some o) (Some t) (naming_at how d k) }) place
     ∙ ap (λ (m : Naming). record { state = t; rest = drop (offset_of d (suc k)) (document_bytes d); at = record { offset = offset_of d (suc k); place = suc k; left = 0 }; naming = m }) names
 
 -- what is told of an item
@@ -275,13 +275,13 @@ pub accepted_move : (o : Operation) (k : ℕ) (s t : State) → refusal_at o s �
 accepted_move o k s t none leads = ap (λ (x : Option Refusal). outcome x (next o k s)) none ∙ ap Ok leads
 
 -- what is told up to behind an item
-pub acts_next : (V : ℕ → Value) (p : Pickles) (d : Contents) (k : ℕ) (s t : State) (o : Operation) (q : Standing) → IsFormed d → length (document_bytes d) < 2 ^ 64 → begins_anew p ≡ true → item_at d k ≡ Some o
-    → run (start d.many) (ops_of d) k ≡ Some s → run (start d.many) (ops_of d) (suc k) ≡ Some t → move o k s ≡ Ok t → stands (ignoring p) (standing_first detail.Cut p (document_bytes d)) k ≡ Some q → Beside V p d k s q
-    → acts_before V (ignoring p) (standing_first detail.Cut p (document_bytes d)) (suc k) ≡ told V d.many (ops_of d) (suc k)
+pub acts_next : (how : Detail) (V : ℕ → Value) (p : Pickles) (d : Contents) (k : ℕ) (s t : State) (o : Operation) (q : Standing) → IsFormed d → length (document_bytes d) < 2 ^ 64 → begins_anew p ≡ true → item_at d k ≡ Some o
+    → run (start d.many) (ops_of d) k ≡ Some s → run (start d.many) (ops_of d) (suc k) ≡ Some t → move o k s ≡ Ok t → stands (ignoring p) (standing_first how p (document_bytes d)) k ≡ Some q → Beside how V p d k s q
+    → acts_before V (ignoring p) (standing_first how p (document_bytes d)) (suc k) ≡ told V d.many (ops_of d) (suc k)
 unfolding acts_before
-acts_next V p d k s t o q formed small anew there from to moves stood beside =
-    let first : Standing = standing_first detail.Cut p (document_bytes d) in
-    let at : Standing = standing_at detail.Cut d k s in
+acts_next how V p d k s t o q formed small anew there from to moves stood beside =
+    let first : Standing = standing_first how p (document_bytes d) in
+    let at : Standing = standing_at how d k s in
     let taken_move = loaders_take_moves o k s t moves in
     let both = going_item p at o t refl (reads_item d k o formed small there) taken_move.one taken_move.next in
     let g : Gone = gone_to (ignoring p) at (item_taken o) (one_move (asks_less (row_of o) (fresh s))) (Ok t) in
@@ -293,19 +293,19 @@ acts_next V p d k s t o q formed small anew there from to moves stood beside =
     ∙ ap (λ (l : List Act). told V d.many (ops_of d) k ++ l) (item_acts V p (protocol_at (ops_of d) k) at o t anew taken_move.next)
     ∙ sym (next_told V d.many (ops_of d) k o s t there from to)
 
-beside_next : (V : ℕ → Value) (p : Pickles) (d : Contents) (k : ℕ) (s t : State) (o : Operation) (q r : Standing) → IsFormed d → length (document_bytes d) < 2 ^ 64 → begins_anew p ≡ true → item_at d k ≡ Some o
+beside_next : (how : Detail) (V : ℕ → Value) (p : Pickles) (d : Contents) (k : ℕ) (s t : State) (o : Operation) (q r : Standing) → IsFormed d → length (document_bytes d) < 2 ^ 64 → begins_anew p ≡ true → item_at d k ≡ Some o
     → run (start d.many) (ops_of d) k ≡ Some s → run (start d.many) (ops_of d) (suc k) ≡ Some t → move o k s ≡ Ok t
-    → stands (ignoring p) (standing_first detail.Cut p (document_bytes d)) k ≡ Some q → stands_after q (going (ignoring p) q) ≡ r → Beside V p d k s q → Beside V p d (suc k) t r
+    → stands (ignoring p) (standing_first how p (document_bytes d)) k ≡ Some q → stands_after q (going (ignoring p) q) ≡ r → Beside how V p d k s q → Beside how V p d (suc k) t r
 unfolding protocol
-beside_next V p d k s t o q r formed small anew there from to moves stood leads beside =
-    let first : Standing = standing_first detail.Cut p (document_bytes d) in
-    let at : Standing = standing_at detail.Cut d k s in
+beside_next how V p d k s t o q r formed small anew there from to moves stood leads beside =
+    let first : Standing = standing_first how p (document_bytes d) in
+    let at : Standing = standing_at how d k s in
     let taken_move = loaders_take_moves o k s t moves in
     let both = going_item p at o t refl (reads_item d k o formed small there) taken_move.one taken_move.next in
     let here : stands (ignoring p) first k ≡ Some at = stood ∙ ap Some beside.stands_there in
     record {
-      stands_there = sym leads ∙ ap (λ (x : Standing). stands_after x (going (ignoring p) x)) beside.stands_there ∙ ap (stands_after at) both.1 ∙ next_stands p d k s t o anew there to;
-      acts = acts_next V p d k s t o q formed small anew there from to moves stood beside;
+      stands_there = sym leads ∙ ap (λ (x : Standing). stands_after x (going (ignoring p) x)) beside.stands_there ∙ ap (stands_after at) both.1 ∙ next_stands how p d k s t o anew there to;
+      acts = acts_next how V p d k s t o q formed small anew there from to moves stood beside;
       proto =
           ap (λ (x : Option Standing). protocol_on (ignoring p) x (protocol (ignoring p) first k)) here
           ∙ ap (λ (x : Result Taken FrontFault). protocol_read x (protocol (ignoring p) first k)) both.0
@@ -313,16 +313,16 @@ beside_next V p d k s t o q r formed small anew there from to moves stood leads 
           ∙ sym (next_protocol (ops_of d) k o there);
     }
 
-pub beside_all : (V : ℕ → Value) (p : Pickles) (d : Contents) → IsFormed d → length (document_bytes d) < 2 ^ 64 → begins_anew p ≡ true → d.many ≡ are_many p
-    → (k : ℕ) (s : State) (q : Standing) → run (start d.many) (ops_of d) k ≡ Some s → stands (ignoring p) (standing_first detail.Cut p (document_bytes d)) k ≡ Some q → Beside V p d k s q
-beside_all V p d formed small anew mode zero s q e stood = beside_first V p d s q mode (run_zero (start d.many) (ops_of d) s e) (stands_zero p (document_bytes d) q stood)
-beside_all V p d formed small anew mode (suc k) t r e stood =
+pub beside_all : (how : Detail) (V : ℕ → Value) (p : Pickles) (d : Contents) → IsFormed d → length (document_bytes d) < 2 ^ 64 → begins_anew p ≡ true → d.many ≡ are_many p
+    → (k : ℕ) (s : State) (q : Standing) → run (start d.many) (ops_of d) k ≡ Some s → stands (ignoring p) (standing_first how p (document_bytes d)) k ≡ Some q → Beside how V p d k s q
+beside_all how V p d formed small anew mode zero s q e stood = beside_first how V p d s q mode (run_zero (start d.many) (ops_of d) s e) (stands_zero how p (document_bytes d) q stood)
+beside_all how V p d formed small anew mode (suc k) t r e stood =
     let m = move_to (start d.many) (ops_of d) k t e in
-    let f = came (ignoring p) (stands (ignoring p) (standing_first detail.Cut p (document_bytes d)) k) r (sym (stands_next p (document_bytes d) k) ∙ stood) in
-    beside_next V p d k m.before t m.item f.before r formed small anew m.there m.reached e (accepted_move m.item k m.before t m.accepted m.leads) f.stood f.leads
-    (beside_all V p d formed small anew mode k m.before f.before m.reached f.stood)
+    let f = came (ignoring p) (stands (ignoring p) (standing_first how p (document_bytes d)) k) r (sym (stands_next how p (document_bytes d) k) ∙ stood) in
+    beside_next how V p d k m.before t m.item f.before r formed small anew m.there m.reached e (accepted_move m.item k m.before t m.accepted m.leads) f.stood f.leads
+    (beside_all how V p d formed small anew mode k m.before f.before m.reached f.stood)
 
 pub lines_are_read : LinesAreRead
-lines_are_read V p d formed small anew mode k s q e stood =
-    let beside = beside_all V p d formed small anew mode k s q e stood in
+lines_are_read how V p d formed small anew mode k s q e stood =
+    let beside = beside_all how V p d formed small anew mode k s q e stood in
     (beside.stands_there, beside.acts)

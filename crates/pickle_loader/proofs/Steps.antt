@@ -30,7 +30,7 @@ use Rattle.pickle_loader.specs.Dispatch.{dispatch, load_op}
 use Rattle.pickle_loader.specs.Told.{told_of, acts_told, protocol_after, taken}
 use Rattle.pickle_loader.specs.Laws.{sections, IsSame}
 use Rattle.pickle_loader.specs.Whole.{IsWhole}
-use Rattle.pickle_loader.specs.Beyond.{is_missing, less_of, StepFollows, MapsNew, dropped, RaisesAt, RaisesIn, Moves, Comes, AStepBeyond}
+use Rattle.pickle_loader.specs.Beyond.{HasValue, is_missing, less_of, StepFollows, MapsNew, dropped, RaisesAt, RaisesIn, Moves, Comes, AStepBeyond}
 use Rattle.pickle_loader.proofs.Cuts.{zero_only}
 use Rattle.pickle_loader.proofs.Images.{image, mark_image, on_top_image}
 use Rattle.pickle_loader.proofs.Pushes.{told_pushed, told_one}
@@ -73,11 +73,11 @@ not_inst : (o : Operation) (s : State) (r : Refusal) (b : Bool) → is_inst o.op
 not_inst o s r false is m e = is
 not_inst o s r true is m e = absurd (inst_refused o.opcode o.arg s r (inst_only o.opcode is) e m)
 
-refused_by : (h : Here) (o : Operation) (r : Refusal) (b : Bool) → is_missing r ≡ b → IsWhole h.s → IsSame h.w h.V h.s (unpickler h) → (is_inst o.opcode && (length h.s.marked == 0)) ≡ false → fill_of (row_of o) h.s ≡ None
+refused_by : (h : Here) (o : Operation) (r : Refusal) (b : Bool) → HasValue o → is_missing r ≡ b → IsWhole h.s → IsSame h.w h.V h.s (unpickler h) → (is_inst o.opcode && (length h.s.marked == 0)) ≡ false → fill_of (row_of o) h.s ≡ None
     → refusal_of (less_of o h.s) h.s ≡ Some r → Untold h (load_op h.w o (unpickler h))
-refused_by h o r true is whole same inst fill e =
-    raised_at (told_of h.acts) (load_op h.w o (unpickler h)) h.acts (what_is_missing_raises h.w h.V h.s (unpickler h) o r same (not_inst o h.s r (is_inst o.opcode) refl inst e) e is) refl
-refused_by h o r false is whole same inst fill e = untold_by h o (h.w.fails (unpickler h) o) (others h o.opcode o.arg whole fill r e is)
+refused_by h o r true value is whole same inst fill e =
+    raised_at (told_of h.acts) (load_op h.w o (unpickler h)) h.acts (what_is_missing_raises h.w h.V h.s (unpickler h) o r value same (not_inst o h.s r (is_inst o.opcode) refl inst e) e is) refl
+refused_by h o r false value is whole same inst fill e = untold_by h o (h.w.fails (unpickler h) o) (others h o.opcode o.arg whole fill r e is)
 
 -- ---- INST that only imports
 
@@ -264,32 +264,32 @@ by_fill h o g running whole same e =
     subst (λ (x : Result State Refusal). Comes h.w h.V h.s (unpickler h) (fill_move (Some g) (row_of o) h.s) (protocol_after o.opcode o.arg h.proto) (load_op h.w o (unpickler h)) x) (sym (fill_drops (row_of o) h.s g o h.place running e))
     (whole_dropped (row_of o) h.s whole, by_last h o g (ends_odd (row_of o) h.s) refl same e)
 
-by_refusal : (h : Here) (o : Operation) (x : Option Refusal) → refusal_of (less_of o h.s) h.s ≡ x → IsWhole h.s → h.s.stopped ≡ false → IsSame h.w h.V h.s (unpickler h) → (is_inst o.opcode && (length h.s.marked == 0)) ≡ false
+by_refusal : (h : Here) (o : Operation) (x : Option Refusal) → HasValue o → refusal_of (less_of o h.s) h.s ≡ x → IsWhole h.s → h.s.stopped ≡ false → IsSame h.w h.V h.s (unpickler h) → (is_inst o.opcode && (length h.s.marked == 0)) ≡ false
     → fill_of (row_of o) h.s ≡ None → Comes h.w h.V h.s (unpickler h) (fill_move None (row_of o) h.s) (protocol_after o.opcode o.arg h.proto) (load_op h.w o (unpickler h)) (outcome x (next_of (less_of o h.s) (kind_of o) h.place h.s))
-by_refusal h o None is whole running same inst fill =
+by_refusal h o None value is whole running same inst fill =
     let t : State = next_of (less_of o h.s) (kind_of o) h.place h.s in
     let moved : move_as (less_of o h.s) o h.place h.s ≡ Ok t =
     ap (λ (f : State). outcome (refusal_of (less_of o h.s) f) (next_of (less_of o h.s) (kind_of o) h.place f)) (fresh_same h.s running)
     ∙ ap (λ (y : Option Refusal). outcome y t) is in
-    (whole_next (less_of o h.s) (kind_of o) h.place h.s whole (no_view_kind o.opcode o.arg) is, wide_moves_are_followed h.w h.V h.s t (unpickler h) o h.place running same moved)
-by_refusal h o (Some r) is whole running same inst fill = refused_by h o r (is_missing r) refl whole same inst fill is
+    (whole_next (less_of o h.s) (kind_of o) h.place h.s whole (no_view_kind o.opcode o.arg) is, wide_moves_are_followed h.w h.V h.s t (unpickler h) o h.place value running same moved)
+by_refusal h o (Some r) value is whole running same inst fill = refused_by h o r (is_missing r) value refl whole same inst fill is
 
 then_same : (r : Row) (s : State) (o : Operation) (place : ℕ) (x : Result State Refusal) → then_as (fill_move None r s) o place x ≡ x
 then_same r s o place (Ok t) = refl
 then_same r s o place (Err e) = refl
 
-by_less : (h : Here) (o : Operation) → IsWhole h.s → h.s.stopped ≡ false → IsSame h.w h.V h.s (unpickler h) → (is_inst o.opcode && (length h.s.marked == 0)) ≡ false → fill_of (row_of o) h.s ≡ None → Comes_so h o (fill_move None (row_of o) h.s)
-by_less h o whole running same inst fill =
+by_less : (h : Here) (o : Operation) → HasValue o → IsWhole h.s → h.s.stopped ≡ false → IsSame h.w h.V h.s (unpickler h) → (is_inst o.opcode && (length h.s.marked == 0)) ≡ false → fill_of (row_of o) h.s ≡ None → Comes_so h o (fill_move None (row_of o) h.s)
+by_less h o value whole running same inst fill =
     let step : moved_so (fill_move None (row_of o) h.s) (used_op (fill_move None (row_of o) h.s) o) h.place h.s ≡ outcome (refusal_of (less_of o h.s) h.s) (next_of (less_of o h.s) (kind_of o) h.place h.s) =
     then_same (row_of o) h.s o h.place (move_as (less_of o h.s) o h.place h.s)
     ∙ ap (λ (f : State). outcome (refusal_of (less_of o h.s) f) (next_of (less_of o h.s) (kind_of o) h.place f)) (fresh_same h.s running) in
     subst (λ (x : Result State Refusal). Comes h.w h.V h.s (unpickler h) (fill_move None (row_of o) h.s) (protocol_after o.opcode o.arg h.proto) (load_op h.w o (unpickler h)) x) (sym step)
-    (by_refusal h o (refusal_of (less_of o h.s) h.s) refl whole running same inst fill)
+    (by_refusal h o (refusal_of (less_of o h.s) h.s) value refl whole running same inst fill)
 
-by_put : (h : Here) (o : Operation) (x : Option Goes) → fill_of (row_of o) h.s ≡ x → IsWhole h.s → h.s.stopped ≡ false → IsSame h.w h.V h.s (unpickler h) → (is_inst o.opcode && (length h.s.marked == 0)) ≡ false
+by_put : (h : Here) (o : Operation) (x : Option Goes) → HasValue o → fill_of (row_of o) h.s ≡ x → IsWhole h.s → h.s.stopped ≡ false → IsSame h.w h.V h.s (unpickler h) → (is_inst o.opcode && (length h.s.marked == 0)) ≡ false
     → Comes_so h o (fill_move x (row_of o) h.s)
-by_put h o None is whole running same inst = by_less h o whole running same inst is
-by_put h o (Some g) is whole running same inst = by_fill h o g running whole same is
+by_put h o None value is whole running same inst = by_less h o value whole running same inst is
+by_put h o (Some g) value is whole running same inst = by_fill h o g running whole same is
 
 by_import : (h : Here) (o : Operation) → (is_inst o.opcode && (length h.s.marked == 0)) ≡ true → IsWhole h.s → h.s.stopped ≡ false → Comes_so h o import_move
 by_import h o is whole running =
@@ -301,15 +301,15 @@ by_import h o is whole running =
     subst (λ (f : State). Comes h.w h.V h.s (unpickler h) import_move (protocol_after o.opcode o.arg h.proto) (load_op h.w o (unpickler h)) (Ok (push names [] f))) (sym (fresh_same h.s running))
     (whole_push names [] h.s whole tt, raises_or h.acts new (h.w.fails (unpickler h) o) (dispatch h.w o.opcode o.arg (unpickler h)) (import_raises h o.opcode o.arg new (inst_only o.opcode inst.0) inst.1 told))
 
-by_inst : (h : Here) (o : Operation) (b : Bool) → (is_inst o.opcode && (length h.s.marked == 0)) ≡ b → IsWhole h.s → h.s.stopped ≡ false → IsSame h.w h.V h.s (unpickler h)
+by_inst : (h : Here) (o : Operation) (b : Bool) → HasValue o → (is_inst o.opcode && (length h.s.marked == 0)) ≡ b → IsWhole h.s → h.s.stopped ≡ false → IsSame h.w h.V h.s (unpickler h)
     → Comes_so h o (if b then import_move else fill_move (fill_of (row_of o) h.s) (row_of o) h.s)
-by_inst h o true is whole running same = by_import h o is whole running
-by_inst h o false is whole running same = by_put h o (fill_of (row_of o) h.s) refl whole running same is
+by_inst h o true value is whole running same = by_import h o is whole running
+by_inst h o false value is whole running same = by_put h o (fill_of (row_of o) h.s) value refl whole running same is
 
 pub a_step_beyond : AStepBeyond
-a_step_beyond w V s u o place whole running same =
+a_step_beyond w V s u o place value whole running same =
     let h : Here = record { V = V; w = w; s = s; proto = u.proto; acts = u.acts; place = place; knows = same.objects } in
     let is : u ≡ image V s u.proto u.acts = same_image w V s u same in
     let m : LoaderMove = if is_inst o.opcode && (length s.marked == 0) then import_move else fill_move (fill_of (row_of o) s) (row_of o) s in
     subst (λ (x : Unpickler). Comes w V s x m (protocol_after o.opcode o.arg x.proto) (load_op w o x) (moved_so m (used_op m o) place s)) (sym is)
-    (by_inst h o (is_inst o.opcode && (length s.marked == 0)) refl whole running (subst (λ (x : Unpickler). IsSame w V s x) is same))
+    (by_inst h o (is_inst o.opcode && (length s.marked == 0)) value refl whole running (subst (λ (x : Unpickler). IsSame w V s x) is same))

@@ -130,7 +130,7 @@ move_to from ops n t e = is_move (slice_get ops n) n (run from ops n) t (run_aft
 
 -- ---- with one pickle nothing stops before the last item
 
-no_stop : (items : List Item) (k : ℕ) (o p : Operation) → OnlyLastStops false items → slice_get (operations items) k ≡ Some o → slice_get (operations items) (suc k) ≡ Some p → is_stop o.opcode ≡ false
+pub no_stop : (items : List Item) (k : ℕ) (o p : Operation) → OnlyLastStops false items → slice_get (operations items) k ≡ Some o → slice_get (operations items) (suc k) ≡ Some p → is_stop o.opcode ≡ false
 no_stop [] k o p only e f = absurd cc
 no_stop (i ∷ []) k o p only e f = absurd cc
 no_stop (i ∷ j ∷ items) zero o p only e f = let same : i.op ≡ o = cc in both (is_stop o.opcode) (ap (λ (x : Operation). is_stop x.opcode && true) (sym same) ∙ only.0)

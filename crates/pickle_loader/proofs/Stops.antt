@@ -19,7 +19,7 @@ use Rattle.pickle_loader.proofs.Fetching.{open_rest, open_more, extra_within}
 -- no STOP leaves bytes of a frame, of which so many are left before these operations
 abbrev IsQuiet : ℕ → List Operation → Type 0
 IsQuiet left [] = ⊤
-IsQuiet left (o ∷ ops) = ((is_stop o.opcode && nat_lt 0 (left_behind left o)) ≡ false) × IsQuiet (left_behind left o) ops
+IsQuiet left (o ∷ ops) = ((is_stop o.opcode && nat_lt 0 (left_behind false left o)) ≡ false) × IsQuiet (left_behind false left o) ops
 
 -- ---- along a document
 
@@ -54,7 +54,7 @@ quiet_from d k [] many there out = tt
 quiet_from d k (o ∷ ops) many there out =
     let first : 0 + k ≡ k = omega arith in
     let here : item_at d k ≡ Some o = subst (λ (m : ℕ). item_at d m ≡ Some o) first (there 0 o refl) in
-    let next : left_at d (suc k) ≡ left_behind (left_at d k) o = ap (λ (x : Option Operation). left_on x (left_at d k)) here in
+    let next : left_at d (suc k) ≡ left_behind false (left_at d k) o = ap (λ (x : Option Operation). left_on x (left_at d k)) here in
     let at : is_inside true (Some o) (left_at d k) ≡ false =
     subst (λ (b : Bool). is_inside b (Some o) (left_at d k) ≡ false) many (subst (λ (x : Option Operation). is_inside d.many x (left_at d k) ≡ false) here (subst (λ (m : ℕ). is_inside d.many (item_at d m) (left_at d m) ≡ false) first (out 0 (omega arith)))) in
     let step : (i : ℕ) → suc i + k ≡ i + suc k = λ i. omega arith in (
@@ -67,7 +67,7 @@ quiet_from d k (o ∷ ops) many there out =
 -- ---- along units
 
 -- behind a plain item a frame is as much shorter as the item is long
-behind_plain : (left : ℕ) (o : Operation) → is_frame o.opcode ≡ false → left_behind left o ≡ left - size_of o
+behind_plain : (left : ℕ) (o : Operation) → is_frame o.opcode ≡ false → left_behind false left o ≡ left - size_of o
 behind_plain left o plain = ap (λ (b : Bool). cond b (little_number 8 o.arg) (left - size_of o)) plain
 
 not_stop : (b c : Bool) → c ≡ true → (b && c) ≡ false → (b && not false) ≡ false
@@ -75,31 +75,31 @@ not_stop true true e h = absurd cc
 not_stop true false e h = absurd cc
 not_stop false c e h = refl
 
-members_quiet : (members items : List Item) (extra : ℕ) → AllByRecursion IsPlain members → IsQuiet (sizes members + extra) (operations (members ++ items)) → OnlyLastStops false members × IsQuiet extra (operations items)
+members_quiet : (members items : List Item) (extra : ℕ) → AllByRecursion (IsPlain false) members → IsQuiet (sizes members + extra) (operations (members ++ items)) → OnlyLastStops false members × IsQuiet extra (operations items)
 members_quiet [] items extra plain quiet =
     let same : 0 + extra ≡ extra = omega arith in
     (tt, subst (λ (n : ℕ). IsQuiet n (operations items)) same quiet)
 members_quiet (i ∷ []) items extra plain quiet =
     let size : item_size i ≡ size_of i.op = refl in
-    let less : left_behind (sizes (i ∷ []) + extra) i.op ≡ extra = behind_plain (sizes (i ∷ []) + extra) i.op plain.0.no_frame ∙ omega (arith, size) in
+    let less : left_behind false (sizes (i ∷ []) + extra) i.op ≡ extra = behind_plain (sizes (i ∷ []) + extra) i.op plain.0.no_frame ∙ omega (arith, size) in
     (tt, subst (λ (n : ℕ). IsQuiet n (operations items)) less quiet.1)
 members_quiet (i ∷ j ∷ members) items extra plain quiet =
     let size : item_size i ≡ size_of i.op = refl in
     let some : 0 < item_size j = omega arith in
-    let less : left_behind (sizes (i ∷ j ∷ members) + extra) i.op ≡ sizes (j ∷ members) + extra = behind_plain (sizes (i ∷ j ∷ members) + extra) i.op plain.0.no_frame ∙ omega (arith, size) in
+    let less : left_behind false (sizes (i ∷ j ∷ members) + extra) i.op ≡ sizes (j ∷ members) + extra = behind_plain (sizes (i ∷ j ∷ members) + extra) i.op plain.0.no_frame ∙ omega (arith, size) in
     let more = members_quiet (j ∷ members) items extra plain.1 (subst (λ (n : ℕ). IsQuiet n (operations (j ∷ (members ++ items)))) less quiet.1) in
-    let left : nat_lt 0 (left_behind (sizes (i ∷ j ∷ members) + extra) i.op) ≡ true = ap (nat_lt 0) less ∙ lt-ltb 0 (sizes (j ∷ members) + extra) (omega (arith, some)) in
-    ((not_stop (is_stop i.op.opcode) (nat_lt 0 (left_behind (sizes (i ∷ j ∷ members) + extra) i.op)) left quiet.0, more.0), more.1)
+    let left : nat_lt 0 (left_behind false (sizes (i ∷ j ∷ members) + extra) i.op) ≡ true = ap (nat_lt 0) less ∙ lt-ltb 0 (sizes (j ∷ members) + extra) (omega (arith, some)) in
+    ((not_stop (is_stop i.op.opcode) (nat_lt 0 (left_behind false (sizes (i ∷ j ∷ members) + extra) i.op)) left quiet.0, more.0), more.1)
 
 -- behind a frame that is not the last nothing of it is left
 quiet_behind : (id : ℕ) (members : List Item) (extra : ℕ) (units : List DocUnit) → OnlyLastOpen (Frame id members extra ∷ units) → IsQuiet extra (operations (flat units)) → IsQuiet 0 (operations (flat units))
 quiet_behind id members extra [] only quiet = tt
 quiet_behind id members extra (v ∷ units) only quiet = subst (λ (n : ℕ). IsQuiet n (operations (flat (v ∷ units)))) only.0 quiet
 
-units_quiet : (units : List DocUnit) (n : ℕ) → AllByRecursion IsUnit units → OnlyLastOpen units → open_of units ≤ n → sizes (flat units) + n < 2 ^ 64 → IsQuiet 0 (operations (flat units)) → StopsEndFrames units
+units_quiet : (units : List DocUnit) (n : ℕ) → AllByRecursion (IsUnit false) units → OnlyLastOpen units → open_of units ≤ n → sizes (flat units) + n < 2 ^ 64 → IsQuiet 0 (operations (flat units)) → StopsEndFrames units
 units_quiet [] n plain only reach small quiet = tt
 units_quiet (Loose i ∷ units) n plain only reach small quiet =
-    let none : left_behind 0 i.op ≡ 0 = behind_plain 0 i.op plain.0.no_frame ∙ omega arith in
+    let none : left_behind false 0 i.op ≡ 0 = behind_plain 0 i.op plain.0.no_frame ∙ omega arith in
     let more = units_quiet units n plain.1 (open_rest (Loose i) units only) (open_more (Loose i) units n reach) (omega (arith, small)) (subst (λ (left : ℕ). IsQuiet left (operations (flat units))) none quiet.1) in
     (tt, more)
 units_quiet (Frame id members extra ∷ units) n plain only reach small quiet =
@@ -108,17 +108,17 @@ units_quiet (Frame id members extra ∷ units) n plain only reach small quiet =
     let both : sizes (members ++ flat units) ≡ sizes members + sizes (flat units) = sizes-append members (flat units) in
     let claims : extra ≤ n = extra_within id members extra units n only reach in
     let fewer : sizes (flat units) + n < 2 ^ 64 = omega (arith, small, sum, both) in
-    let long : left_behind 0 (frame_item id number).op ≡ number = number-frame id number (omega (arith, small, sum, both, claims)) in
-    let inner = members_quiet members (flat units) extra plain.0 (subst (λ (left : ℕ). IsQuiet left (operations (members ++ flat units))) long quiet.1) in
+    let long : left_behind false 0 (frame_item id number).op ≡ number = number-frame id number (omega (arith, small, sum, both, claims)) in
+    let inner = members_quiet members (flat units) extra plain.0.0 (subst (λ (left : ℕ). IsQuiet left (operations (members ++ flat units))) long quiet.1) in
     (inner.0, units_quiet units n plain.1 (open_rest (Frame id members extra) units only) (open_more (Frame id members extra) units n reach) fewer (quiet_behind id members extra units only inner.1))
 
 -- ---- documents
 
-pub stops_end_frames : (d : Contents) → IsFormed d → length (document_bytes d) < 2 ^ 64 → d.many ≡ true → first_inside d (length (ops_of d)) ≡ None → StopsEndFrames d.units
-stops_end_frames d formed small many none =
+pub stops_end_frames : (d : Contents) → IsFormed d → d.loose ≡ false → length (document_bytes d) < 2 ^ 64 → d.many ≡ true → first_inside d (length (ops_of d)) ≡ None → StopsEndFrames d.units
+stops_end_frames d formed framed small many none =
     let size : length (document_bytes d) ≡ length (bytes_of (ops_of d)) + length d.tail = length-append (bytes_of (ops_of d)) d.tail in
     let same : (i : ℕ) → i + 0 ≡ i = λ i. omega arith in
-    units_quiet d.units (length d.tail) formed.units formed.last_open formed.reach (omega (arith, small, size, length_bytes (items_of d)))
+    units_quiet d.units (length d.tail) (subst (λ (w : Bool). AllByRecursion (IsUnit w) d.units) framed formed.units) formed.last_open formed.reach (omega (arith, small, size, length_bytes (items_of d)))
     (quiet_from d 0 (ops_of d) many
     (λ i o e. subst (λ (m : ℕ). item_at d m ≡ Some o) (sym (same i)) e)
     (λ i less. subst (λ (m : ℕ). is_inside d.many (item_at d m) (left_at d m) ≡ false) (sym (same i)) (none_before d (length (ops_of d)) i none less)))

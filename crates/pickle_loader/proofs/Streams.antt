@@ -77,41 +77,56 @@ kept_settled false true bytes t lost stop frame fits =
     kept_framed (nat_le n t.left) (nat_le n (length bytes - (t.size + t.left))) n (length bytes - (t.size + t.left)) t lost (frame refl) refl (le-leb n (length bytes - (t.size + t.left)) (fits refl))
 kept_settled false false bytes t lost stop frame fits = record { lost = lost; left = refl }
 
-behind_is : (b c : Bool) (o : Operation) (left : ℕ) → is_stop o.opcode ≡ b → is_frame o.opcode ≡ c → (b ≡ true → left_behind left o ≡ 0) → left_after b c (frame_number o) (left - size_of o) ≡ left_behind left o
+behind_is : (b c : Bool) (o : Operation) (left : ℕ) → is_stop o.opcode ≡ b → is_frame o.opcode ≡ c → (b ≡ true → left_behind false left o ≡ 0) → left_after b c (frame_number o) (left - size_of o) ≡ left_behind false left o
 unfolding left_after
 behind_is true c o left e f stop = sym (stop refl)
 behind_is false true o left e f stop = sym (ap (λ (d : Bool). if d then frame_number o else left - size_of o) f)
 behind_is false false o left e f stop = sym (ap (λ (d : Bool). if d then frame_number o else left - size_of o) f)
 
+-- ---- the operation is the same
+
+abbrev pub SameOp : Taken → Taken → Type 0
+SameOp a b = (a.op ≡ b.op) × (a.row ≡ b.row)
+
+framed_op : (b c : Bool) (n m : ℕ) (t : Taken) → SameOp (if b then t else (if c then refilled n t else refilled m t)) t
+framed_op true c n m t = (refl, refl)
+framed_op false true n m t = (refl, refl)
+framed_op false false n m t = (refl, refl)
+
+pub settled_op : (b c : Bool) (bytes : List ℕ) (t : Taken) → SameOp (if b then refilled 0 t else (if c then framed bytes t (frame_number t.op) else t)) t
+settled_op true c bytes t = (refl, refl)
+settled_op false true bytes t = framed_op (nat_le (frame_number t.op) t.left) (nat_le (frame_number t.op) (length bytes - (t.size + t.left))) (frame_number t.op) (length bytes - (t.size + t.left)) t
+settled_op false false bytes t = (refl, refl)
+
 -- ---- what is taken of bytes that begin with an operation
 
 pub record Stands (left : ℕ) (o : Operation) (bytes : List ℕ) : Type 0 where
-  pub fits : FitsFrame left o
+  pub fits : FitsFrame false left o
   pub front : (rest : List ℕ) × (bytes ≡ spelling o ++ rest)
   pub reach : left ≤ length bytes
   pub frame : is_frame o.opcode ≡ true → frame_number o ≤ length bytes - size_of o
-  pub quiet : is_stop o.opcode ≡ true → left_behind left o ≡ 0
   pub reads : lenient bytes ≡ Ok (record { op = o; row = row_of o; size = size_of o })
 
 pub record Takes (left : ℕ) (o : Operation) (bytes : List ℕ) : Type 0 where
   pub item : Taken
   pub is : taken frames.Buffered left bytes ≡ Ok item
-  pub kept : Kept item (left_behind left o)
+  pub same : (item.op ≡ o) × (item.row ≡ row_of o)
+  pub kept : (is_stop o.opcode ≡ true → left_behind false left o ≡ 0) → Kept item (left_behind false left o)
 
 abbrev front_taken : Operation → ℕ → Taken
 front_taken o left = record { op = o; row = row_of o; size = size_of o + 0; left = left; lost = nat_lt 0 0 }
 
-settled_kept : (left : ℕ) (o : Operation) (bytes : List ℕ) → Stands left o bytes → Kept (settled true bytes (front_taken o (left - size_of o))) (left_behind left o)
-settled_kept left o bytes s =
+settled_kept : (left : ℕ) (o : Operation) (bytes : List ℕ) → Stands left o bytes → (is_stop o.opcode ≡ true → left_behind false left o ≡ 0) → Kept (settled true bytes (front_taken o (left - size_of o))) (left_behind false left o)
+settled_kept left o bytes s quiet =
     let stop : is_stop o.opcode ≡ true → left - size_of o ≡ 0 = λ e. no_rest e (is_frame o.opcode) refl in
     let frame : is_frame o.opcode ≡ true → left - size_of o ≡ 0 = λ e. omega (arith, s.fits.frame e) in
     let number : is_frame o.opcode ≡ true → frame_number o ≤ length bytes - ((size_of o + 0) + (left - size_of o)) = λ e. omega (arith, s.frame e, frame e) in
-    subst (λ (n : ℕ). Kept (settled true bytes (front_taken o (left - size_of o))) n) (behind_is (is_stop o.opcode) (is_frame o.opcode) o left refl refl s.quiet)
+    subst (λ (n : ℕ). Kept (settled true bytes (front_taken o (left - size_of o))) n) (behind_is (is_stop o.opcode) (is_frame o.opcode) o left refl refl quiet)
     (kept_settled (is_stop o.opcode) (is_frame o.opcode) bytes (front_taken o (left - size_of o)) refl stop frame number)
   where
     no_rest : is_stop o.opcode ≡ true → (c : Bool) → is_frame o.opcode ≡ c → left - size_of o ≡ 0
     no_rest e true f = omega (arith, s.fits.frame f)
-    no_rest e false f = let less : left_behind left o ≡ left - size_of o = ap (λ (d : Bool). if d then frame_number o else left - size_of o) f in sym less ∙ s.quiet e
+    no_rest e false f = let less : left_behind false left o ≡ left - size_of o = ap (λ (d : Bool). if d then frame_number o else left - size_of o) f in sym less ∙ quiet e
 
 at_once : (bytes : List ℕ) → buffered true 0 bytes ≡ across true bytes 0 (lenient bytes)
 at_once bytes =
@@ -125,6 +140,7 @@ takes_none o bytes s =
     record {
       item = settled true bytes (front_taken o (0 - size_of o));
       is = at_once bytes ∙ ap (across true bytes 0) s.reads ∙ ap (λ (n : ℕ). Ok (settled true bytes (front_taken o n))) (sym none);
+      same = settled_op (is_stop o.opcode) (is_frame o.opcode) bytes (front_taken o (0 - size_of o));
       kept = settled_kept 0 o bytes s;
     }
 
@@ -143,6 +159,7 @@ takes_some left o bytes some s =
           ap (λ (b : Bool). if b then within true bytes (length front) (lenient front) else across true bytes (length front - first_read front) (lenient (joined left bytes))) ends
           ∙ ap (within true bytes (length front)) reads
           ∙ ap (λ (n : ℕ). Ok (settled true bytes (front_taken o (n - size_of o)))) (take_length left bytes s.reach);
+      same = settled_op (is_stop o.opcode) (is_frame o.opcode) bytes (front_taken o (left - size_of o));
       kept = settled_kept left o bytes s;
     }
 
@@ -158,19 +175,19 @@ next_drop (x ∷ ops) zero o e = let same : x ≡ o = cc in ap (λ (y : Operatio
 next_drop (x ∷ ops) (suc k) o e = next_drop ops k o e
 
 abbrev FitsAt : Contents → ℕ → Type 0
-FitsAt d k = (o : Operation) → item_at d k ≡ Some o → FitsFrom d.many (left_at d k) (o ∷ drop (suc k) (ops_of d)) d.tail (ended_by d)
+FitsAt d k = (o : Operation) → item_at d k ≡ Some o → FitsFrom d.many false (left_at d k) (o ∷ drop (suc k) (ops_of d)) d.tail (ended_by d)
 
-no_last : (b many : Bool) (left : ℕ) (p : Operation) (ops : List Operation) (tail : List ℕ) (e : Option TailFault) → MatchBool b (IsLast left (p ∷ ops) tail e) (FitsFrom many left (p ∷ ops) tail e) → FitsFrom many left (p ∷ ops) tail e
+no_last : (b many : Bool) (left : ℕ) (p : Operation) (ops : List Operation) (tail : List ℕ) (e : Option TailFault) → MatchBool b (IsLast left (p ∷ ops) tail e) (FitsFrom many false left (p ∷ ops) tail e) → FitsFrom many false left (p ∷ ops) tail e
 no_last true many left p ops tail e last = let none : p ∷ ops ≡ [] = last.none in absurd cc
 no_last false many left p ops tail e fits = fits
 
-fits_next : (d : Contents) (k : ℕ) (o p : Operation) → item_at d k ≡ Some o → item_at d (suc k) ≡ Some p → FitsAt d k → FitsFrom d.many (left_at d (suc k)) (p ∷ drop (suc (suc k)) (ops_of d)) d.tail (ended_by d)
+fits_next : (d : Contents) (k : ℕ) (o p : Operation) → item_at d k ≡ Some o → item_at d (suc k) ≡ Some p → FitsAt d k → FitsFrom d.many false (left_at d (suc k)) (p ∷ drop (suc (suc k)) (ops_of d)) d.tail (ended_by d)
 fits_next d k o p here there fits =
-    let left : left_behind (left_at d k) o ≡ left_at d (suc k) = ap (λ (x : Option Operation). left_on x (left_at d k)) (sym here) in
+    let left : left_behind false (left_at d k) o ≡ left_at d (suc k) = ap (λ (x : Option Operation). left_on x (left_at d k)) (sym here) in
     let all = fits o here in
-    let behind : MatchBool (ends_reading d.many o.opcode) (IsLast (left_behind (left_at d k) o) (p ∷ drop (suc (suc k)) (ops_of d)) d.tail (ended_by d)) (FitsFrom d.many (left_behind (left_at d k) o) (p ∷ drop (suc (suc k)) (ops_of d)) d.tail (ended_by d)) =
-    subst (λ (l : List Operation). MatchBool (ends_reading d.many o.opcode) (IsLast (left_behind (left_at d k) o) l d.tail (ended_by d)) (FitsFrom d.many (left_behind (left_at d k) o) l d.tail (ended_by d))) (next_drop (ops_of d) (suc k) p there) all.1 in
-    subst (λ (n : ℕ). FitsFrom d.many n (p ∷ drop (suc (suc k)) (ops_of d)) d.tail (ended_by d)) left (no_last (ends_reading d.many o.opcode) d.many (left_behind (left_at d k) o) p (drop (suc (suc k)) (ops_of d)) d.tail (ended_by d) behind)
+    let behind : MatchBool (ends_reading d.many o.opcode) (IsLast (left_behind false (left_at d k) o) (p ∷ drop (suc (suc k)) (ops_of d)) d.tail (ended_by d)) (FitsFrom d.many false (left_behind false (left_at d k) o) (p ∷ drop (suc (suc k)) (ops_of d)) d.tail (ended_by d)) =
+    subst (λ (l : List Operation). MatchBool (ends_reading d.many o.opcode) (IsLast (left_behind false (left_at d k) o) l d.tail (ended_by d)) (FitsFrom d.many false (left_behind false (left_at d k) o) l d.tail (ended_by d))) (next_drop (ops_of d) (suc k) p there) all.1 in
+    subst (λ (n : ℕ). FitsFrom d.many false n (p ∷ drop (suc (suc k)) (ops_of d)) d.tail (ended_by d)) left (no_last (ends_reading d.many o.opcode) d.many (left_behind false (left_at d k) o) p (drop (suc (suc k)) (ops_of d)) d.tail (ended_by d) behind)
 
 item_before : (ops : List Operation) (k : ℕ) (p : Operation) → slice_get ops (suc k) ≡ Some p → (o : Operation) × (slice_get ops k ≡ Some o)
 item_before [] k p e = absurd cc
@@ -181,50 +198,56 @@ drop_first : (ops : List Operation) → drop 0 ops ≡ ops
 drop_first [] = refl
 drop_first (x ∷ ops) = refl
 
-fits_at : (d : Contents) → IsFormed d → length (document_bytes d) < 2 ^ 64 → (k : ℕ) → FitsAt d k
-fits_at d formed small zero o e =
-    subst (λ (l : List Operation). FitsFrom d.many 0 l d.tail (ended_by d)) (sym (drop_first (ops_of d)) ∙ next_drop (ops_of d) 0 o e) (document_fits d formed (small_document (document_bytes d) d small refl formed.reach))
-fits_at d formed small (suc k) p e =
+fits_at : (d : Contents) → IsFormed d → d.loose ≡ false → length (document_bytes d) < 2 ^ 64 → (k : ℕ) → FitsAt d k
+fits_at d formed framed small zero o e =
+    subst (λ (l : List Operation). FitsFrom d.many false 0 l d.tail (ended_by d)) (sym (drop_first (ops_of d)) ∙ next_drop (ops_of d) 0 o e)
+    (subst (λ (w : Bool). FitsFrom d.many w 0 (ops_of d) d.tail (ended_by d)) framed (document_fits d formed (small_document (document_bytes d) d small refl formed.reach)))
+fits_at d formed framed small (suc k) p e =
     let before = item_before (ops_of d) k p e in
-    fits_next d k before.0 p before.1 e (fits_at d formed small k)
+    fits_next d k before.0 p before.1 e (fits_at d formed framed small k)
 
 -- a STOP leaves nothing of a frame
-stop_leaves : (many : Bool) (left : ℕ) (o : Operation) (ops : List Operation) (tail : List ℕ) (e : Option TailFault) → is_stop o.opcode ≡ true → tail ≡ [] → (many ≡ true → nat_lt 0 (left_behind left o) ≡ false)
-    → FitsFrom many left (o ∷ ops) tail e → left_behind left o ≡ 0
-stop_leaves true left o ops tail e stop none quiet fits = let most : left_behind left o ≤ 0 = ltb-false 0 (left_behind left o) (quiet refl) in omega (arith, most)
+stop_leaves : (many : Bool) (left : ℕ) (o : Operation) (ops : List Operation) (tail : List ℕ) (e : Option TailFault) → is_stop o.opcode ≡ true → tail ≡ [] → (many ≡ true → nat_lt 0 (left_behind false left o) ≡ false)
+    → FitsFrom many false left (o ∷ ops) tail e → left_behind false left o ≡ 0
+stop_leaves true left o ops tail e stop none quiet fits = let most : left_behind false left o ≤ 0 = ltb-false 0 (left_behind false left o) (quiet refl) in omega (arith, most)
 stop_leaves false left o ops tail e stop none quiet fits =
-    let last : IsLast (left_behind left o) ops tail e = subst (λ (b : Bool). MatchBool (b && true) (IsLast (left_behind left o) ops tail e) (FitsFrom false (left_behind left o) ops tail e)) stop fits.1 in
+    let last : IsLast (left_behind false left o) ops tail e = subst (λ (b : Bool). MatchBool (b && true) (IsLast (left_behind false left o) ops tail e) (FitsFrom false false (left_behind false left o) ops tail e)) stop fits.1 in
     omega (arith, last.reach, ap length none)
 
-frame_within : (many : Bool) (left : ℕ) (o : Operation) (ops : List Operation) (tail : List ℕ) (e : Option TailFault) → FitsFrom many left (o ∷ ops) tail e → is_frame o.opcode ≡ true → frame_number o ≤ length (bytes_of ops ++ tail)
+frame_within : (many : Bool) (left : ℕ) (o : Operation) (ops : List Operation) (tail : List ℕ) (e : Option TailFault) → FitsFrom many false left (o ∷ ops) tail e → is_frame o.opcode ≡ true → frame_number o ≤ length (bytes_of ops ++ tail)
 frame_within many left o ops tail e fits frame =
-    let next : FitsFrom many (left_behind left o) ops tail e = subst (λ (b : Bool). MatchBool b (IsLast (left_behind left o) ops tail e) (FitsFrom many (left_behind left o) ops tail e)) (frame_goes many o.opcode frame) fits.1 in
-    let number : left_behind left o ≡ frame_number o = ap (λ (b : Bool). if b then frame_number o else left - size_of o) frame in
-    omega (arith, reaches many ops (left_behind left o) tail e next, number)
+    let next : FitsFrom many false (left_behind false left o) ops tail e = subst (λ (b : Bool). MatchBool b (IsLast (left_behind false left o) ops tail e) (FitsFrom many false (left_behind false left o) ops tail e)) (frame_goes many o.opcode frame) fits.1 in
+    let number : left_behind false left o ≡ frame_number o = ap (λ (b : Bool). if b then frame_number o else left - size_of o) frame in
+    omega (arith, reaches many false ops (left_behind false left o) tail e next, number)
 
-quiet_at : (d : Contents) (k : ℕ) (o : Operation) → first_inside d (length (ops_of d)) ≡ None → k < length (ops_of d) → item_at d k ≡ Some o → is_stop o.opcode ≡ true → d.many ≡ true → nat_lt 0 (left_behind (left_at d k) o) ≡ false
+quiet_at : (d : Contents) (k : ℕ) (o : Operation) → first_inside d (length (ops_of d)) ≡ None → k < length (ops_of d) → item_at d k ≡ Some o → is_stop o.opcode ≡ true → d.many ≡ true → nat_lt 0 (left_behind false (left_at d k) o) ≡ false
 quiet_at d k o none less here stop many =
     let at : is_inside d.many (Some o) (left_at d k) ≡ false = subst (λ (x : Option Operation). is_inside d.many x (left_at d k) ≡ false) here (none_before d (length (ops_of d)) k none less) in
-    ap (λ (b : Bool). b && nat_lt 0 (left_behind (left_at d k) o)) (sym stop) ∙ ap (λ (b : Bool). b && (is_stop o.opcode && nat_lt 0 (left_behind (left_at d k) o))) (sym many) ∙ at
+    ap (λ (b : Bool). b && nat_lt 0 (left_behind false (left_at d k) o)) (sym stop) ∙ ap (λ (b : Bool). b && (is_stop o.opcode && nat_lt 0 (left_behind false (left_at d k) o))) (sym many) ∙ at
 
 -- what is taken of the bytes from an item on
-pub takes_item : (d : Contents) → IsFormed d → length (document_bytes d) < 2 ^ 64 → first_inside d (length (ops_of d)) ≡ None → d.tail ≡ [] → (k : ℕ) (o : Operation) → item_at d k ≡ Some o
+pub takes_item : (d : Contents) → IsFormed d → d.loose ≡ false → length (document_bytes d) < 2 ^ 64 → (k : ℕ) (o : Operation) → item_at d k ≡ Some o
     → lenient (drop (offset_of d k) (document_bytes d)) ≡ Ok (record { op = o; row = row_of o; size = size_of o }) → Takes (left_at d k) o (drop (offset_of d k) (document_bytes d))
-takes_item d formed small none empty k o here reads =
+takes_item d formed framed small k o here reads =
     let rest : List ℕ = drop (offset_of d k) (document_bytes d) in
     let more : List ℕ = bytes_of (drop (suc k) (ops_of d)) ++ d.tail in
-    let fits = fits_at d formed small k o here in
+    let fits = fits_at d formed framed small k o here in
     let is : rest ≡ spelling o ++ more =
     rest_is (items_of d) d.tail k ∙ ap (λ (l : List Operation). bytes_of l ++ d.tail) (next_drop (ops_of d) k o here) ∙ append_assoc (spelling o) (bytes_of (drop (suc k) (ops_of d))) d.tail in
     let size : length rest ≡ length (spelling o) + length more = ap length is ∙ length-append (spelling o) more in
     let long : length (spelling o) ≡ size_of o = omega arith in
-    let all : left_at d k ≤ length (bytes_of (o ∷ drop (suc k) (ops_of d)) ++ d.tail) = reaches d.many (o ∷ drop (suc k) (ops_of d)) (left_at d k) d.tail (ended_by d) fits in
+    let all : left_at d k ≤ length (bytes_of (o ∷ drop (suc k) (ops_of d)) ++ d.tail) = reaches d.many false (o ∷ drop (suc k) (ops_of d)) (left_at d k) d.tail (ended_by d) fits in
     let same : bytes_of (o ∷ drop (suc k) (ops_of d)) ++ d.tail ≡ rest = append_assoc (spelling o) (bytes_of (drop (suc k) (ops_of d))) d.tail ∙ sym is in
     takes (left_at d k) o rest (record {
       fits = fits.0;
       front = (more, is);
       reach = omega (arith, all, ap length same);
       frame = λ frame. omega (arith, frame_within d.many (left_at d k) o (drop (suc k) (ops_of d)) d.tail (ended_by d) fits frame, size, long);
-      quiet = λ stop. stop_leaves d.many (left_at d k) o (drop (suc k) (ops_of d)) d.tail (ended_by d) stop empty (λ many. quiet_at d k o none (slice_get_within (ops_of d) k o here) here stop many) fits;
       reads = reads;
     })
+
+-- where no STOP leaves a frame unfinished, and nothing is behind the last, a STOP leaves nothing
+pub quiet_item : (d : Contents) → IsFormed d → d.loose ≡ false → length (document_bytes d) < 2 ^ 64 → first_inside d (length (ops_of d)) ≡ None → d.tail ≡ [] → (k : ℕ) (o : Operation) → item_at d k ≡ Some o
+    → is_stop o.opcode ≡ true → left_behind false (left_at d k) o ≡ 0
+quiet_item d formed framed small none empty k o here stop =
+    stop_leaves d.many (left_at d k) o (drop (suc k) (ops_of d)) d.tail (ended_by d) stop empty (λ many. quiet_at d k o none (slice_get_within (ops_of d) k o here) here stop many) (fits_at d formed framed small k o here)

@@ -9,13 +9,14 @@ use Rattle.pickle_ops.specs.declared.kind.Kind.TheVariants as kind
 use Rattle.pickle_ops.specs.Object.{Object}
 use Rattle.pickle_machine.specs.declared.refusal.Refusal.{Refusal}
 use Rattle.pickle_machine.specs.declared.loader.LoaderMove.{LoaderMove}
-use Rattle.pickle_machine.specs.State.{State}
+use Rattle.pickle_machine.specs.State.{State, start}
 use Rattle.pickle_machine.specs.Move.{fresh}
 use Rattle.pickle_machine.specs.Loader.{loader_move}
 use Rattle.pickle_machine.proofs.HeapGrowth.{fresh_heap}
 use Rattle.pickle_lenient.specs.declared.taken.Taken.{Taken}
 use Rattle.pickle_lenient.specs.Stream.{taken}
 use Rattle.pickle_show.specs.declared.report.Closing.{Closing}
+use Rattle.pickle_show.specs.declared.report.Closing.TheVariants as closing
 use Rattle.pickle_show.specs.declared.naming.Detail.TheVariants as detail
 use Rattle.pickle_further.specs.declared.way.Pickles.{Pickles}
 use Rattle.pickle_further.specs.declared.way.Pickles.TheVariants as pickles
@@ -23,15 +24,16 @@ use Rattle.pickle_further.specs.declared.way.Way.{Way}
 use Rattle.pickle_further.specs.Going.{Standing, Going as Gone, used_op, moved_so, state_after, gone_to, gone_by, going, stands_after}
 use Rattle.pickle_further.specs.Parts.{are_many, standing_first}
 use Rattle.pickle_loader.specs.Environment.{Value, Plain, Act, Unpickler, World}
-use Rattle.pickle_loader.specs.Dispatch.{Loaded, Going, Ended, Failed, loaded, acts_of}
+use Rattle.pickle_loader.specs.Dispatch.{Loaded, Going, Ended, Failed, loaded, acts_of, new_unpickler}
 use Rattle.pickle_loader.specs.Told.{told_of}
-use Rattle.pickle_loader.specs.Onward.{load_taken, Onward, again, reads_on, load_more, load_read, load_on, load_way, stands_behind, stands_on, stands, protocol_read, protocol_on, protocol, acts_gone, acts_on, acts_before, NothingBeyond}
+use Rattle.pickle_loader.specs.Laws.{IsSame, Holds, IsTold}
+use Rattle.pickle_loader.specs.Onward.{load_taken, Onward, again, reads_on, load_more, load_read, load_on, load_way, stands_behind, stands_on, stands, state_by, state_on, state_behind, protocol_read, protocol_on, protocol, acts_gone, acts_on, acts_before, NothingBeyond}
 use Rattle.pickle_loader.proofs.Pushes.{top_value}
 use Rattle.pickle_loader.proofs.Still.{fresh_running}
 use Rattle.pickle_loader.proofs.Wholes.{whole_start}
 use Rattle.pickle_loader.proofs.Items.{IsItem, are_items, take_some, none_taken}
 use Rattle.pickle_loader.proofs.Leads.{moved_on_fresh, only_stop, moved_still, once_led}
-use Rattle.pickle_loader.proofs.Onwards.{OnWay, Begins, Along, Turn, read_on, read_turn, once, state_heap}
+use Rattle.pickle_loader.proofs.Onwards.{OnWay, Begins, Along, HoldsBehind, failed_ends, Turn, read_on, read_turn, once, state_heap}
 
 -- ---- one item more
 
@@ -44,6 +46,7 @@ failed_along w V p acts proto (Some q) done rest bytes left e = ((rest, e), λ r
 abbrev NextOn : World → (ℕ → Value) → Way → List Act → ℕ → Standing → Onward → Type 0
 NextOn w V way acts proto q x =
     Along w V way.pickles (acts ++ acts_gone V proto q (going way q)) (protocol_read (taken way.frames q.at.left q.rest) proto) (stands_behind q (going way q)) (load_on w way x)
+    × HoldsBehind w V (going way q) (load_on w way x).now
 
 -- the map has the value on top of what is loaded next
 abbrev RightOn : World → (ℕ → Value) → Way → Standing → Onward → Type 0
@@ -67,7 +70,7 @@ as_one_next way t l one right =
     let x : Onward = record { now = l; rest = t.q.rest; left = t.q.at.left } in
     let y : Result Taken FrontFault = taken way.frames t.q.at.left t.q.rest in
     let step : read_on way.pickles t x y ≡ load_on t.w way x = read_same way.pickles t l y one ∙ ap (λ (b : Bool). if b then load_read t.w way.pickles x y else x) (sym one.reads) in
-    subst (λ (z : Onward). Along t.w t.V way.pickles (t.acts ++ acts_gone t.V t.proto t.q (gone_by way t.q y)) (protocol_read y t.proto) (stands_behind t.q (gone_by way t.q y)) z) step
+    subst (λ (z : Onward). Along t.w t.V way.pickles (t.acts ++ acts_gone t.V t.proto t.q (gone_by way t.q y)) (protocol_read y t.proto) (stands_behind t.q (gone_by way t.q y)) z × HoldsBehind t.w t.V (gone_by way t.q y) z.now) step
     (read_turn way t x y (are_items way.frames t.q.at.left t.q.rest) (λ u is more. right u (ap (λ (z : Onward). z.now) (sym step) ∙ is) more))
 
 -- where the bytes are those that the lines stand before
@@ -112,8 +115,11 @@ next_on w V way acts proto q (Ended v u) rest left along =
     (Ended v u) (as_one_ended way.pickles w v u along.0.3))
 next_on w V way acts proto q (Failed done) rest left along =
     let more : List Act = acts_gone V proto q (going way q) in
-    λ right. failed_along w V way.pickles (acts ++ more) (protocol_read (taken way.frames q.at.left q.rest) proto) (stands_behind q (going way q)) done (along.0.0 ++ more) rest left
-    (sym (append_assoc (told_of done) along.0.0 more) ∙ ap (λ (a : List Act). a ++ more) along.0.1)
+    λ right. (
+      failed_along w V way.pickles (acts ++ more) (protocol_read (taken way.frames q.at.left q.rest) proto) (stands_behind q (going way q)) done (along.0.0 ++ more) rest left
+          (sym (append_assoc (told_of done) along.0.0 more) ∙ ap (λ (a : List Act). a ++ more) along.0.1),
+      record { holds = tt; ends = failed_ends (going way q).gone.closing done },
+    )
 
 -- ---- behind the end
 
@@ -129,7 +135,7 @@ over_on w way acts x true is begins (inr none) =
 along_on : (w : World) (V : ℕ → Value) (way : Way) (acts : List Act) (proto : ℕ) (o : Option Standing) (x : Onward) → Along w V way.pickles acts proto o x
     → ((q : Standing) → o ≡ Some q → RightOn w V way q x) → Along w V way.pickles (acts ++ acts_on V way proto o) (protocol_on way o proto) (stands_on way o) (load_on w way x)
 along_on w V way acts proto None x along right = over_on w way acts x (reads_on way.pickles x.now) refl along.0 along.1
-along_on w V way acts proto (Some q) x along right = next_on w V way acts proto q x.now x.rest x.left along (right q refl)
+along_on w V way acts proto (Some q) x along right = (next_on w V way acts proto q x.now x.rest x.left along (right q refl)).0
 
 -- ---- objects
 
@@ -173,7 +179,7 @@ values : World → Way → List ℕ → ℕ → List Value
 values w way bytes zero = []
 values w way bytes (suc n) = values w way bytes n ++ new_values way (stands way (standing_first detail.Cut way.pickles bytes) n) (load_way w way bytes (suc n)).now
 
-abbrev stands_at : Way → List ℕ → ℕ → Option Standing
+abbrev pub stands_at : Way → List ℕ → ℕ → Option Standing
 stands_at way bytes n = stands way (standing_first detail.Cut way.pickles bytes) n
 
 pub behind_is : (q p : Standing) (g : Gone) (b : Bool) → (if b then None else Some (stands_after q g)) ≡ Some p → stands_after q g ≡ p
@@ -317,11 +323,11 @@ shrinks_by way q (Ok item) some ends none =
     no_ok : (item : Taken) → Ok item ≡ Err fault.Ended → ⊥
     no_ok item e = cc
 
-shrinks : (way : Way) (q : Standing) → (going way q).gone.closing ≡ None → length (drop (going way q).gone.size q.rest) < length q.rest
+pub shrinks : (way : Way) (q : Standing) → (going way q).gone.closing ≡ None → length (drop (going way q).gone.size q.rest) < length q.rest
 unfolding going
 shrinks way q none = shrinks_by way q (taken way.frames q.at.left q.rest) (take_some way.frames q.at.left q.rest) (λ empty. ap (taken way.frames q.at.left) empty ∙ none_taken way.frames q.at.left) none
 
-open_closing : (c : Option Closing) → is_some c ≡ false → c ≡ None
+pub open_closing : (c : Option Closing) → is_some c ≡ false → c ≡ None
 open_closing None e = refl
 open_closing (Some x) e = absurd cc
 
@@ -366,8 +372,64 @@ along_last w way bytes n = elim (cases_lt n (suc (length bytes))) [
       subst (λ (vs : List Value). AlongAt w way bytes (λ (id : ℕ). get_or vs id (Plain kind.None)) n) (ap (values w way bytes) (sym place) ∙ values_last w way bytes k) (along_way w way bytes n n (omega arith))
 ]
 
+-- ---- values
+
+all_values : World → Way → List ℕ → ℕ → Value
+all_values w way bytes = value_of w way bytes (suc (length bytes))
+
+-- behind item n it holds what the state says
+holds_item : (w : World) (way : Way) (bytes : List ℕ) (n : ℕ) (q : Standing) → stands_at way bytes n ≡ Some q → HoldsBehind w (all_values w way bytes) (going way q) (load_way w way bytes (suc n)).now
+unfolding load_way all_values
+holds_item w way bytes n q e =
+    let V : ℕ → Value = value_of w way bytes (suc (length bytes)) in
+    let x : Onward = load_way w way bytes n in
+    let p : Standing = standing_first detail.Cut way.pickles bytes in
+    let along : Along w V way.pickles (acts_before V way p n) (protocol way p n) (Some q) x =
+    subst (λ (o : Option Standing). Along w V way.pickles (acts_before V way p n) (protocol way p n) o x) e (along_last w way bytes n) in
+    (next_on w V way (acts_before V way p n) (protocol way p n) q x.now x.rest x.left along (right_on w way bytes (suc (length bytes)) n (omega (arith, few_items way bytes n q e)) q e)).1
+
+pub state_is : (c : Option Closing) (a s : State) → state_by c a ≡ Some s → a ≡ s
+state_is None a s e = cc
+state_is (Some closing.Stopped) a s e = cc
+state_is (Some (closing.Refused place r)) a s e = absurd cc
+state_is (Some (closing.Fault f offset)) a s e = absurd cc
+
+holds_on : (w : World) (way : Way) (bytes : List ℕ) (n : ℕ) (x : Option Standing) (s : State) → stands_at way bytes n ≡ x → state_on way x ≡ Some s → Holds w (all_values w way bytes) s (load_way w way bytes (suc n)).now
+holds_on w way bytes n None s e is = absurd cc
+holds_on w way bytes n (Some q) s e is =
+    let same : (going way q).state ≡ s = state_is (going way q).gone.closing (going way q).state s is in
+    subst (λ (a : State). Holds w (all_values w way bytes) a (load_way w way bytes (suc n)).now) same (holds_item w way bytes n q e).holds
+
+holds_at : (w : World) (way : Way) (bytes : List ℕ) (n : ℕ) (s : State) → state_behind way (standing_first detail.Cut way.pickles bytes) n ≡ Some s → Holds w (all_values w way bytes) s (load_way w way bytes n).now
+unfolding state_behind load_way
+holds_at w way bytes zero s e =
+    let same : start (are_many way.pickles) ≡ s = cc in
+    subst (λ (a : State). IsSame w (all_values w way bytes) (fresh a) (new_unpickler [])) same (record { stack = refl; metastack = refl; memo = refl; buffers = refl; objects = λ id o f. absurd cc })
+holds_at w way bytes (suc n) s e = holds_on w way bytes n (stands_at way bytes n) s refl e
+
+-- no more is read where the lines are over
+over_at_none : (w : World) (V : ℕ → Value) (p : Pickles) (acts : List Act) (proto : ℕ) (o : Option Standing) (x : Onward) → o ≡ None → Along w V p acts proto o x → (reads_on p x.now ≡ false) ⊎ (x.rest ≡ [])
+over_at_none w V p acts proto None x e along = along.1
+over_at_none w V p acts proto (Some q) x e along = absurd cc
+
+-- item by item
+pub record ByItems (w : World) (way : Way) (bytes : List ℕ) : Type 0 where
+  pub V : ℕ → Value
+  pub told : IsTold w V (acts_before V way (standing_first detail.Cut way.pickles bytes)) (state_behind way (standing_first detail.Cut way.pickles bytes)) (λ n. (load_way w way bytes n).now)
+  pub holds : (n : ℕ) (q : Standing) → stands_at way bytes n ≡ Some q → HoldsBehind w V (going way q) (load_way w way bytes (suc n)).now
+  pub over : (n : ℕ) → stands_at way bytes n ≡ None → (reads_on way.pickles (load_way w way bytes n).now ≡ false) ⊎ ((load_way w way bytes n).rest ≡ [])
+
+pub by_items : (w : World) (way : Way) (bytes : List ℕ) → ByItems w way bytes
+unfolding all_values
+by_items w way bytes = record {
+  V = all_values w way bytes;
+  told = record {
+    acts = λ n. begins w (value_of w way bytes (suc (length bytes))) way.pickles _ _ (stands_at way bytes n) (load_way w way bytes n) (along_last w way bytes n);
+    values = holds_at w way bytes;
+  };
+  holds = holds_item w way bytes;
+  over = λ n none. over_at_none w (value_of w way bytes (suc (length bytes))) way.pickles _ _ (stands_at way bytes n) (load_way w way bytes n) none (along_last w way bytes n);
+}
+
 pub nothing_beyond : NothingBeyond
-nothing_beyond w way bytes = (
-  value_of w way bytes (suc (length bytes)),
-  λ n. begins w (value_of w way bytes (suc (length bytes))) way.pickles _ _ (stands_at way bytes n) (load_way w way bytes n) (along_last w way bytes n),
-)
+nothing_beyond w way bytes = let all = by_items w way bytes in (all.V, all.told)

@@ -2,6 +2,11 @@
 -- Source: own.
 use Rattle.std.specs.Prelude.{◌≡◌, ℕ, ◌-◌, ◌<◌, Bool, true, false, List, ◌++◌, length, Option, None, Some, Result, Ok, Err, ⊤}
 use Rattle.pickle_ops.specs.Spelling.{Operation}
+use Rattle.pickle_ops.specs.Shape.{text_of, value_fault}
+use Rattle.pickle_ops.specs.Argument.{number_of}
+use Rattle.pickle_ops.specs.declared.form.Form.TheVariants as form
+use Rattle.pickle_lenient.specs.Key.{key_of}
+use Rattle.pickle_ops.specs.Table.{form_of}
 use Rattle.pickle_ops.specs.declared.row.Row.{Row}
 use Rattle.pickle_ops.specs.declared.row.Row.TheVariants as row
 use Rattle.pickle_ops.specs.Row.{row_of, values_of}
@@ -17,10 +22,18 @@ use Rattle.pickle_show.specs.Event.{before_of, event_of}
 use Rattle.pickle_further.specs.Going.{used_op, moved_so, event_by}
 use Rattle.pickle_loader.specs.Environment.{Value, Act, Unpickler, World}
 use Rattle.pickle_loader.specs.Unpickler.{Step, Ran, Stopped, Raised, item}
-use Rattle.pickle_loader.specs.Dispatch.{load_op}
+use Rattle.pickle_loader.specs.Dispatch.{int_key, load_op}
 use Rattle.pickle_loader.specs.Told.{told_of, acts_told, protocol_after}
 use Rattle.pickle_loader.specs.Laws.{IsSame, IsResult}
 use Rattle.pickle_loader.specs.Whole.{IsWhole}
+
+-- its argument passes the checks of its value, as each of a document does
+abbrev pub HasValue : Operation → Type 0
+HasValue o = value_fault (form_of o.opcode) o.arg ≡ None
+
+-- a key of decimal digits, as documents have them, is that number to both unpicklers
+abbrev pub KeysAgree : Type 0
+KeysAgree = (arg : List ℕ) → value_fault form.Decimal arg ≡ None → (int_key (text_of arg) ≡ Some (number_of form.Decimal arg)) × (key_of (text_of arg) ≡ Some (number_of form.Decimal arg))
 
 -- the row as which a loader moves
 abbrev pub less_of : Operation → State → Row
@@ -44,7 +57,7 @@ MapsNew V s t (Raised done) = ⊤
 -- in every environment, for each opcode: where a loader moves as the row that asks for less, the unpickler that holds what the state holds
 -- does exactly what the event of that move tells, or raises and did a beginning of it
 abbrev pub WideMovesAreFollowed : Type 0
-WideMovesAreFollowed = (w : World) (V : ℕ → Value) (s t : State) (u : Unpickler) (o : Operation) (place : ℕ) → s.stopped ≡ false → IsSame w V s u → move_as (less_of o s) o place s ≡ Ok t
+WideMovesAreFollowed = (w : World) (V : ℕ → Value) (s t : State) (u : Unpickler) (o : Operation) (place : ℕ) → HasValue o → s.stopped ≡ false → IsSame w V s u → move_as (less_of o s) o place s ≡ Ok t
     → MapsNew V s t (load_op w o u) → StepFollows w V (told_of u.acts ++ acts_told V u.proto s t (event_of (less_of o s) (before_of s) t)) (protocol_after o.opcode o.arg u.proto) t (load_op w o u)
 
 -- ---- what is missing
@@ -59,7 +72,7 @@ is_missing _ = false
 -- in every environment, for each opcode but INST: where even the row that asks for less lacks something, the unpickler raises and did
 -- nothing. INST finds its class before it misses the mark
 abbrev pub WhatIsMissingRaises : Type 0
-WhatIsMissingRaises = (w : World) (V : ℕ → Value) (s : State) (u : Unpickler) (o : Operation) (r : Refusal) → IsSame w V s u → is_inst o.opcode ≡ false
+WhatIsMissingRaises = (w : World) (V : ℕ → Value) (s : State) (u : Unpickler) (o : Operation) (r : Refusal) → HasValue o → IsSame w V s u → is_inst o.opcode ≡ false
     → refusal_of (less_of o s) s ≡ Some r → is_missing r ≡ true → load_op w o u ≡ Raised u.acts
 
 -- ---- what is put into a view
@@ -104,5 +117,5 @@ Comes w V s u m proto x (Ok t) = IsWhole t × Moves w V (told_of u.acts ++ acts_
 -- unpickler that holds what the state holds raises at this opcode and told nothing; where it moves, the unpickler does exactly what the
 -- event of that move tells, or raises and did a beginning of it; and where the loader ends after the move it raises
 abbrev pub AStepBeyond : Type 0
-AStepBeyond = (w : World) (V : ℕ → Value) (s : State) (u : Unpickler) (o : Operation) (place : ℕ) → IsWhole s → s.stopped ≡ false → IsSame w V s u
+AStepBeyond = (w : World) (V : ℕ → Value) (s : State) (u : Unpickler) (o : Operation) (place : ℕ) → HasValue o → IsWhole s → s.stopped ≡ false → IsSame w V s u
     → Comes w V s u (loader_move o.opcode (row_of o) s) (protocol_after o.opcode o.arg u.proto) (load_op w o u) (moved_so (loader_move o.opcode (row_of o) s) (used_op (loader_move o.opcode (row_of o) s) o) place s)

@@ -1,17 +1,17 @@
 -- What CPython's unpickler does with the bytes of a file, by one `pickle.load` or by a loop of them, and that the lines tell it.
 -- Source: Lib/pickle.py, `load` (CPython 3.11).
-use Rattle.std.specs.Prelude.{◌≡◌, ℕ, zero, suc, ◌^◌, ◌<◌, ◌≤◌, Bool, true, false, List, [], ◌++◌, length, if◌then◌else◌, Some}
+use Rattle.std.specs.Prelude.{◌≡◌, ℕ, zero, suc, ◌^◌, ◌<◌, ◌≤◌, Bool, true, false, List, [], length, if◌then◌else◌, Some}
 use Rattle.pickle_doc.specs.Document.{Contents, ReadsAs}
 use Rattle.pickle_doc.specs.Place.{ops_of}
 use Rattle.pickle_machine.specs.State.{State, start}
 use Rattle.pickle_machine.specs.Run.{run}
 use Rattle.pickle_show.specs.Manner.{Manner}
 use Rattle.pickle_show.specs.Calls.{calls_end, calls}
-use Rattle.pickle_loader.specs.Environment.{Value, Act, World}
+use Rattle.pickle_loader.specs.Environment.{Value, World}
 use Rattle.pickle_loader.specs.Dispatch.{Loaded, Going, Ended, Failed, acts_of, new_unpickler, load_item}
 use Rattle.pickle_loader.specs.Reader.{Reader, Fetched, Fetch, NoFetch, fetch, opened}
-use Rattle.pickle_loader.specs.Told.{told_of, told}
-use Rattle.pickle_loader.specs.Laws.{Follows}
+use Rattle.pickle_loader.specs.Told.{told}
+use Rattle.pickle_loader.specs.Laws.{Follows, IsTold}
 
 -- an unpickler, or the last of a loop of them, and its file
 pub record Loading : Type 0 where
@@ -45,7 +45,7 @@ BytesAreListed = (w : World) (many : Bool) (bytes : List ℕ) (d : Contents) →
     → (V : ℕ → Value) × ((n : ℕ) (s : State) → run (start many) (ops_of d) n ≡ Some s → n ≤ (calls_end d).place → Follows w V (told V many (ops_of d) n) s (load_bytes w many bytes n).now)
 
 -- where the reading ends with status 0, for which no STOP may leave a frame unfinished, however long the unpickler runs, all that is told
--- of what it does is a beginning of what the lines tell
+-- of what it does is a beginning of what the lines tell, of the values that it holds
 abbrev pub NothingElse : Type 0
 NothingElse = (how : Manner) (w : World) (many : Bool) (bytes : List ℕ) (d : Contents) → ReadsAs many bytes d → length bytes < 2 ^ 64 → (calls how d).status ≡ 0
-    → (V : ℕ → Value) × ((n : ℕ) → (rest : List Act) × (told_of (acts_of (load_bytes w many bytes n).now) ++ rest ≡ told V many (ops_of d) (length (ops_of d))))
+    → (V : ℕ → Value) × IsTold w V (λ n. told V many (ops_of d) (length (ops_of d))) (run (start many) (ops_of d)) (λ n. (load_bytes w many bytes n).now)

@@ -13,8 +13,10 @@ use Rattle.pickle_ops.specs.declared.kind.Kind.{Kind}
 use Rattle.pickle_ops.specs.declared.kind.Kind.TheVariants as kind
 use Rattle.pickle_ops.specs.declared.row.Filling.{Filling}
 use Rattle.pickle_ops.specs.declared.row.Filling.TheVariants as filling
+use Rattle.pickle_ops.specs.Shape.{is_quoted}
 use Rattle.pickle_ops.specs.Argument.{number_of, integer_of, payload, first_text, second_text}
 use Rattle.pickle_ops.specs.Table.{int_kind}
+use Rattle.pickle_lenient.specs.Key.{key_of}
 use Rattle.pickle_loader.specs.Environment.{PyType, PyTuple, PyList, PyDict, PySet, PyFrozenSet, PyByteArray, PyMemoryView, PyOther, Value, Plain, Own, Foreign, is_elsewhere, Line, Given, Act, Make, Find, Extension, Call, New, NewEx, Instance, SetState, Fill, Persist, NextBuffer, View, Method, Reply, Raises, Answers, Unpickler, World}
 use Rattle.pickle_loader.specs.Unpickler.{item, is_str, has_memory}
 use Rattle.pickle_loader.specs.FlatStack.{Flat, Popped, flat_push, flat_pop, flat_top, flat_mark, flat_cut, flat_load_pop, above, between}
@@ -125,6 +127,9 @@ load_binpersid w c = pop 1 c (λ vs q. get w (Persist (Given (item 0 vs))) q)
 abbrev pub load_literal : Kind → CUnpickler → CStep
 load_literal k c = CRan (push (Plain k) c)
 
+abbrev pub load_string : List ℕ → CUnpickler → CStep
+load_string line c = if is_quoted line then load_literal (kind.LegacyLine line) c else CRaised c.acts
+
 abbrev pub load_counted_bytearray : List ℕ → CUnpickler → CStep
 load_counted_bytearray bytes c = make PyByteArray (Plain (kind.Bytes bytes) ∷ []) c
 
@@ -224,6 +229,11 @@ abbrev pub got : Option Value → CUnpickler → CStep
 got None c = CRaised c.acts
 got (Some v) c = CRan (push v c)
 
+-- PyLong_FromString of a line: it raises where that is no key
+abbrev pub with_key : Option ℕ → CUnpickler → (ℕ → CStep) → CStep
+with_key None c go = CRaised c.acts
+with_key (Some key) c go = go key
+
 abbrev pub load_get : ℕ → CUnpickler → CStep
 load_get key c = got (lookup (is_at (nat_cmp key)) c.memo) c
 
@@ -302,7 +312,7 @@ dispatch w op.Long1 arg c = load_literal (kind.Long (payload form.B1 arg)) c
 dispatch w op.Long4 arg c = load_literal (kind.Long (payload form.Bs4 arg)) c
 dispatch w op.Float arg c = load_literal (kind.FloatLine (payload form.Line arg)) c
 dispatch w op.BinFloat arg c = load_literal (kind.Float (payload form.R8 arg)) c
-dispatch w op.String arg c = load_literal (kind.LegacyLine (payload form.Quoted arg)) c
+dispatch w op.String arg c = load_string (payload form.Quoted arg) c
 dispatch w op.BinString arg c = load_literal (kind.LegacyString (payload form.Bs4 arg)) c
 dispatch w op.ShortBinString arg c = load_literal (kind.LegacyString (payload form.B1 arg)) c
 dispatch w op.BinBytes arg c = load_literal (kind.Bytes (payload form.B4 arg)) c
@@ -339,10 +349,10 @@ dispatch w op.Reduce arg c = load_reduce w c
 dispatch w op.Pop arg c = load_pop w c
 dispatch w op.PopMark arg c = load_pop_mark w c
 dispatch w op.Dup arg c = load_dup c
-dispatch w op.Get arg c = load_get (number_of form.Decimal arg) c
+dispatch w op.Get arg c = with_key (key_of (payload form.Decimal arg)) c (λ key. load_get key c)
 dispatch w op.BinGet arg c = load_get (number_of form.U1 arg) c
 dispatch w op.LongBinGet arg c = load_get (number_of form.U4 arg) c
-dispatch w op.Put arg c = load_put w (number_of form.Decimal arg) c
+dispatch w op.Put arg c = with_key (key_of (payload form.Decimal arg)) c (λ key. load_put w key c)
 dispatch w op.BinPut arg c = load_put w (number_of form.U1 arg) c
 dispatch w op.LongBinPut arg c = load_put w (number_of form.U4 arg) c
 dispatch w op.Memoize arg c = load_memoize w c

@@ -13,3 +13,9 @@ pub mod Whole
 pub mod Beyond
 pub mod Onward
 pub mod CLoad
+pub mod Text
+pub mod OneMemo
+pub mod Import
+pub mod FindClass
+pub mod Callee
+pub mod ByFrames

@@ -14,6 +14,9 @@ use Rattle.pickle_machine.specs.Move.{fresh}
 use Rattle.pickle_machine.specs.Run.{run}
 use Rattle.pickle_lenient.specs.declared.taken.Taken.{Taken}
 use Rattle.pickle_lenient.specs.Stream.{taken}
+use Rattle.pickle_show.specs.declared.report.Closing.{Closing}
+use Rattle.pickle_show.specs.declared.report.Closing.TheVariants as closing
+use Rattle.pickle_show.specs.declared.naming.Detail.{Detail}
 use Rattle.pickle_show.specs.declared.naming.Detail.TheVariants as detail
 use Rattle.pickle_further.specs.declared.seek.Sought.TheVariants as sought
 use Rattle.pickle_further.specs.declared.way.Pickles.{Pickles}
@@ -24,7 +27,8 @@ use Rattle.pickle_further.specs.Parts.{ignoring, are_many, standing_at, standing
 use Rattle.pickle_loader.specs.Environment.{Value, Act, Unpickler, World}
 use Rattle.pickle_loader.specs.Unpickler.{Step, Raised, load_frame, load_get, load_put}
 use Rattle.pickle_loader.specs.Dispatch.{dispatch, Loaded, Going, Ended, Failed, loaded, acts_of, new_unpickler}
-use Rattle.pickle_loader.specs.Told.{told_of, acts_told, told, protocol_after}
+use Rattle.pickle_loader.specs.Told.{acts_told, told, protocol_after}
+use Rattle.pickle_loader.specs.Laws.{IsTold}
 
 -- ---- an item
 
@@ -95,6 +99,21 @@ unfoldable pub stands : Way → Standing → ℕ → Option Standing
 stands way p zero = Some p
 stands way p (suc n) = stands_on way (stands way p n)
 
+-- the state behind n items, if they did not end before the last of them, or with it other than by STOP
+abbrev pub state_by : Option Closing → State → Option State
+state_by None s = Some s
+state_by (Some closing.Stopped) s = Some s
+state_by (Some (closing.Refused place r)) s = None
+state_by (Some (closing.Fault f offset)) s = None
+
+abbrev pub state_on : Way → Option Standing → Option State
+state_on way None = None
+state_on way (Some p) = state_by (going way p).gone.closing (going way p).state
+
+unfoldable pub state_behind : Way → Standing → ℕ → Option State
+state_behind way p zero = Some p.state
+state_behind way p (suc n) = state_on way (stands way p n)
+
 -- the protocol there: that of the last PROTO of the same pickle
 abbrev pub protocol_read : Result Taken FrontFault → ℕ → ℕ
 protocol_read (Ok item) before = protocol_after item.op.opcode item.op.arg before
@@ -125,10 +144,10 @@ acts_before V way p (suc n) = acts_before V way p n ++ acts_on V way (protocol w
 
 -- in every environment, for any bytes, read as one pickle, as several, or by one Unpickler that loads again, with frames ignored or
 -- buffered, there is a map from the numbers of objects to values under which, after any number of opcodes, all that is told of the
--- unpickler is a beginning of what the lines of that reading tell
+-- unpickler is a beginning of what the lines of that reading tell, of the values that it holds
 abbrev pub NothingBeyond : Type 0
 NothingBeyond = (w : World) (way : Way) (bytes : List ℕ)
-    → (V : ℕ → Value) × ((n : ℕ) → (rest : List Act) × (told_of (acts_of (load_way w way bytes n).now) ++ rest ≡ acts_before V way (standing_first detail.Cut way.pickles bytes) n))
+    → (V : ℕ → Value) × IsTold w V (acts_before V way (standing_first detail.Cut way.pickles bytes)) (state_behind way (standing_first detail.Cut way.pickles bytes)) (λ n. (load_way w way bytes n).now)
 
 -- ---- the lines of a document
 
@@ -142,9 +161,9 @@ begins_anew pickles.OneMemo = false
 -- the part behind an end at that place begins, and told up to there what the lines tell: the lines and the part behind their end are those
 -- of one reading
 abbrev pub LinesAreRead : Type 0
-LinesAreRead = (V : ℕ → Value) (p : Pickles) (d : Contents) → IsFormed d → length (document_bytes d) < 2 ^ 64 → begins_anew p ≡ true → d.many ≡ are_many p
-    → (k : ℕ) (s : State) (q : Standing) → run (start d.many) (ops_of d) k ≡ Some s → stands (ignoring p) (standing_first detail.Cut p (document_bytes d)) k ≡ Some q
-    → (q ≡ standing_at detail.Cut d k s) × (acts_before V (ignoring p) (standing_first detail.Cut p (document_bytes d)) k ≡ told V d.many (ops_of d) k)
+LinesAreRead = (how : Detail) (V : ℕ → Value) (p : Pickles) (d : Contents) → IsFormed d → length (document_bytes d) < 2 ^ 64 → begins_anew p ≡ true → d.many ≡ are_many p
+    → (k : ℕ) (s : State) (q : Standing) → run (start d.many) (ops_of d) k ≡ Some s → stands (ignoring p) (standing_first how p (document_bytes d)) k ≡ Some q
+    → (q ≡ standing_at how d k s) × (acts_before V (ignoring p) (standing_first how p (document_bytes d)) k ≡ told V d.many (ops_of d) k)
 
 -- ---- frames in a buffer
 
@@ -159,8 +178,8 @@ NoneLost way p k = (j : ℕ) (q : Standing) → j < k → stands way p j ≡ Som
 -- up to the first item that loses bytes a reading with a buffer is the one in which frames are ignored: it stands where that does, and told
 -- the same, so that what is shown of it from there on is all that it has more
 abbrev pub BufferedIsRead : Type 0
-BufferedIsRead = (V : ℕ → Value) (w : Way) (bytes : List ℕ) (k : ℕ) (q : Standing) → stands w (standing_first detail.Cut w.pickles bytes) k ≡ Some q → NoneLost w (standing_first detail.Cut w.pickles bytes) k
-    → (stands (ignoring w.pickles) (standing_first detail.Cut w.pickles bytes) k ≡ Some (unbuffered q)) × (acts_before V w (standing_first detail.Cut w.pickles bytes) k ≡ acts_before V (ignoring w.pickles) (standing_first detail.Cut w.pickles bytes) k)
+BufferedIsRead = (how : Detail) (V : ℕ → Value) (w : Way) (bytes : List ℕ) (k : ℕ) (q : Standing) → stands w (standing_first how w.pickles bytes) k ≡ Some q → NoneLost w (standing_first how w.pickles bytes) k
+    → (stands (ignoring w.pickles) (standing_first how w.pickles bytes) k ≡ Some (unbuffered q)) × (acts_before V w (standing_first how w.pickles bytes) k ≡ acts_before V (ignoring w.pickles) (standing_first how w.pickles bytes) k)
 
 -- what is found among the first n items: none that loses bytes, or the first that does
 abbrev pub IsFound : Way → Standing → ℕ → Option Standing → Type 0

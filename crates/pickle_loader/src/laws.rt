@@ -3,9 +3,15 @@
 ghost use Rattle.pickle_loader.specs.Laws.{LoadsAreListed, ToldHasLine, AllTold, NoLineNoAct};
 ghost use Rattle.pickle_loader.specs.Reader.{OpsAreFetched, FramesOnlyEnd};
 ghost use Rattle.pickle_loader.specs.FlatStack.{OneStack};
-ghost use Rattle.pickle_loader.specs.Beyond.{WideMovesAreFollowed, WhatIsMissingRaises, FillsAreFollowed, AStepBeyond};
+ghost use Rattle.pickle_loader.specs.Beyond.{KeysAgree, WideMovesAreFollowed, WhatIsMissingRaises, FillsAreFollowed, AStepBeyond};
 ghost use Rattle.pickle_loader.specs.Onward.{NothingBeyond, LinesAreRead, BufferedIsRead, LossIsFound};
 ghost use Rattle.pickle_loader.specs.Bytes.{BytesAreListed, NothingElse};
+ghost use Rattle.pickle_loader.specs.ByFrames.{FramedIsBytes, NothingBeyondByFrames, NothingElseByFrames, EachActHasItsLine, EachActInCHasItsLine};
+ghost use Rattle.pickle_loader.specs.Text.{WholeTextIsItsLines, OneWholeText, EachReachHasItsLine, DetailTellsAlike};
+ghost use Rattle.pickle_loader.specs.Import.{OnlyImportsSayImport};
+ghost use Rattle.pickle_loader.specs.FindClass.{FoundIsSaid};
+ghost use Rattle.pickle_loader.specs.Callee.{OneLineOneCallee};
+ghost use Rattle.pickle_loader.specs.OneMemo.{NothingElseWithOneMemo, NothingElseWithOneMemoInC};
 ghost use Rattle.pickle_loader.specs.CLoad.{OneLoad, NothingBeyondInC, NothingElseInAStream, NothingElseInC};
 
 /// What the unpickler does in any environment is what the lines tell, as far as it does not raise.
@@ -33,7 +39,7 @@ pub fn bytes_are_listed()
     ensures { BytesAreListed }
 {}
 
-/// Where the reading ends with status 0, the unpickler does nothing else, however long it runs.
+/// Where the reading ends with status 0, the unpickler does nothing else, however long it runs, and with no other values than the lines say.
 pub fn nothing_else()
     ensures { NothingElse }
 {}
@@ -49,12 +55,12 @@ pub fn one_load()
     ensures { OneLoad }
 {}
 
-/// Whatever the unpickler in C does is a beginning of what the lines tell, behind an end too.
+/// Whatever the unpickler in C does is a beginning of what the lines tell, behind an end too, and with the values that they say.
 pub fn nothing_beyond_in_c()
     ensures { NothingBeyondInC }
 {}
 
-/// Where the reading ends with status 0, the unpickler in C does nothing else, however long it runs, frames ignored.
+/// Where the reading ends with status 0, the unpickler in C does nothing else, however long it runs, frames ignored, and with no other values.
 pub fn nothing_else_in_c()
     ensures { NothingElseInC }
 {}
@@ -67,6 +73,11 @@ pub fn nothing_else_in_a_stream()
 /// An accepted item without a line makes the unpickler do nothing that is told.
 pub fn no_line_no_act()
     ensures { NoLineNoAct }
+{}
+
+/// A key of decimal digits is that number to the unpicklers in Python and in C.
+pub fn keys_agree()
+    ensures { KeysAgree }
 {}
 
 /// Where a loader moves as a row that asks for less, the unpickler does what the event of that move tells, as far as it does not raise.
@@ -90,9 +101,30 @@ pub fn a_step_beyond()
     ensures { AStepBeyond }
 {}
 
-/// Behind an end too, whatever an unpickler does that reads as loaders read is a beginning of what the lines of that reading tell.
+/// Behind an end too, whatever an unpickler does that reads as loaders read is a beginning of what the lines of that reading tell, and with
+/// the values that they say.
 pub fn nothing_beyond()
     ensures { NothingBeyond }
+{}
+
+/// So is whatever the unpickler in Python does that reads by its own frames.
+pub fn nothing_beyond_by_frames()
+    ensures { NothingBeyondByFrames }
+{}
+
+/// Each act that is told of it has its line in the text, above the headings or under one.
+pub fn each_act_has_its_line()
+    ensures { EachActHasItsLine }
+{}
+
+/// And each act that is told of the one in C, in each reading of which the text tells.
+pub fn each_act_in_c_has_its_line()
+    ensures { EachActInCHasItsLine }
+{}
+
+/// One load by its own frames, and a loop of them, is the load of the bytes.
+pub fn framed_is_bytes()
+    ensures { FramedIsBytes }
 {}
 
 /// The lines of a document and those of the part behind their end are lines of one reading, from the first byte on.
@@ -113,4 +145,55 @@ pub fn loss_is_found()
 /// Frames never change what the unpickler in Python reads, but only end some readings.
 pub fn frames_only_end()
     ensures { FramesOnlyEnd }
+{}
+
+/// Cut behind its newlines, the whole text of `calls` is the line of each item that has one, the headings, and the lines that close a part.
+pub fn whole_text_is_its_lines()
+    ensures { WholeTextIsItsLines }
+{}
+
+/// For any bytes there is one whole text, with one status.
+pub fn one_whole_text()
+    ensures { OneWholeText }
+{}
+
+/// A line of an import by some names, wherever it stands in the text, is the line of an item that imports by these names.
+pub fn only_imports_say_import()
+    ensures { OnlyImportsSayImport }
+{}
+
+/// The line of an accepted import, or of INST, by names that can be read says what `find_class` imports for them, by the protocol there.
+pub fn found_is_said()
+    ensures { FoundIsSaid }
+{}
+
+/// Lines of what was made that are one line call what is said in the same words, or none of them calls.
+pub fn one_line_one_callee()
+    ensures { OneLineOneCallee }
+{}
+
+/// Whatever is told of an item of a reading has its line in the text, above the headings or under one.
+pub fn each_reach_has_its_line()
+    ensures { EachReachHasItsLine }
+{}
+
+/// How much of an argument is shown changes nothing of what is told.
+pub fn detail_tells_alike()
+    ensures { DetailTellsAlike }
+{}
+
+/// Where `calls --memo kept` ends with status 0, one unpickler that loads again does nothing else, however long it runs, and with no other
+/// values.
+pub fn nothing_else_with_one_memo()
+    ensures { NothingElseWithOneMemo }
+{}
+
+/// And so the one in Python with frames of its own.
+pub fn nothing_else_by_frames()
+    ensures { NothingElseByFrames }
+{}
+
+/// And so the one in C, be frames ignored, or in a buffer that STOP ends or leaves.
+pub fn nothing_else_with_one_memo_in_c()
+    ensures { NothingElseWithOneMemoInC }
 {}

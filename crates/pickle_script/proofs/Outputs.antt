@@ -23,35 +23,35 @@ use Rattle.pickle_script.specs.FormText.{form_output}
 use Rattle.pickle_script.specs.Output.{StopsText, AnswersText, outside_line, IsCallsOfFile, CompletesFile, CutsFile, AnswersCalls}
 
 -- nothing is a beginning of any text
-nothing_written : (output : Contents → Output) (many : Bool) (bytes : List ℕ) (a : Told) → AreBytes bytes → Begins output many bytes a a
-nothing_written output many bytes a small =
-    let some = some_document many bytes small in
+nothing_written : (output : Contents → Output) (many loose : Bool) (bytes : List ℕ) (a : Told) → AreBytes bytes → Begins output many loose bytes a a
+nothing_written output many loose bytes a small =
+    let some = some_document many loose bytes small in
     (some.0, some.1, ((output some.0).text, WroteAllBut-none a (output some.0).text))
 
 no_calls : (how : Manner) (p : Pickles) (bytes : List ℕ) (a : Told) → AreBytes bytes → further.CutsCallsText how p bytes a a cut.Memory
 no_calls how pickles.First bytes a small =
-    let some = some_document false bytes small in
+    let some = some_document false false bytes small in
     let o = document_calls how pickles.First some.0 in
     (o, (some.0, some.1, refl), (o.text, WroteAllBut-none a o.text))
 no_calls how pickles.All bytes a small =
-    let some = some_document true bytes small in
+    let some = some_document true false bytes small in
     let o = document_calls how pickles.All some.0 in
     (o, (some.0, some.1, refl), (o.text, WroteAllBut-none a o.text))
 no_calls how pickles.OneMemo bytes a small =
     let o = kept_calls how bytes in
     (o, refl, (o.text, WroteAllBut-none a o.text))
 
-nothing_left : (t : Text) (many : Bool) (bytes : List ℕ) (a : Told) → AreBytes bytes → StopsText t many bytes a a stop.TooLarge
-nothing_left text.Listing many bytes a small = nothing_written listing many bytes a small
-nothing_left text.Objects many bytes a small = refl
-nothing_left text.Form many bytes a small = nothing_written form_output false bytes a small
-nothing_left (text.Calls pickles detail) many bytes a small = no_calls (whole detail) pickles bytes a small
+nothing_left : (t : Text) (many loose : Bool) (bytes : List ℕ) (a : Told) → AreBytes bytes → StopsText t many loose bytes a a stop.TooLarge
+nothing_left text.Listing many loose bytes a small = nothing_written listing many loose bytes a small
+nothing_left text.Objects many loose bytes a small = refl
+nothing_left text.Form many loose bytes a small = nothing_written form_output false false bytes a small
+nothing_left (text.Calls pickles detail) many loose bytes a small = no_calls (whole detail) pickles bytes a small
 
-pub refused_large : {S : Type 0} (told : S → Told) (t : Text) (many : Bool) (bytes : List ℕ) (sink : S) → AreBytes bytes → size_limit < length bytes
-    → AnswersText t many bytes told sink sink (Err stop.TooLarge)
-refused_large told t many bytes sink small large = record {
+pub refused_large : {S : Type 0} (told : S → Told) (t : Text) (many loose : Bool) (bytes : List ℕ) (sink : S) → AreBytes bytes → size_limit < length bytes
+    → AnswersText t many loose bytes told sink sink (Err stop.TooLarge)
+refused_large told t many loose bytes sink small large = record {
   whole = tt;
-  stopped = nothing_left t many bytes (told sink) small;
+  stopped = nothing_left t many loose bytes (told sink) small;
   too_large = ((λ _. large), (λ _. refl));
   untouched = λ _. refl;
 }

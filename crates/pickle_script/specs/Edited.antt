@@ -11,4 +11,4 @@ use Rattle.pickle_script.specs.Output.{AnswersText}
 -- the text of the document's bytes, in its mode; or there was no memory for these bytes, and nothing was written
 abbrev pub AnswersSession : Text → Contents → {S : Type 0} → (S → Told) → S → S → Result ℕ Stop → Type 0
 AnswersSession text d told old new answer =
-    ((answer ≡ Err stop.Memory) × (new ≡ old)) ⊎ AnswersText text d.many (document_bytes d) told old new answer
+    ((answer ≡ Err stop.Memory) × (new ≡ old)) ⊎ AnswersText text d.many d.loose (document_bytes d) told old new answer

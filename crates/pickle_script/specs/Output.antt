@@ -25,27 +25,27 @@ use Rattle.pickle_script.specs.declared.texts.Text.TheVariants as text
 -- ---- whole
 
 -- the text of the document that the bytes read as was written, and this is its status
-abbrev pub CompletesText : Text → Bool → List ℕ → Told → Told → ℕ → Type 0
-CompletesText text.Listing many bytes old new status = IsListed many bytes old new status
-CompletesText text.Objects many bytes old new status = IsReported many bytes old new status
-CompletesText text.Form many bytes old new status = Completes form_output false bytes old new status
-CompletesText (text.Calls pickles detail) many bytes old new status = further.CompletesText (whole detail) pickles bytes old new status
+abbrev pub CompletesText : Text → Bool → Bool → List ℕ → Told → Told → ℕ → Type 0
+CompletesText text.Listing many loose bytes old new status = IsListed many loose bytes old new status
+CompletesText text.Objects many loose bytes old new status = IsReported many loose bytes old new status
+CompletesText text.Form many loose bytes old new status = Completes form_output false false bytes old new status
+CompletesText (text.Calls pickles detail) many loose bytes old new status = further.CompletesText (whole detail) pickles bytes old new status
 
 -- ---- not finished
 
 -- what a stop leaves of a text that is written as it is found: a beginning, and only Write is a failure of the sink. Nothing is read
-abbrev pub Stops : (Contents → Output) → Bool → List ℕ → Told → Told → Stop → Type 0
-Stops output many bytes old new stop.Read = ⊥
-Stops output many bytes old new stop.Write = Breaks output many bytes old new
-Stops output many bytes old new stop.TooLarge = Begins output many bytes old new
-Stops output many bytes old new stop.Memory = Begins output many bytes old new
+abbrev pub Stops : (Contents → Output) → Bool → Bool → List ℕ → Told → Told → Stop → Type 0
+Stops output many loose bytes old new stop.Read = ⊥
+Stops output many loose bytes old new stop.Write = Breaks output many loose bytes old new
+Stops output many loose bytes old new stop.TooLarge = Begins output many loose bytes old new
+Stops output many loose bytes old new stop.Memory = Begins output many loose bytes old new
 
 -- what it leaves of a report, which is written once all is run: a beginning where the sink failed, and else nothing was written
-abbrev pub StopsReport : Bool → List ℕ → Told → Told → Stop → Type 0
-StopsReport many bytes old new stop.Read = ⊥
-StopsReport many bytes old new stop.Write = BreaksReport many bytes old new
-StopsReport many bytes old new stop.TooLarge = new ≡ old
-StopsReport many bytes old new stop.Memory = new ≡ old
+abbrev pub StopsReport : Bool → Bool → List ℕ → Told → Told → Stop → Type 0
+StopsReport many loose bytes old new stop.Read = ⊥
+StopsReport many loose bytes old new stop.Write = BreaksReport many loose bytes old new
+StopsReport many loose bytes old new stop.TooLarge = new ≡ old
+StopsReport many loose bytes old new stop.Memory = new ≡ old
 
 -- what it leaves of what is imported and called: as of a listing
 abbrev pub StopsCalls : Manner → Pickles → List ℕ → Told → Told → Stop → Type 0
@@ -54,19 +54,19 @@ StopsCalls how pickles bytes old new stop.Write = further.CutsCallsText how pick
 StopsCalls how pickles bytes old new stop.TooLarge = further.CutsCallsText how pickles bytes old new cut.Memory
 StopsCalls how pickles bytes old new stop.Memory = further.CutsCallsText how pickles bytes old new cut.Memory
 
-abbrev pub StopsText : Text → Bool → List ℕ → Told → Told → Stop → Type 0
-StopsText text.Listing many bytes old new e = Stops listing many bytes old new e
-StopsText text.Objects many bytes old new e = StopsReport many bytes old new e
-StopsText text.Form many bytes old new e = Stops form_output false bytes old new e
-StopsText (text.Calls pickles detail) many bytes old new e = StopsCalls (whole detail) pickles bytes old new e
+abbrev pub StopsText : Text → Bool → Bool → List ℕ → Told → Told → Stop → Type 0
+StopsText text.Listing many loose bytes old new e = Stops listing many loose bytes old new e
+StopsText text.Objects many loose bytes old new e = StopsReport many loose bytes old new e
+StopsText text.Form many loose bytes old new e = Stops form_output false false bytes old new e
+StopsText (text.Calls pickles detail) many loose bytes old new e = StopsCalls (whole detail) pickles bytes old new e
 
 -- ---- the answer
 
 -- what is answered where a text was to be written to a sink, of which `told` says what it reports
-pub record AnswersText (text : Text) (many : Bool) (bytes : List ℕ) {S : Type 0} (told : S → Told) (old new : S) (answer : Result ℕ Stop) : Type 0 where
-  pub whole : IfOk answer (CompletesText text many bytes (told old) (told new))
+pub record AnswersText (text : Text) (many loose : Bool) (bytes : List ℕ) {S : Type 0} (told : S → Told) (old new : S) (answer : Result ℕ Stop) : Type 0 where
+  pub whole : IfOk answer (CompletesText text many loose bytes (told old) (told new))
   -- Write comes only where the sink has failed, Memory only where it has not, and Read never
-  pub stopped : IfErr answer (StopsText text many bytes (told old) (told new))
+  pub stopped : IfErr answer (StopsText text many loose bytes (told old) (told new))
   -- too many bytes, and only those, are refused before anything is written
   pub too_large : (answer ≡ Err stop.TooLarge) ↔ (size_limit < length bytes)
   pub untouched : answer ≡ Err stop.TooLarge → new ≡ old

@@ -7,7 +7,7 @@ ghost use Rattle.pickle_script.specs.Edited.{AnswersSession};
 use crate::stop::Stop;
 use crate::texts::{Text, write_text};
 use pickle_doc::Document;
-use pickle_ops::{Buffered, Page, Sink, ToWrite};
+use pickle_io::{Buffered, Page, Sink, ToWrite};
 use pickle_session::{Past, Session};
 use std::alloc::Global;
 
@@ -38,7 +38,14 @@ pub fn write_session_text<P: Past, K: Page>(
 {
     let document = session.document();
     match bytes_of(alloc, document) {
-        Ok(bytes) => write_text(alloc, text, document.is_many(), bytes.as_slice(), page),
+        Ok(bytes) => write_text(
+            alloc,
+            text,
+            document.is_many(),
+            document.is_loose(),
+            bytes.as_slice(),
+            page,
+        ),
         Err(_) => Err(Stop::Memory),
     }
 }

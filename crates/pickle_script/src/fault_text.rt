@@ -5,7 +5,8 @@ ghost use Rattle.pickle_io.specs.Device.{Writes};
 ghost use Rattle.pickle_script.specs.FaultText.{end_text, op_fault_text};
 
 use pickle_doc::{End, TailFault};
-use pickle_ops::{Failed, OpFault, Page, write_all};
+use pickle_io::{Failed, Page, write_all};
+use pickle_ops::OpFault;
 use pickle_show::{write_fault_at, write_fault_text};
 
 /// Writes why a document ends.

@@ -11,7 +11,7 @@ use crate::stop::Stop;
 use pickle_doc::LIMIT;
 use pickle_further::Pickles;
 use pickle_holes::{Hole, Holes};
-use pickle_ops::{Failed, Page, write_all, write_decimal};
+use pickle_io::{Failed, Page, write_all, write_decimal};
 use pickle_show::Detail;
 use std::alloc::Global;
 

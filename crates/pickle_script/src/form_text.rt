@@ -7,7 +7,7 @@ ghost use Rattle.pickle_show.specs.Output.{Completes, Cuts};
 ghost use Rattle.pickle_script.specs.FormText.{place_text, other_words, other_line, form_text, form_status, form_output};
 
 use pickle_form::{Other, first_other};
-use pickle_ops::{Failed, Page, write_all, write_decimal};
+use pickle_io::{Failed, Page, write_all, write_decimal};
 use pickle_show::TextStop;
 use std::alloc::Global;
 
@@ -68,8 +68,8 @@ fn form_status(first: Option<Other>) -> u8
 /// `Memory` (M) where memory runs out: nothing was written. `Failed` where the sink fails: what was written then is a beginning of the text.
 pub(crate) fn write_form<S: Page>(alloc: Global, bytes: &[u8], sink: &mut S) -> Result<u8, TextStop>
     requires { length bytes.now ≤ size_limit }
-    ensures ok { IfOk result (Completes form_output false bytes.now (S.told sink.old) (S.told sink.new)) }
-    ensures err { IfErr result (Cuts form_output false bytes.now (S.told sink.old) (S.told sink.new)) }
+    ensures ok { IfOk result (Completes form_output false false bytes.now (S.told sink.old) (S.told sink.new)) }
+    ensures err { IfErr result (Cuts form_output false false bytes.now (S.told sink.old) (S.told sink.new)) }
 {
     let first = first_other(alloc, bytes)?;
     write_first(first, sink)?;

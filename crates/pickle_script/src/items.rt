@@ -6,7 +6,8 @@ ghost use Rattle.pickle_doc.specs.Document.{document_bytes, size_limit};
 ghost use Rattle.pickle_doc.specs.Place.{offset_of};
 ghost use Rattle.pickle_script.specs.PlaceText.{sign_if, signs, op_text, place_columns, session_line, session_line_at, items_text};
 
-use pickle_ops::{Failed, Op, Page, write_all, write_arg_text};
+use pickle_io::{Failed, Page, write_all};
+use pickle_ops::{Op, write_arg_text};
 use pickle_session::{Past, Session};
 use pickle_show::write_right;
 

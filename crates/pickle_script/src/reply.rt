@@ -6,7 +6,7 @@ ghost use Rattle.pickle_script.specs.ReplyText.{edit_words, fault_words, behind_
 
 use crate::fault_text::write_end;
 use pickle_doc::{EditFault, End};
-use pickle_ops::{Failed, Page, write_all, write_decimal};
+use pickle_io::{Failed, Page, write_all, write_decimal};
 use pickle_session::{Fault, Reply, Why};
 use pickle_show::{write_item_refusal, write_refusal};
 

@@ -4,7 +4,7 @@ ghost use Rattle.std.specs.Prelude.{◌≡◌};
 ghost use Rattle.pickle_script.specs.Stop.{stop_words, stop_of, stop_of_read, stop_of_text};
 
 use pickle_doc::DocFault;
-use pickle_ops::{Failed, ReadStop};
+use pickle_io::{Failed, ReadStop};
 use pickle_show::TextStop;
 use std::alloc::AllocError;
 

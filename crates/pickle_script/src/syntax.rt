@@ -7,7 +7,7 @@ ghost use Rattle.pickle_script.specs.ReplyText.{syntax_words, syntax_rest, synta
 
 use crate::fault_text::write_op_fault;
 use crate::line::Syntax;
-use pickle_ops::{Failed, Page, write_all, write_decimal};
+use pickle_io::{Failed, Page, write_all, write_decimal};
 
 /// Why a line says nothing.
 #[tactic(auto, unfolding(crate::specs::ReplyText::syntax_words))]

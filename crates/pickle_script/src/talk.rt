@@ -15,7 +15,7 @@ use crate::query::write_query;
 use crate::reply::write_reply;
 use crate::stop::Stop;
 use crate::syntax::{write_no_item_at, write_syntax};
-use pickle_ops::{Asker, Failed, Page};
+use pickle_io::{Asker, Failed, Page};
 use pickle_session::{Command, Past, Reply, Session};
 use std::alloc::Global;
 

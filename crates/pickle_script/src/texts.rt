@@ -9,7 +9,7 @@ use crate::stop::Stop;
 use pickle_doc::LIMIT;
 use pickle_further::Pickles;
 use pickle_holes::Holes;
-use pickle_ops::Page;
+use pickle_io::Page;
 use pickle_show::{Detail, list_bytes, report_of_bytes};
 use std::alloc::Global;
 
@@ -30,8 +30,8 @@ pub enum Text {
 }
 
 /// Writes a text of the pickle that the bytes are, or where `many` holds of several pickles that follow one another, and answers its
-/// status: 1 where an item is refused or the bytes have a fault, else 0. What is imported and called has a reading of its own and does
-/// not depend on `many`; its status is 0 where the reading ends with the bytes, right behind a STOP, else 1. Nor does the form, whose status
+/// status: 1 where an item is refused or the bytes have a fault, else 0. Where `loose` holds frames are not looked at. What is imported and
+/// called has a reading of its own and does not depend on `many` or `loose`; its status is 0 where the reading ends with the bytes, right behind a STOP, else 1. Nor does the form, whose status
 /// is 0 where the pickle is in it, else 1.
 /// `Stop::TooLarge` where there are more bytes than `LIMIT`: nothing was written then. `Stop::Memory` where memory runs out,
 /// `Stop::Write` where the sink fails: what was written then is a beginning of the text, and of a report nothing where memory ran out.
@@ -40,17 +40,18 @@ pub fn write_text<S: Page>(
     alloc: Global,
     text: Text,
     many: bool,
+    loose: bool,
     bytes: &[u8],
     sink: &mut S,
 ) -> Result<u8, Stop>
-    ensures { AnswersText text many bytes.now S.told sink.old sink.new result }
+    ensures { AnswersText text many loose bytes.now S.told sink.old sink.new result }
 {
     if bytes.len() > LIMIT {
         return Err(Stop::TooLarge);
     }
     match text {
-        Text::Listing => Ok(list_bytes(alloc, many, bytes, sink)?),
-        Text::Objects => Ok(report_of_bytes(alloc, many, bytes, sink)?),
+        Text::Listing => Ok(list_bytes(alloc, many, loose, bytes, sink)?),
+        Text::Objects => Ok(report_of_bytes(alloc, many, loose, bytes, sink)?),
         Text::Form => Ok(write_form(alloc, bytes, sink)?),
         Text::Calls(pickles, detail) => {
             let holes = Holes::new(alloc);
@@ -61,37 +62,37 @@ pub fn write_text<S: Page>(
 
 /// Writes the listing of the pickle, as `write_text` does.
 pub fn list<S: Page>(alloc: Global, bytes: &[u8], sink: &mut S) -> Result<u8, Stop>
-    ensures { AnswersText Text.Listing false bytes.now S.told sink.old sink.new result }
+    ensures { AnswersText Text.Listing false false bytes.now S.told sink.old sink.new result }
 {
-    write_text(alloc, Text::Listing, false, bytes, sink)
+    write_text(alloc, Text::Listing, false, false, bytes, sink)
 }
 
 /// Writes the listing of several pickles, one after another, as `write_text` does.
 pub fn list_many<S: Page>(alloc: Global, bytes: &[u8], sink: &mut S) -> Result<u8, Stop>
-    ensures { AnswersText Text.Listing true bytes.now S.told sink.old sink.new result }
+    ensures { AnswersText Text.Listing true false bytes.now S.told sink.old sink.new result }
 {
-    write_text(alloc, Text::Listing, true, bytes, sink)
+    write_text(alloc, Text::Listing, true, false, bytes, sink)
 }
 
 /// Writes the report of the objects that the pickle makes, as `write_text` does.
 pub fn objects<S: Page>(alloc: Global, bytes: &[u8], sink: &mut S) -> Result<u8, Stop>
-    ensures { AnswersText Text.Objects false bytes.now S.told sink.old sink.new result }
+    ensures { AnswersText Text.Objects false false bytes.now S.told sink.old sink.new result }
 {
-    write_text(alloc, Text::Objects, false, bytes, sink)
+    write_text(alloc, Text::Objects, false, false, bytes, sink)
 }
 
 /// Writes the report of the objects that several pickles make, one after another, as `write_text` does.
 pub fn objects_many<S: Page>(alloc: Global, bytes: &[u8], sink: &mut S) -> Result<u8, Stop>
-    ensures { AnswersText Text.Objects true bytes.now S.told sink.old sink.new result }
+    ensures { AnswersText Text.Objects true false bytes.now S.told sink.old sink.new result }
 {
-    write_text(alloc, Text::Objects, true, bytes, sink)
+    write_text(alloc, Text::Objects, true, false, bytes, sink)
 }
 
 /// Writes whether the pickle is in the form that picklers write, as `write_text` does.
 pub fn form<S: Page>(alloc: Global, bytes: &[u8], sink: &mut S) -> Result<u8, Stop>
-    ensures { AnswersText Text.Form false bytes.now S.told sink.old sink.new result }
+    ensures { AnswersText Text.Form false false bytes.now S.told sink.old sink.new result }
 {
-    write_text(alloc, Text::Form, false, bytes, sink)
+    write_text(alloc, Text::Form, false, false, bytes, sink)
 }
 
 /// Writes what the pickles would import and call in this reading, as `write_text` does: the lines of all of them, with arguments cut or in
@@ -103,7 +104,14 @@ pub fn calls<S: Page>(
     bytes: &[u8],
     sink: &mut S,
 ) -> Result<u8, Stop>
-    ensures { AnswersText (Text.Calls pickles detail) false bytes.now S.told sink.old sink.new result }
+    ensures { AnswersText (Text.Calls pickles detail) false false bytes.now S.told sink.old sink.new result }
 {
-    write_text(alloc, Text::Calls(pickles, detail), false, bytes, sink)
+    write_text(
+        alloc,
+        Text::Calls(pickles, detail),
+        false,
+        false,
+        bytes,
+        sink,
+    )
 }

@@ -1,5 +1,5 @@
 -- How many bytes spell the items before a place.
-use Rattle.std.proofs.Common.{◌≡◌, ℕ, zero, suc, ◌+◌, ◌≤◌, true, false, List, [], ◌∷◌, ◌++◌, length, take, slice_get, Some, refl, sym, ap, ◌∙◌, arith, subst, inl, inr, le-leb}
+use Rattle.std.proofs.Common.{Bool, ◌≡◌, ℕ, zero, suc, ◌+◌, ◌≤◌, true, false, List, [], ◌∷◌, ◌++◌, length, take, slice_get, Some, refl, sym, ap, ◌∙◌, arith, subst, inl, inr, le-leb}
 use Rattle.std.specs.List.{AllByRecursion}
 use Rattle.pickle_ops.specs.Spelling.{Operation, size_of}
 use Rattle.pickle_ops.specs.declared.opcode.Opcode.TheVariants as op
@@ -9,6 +9,7 @@ use Rattle.pickle_doc.specs.DocUnit.{DocUnit, Loose, Frame, is_frame, item_size,
 use Rattle.pickle_doc.specs.Document.{Contents, items_of, document_bytes, IsPlain, IsUnit, IsDocument, size_limit}
 use Rattle.pickle_doc.specs.Place.{offset_of, offset_at}
 use Rattle.pickle_doc.proofs.Units.{length_document}
+use Rattle.pickle_doc.proofs.Opcodes.{frame_length}
 use Rattle.pickle_session.specs.Session.{len_of}
 
 -- ---- one item more
@@ -39,19 +40,18 @@ offset_is d k h = rw (le-leb k (len_of d) h) refl
 abbrev HasFrameSize : Item → Type 0
 HasFrameSize i = i.op.opcode ≡ op.Frame → item_size i ≡ 9
 
-plain_size : (i : Item) → IsPlain i → HasFrameSize i
-plain_size i p = λ e.
-    let frame : is_frame i.op.opcode ≡ true = ap is_frame e in
-    let none : true ≡ false = sym frame ∙ p.no_frame in absurd cc
+plain_size : (loose : Bool) (i : Item) → IsPlain loose i → HasFrameSize i
+plain_size loose i p = λ e.
+    let long = frame_length i.op.opcode i.op.arg (ap is_frame e) p.spelled.arg in omega (arith, long)
 
-member_sizes : (members items : List Item) → AllByRecursion IsPlain members → AllByRecursion HasFrameSize items → AllByRecursion HasFrameSize (members ++ items)
-member_sizes [] items h r = r
-member_sizes (i ∷ members) items h r = (plain_size i h.0, member_sizes members items h.1 r)
+member_sizes : (loose : Bool) (members items : List Item) → AllByRecursion (IsPlain loose) members → AllByRecursion HasFrameSize items → AllByRecursion HasFrameSize (members ++ items)
+member_sizes loose [] items h r = r
+member_sizes loose (i ∷ members) items h r = (plain_size loose i h.0, member_sizes loose members items h.1 r)
 
-frame_sizes : (units : List DocUnit) → AllByRecursion IsUnit units → AllByRecursion HasFrameSize (flat units)
-frame_sizes [] h = tt
-frame_sizes (Loose i ∷ units) h = (plain_size i h.0, frame_sizes units h.1)
-frame_sizes (Frame id members extra ∷ units) h = (λ e. refl, member_sizes members (flat units) h.0 (frame_sizes units h.1))
+frame_sizes : (loose : Bool) (units : List DocUnit) → AllByRecursion (IsUnit loose) units → AllByRecursion HasFrameSize (flat units)
+frame_sizes loose [] h = tt
+frame_sizes loose (Loose i ∷ units) h = (plain_size loose i h.0, frame_sizes loose units h.1)
+frame_sizes loose (Frame id members extra ∷ units) h = (λ e. refl, member_sizes loose members (flat units) h.0.0 (frame_sizes loose units h.1))
 
 alike_size : (x y : Item) → AreAlike x.op y.op → HasFrameSize x → HasFrameSize y → item_size y ≡ item_size x
 alike_size x y (inl e) a b = ap (λ (o : Operation). size_of o) (sym e)
@@ -73,4 +73,4 @@ sizes-alike (suc k) (x ∷ xs) (y ∷ ys) h a b g =
 -- where documents agree before a place, what stands before it takes as many bytes
 pub size_alike : (d e : Contents) (k place n : ℕ) → IsDocument d → IsDocument e → k ≤ len_of d → k ≤ place → AgreeBefore place (items_of d) (items_of e) → offset_of d k ≡ n → offset_of e k ≡ n
 size_alike d e k place n is js h near g is_n =
-    sizes-alike k (items_of d) (items_of e) h (frame_sizes d.units is.formed.units) (frame_sizes e.units js.formed.units) (λ i x l s. g i x (omega (arith, l, near)) s) ∙ is_n
+    sizes-alike k (items_of d) (items_of e) h (frame_sizes d.loose d.units is.formed.units) (frame_sizes e.loose e.units js.formed.units) (λ i x l s. g i x (omega (arith, l, near)) s) ∙ is_n

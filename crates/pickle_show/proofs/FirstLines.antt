@@ -46,16 +46,16 @@ use Rattle.pickle_show.proofs.Walking.{entry_is, text-suc, entries_first, reache
 
 -- ---- the items of the first pickle are the first items
 
-no_tail : (many : Bool) (o : Operation) (ops : List Operation) (left : ℕ) (tail : List ℕ) (e d : Option TailFault) (bytes : List ℕ) → FitsFrom many left (o ∷ ops) tail e
-    → bytes ≡ bytes_of (o ∷ ops) ++ tail → IsFault left bytes d → ⊥
+no_tail : (many : Bool) (o : Operation) (ops : List Operation) (left : ℕ) (tail : List ℕ) (e d : Option TailFault) (bytes : List ℕ) → FitsFrom many false left (o ∷ ops) tail e
+    → bytes ≡ bytes_of (o ∷ ops) ++ tail → IsFault false left bytes d → ⊥
 no_tail many o ops left tail e None bytes h b k = absurd k
 no_tail many o ops left tail e (Some f) bytes h b (front, is, k) =
     let whole : IsFront bytes (Whole o.opcode o.arg (bytes_of ops ++ tail)) = (b ∙ append_assoc (spelling o) (bytes_of ops) tail, h.0.spelled.arg) in
     let one = found_front bytes front is in
     let two = found_front bytes (Whole o.opcode o.arg (bytes_of ops ++ tail)) whole in
     let same : front ≡ Whole o.opcode o.arg (bytes_of ops ++ tail) = sym one ∙ two in
-    let none = no_fault many o ops left tail e h in
-    let some : Some f ≡ None = sym k ∙ ap (tail_fault left) same ∙ none in cc
+    let none = no_fault many false o ops left tail e h in
+    let some : Some f ≡ None = sym k ∙ ap (tail_fault false left) same ∙ none in cc
 
 -- these are the first of all, and no STOP is among them but the last
 record AreFirst (ops all : List Operation) : Type 0 where
@@ -85,18 +85,18 @@ first_more o ops all goes f = record {
         absurd cc
     go (suc k) p there stop = let ind = f.last k p there stop in omega (arith, ind)
 
-are_first : (ops all : List Operation) (left : ℕ) (tail rest : List ℕ) (e f : Option TailFault) → FitsFrom false left ops tail e → FitsFrom true left all rest f
+are_first : (ops all : List Operation) (left : ℕ) (tail rest : List ℕ) (e f : Option TailFault) → FitsFrom false false left ops tail e → FitsFrom true false left all rest f
     → bytes_of ops ++ tail ≡ bytes_of all ++ rest → AreFirst ops all
 are_first [] all left tail rest e f h k b = record { more = all; whole = refl; last = λ n o there stop. omega arith }
 are_first (o ∷ ops) [] left tail rest e f h k b = absurd (no_tail false o ops left tail e f rest h (sym b) k.1)
 are_first (o ∷ ops) (p ∷ all) left tail rest e f h k b =
     let split = sym (append_assoc (spelling o) (bytes_of ops) tail) ∙ b ∙ append_assoc (spelling p) (bytes_of all) rest in
     let one = one_spelling o p (bytes_of ops ++ tail) (bytes_of all ++ rest) h.0.spelled k.0.spelled split in
-    let k' : FitsFrom true left (o ∷ all) rest f = rw one.0 k in
+    let k' : FitsFrom true false left (o ∷ all) rest f = rw one.0 k in
     elim (cases_Bool (is_stop o.opcode)) [
       | inl stop ↦
           let ends : ends_reading false o.opcode ≡ true = and_true (is_stop o.opcode) ∙ stop in
-          let last : IsLast (left_behind left o) ops tail e = rw ends at h.1 in
+          let last : IsLast (left_behind false left o) ops tail e = rw ends at h.1 in
           record {
             more = all;
             whole = ap (λ (q : Operation). q ∷ all) (sym one.0) ∙ ap (λ (l : List Operation). o ∷ (l ++ all)) (sym last.none);
@@ -105,9 +105,9 @@ are_first (o ∷ ops) (p ∷ all) left tail rest e f h k b =
       | inr go ↦
           let on : ends_reading false o.opcode ≡ false = and_true (is_stop o.opcode) ∙ go in
           let goes : ends_reading true o.opcode ≡ false = and_false (is_stop o.opcode) in
-          let h' : FitsFrom false (left_behind left o) ops tail e = rw on at h.1 in
-          let more : FitsFrom true (left_behind left o) all rest f = rw goes at k'.1 in
-          subst (λ (q : Operation). AreFirst (o ∷ ops) (q ∷ all)) one.0 (first_more o ops all go (are_first ops all (left_behind left o) tail rest e f h' more one.1))
+          let h' : FitsFrom false false (left_behind false left o) ops tail e = rw on at h.1 in
+          let more : FitsFrom true false (left_behind false left o) all rest f = rw goes at k'.1 in
+          subst (λ (q : Operation). AreFirst (o ∷ ops) (q ∷ all)) one.0 (first_more o ops all go (are_first ops all (left_behind false left o) tail rest e f h' more one.1))
     ]
 
 -- ---- a state of one pickle, and the same of several
@@ -334,10 +334,12 @@ pub first_lines_come_first : FirstLinesComeFirst
 first_lines_come_first how bytes d e small h k =
     let hf = h.document.formed in
     let kf = k.document.formed in
-    let fit : FitsFrom false 0 (ops_of d) d.tail (ended_by d) =
-    subst (λ (m : Bool). FitsFrom m 0 (ops_of d) d.tail (ended_by d)) h.mode (document_fits d hf (small_document bytes d small h.whole hf.reach)) in
-    let fits : FitsFrom true 0 (ops_of e) e.tail (ended_by e) =
-    subst (λ (m : Bool). FitsFrom m 0 (ops_of e) e.tail (ended_by e)) k.mode (document_fits e kf (small_document bytes e small k.whole kf.reach)) in
+    let fit : FitsFrom false false 0 (ops_of d) d.tail (ended_by d) =
+    subst (λ (m : Bool). FitsFrom m false 0 (ops_of d) d.tail (ended_by d)) h.mode
+    (subst (λ (w : Bool). FitsFrom d.many w 0 (ops_of d) d.tail (ended_by d)) h.framing (document_fits d hf (small_document bytes d small h.whole hf.reach))) in
+    let fits : FitsFrom true false 0 (ops_of e) e.tail (ended_by e) =
+    subst (λ (m : Bool). FitsFrom m false 0 (ops_of e) e.tail (ended_by e)) k.mode
+    (subst (λ (w : Bool). FitsFrom e.many w 0 (ops_of e) e.tail (ended_by e)) k.framing (document_fits e kf (small_document bytes e small k.whole kf.reach))) in
     let first : AreFirst (ops_of d) (ops_of e) = are_first (ops_of d) (ops_of e) 0 d.tail e.tail (ended_by d) (ended_by e) fit fits (h.whole ∙ sym k.whole) in
     let b : Begins d e = record { one = h.mode; several = k.mode; first = first } in
     let far = is_reached (start d.many) (ops_of d) (length (ops_of d)) in

@@ -1,4 +1,4 @@
--- The line of an import.
+-- The lines of an import and of INST.
 use Rattle.std.proofs.Common.{◌≡◌, ℕ, Bool, true, List, [], length, Option, Some, None, refl, ap, ap₂, ◌∙◌, inl, arith}
 use Rattle.std.specs.Prelude.{slice_get, codes, decimal, if◌then◌else◌}
 use Rattle.std.specs.Option.{option_map_or}
@@ -23,10 +23,11 @@ use Rattle.pickle_show.specs.Manner.{Manner}
 use Rattle.pickle_show.specs.declared.naming.Naming.{Naming}
 use Rattle.pickle_show.specs.Event.{made_event, is_view}
 use Rattle.pickle_show.specs.Naming.{Spelled, Pair, NewPair, member_text, said_text, pair_text, pair_renamed, import_text, import_for, names_by, names_text}
-use Rattle.pickle_show.specs.CallsLine.{made_words, made_text, event_text, event_line, line_of}
+use Rattle.pickle_show.specs.CallsLine.{inst_text, made_words, made_text, event_text, event_line, line_of}
+use Rattle.pickle_show.specs.Brief.{briefs_text}
 use Rattle.pickle_show.specs.Calls.{CountedText, naming_at, entry_at}
 use Rattle.pickle_show.specs.CallsLaws.{IsStep}
-use Rattle.pickle_show.specs.LineLaws.{names_by_kind, IsRead, two_quoted, member_of, import_said, LineOfImport}
+use Rattle.pickle_show.specs.LineLaws.{names_by_kind, inst_names, IsRead, two_quoted, member_of, import_said, inst_said, LineOfImport, LineOfInst}
 use Rattle.pickle_show.proofs.Walking.{entry_is}
 use Rattle.pickle_show.proofs.Exact.{pushed_by, made_here, or_true, item_event, item_of_step}
 
@@ -105,3 +106,28 @@ line_of_import how d k s t o p from name step there names h n =
     words_are m t.heap o.kind o.parts p names ∙ ap (λ (w : List ℕ). codes "import " ⧺ w) (names_are m p from name h n) in
     line_of_made how d k s t o step there (from_elsewhere t.heap o.kind o.parts p names) ∙ made_line (in_file how.holes (offset_of d k)) m t.heap id o there
     ∙ ap (λ (w : List ℕ). right_aligned 5 (decimal (in_file how.holes (offset_of d k))) ⧺ codes ": " ⧺ (w ⧺ codes " as " ⧺ id_text id) ⧺ newline) words
+
+-- ---- INST
+
+inst_words : (m : Naming) (heap : List Object) (k : Kind) (parts : List ℕ) (p : Pair) (from name : List ℕ) → inst_names k ≡ Some p → IsRead p.from from → IsRead p.name name
+    → made_words m heap k parts ≡ inst_said m heap p from name parts
+unfolding made_words inst_text
+inst_words m heap (kind.Inst names) parts p from name e h n =
+    ap (λ (q : Pair). codes "inst " ⧺ names_text m None q ⧺ codes " " ⧺ briefs_text m heap parts) (inside _ p e)
+    ∙ ap (λ (w : List ℕ). codes "inst " ⧺ w ⧺ codes " " ⧺ briefs_text m heap parts) (names_are m p from name h n)
+  where
+    inside : (a b : Pair) → Some a ≡ Some b → a ≡ b
+    inside a b e = cc
+inst_words m heap _ parts p from name e h n = absurd cc
+
+inst_from_elsewhere : (k : Kind) (p : Pair) → inst_names k ≡ Some p → is_opaque k ≡ true
+inst_from_elsewhere (kind.Inst names) p e = refl
+inst_from_elsewhere _ p e = absurd cc
+
+pub line_of_inst : LineOfInst
+line_of_inst how d k s t o p from name step there names h n =
+    let id : ℕ = length s.heap in
+    let m : Naming = naming_at how.detail d k in
+    line_of_made how d k s t o step there (inst_from_elsewhere o.kind p names) ∙ made_line (in_file how.holes (offset_of d k)) m t.heap id o there
+    ∙ ap (λ (w : List ℕ). right_aligned 5 (decimal (in_file how.holes (offset_of d k))) ⧺ codes ": " ⧺ (w ⧺ codes " as " ⧺ id_text id) ⧺ newline)
+    (inst_words m t.heap o.kind o.parts p from name names h n)

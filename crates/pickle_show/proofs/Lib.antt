@@ -34,5 +34,6 @@ pub mod Memos
 pub mod Runs
 pub mod Reports
 pub mod Stepping
+pub mod Parts
 pub mod Rereading
 pub mod Sources

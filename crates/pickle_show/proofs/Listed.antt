@@ -3,6 +3,7 @@ use Rattle.std.proofs.Common.{◌≡◌, ℕ, suc, ◌+◌, ◌<◌, ◌≤◌, 
 use Rattle.std.specs.Prelude.{not, take, ⊤, Result, Err, IfOk, IfErr, MatchBool, if◌then◌else◌}
 use Rattle.std.specs.Option.{option_map}
 use Rattle.std.proofs.lemmas.List.{take_all, append-nil, length-map}
+use Rattle.std.proofs.Common.{length-append}
 use Rattle.pickle_ops.specs.declared.opcode.Opcode.{Opcode}
 use Rattle.pickle_ops.specs.declared.opcode.Opcode.TheVariants as op
 use Rattle.pickle_io.specs.Text.{◌⧺◌}
@@ -18,7 +19,7 @@ use Rattle.pickle_ops.specs.declared.fault.FrontFault.TheVariants as at_front
 use Rattle.pickle_doc.specs.declared.fault.Finish.{Finish}
 use Rattle.pickle_doc.specs.declared.fault.Finish.TheVariants as finish
 use Rattle.pickle_doc.specs.DocUnit.{sizes, is_stop, ends_reading}
-use Rattle.pickle_doc.specs.Document.{Contents, items_of, document_bytes, ReadsAs, size_limit, ends_with_stop, finish_of}
+use Rattle.pickle_doc.specs.Document.{Contents, items_of, document_bytes, ReadsIn, size_limit, ends_with_stop, finish_of}
 use Rattle.pickle_doc.specs.Tail.{HasTailFault}
 use Rattle.pickle_doc.specs.Fitting.{left_behind}
 use Rattle.pickle_doc.specs.Unread.{IsNextItem}
@@ -37,7 +38,7 @@ use Rattle.pickle_machine.specs.Outline.{outline, plain, bared}
 use Rattle.pickle_doc.specs.Stream.{HasRead, IsDone, IsItemAt}
 use Rattle.pickle_machine.proofs.Outlines.{refusals_read_outlines, moves_read_outlines, fresh_reads_outlines}
 use Rattle.pickle_doc.proofs.Ends.{finish_at, finish_stopped}
-use Rattle.pickle_doc.proofs.Streams.{stands_first, item_is, fault_is}
+use Rattle.pickle_doc.proofs.Streams.{stands_first, item_in, fault_is, fault_in}
 use Rattle.pickle_show.specs.declared.note.Note.{Note}
 use Rattle.pickle_show.specs.declared.note.Note.TheVariants as note
 use Rattle.pickle_show.proofs.Runs.{last_taken}
@@ -47,31 +48,22 @@ use Rattle.pickle_show.specs.Line.{item_line, refused_line, left_line, kept_line
 use Rattle.pickle_show.specs.Listing.{note_with, note_unless, key_note, line_at, left_by, lines, end_lines, end_status}
 use Rattle.pickle_show.specs.Inside.Marks.{last_element, followed}
 use Rattle.pickle_show.specs.Inside.Answer.{IsAnswer}
+use Rattle.pickle_show.specs.Inside.Part.{IsPart}
+use Rattle.pickle_show.specs.Inside.Listed.{Progress, Listed}
+use Rattle.pickle_show.specs.declared.part.Part.{Part}
+use Rattle.pickle_show.specs.declared.part.Part.TheVariants as part
 use Rattle.pickle_show.specs.Written.{IsListed, BreaksListing, BeginsListing, CutsListing}
-use Rattle.pickle_show.proofs.Listings.{Progress, Progress-none, Progress-more, Progress-fresh, line_is, begun_so_far, broken_so_far, broken_lines, EndsWith, line_first, refused, ended, end_breaks, end_written, within, place_within, offset_within, ops_within}
-use Rattle.pickle_show.proofs.Places.{lines_with, lines-zero, lines-suc}
+use Rattle.pickle_show.proofs.Listings.{Progress-none, Progress-more, Progress-fresh, line_is, begun_so_far, broken_so_far, broken_lines, EndsWith, line_first, refused, ended, end_breaks, end_written, within, place_within, offset_within, ops_within}
+use Rattle.pickle_show.proofs.Places.{lines_with, lines-zero, lines-suc, length-bytes_of}
 use Rattle.pickle_show.proofs.Stops.{none_last, neither, no_bytes, stays_fresh, last_of_all}
 
 -- ---- what is listed so far
 
--- of the document that the bytes are, k items were read, and have moves; this is the outline of the state that they
--- reach, as the next move is taken on it, and the device took their lines
-pub record Listed (many : Bool) (bytes : List ℕ) (old new : Told) (rest : List ℕ) (left k offset : ℕ) (outlined : State) (opened : List ℕ) (highest : Option ℕ) : Type 0 where
-  pub d : Contents
-  pub reads : ReadsAs many bytes d
-  pub stands : HasRead d k rest left
-  pub s : State
-  pub outlines : outline (fresh s) ≡ outlined
-  pub progress : Progress d k offset s (fresh s).marked opened highest
-  pub written : Wrote old new (lines d k)
-  -- STOP ends the listing where nothing stands behind it
-  pub goes : (length rest == 0 && ends_with_stop (take k (items_of d))) ≡ false
-
-pub listed_none : (many : Bool) (bytes : List ℕ) (a : Told) → (some : (d : Contents) × ReadsAs many bytes d) → length bytes ≤ size_limit → Listed many bytes a a bytes 0 0 0 (start many) [] None
+pub listed_none : {loose : Bool} (many : Bool) (bytes : List ℕ) (a : Told) → (some : (d : Contents) × ReadsIn many loose bytes d) → length bytes ≤ size_limit → Listed many loose bytes a a bytes 0 0 0 (start many) [] None
 listed_none many bytes a some small = record {
   d = some.0;
   reads = some.1;
-  stands = stands_first many bytes some.0 (omega (arith, small)) some.1;
+  stands = stands_first many _ bytes some.0 (omega (arith, small)) some.1;
   s = start some.0.many;
   outlines = ap start some.1.mode;
   progress = Progress-none some.0;
@@ -117,10 +109,10 @@ record There (d : Contents) (k offset : ℕ) (o : Operation) (t : State) (opened
   pub at : item_at d k ≡ Some o
   pub line : line_at d k ≡ line_of o offset t opened
 
-there : {many : Bool} (bytes : List ℕ) (a b : Told) (rest : List ℕ) (left k offset : ℕ) (t : State) (opened : List ℕ) (highest : Option ℕ) (o : Operation)
-    → (w : Listed many bytes a b rest left k offset t opened highest) → IsNextItem left rest o (size_of o) → There w.d k offset o t opened
+there : {loose : Bool} {many : Bool} (bytes : List ℕ) (a b : Told) (rest : List ℕ) (left k offset : ℕ) (t : State) (opened : List ℕ) (highest : Option ℕ) (o : Operation)
+    → (w : Listed many loose bytes a b rest left k offset t opened highest) → IsNextItem loose left rest o (size_of o) → There w.d k offset o t opened
 there bytes a b rest left k offset t opened highest o w n =
-    let g = item_is w.d k left rest o (size_of o) w.stands n in
+    let g = item_in _ w.d k left rest o (size_of o) w.reads.framing w.stands n in
     record {
       at = g.there;
       line = line_is w.d k offset o w.s opened g.there w.progress.reached w.progress.stands w.progress.marks ∙ sym (line_outlined o offset (fresh w.s) opened)
@@ -128,18 +120,18 @@ there bytes a b rest left k offset t opened highest o w n =
     }
 
 -- with the line of item k
-pub record WithLine (many : Bool) (bytes : List ℕ) (old new : Told) (rest : List ℕ) (left k offset : ℕ) (o : Operation) (outlined : State) (opened : List ℕ) (highest : Option ℕ) : Type 0 where
+pub record WithLine (many loose : Bool) (bytes : List ℕ) (old new : Told) (rest : List ℕ) (left k offset : ℕ) (o : Operation) (outlined : State) (opened : List ℕ) (highest : Option ℕ) : Type 0 where
   pub d : Contents
-  pub reads : ReadsAs many bytes d
-  pub gives : IsItemAt d k o (drop (size_of o) rest) (left_behind left o)
+  pub reads : ReadsIn many loose bytes d
+  pub gives : IsItemAt d k o (drop (size_of o) rest) (left_behind loose left o)
   pub s : State
   pub outlines : outline (fresh s) ≡ outlined
   pub progress : Progress d k offset s (fresh s).marked opened highest
   pub written : Wrote old new (lines_with d k)
 
-pub with_line : {many : Bool} (bytes : List ℕ) (a b c : Told) (rest : List ℕ) (left k offset : ℕ) (o : Operation) (t : State) (opened : List ℕ) (highest : Option ℕ)
-    → Listed many bytes a b rest left k offset t opened highest → IsNextItem left rest o (size_of o) → refusal_of (row_of o) t ≡ None
-    → Wrote b c (item_line o offset (length t.marked) (note_with o t (last_element opened))) → WithLine many bytes a c rest left k offset o t opened highest
+pub with_line : {loose : Bool} {many : Bool} (bytes : List ℕ) (a b c : Told) (rest : List ℕ) (left k offset : ℕ) (o : Operation) (t : State) (opened : List ℕ) (highest : Option ℕ)
+    → Listed many loose bytes a b rest left k offset t opened highest → IsNextItem loose left rest o (size_of o) → refusal_of (row_of o) t ≡ None
+    → Wrote b c (item_line o offset (length t.marked) (note_with o t (last_element opened))) → WithLine many loose bytes a c rest left k offset o t opened highest
 with_line bytes a b c rest left k offset o t opened highest w n none q =
     let here = there bytes a b rest left k offset t opened highest o w n in
     let line : List ℕ = item_line o offset (length t.marked) (note_with o t (last_element opened)) in
@@ -147,16 +139,16 @@ with_line bytes a b c rest left k offset o t opened highest w n none q =
     record {
       d = w.d;
       reads = w.reads;
-      gives = item_is w.d k left rest o (size_of o) w.stands n;
+      gives = item_in _ w.d k left rest o (size_of o) w.reads.framing w.stands n;
       s = w.s;
       outlines = w.outlines;
       progress = w.progress;
       written = rw whole (Wrote-trans a b c (lines w.d k) line w.written q);
     }
 
-pub line_breaks : {many : Bool} (bytes : List ℕ) (a b c : Told) (rest : List ℕ) (left k offset : ℕ) (o : Operation) (t : State) (opened : List ℕ) (highest : Option ℕ)
-    → Listed many bytes a b rest left k offset t opened highest → IsNextItem left rest o (size_of o) → refusal_of (row_of o) t ≡ None
-    → Broke b c (item_line o offset (length t.marked) (note_with o t (last_element opened))) → BreaksListing many bytes a c
+pub line_breaks : {loose : Bool} {many : Bool} (bytes : List ℕ) (a b c : Told) (rest : List ℕ) (left k offset : ℕ) (o : Operation) (t : State) (opened : List ℕ) (highest : Option ℕ)
+    → Listed many loose bytes a b rest left k offset t opened highest → IsNextItem loose left rest o (size_of o) → refusal_of (row_of o) t ≡ None
+    → Broke b c (item_line o offset (length t.marked) (note_with o t (last_element opened))) → BreaksListing many loose bytes a c
 line_breaks bytes a b c rest left k offset o t opened highest w n none q =
     let here = there bytes a b rest left k offset t opened highest o w n in
     let line : List ℕ = item_line o offset (length t.marked) (note_with o t (last_element opened)) in
@@ -165,43 +157,43 @@ line_breaks bytes a b c rest left k offset o t opened highest w n none q =
     (w.d, w.reads, broken_so_far a c w.d k w.s w.progress.reached (within (ops_of w.d) k o here.at) front)
 
 -- where nothing more is written
-pub line_stops : {many : Bool} (bytes : List ℕ) (a b : Told) (rest : List ℕ) (left k offset : ℕ) (o : Operation) (t : State) (opened : List ℕ) (highest : Option ℕ)
-    → WithLine many bytes a b rest left k offset o t opened highest → BeginsListing many bytes a b
+pub line_stops : {loose : Bool} {many : Bool} (bytes : List ℕ) (a b : Told) (rest : List ℕ) (left k offset : ℕ) (o : Operation) (t : State) (opened : List ℕ) (highest : Option ℕ)
+    → WithLine many loose bytes a b rest left k offset o t opened highest → BeginsListing many loose bytes a b
 line_stops bytes a b rest left k offset o t opened highest w =
     (w.d, w.reads, begun_so_far a b w.d k w.s w.progress.reached (within (ops_of w.d) k o w.gives.there) w.written)
 
 -- ---- ends
 
 -- what is left of the listing is this text
-pub record Closes (many : Bool) (bytes : List ℕ) (old new : Told) (text : List ℕ) (status : ℕ) : Type 0 where
+pub record Closes (many loose : Bool) (bytes : List ℕ) (old new : Told) (text : List ℕ) (status : ℕ) : Type 0 where
   pub d : Contents
-  pub reads : ReadsAs many bytes d
+  pub reads : ReadsIn many loose bytes d
   pub front : List ℕ
   pub written : Wrote old new front
   pub ends : EndsWith d front text status
 
-closed : {many : Bool} (bytes : List ℕ) (a b c : Told) (text : List ℕ) (status : ℕ) → Closes many bytes a b text status → Wrote b c text → IsListed many bytes a c status
+closed : {loose : Bool} {many : Bool} (bytes : List ℕ) (a b c : Told) (text : List ℕ) (status : ℕ) → Closes many loose bytes a b text status → Wrote b c text → IsListed many loose bytes a c status
 closed bytes a b c text status w q = (w.d, w.reads, (end_written a b c w.d w.front text status w.ends w.written q, sym w.ends.answers))
 
-close_breaks : {many : Bool} (bytes : List ℕ) (a b c : Told) (text : List ℕ) (status : ℕ) → Closes many bytes a b text status → Broke b c text → BreaksListing many bytes a c
+close_breaks : {loose : Bool} {many : Bool} (bytes : List ℕ) (a b c : Told) (text : List ℕ) (status : ℕ) → Closes many loose bytes a b text status → Broke b c text → BreaksListing many loose bytes a c
 close_breaks bytes a b c text status w q = (w.d, w.reads, end_breaks a b c w.d w.front text status w.ends w.written q)
 
-pub closes_ok : {many : Bool} (bytes : List ℕ) (a b c : Told) (text : List ℕ) (status : ℕ) (w : Result ⊤ Failed) (r : Result ℕ TextStop)
-    → Closes many bytes a b text status → Writes b c w text → IsAnswer w status r → IfOk r (IsListed many bytes a c)
-closes_ok bytes a b c text status (Ok x) r w q e = rw e (closed bytes a b c text status w q)
-closes_ok bytes a b c text status (Err x) r w q e = rw e tt
+pub closes_ok : {A : Type 0} {loose : Bool} {many : Bool} (more : A → Type 0) (bytes : List ℕ) (a b c : Told) (text : List ℕ) (status : ℕ) (w : Result ⊤ Failed) (r : Result (Part A ℕ) TextStop)
+    → Closes many loose bytes a b text status → Writes b c w text → IsAnswer w (part.End status) r → IfOk r (IsPart more (IsListed many loose bytes a c))
+closes_ok more bytes a b c text status (Ok x) r w q e = rw e (closed bytes a b c text status w q)
+closes_ok more bytes a b c text status (Err x) r w q e = rw e tt
 
-pub closes_err : {many : Bool} (bytes : List ℕ) (a b c : Told) (text : List ℕ) (status : ℕ) (w : Result ⊤ Failed) (r : Result ℕ TextStop)
-    → Closes many bytes a b text status → Writes b c w text → IsAnswer w status r → IfErr r (CutsListing many bytes a c)
+pub closes_err : {A : Type 0} {loose : Bool} {many : Bool} (bytes : List ℕ) (a b c : Told) (text : List ℕ) (status : ℕ) (w : Result ⊤ Failed) (r : Result (Part A ℕ) TextStop)
+    → Closes many loose bytes a b text status → Writes b c w text → IsAnswer w (part.End status) r → IfErr r (CutsListing many loose bytes a c)
 closes_err bytes a b c text status (Ok x) r w q e = rw e tt
 closes_err bytes a b c text status (Err x) r w q e = rw e (close_breaks bytes a b c text status w q)
 
 refusal_is : (o : Operation) (s t : State) (r : Option Refusal) → outline (fresh s) ≡ t → refusal_of (row_of o) t ≡ r → refusal_at o s ≡ r
 refusal_is o s t r e f = sym (refusals_read_outlines (row_of o) (fresh s)) ∙ ap (λ (u : State). refusal_of (row_of o) u) e ∙ f
 
-pub refused_closes : {many : Bool} (bytes : List ℕ) (a b : Told) (rest : List ℕ) (left k offset : ℕ) (o : Operation) (t : State) (opened : List ℕ) (highest : Option ℕ) (r : Refusal)
-    → Listed many bytes a b rest left k offset t opened highest → IsNextItem left rest o (size_of o) → refusal_of (row_of o) t ≡ Some r
-    → Closes many bytes a b (item_line o offset (length t.marked) None ⧺ (refused_line r ⧺ protocol_line (raised highest (protocol_of o.opcode)))) 1
+pub refused_closes : {loose : Bool} {many : Bool} (bytes : List ℕ) (a b : Told) (rest : List ℕ) (left k offset : ℕ) (o : Operation) (t : State) (opened : List ℕ) (highest : Option ℕ) (r : Refusal)
+    → Listed many loose bytes a b rest left k offset t opened highest → IsNextItem loose left rest o (size_of o) → refusal_of (row_of o) t ≡ Some r
+    → Closes many loose bytes a b (item_line o offset (length t.marked) None ⧺ (refused_line r ⧺ protocol_line (raised highest (protocol_of o.opcode)))) 1
 refused_closes bytes a b rest left k offset o t opened highest r w n f =
     let here = there bytes a b rest left k offset t opened highest o w n in
     let line : List ℕ = item_line o offset (length t.marked) None in
@@ -219,10 +211,10 @@ sizes_all : (d : Contents) (k offset : ℕ) (s : State) (ms : List Marked) (open
 sizes_all d k offset s ms opened highest p all =
     ap sizes (sym (take_all k (items_of d) (omega (arith, all, length-map (items_of d) (λ (i : Item). i.op))))) ∙ sym p.stands
 
-pub fault_closes : {many : Bool} (bytes : List ℕ) (a b : Told) (rest : List ℕ) (left k offset : ℕ) (t : State) (opened : List ℕ) (highest : Option ℕ) (f : TailFault)
-    → Listed many bytes a b rest left k offset t opened highest → HasTailFault left rest f → Closes many bytes a b (fault_line f offset ⧺ protocol_line highest) 1
+pub fault_closes : {loose : Bool} {many : Bool} (bytes : List ℕ) (a b : Told) (rest : List ℕ) (left k offset : ℕ) (t : State) (opened : List ℕ) (highest : Option ℕ) (f : TailFault)
+    → Listed many loose bytes a b rest left k offset t opened highest → HasTailFault loose left rest f → Closes many loose bytes a b (fault_line f offset ⧺ protocol_line highest) 1
 fault_closes bytes a b rest left k offset t opened highest f w h =
-    let done = fault_is w.d k left rest f w.stands h in
+    let done = fault_in _ w.d k left rest f w.reads.framing w.stands h in
     let finish : finish_of w.d ≡ finish.Fault f = sym (finish_at w.d f false done.ended (last_of_all w.d k rest false done.all done.tail w.goes)) in
     let e = ended w.d k offset w.s (fresh w.s).marked opened highest w.progress done.all in
     let at = sizes_all w.d k offset w.s (fresh w.s).marked opened highest w.progress done.all in
@@ -241,9 +233,9 @@ fault_closes bytes a b rest left k offset t opened highest f w h =
 -- ---- a step
 
 -- item k has moved: what is read now stands after it
-pub record Moved (many : Bool) (bytes : List ℕ) (old new : Told) (rest : List ℕ) (left k offset : ℕ) (o : Operation) (outlined : State) (opened : List ℕ) (highest : Option ℕ) : Type 0 where
+pub record Moved (many loose : Bool) (bytes : List ℕ) (old new : Told) (rest : List ℕ) (left k offset : ℕ) (o : Operation) (outlined : State) (opened : List ℕ) (highest : Option ℕ) : Type 0 where
   pub d : Contents
-  pub reads : ReadsAs many bytes d
+  pub reads : ReadsIn many loose bytes d
   pub there : item_at d k ≡ Some o
   pub goes : MatchBool (ends_reading many o.opcode) (IsDone d (k + 1) rest None) (HasRead d (k + 1) rest left)
   pub s : State
@@ -255,11 +247,11 @@ pub record Moved (many : Bool) (bytes : List ℕ) (old new : Told) (rest : List 
 moved_by : (o : Operation) (k : ℕ) (s : State) → refusal_at o s ≡ None → move o k s ≡ Ok (next_of (row_of o) (kind_of o) k (fresh s))
 moved_by o k s e = ap (λ (r : Option Refusal). outcome r (next_of (row_of o) (kind_of o) k (fresh s))) e
 
-pub moved : {many : Bool} (bytes : List ℕ) (a b : Told) (rest : List ℕ) (left k offset : ℕ) (o : Operation) (t u : State) (kind : Kind) (opened next : List ℕ) (highest : Option ℕ)
-    → WithLine many bytes a b rest left k offset o t opened highest → refusal_of (row_of o) t ≡ None → kind ≡ plain (kind_of o) → u ≡ outline (next_of (row_of o) kind k t)
+pub moved : {loose : Bool} {many : Bool} (bytes : List ℕ) (a b : Told) (rest : List ℕ) (left k offset : ℕ) (o : Operation) (t u : State) (kind : Kind) (opened next : List ℕ) (highest : Option ℕ)
+    → WithLine many loose bytes a b rest left k offset o t opened highest → refusal_of (row_of o) t ≡ None → kind ≡ plain (kind_of o) → u ≡ outline (next_of (row_of o) kind k t)
     → next ≡ followed opened (length t.marked) (length u.marked) offset
-    → Moved many bytes a b (drop (size_of o) rest) (left_behind left o) k (offset + size_of o) o u next (raised highest (protocol_of o.opcode))
-moved bytes a b rest left k offset o t u kind opened next highest w f is e m =
+    → Moved many loose bytes a b (drop (size_of o) rest) (left_behind loose left o) k (offset + size_of o) o u next (raised highest (protocol_of o.opcode))
+moved {loose = loose} bytes a b rest left k offset o t u kind opened next highest w f is e m =
     let good : refusal_at o w.s ≡ None = refusal_is o w.s t None w.outlines f in
     let after : State = next_of (row_of o) (kind_of o) k (fresh w.s) in
     let same : u ≡ outline after =
@@ -271,7 +263,7 @@ moved bytes a b rest left k offset o t u kind opened next highest w f is e m =
       d = w.d;
       reads = w.reads;
       there = w.gives.there;
-      goes = subst (λ (m : Bool). MatchBool (ends_reading m o.opcode) (IsDone w.d (k + 1) (drop (size_of o) rest) None) (HasRead w.d (k + 1) (drop (size_of o) rest) (left_behind left o))) w.reads.mode w.gives.goes;
+      goes = subst (λ (m : Bool). MatchBool (ends_reading m o.opcode) (IsDone w.d (k + 1) (drop (size_of o) rest) None) (HasRead w.d (k + 1) (drop (size_of o) rest) (left_behind loose left o))) w.reads.mode w.gives.goes;
       s = after;
       outlines = sym same;
       stays = stays_fresh o (kind_of o) k w.s;
@@ -288,15 +280,15 @@ left_is d k o s e r = rw (e, ← add-one k, r) refl
 abbrev pub left_text_of : Operation → State → List ℕ
 left_text_of o t = if is_stop o.opcode then left_line (stack_size t) (length t.marked) else []
 
-left_there : {many : Bool} (bytes : List ℕ) (a b : Told) (rest : List ℕ) (left k offset : ℕ) (o : Operation) (t : State) (opened : List ℕ) (highest : Option ℕ)
-    → (w : Moved many bytes a b rest left k offset o t opened highest) → lines w.d (k + 1) ≡ lines_with w.d k ++ left_text_of o t
+left_there : {loose : Bool} {many : Bool} (bytes : List ℕ) (a b : Told) (rest : List ℕ) (left k offset : ℕ) (o : Operation) (t : State) (opened : List ℕ) (highest : Option ℕ)
+    → (w : Moved many loose bytes a b rest left k offset o t opened highest) → lines w.d (k + 1) ≡ lines_with w.d k ++ left_text_of o t
 left_there bytes a b rest left k offset o t opened highest w =
     let some : left_by (item_at w.d k) (run (start w.d.many) (ops_of w.d) (suc k)) ≡ left_text_of o t = left_is w.d k o w.s w.there w.progress.reached ∙ ap (left_text_of o) w.outlines in
     rw (add-one k) (lines-suc w.d k ∙ ap (λ (l : List ℕ). lines_with w.d k ++ l) some)
 
 -- where it is not STOP, that is nothing
-pub goes_on : {many : Bool} (bytes : List ℕ) (a b : Told) (rest : List ℕ) (left k offset : ℕ) (o : Operation) (t : State) (opened : List ℕ) (highest : Option ℕ)
-    → Moved many bytes a b rest left k offset o t opened highest → is_stop o.opcode ≡ false → Listed many bytes a b rest left (k + 1) offset t opened highest
+pub goes_on : {loose : Bool} {many : Bool} (bytes : List ℕ) (a b : Told) (rest : List ℕ) (left k offset : ℕ) (o : Operation) (t : State) (opened : List ℕ) (highest : Option ℕ)
+    → Moved many loose bytes a b rest left k offset o t opened highest → is_stop o.opcode ≡ false → Listed many loose bytes a b rest left (k + 1) offset t opened highest
 goes_on {many} bytes a b rest left k offset o t opened highest w miss =
     let on : ends_reading many o.opcode ≡ false = ap (λ (x : Bool). x && not many) miss in
     let none : left_text_of o t ≡ [] = ap (λ (x : Bool). if x then left_line (stack_size t) (length t.marked) else []) miss in
@@ -313,30 +305,30 @@ goes_on {many} bytes a b rest left k offset o t opened highest w miss =
     }
 
 -- what STOP left
-stop_there : {many : Bool} (bytes : List ℕ) (a b : Told) (rest : List ℕ) (left k offset : ℕ) (o : Operation) (t : State) (opened : List ℕ) (highest : Option ℕ)
-    → (w : Moved many bytes a b rest left k offset o t opened highest) → is_stop o.opcode ≡ true → lines w.d (k + 1) ≡ lines_with w.d k ++ left_line (stack_size t) (length t.marked)
+stop_there : {loose : Bool} {many : Bool} (bytes : List ℕ) (a b : Told) (rest : List ℕ) (left k offset : ℕ) (o : Operation) (t : State) (opened : List ℕ) (highest : Option ℕ)
+    → (w : Moved many loose bytes a b rest left k offset o t opened highest) → is_stop o.opcode ≡ true → lines w.d (k + 1) ≡ lines_with w.d k ++ left_line (stack_size t) (length t.marked)
 stop_there bytes a b rest left k offset o t opened highest w hit =
     left_there bytes a b rest left k offset o t opened highest w
     ∙ ap (λ (x : Bool). lines_with w.d k ++ (if x then left_line (stack_size t) (length t.marked) else [])) hit
 
-stop_put : {many : Bool} (bytes : List ℕ) (a b c : Told) (rest : List ℕ) (left k offset : ℕ) (o : Operation) (t : State) (opened : List ℕ) (highest : Option ℕ)
-    → (w : Moved many bytes a b rest left k offset o t opened highest) → is_stop o.opcode ≡ true → Wrote b c (left_line (stack_size t) (length t.marked))
+stop_put : {loose : Bool} {many : Bool} (bytes : List ℕ) (a b c : Told) (rest : List ℕ) (left k offset : ℕ) (o : Operation) (t : State) (opened : List ℕ) (highest : Option ℕ)
+    → (w : Moved many loose bytes a b rest left k offset o t opened highest) → is_stop o.opcode ≡ true → Wrote b c (left_line (stack_size t) (length t.marked))
     → Wrote a c (lines w.d (k + 1))
 stop_put bytes a b c rest left k offset o t opened highest w hit q =
     rw (stop_there bytes a b rest left k offset o t opened highest w hit) (Wrote-trans a b c (lines_with w.d k) (left_line (stack_size t) (length t.marked)) w.written q)
 
-pub stop_breaks : {many : Bool} (bytes : List ℕ) (a b c : Told) (rest : List ℕ) (left k offset : ℕ) (o : Operation) (t : State) (opened : List ℕ) (highest : Option ℕ)
-    → Moved many bytes a b rest left k offset o t opened highest → is_stop o.opcode ≡ true → Broke b c (left_line (stack_size t) (length t.marked)) → BreaksListing many bytes a c
+pub stop_breaks : {loose : Bool} {many : Bool} (bytes : List ℕ) (a b c : Told) (rest : List ℕ) (left k offset : ℕ) (o : Operation) (t : State) (opened : List ℕ) (highest : Option ℕ)
+    → Moved many loose bytes a b rest left k offset o t opened highest → is_stop o.opcode ≡ true → Broke b c (left_line (stack_size t) (length t.marked)) → BreaksListing many loose bytes a c
 stop_breaks bytes a b c rest left k offset o t opened highest w hit q =
     let all = stop_there bytes a b rest left k offset o t opened highest w hit in
     let front : Broke a c (lines w.d (k + 1)) = rw all (Broke-after a b c (lines_with w.d k) (left_line (stack_size t) (length t.marked)) w.written q) in
     (w.d, w.reads, broken_lines a c w.d (k + 1) w.s w.progress.reached (omega (arith, within (ops_of w.d) k o w.there)) front)
 
 -- after STOP the next pickle begins
-pub next_pickle : {many : Bool} (bytes : List ℕ) (a b c : Told) (rest : List ℕ) (left k offset : ℕ) (o : Operation) (t u : State) (opened after : List ℕ) (highest : Option ℕ)
-    → Moved many bytes a b rest left k offset o t opened highest → is_stop o.opcode ≡ true → (not many || length rest == 0) ≡ false
+pub next_pickle : {loose : Bool} {many : Bool} (bytes : List ℕ) (a b c : Told) (rest : List ℕ) (left k offset : ℕ) (o : Operation) (t u : State) (opened after : List ℕ) (highest : Option ℕ)
+    → Moved many loose bytes a b rest left k offset o t opened highest → is_stop o.opcode ≡ true → (not many || length rest == 0) ≡ false
     → Wrote b c (left_line (stack_size t) (length t.marked)) → u ≡ outline (fresh t) → after ≡ (if t.stopped then [] else opened)
-    → Listed many bytes a c rest left (k + 1) offset u after highest
+    → Listed many loose bytes a c rest left (k + 1) offset u after highest
 next_pickle {many} bytes a b c rest left k offset o t u opened after highest w hit more q e m =
     let some = neither (not many) (length rest == 0) more in
     let on : ends_reading many o.opcode ≡ false = ap (λ (x : Bool). x && not many) hit ∙ some.0 in
@@ -361,8 +353,8 @@ record Last (d : Contents) (k : ℕ) (rest : List ℕ) : Type 0 where
   pub tail : d.tail ≡ rest
   pub finish : finish_of d ≡ finish.Stopped
 
-stop_last : (many : Bool) (bytes : List ℕ) (a b : Told) (rest : List ℕ) (left k offset : ℕ) (o : Operation) (t : State) (opened : List ℕ) (highest : Option ℕ)
-    → (w : Moved many bytes a b rest left k offset o t opened highest) → is_stop o.opcode ≡ true → (not many || length rest == 0) ≡ true → Last w.d (k + 1) rest
+stop_last : {loose : Bool} (many : Bool) (bytes : List ℕ) (a b : Told) (rest : List ℕ) (left k offset : ℕ) (o : Operation) (t : State) (opened : List ℕ) (highest : Option ℕ)
+    → (w : Moved many loose bytes a b rest left k offset o t opened highest) → is_stop o.opcode ≡ true → (not many || length rest == 0) ≡ true → Last w.d (k + 1) rest
 stop_last false bytes a b rest left k offset o t opened highest w hit last =
     let done : IsDone w.d (k + 1) rest None = rw hit at w.goes in
     record { all = done.all; tail = done.tail; finish = sym (finish_stopped w.d done.ended) }
@@ -373,9 +365,9 @@ stop_last true bytes a b rest left k offset o t opened highest w hit last =
     record { all = done.all; tail = done.tail; finish = sym (finish_at w.d (tails.Front at_front.Ended) true done.ended (last_of_all w.d (k + 1) rest true done.all done.tail stop)) }
 
 -- after STOP, where none begins
-pub stop_closes : {many : Bool} (bytes : List ℕ) (a b c : Told) (rest : List ℕ) (left k offset : ℕ) (o : Operation) (t : State) (opened : List ℕ) (highest : Option ℕ)
-    → Moved many bytes a b rest left k offset o t opened highest → is_stop o.opcode ≡ true → (not many || length rest == 0) ≡ true
-    → Wrote b c (left_line (stack_size t) (length t.marked)) → Closes many bytes a c (kept_line (length rest) ⧺ protocol_line highest) 0
+pub stop_closes : {loose : Bool} {many : Bool} (bytes : List ℕ) (a b c : Told) (rest : List ℕ) (left k offset : ℕ) (o : Operation) (t : State) (opened : List ℕ) (highest : Option ℕ)
+    → Moved many loose bytes a b rest left k offset o t opened highest → is_stop o.opcode ≡ true → (not many || length rest == 0) ≡ true
+    → Wrote b c (left_line (stack_size t) (length t.marked)) → Closes many loose bytes a c (kept_line (length rest) ⧺ protocol_line highest) 0
 stop_closes {many} bytes a b c rest left k offset o t opened highest w hit last q =
     let end = stop_last many bytes a b rest left k offset o t opened highest w hit last in
     let written = stop_put bytes a b c rest left k offset o t opened highest w hit q in
@@ -400,10 +392,10 @@ pub record Bounds (bytes : List ℕ) (k offset : ℕ) (o : Operation) (t : State
   pub marks : length t.marked ≤ k
   pub heap : length t.heap ≤ k
 
-pub bounds : {many : Bool} (bytes : List ℕ) (a b : Told) (rest : List ℕ) (left k offset : ℕ) (o : Operation) (t : State) (opened : List ℕ) (highest : Option ℕ)
-    → Listed many bytes a b rest left k offset t opened highest → IsNextItem left rest o (size_of o) → Bounds bytes k offset o t
+pub bounds : {loose : Bool} {many : Bool} (bytes : List ℕ) (a b : Told) (rest : List ℕ) (left k offset : ℕ) (o : Operation) (t : State) (opened : List ℕ) (highest : Option ℕ)
+    → Listed many loose bytes a b rest left k offset t opened highest → IsNextItem loose left rest o (size_of o) → Bounds bytes k offset o t
 bounds bytes a b rest left k offset o t opened highest w n =
-    let g = item_is w.d k left rest o (size_of o) w.stands n in
+    let g = item_in _ w.d k left rest o (size_of o) w.reads.framing w.stands n in
     let size : length (document_bytes w.d) ≡ length bytes = ap length w.reads.whole in
     let outlined : length (outline (fresh w.s)).heap ≡ length t.heap = ap (λ (x : State). length x.heap) w.outlines in
     let same : length (outline (fresh w.s)).heap ≡ length w.s.heap = length-map (fresh w.s).heap bared ∙ ap (λ (h : List Object). length h) (fresh_heap w.s) in
@@ -414,3 +406,10 @@ bounds bytes a b rest left k offset o t opened highest w n =
       marks = omega (arith, w.progress.few, marked);
       heap = omega (arith, w.progress.heap, outlined, same);
     }
+
+-- no more items were read than there are bytes
+pub place_small : {loose : Bool} {many : Bool} (bytes : List ℕ) (a b : Told) (rest : List ℕ) (left k offset : ℕ) (t : State) (opened : List ℕ) (highest : Option ℕ)
+    → Listed many loose bytes a b rest left k offset t opened highest → k ≤ length bytes
+place_small bytes a b rest left k offset t opened highest w =
+    let parts : length (ops_of w.d) ≡ length w.stands.done + length w.stands.to_come = ap length w.stands.parts ∙ length-append w.stands.done w.stands.to_come in
+    omega (arith, parts, w.stands.count, length-bytes_of (ops_of w.d), ops_within w.d, ap length w.reads.whole)

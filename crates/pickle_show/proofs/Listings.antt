@@ -19,18 +19,10 @@ use Rattle.pickle_machine.specs.Run.{run}
 use Rattle.pickle_show.specs.Line.{item_line, refused_line, protocol_line, raised, highest_protocol}
 use Rattle.pickle_show.specs.Listing.{topmost_offset, note_with, note_unless, line_at, left_by, lines, reached, end_lines, end_status, refused_lines, listing, listing_to}
 use Rattle.pickle_show.specs.Inside.Marks.{last_element, followed, mark_offsets}
+use Rattle.pickle_show.specs.Inside.Listed.{Progress}
 use Rattle.pickle_show.specs.Written.{BeganListing}
 use Rattle.pickle_show.proofs.Moves.{move_heap, refused_move, move_marks, marks_grow, offsets_follow}
 use Rattle.pickle_show.proofs.Places.{offset_next, offset_small, length-bytes_of, highest_protocol-push, run-suc, reached_here, reached_last, is_reached, lines_with, lines-suc, lines_first}
-
--- the first k items have moves, and these marks are open
-pub record Progress (d : Contents) (k offset : ℕ) (s : State) (ms : List Marked) (opened : List ℕ) (highest : Option ℕ) : Type 0 where
-  pub reached : run (start d.many) (ops_of d) k ≡ Some s
-  pub stands : offset ≡ offset_of d k
-  pub marks : opened ≡ mark_offsets d ms
-  pub most : highest ≡ highest_protocol (take k (ops_of d))
-  pub heap : length s.heap ≤ k
-  pub few : length ms ≤ k
 
 run-nothing : (from : State) (ops : List Operation) → run from ops 0 ≡ Some from
 unfolding run

@@ -23,7 +23,7 @@ use Rattle.pickle_show.proofs.QuotesApart.{other}
 
 -- ---- texts that have no such byte
 
-abbrev lacks : ℕ → List ℕ → Bool
+abbrev pub lacks : ℕ → List ℕ → Bool
 lacks c [] = true
 lacks c (b ∷ text) = not (b == c) && lacks c text
 
@@ -31,7 +31,7 @@ not_itself : (c : ℕ) → not (c == c) ≡ true → ⊥
 not_itself c e = let same : (c == c) ≡ true = search rules in let wrong : false ≡ true = ap not (sym same) ∙ e in absurd cc
 
 -- the first such byte
-apart_first : (c : ℕ) (p q x y : List ℕ) → lacks c p ≡ true → lacks c q ≡ true → p ++ (c ∷ x) ≡ q ++ (c ∷ y) → (p ≡ q) × (x ≡ y)
+pub apart_first : (c : ℕ) (p q x y : List ℕ) → lacks c p ≡ true → lacks c q ≡ true → p ++ (c ∷ x) ≡ q ++ (c ∷ y) → (p ≡ q) × (x ≡ y)
 apart_first c [] [] x y h k e = (refl, ap (drop 1) e)
 apart_first c [] (b ∷ q) x y h k e =
     let at : c ≡ b = ap (λ (l : List ℕ). slice_index l 0) e in
@@ -43,12 +43,12 @@ apart_first c (a ∷ p) (b ∷ q) x y h k e =
     let rest = apart_first c p q x y (rest_of (not (a == c)) (lacks c p) h) (rest_of (not (b == c)) (lacks c q) k) (ap (drop 1) e) in
     (ap₂ (λ (n : ℕ) (l : List ℕ). n ∷ l) (ap (λ (l : List ℕ). slice_index l 0) e) rest.0, rest.1)
 
-lacks_none : (c : ℕ) (x y : List ℕ) → lacks c (x ++ (c ∷ y)) ≡ true → ⊥
+pub lacks_none : (c : ℕ) (x y : List ℕ) → lacks c (x ++ (c ∷ y)) ≡ true → ⊥
 lacks_none c [] y h = not_itself c (first_of (not (c == c)) (lacks c y) h)
 lacks_none c (b ∷ x) y h = lacks_none c x y (rest_of (not (b == c)) (lacks c (x ++ (c ∷ y))) h)
 
 -- the last one
-apart_last : (c : ℕ) (p q x y : List ℕ) → lacks c x ≡ true → lacks c y ≡ true → p ++ (c ∷ x) ≡ q ++ (c ∷ y) → (p ≡ q) × (x ≡ y)
+pub apart_last : (c : ℕ) (p q x y : List ℕ) → lacks c x ≡ true → lacks c y ≡ true → p ++ (c ∷ x) ≡ q ++ (c ∷ y) → (p ≡ q) × (x ≡ y)
 apart_last c [] [] x y h k e = (refl, ap (drop 1) e)
 apart_last c [] (b ∷ q) x y h k e =
     let behind : x ≡ q ++ (c ∷ y) = ap (drop 1) e in
@@ -70,7 +70,7 @@ differ m n h = go (m == n) refl
     go true e = let same : m ≡ n = search rules in absurd (h same)
 
 -- a byte that is no digit
-abbrev IsNoDigit : ℕ → Type 0
+abbrev pub IsNoDigit : ℕ → Type 0
 IsNoDigit c = (d : ℕ) → d < 10 → 48 + d ≡ c → ⊥
 
 glyph_lacks : (c d : ℕ) → IsNoDigit c → d < 10 → not (digit_glyph false d == c) ≡ true
@@ -91,22 +91,22 @@ onto_lacks c (suc k) n acc h p =
     choice c (n / 10 == 0) (digit_glyph false (n % 10) ∷ acc) (digits_onto k 10 false (n / 10) (digit_glyph false (n % 10) ∷ acc)) next
     (onto_lacks c k (n / 10) (digit_glyph false (n % 10) ∷ acc) h next)
 
-decimal_lacks : (c n : ℕ) → IsNoDigit c → lacks c (decimal n) ≡ true
+pub decimal_lacks : (c n : ℕ) → IsNoDigit c → lacks c (decimal n) ≡ true
 unfolding digits
 decimal_lacks c n h = onto_lacks c 64 n [] h refl
 
-no_hash : IsNoDigit 35
+pub no_hash : IsNoDigit 35
 no_hash d h e = absurd (omega (arith, e))
 
-no_colon : IsNoDigit 58
+pub no_colon : IsNoDigit 58
 no_colon d h e = absurd (omega (arith, h, e))
 
-no_blank : IsNoDigit 32
+pub no_blank : IsNoDigit 32
 no_blank d h e = absurd (omega (arith, e))
 
 -- ---- the offset
 
-lacks_joined : (c : ℕ) (x y : List ℕ) → lacks c x ≡ true → lacks c y ≡ true → lacks c (x ++ y) ≡ true
+pub lacks_joined : (c : ℕ) (x y : List ℕ) → lacks c x ≡ true → lacks c y ≡ true → lacks c (x ++ y) ≡ true
 lacks_joined c [] y p q = q
 lacks_joined c (b ∷ x) y p q = both_hold (not (b == c)) (lacks c (x ++ y)) (first_of (not (b == c)) (lacks c x) p) (lacks_joined c x y (rest_of (not (b == c)) (lacks c x) p) q)
 
@@ -114,7 +114,7 @@ blanks_lack : (n : ℕ) → lacks 58 (blanks n) ≡ true
 blanks_lack zero = refl
 blanks_lack (suc n) = blanks_lack n
 
-right_lacks : (n : ℕ) → lacks 58 (right_aligned 5 (decimal n)) ≡ true
+pub right_lacks : (n : ℕ) → lacks 58 (right_aligned 5 (decimal n)) ≡ true
 unfolding right_aligned ◌⧺◌
 right_lacks n = lacks_joined 58 (blanks (5 - length (decimal n))) (decimal n) (blanks_lack (5 - length (decimal n))) (decimal_lacks 58 n no_colon)
 
@@ -125,13 +125,13 @@ blanks_apart zero (suc k) x y p q e = absurd (lacks_none 32 [] (blanks k ++ y) (
 blanks_apart (suc j) zero x y p q e = absurd (lacks_none 32 [] (blanks j ++ x) (ap (lacks 32) e ∙ q))
 blanks_apart (suc j) (suc k) x y p q e = blanks_apart j k x y p q (ap (drop 1) e)
 
-right_apart : (m n : ℕ) → m < 2 ^ 64 → n < 2 ^ 64 → right_aligned 5 (decimal m) ≡ right_aligned 5 (decimal n) → m ≡ n
+pub right_apart : (m n : ℕ) → m < 2 ^ 64 → n < 2 ^ 64 → right_aligned 5 (decimal m) ≡ right_aligned 5 (decimal n) → m ≡ n
 unfolding right_aligned ◌⧺◌
 right_apart m n h k e =
     decimal_injective m n h k
     (blanks_apart (5 - length (decimal m)) (5 - length (decimal n)) (decimal m) (decimal n) (decimal_lacks 32 m no_blank) (decimal_lacks 32 n no_blank) e)
 
-line_is : (offset : ℕ) (m : Naming) (heap : List Object) (e : Event) → event_line offset m heap e ≡ right_aligned 5 (decimal offset) ++ (58 ∷ 32 ∷ (event_text m heap e ++ 10 ∷ []))
+pub line_is : (offset : ℕ) (m : Naming) (heap : List Object) (e : Event) → event_line offset m heap e ≡ right_aligned 5 (decimal offset) ++ (58 ∷ 32 ∷ (event_text m heap e ++ 10 ∷ []))
 unfolding event_line ◌⧺◌
 line_is offset m heap e =
     append_assoc (right_aligned 5 (decimal offset) ++ codes ": ") (event_text m heap e) (10 ∷ [])
@@ -140,10 +140,10 @@ line_is offset m heap e =
 -- ---- events
 
 -- a text and the object that it is about
-abbrev About : List ℕ → ℕ → List ℕ
+abbrev pub About : List ℕ → ℕ → List ℕ
 About front id = front ++ (35 ∷ decimal id)
 
-about_apart : (p q : List ℕ) (i j : ℕ) → i < 2 ^ 64 → j < 2 ^ 64 → About p i ≡ About q j → (p ≡ q) × (i ≡ j)
+pub about_apart : (p q : List ℕ) (i j : ℕ) → i < 2 ^ 64 → j < 2 ^ 64 → About p i ≡ About q j → (p ≡ q) × (i ≡ j)
 about_apart p q i j h k e =
     let parts = apart_last 35 p q (decimal i) (decimal j) (decimal_lacks 35 i no_hash) (decimal_lacks 35 j no_hash) e in
     (parts.0, decimal_injective i j h k parts.1)
@@ -152,15 +152,15 @@ id_is : (id : ℕ) → id_text id ≡ 35 ∷ decimal id
 unfolding id_text ◌⧺◌
 id_is id = refl
 
-made_is : (m : Naming) (heap : List Object) (id : ℕ) (o : Object) → slice_get heap id ≡ Some o → event_text m heap (event.Made id) ≡ About (made_words m heap o.kind o.parts ++ codes " as ") id
+pub made_is : (m : Naming) (heap : List Object) (id : ℕ) (o : Object) → slice_get heap id ≡ Some o → event_text m heap (event.Made id) ≡ About (made_words m heap o.kind o.parts ++ codes " as ") id
 unfolding event_text made_text ◌⧺◌
 made_is m heap id o e = ap (λ (x : Option Object). option_map_or (made_text m heap id) x []) e ∙ ap (λ (t : List ℕ). (made_words m heap o.kind o.parts ++ codes " as ") ++ t) (id_is id)
 
-state_is : (m : Naming) (heap : List Object) (v id : ℕ) → event_text m heap (event.State v id) ≡ About ((codes "state " ++ value_text m heap v) ++ codes " to ") id
+pub state_is : (m : Naming) (heap : List Object) (v id : ℕ) → event_text m heap (event.State v id) ≡ About ((codes "state " ++ value_text m heap v) ++ codes " to ") id
 unfolding event_text state_text ◌⧺◌
 state_is m heap v id = ap (λ (t : List ℕ). ((codes "state " ++ value_text m heap v) ++ codes " to ") ++ t) (id_is id)
 
-filled_is : (m : Naming) (heap : List Object) (f : Filling) (n id : ℕ) → event_text m heap (event.Filled f n id) ≡ About ((fill_keyword f ++ decimal n) ++ fill_link f) id
+pub filled_is : (m : Naming) (heap : List Object) (f : Filling) (n id : ℕ) → event_text m heap (event.Filled f n id) ≡ About ((fill_keyword f ++ decimal n) ++ fill_link f) id
 unfolding event_text filled_text ◌⧺◌
 filled_is m heap f n id = ap (λ (t : List ℕ). ((fill_keyword f ++ decimal n) ++ fill_link f) ++ t) (id_is id)
 

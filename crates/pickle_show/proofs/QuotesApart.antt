@@ -118,3 +118,54 @@ pub quotes_read_back : QuotesReadBack
 quotes_read_back p q x y h k e =
     let w : 39 ∷ (quoted_bytes p ++ (39 ∷ x)) ≡ 39 ∷ (quoted_bytes q ++ (39 ∷ y)) = sym (quoted_is p x) ∙ e ∙ quoted_is q y in
     bytes_apart p q x y h k (ap (drop 1) w)
+
+-- ---- of any numbers
+
+abbrev third : List ℕ → ℕ
+third text = slice_index text 2
+
+abbrev fourth : List ℕ → ℕ
+fourth text = slice_index text 3
+
+text_apart : (a b : ℕ) (s t x y : List ℕ) → Stands a s → Stands b t → s ++ x ≡ t ++ y → (s ≡ t) × (x ≡ y)
+text_apart a b s t x y (Backslash p u) (Backslash q v) e = (u ∙ sym v, ap (drop 2) (meet s _ t _ x y u v e))
+text_apart a b s t x y (Backslash p u) (Quote q v) e = absurd (apart_by 92 39 (ap second (meet s _ t _ x y u v e)) refl)
+text_apart a b s t x y (Backslash p u) (Itself q r v) e = absurd (q (sym (ap first (meet s _ t _ x y u v e))))
+text_apart a b s t x y (Backslash p u) (Digits v) e = absurd (apart_by 92 120 (ap second (meet s _ t _ x y u v e)) refl)
+text_apart a b s t x y (Quote p u) (Backslash q v) e = absurd (apart_by 39 92 (ap second (meet s _ t _ x y u v e)) refl)
+text_apart a b s t x y (Quote p u) (Quote q v) e = (u ∙ sym v, ap (drop 2) (meet s _ t _ x y u v e))
+text_apart a b s t x y (Quote p u) (Itself q r v) e = absurd (q (sym (ap first (meet s _ t _ x y u v e))))
+text_apart a b s t x y (Quote p u) (Digits v) e = absurd (apart_by 39 120 (ap second (meet s _ t _ x y u v e)) refl)
+text_apart a b s t x y (Itself p o u) (Backslash q v) e = absurd (p (ap first (meet s _ t _ x y u v e)))
+text_apart a b s t x y (Itself p o u) (Quote q v) e = absurd (p (ap first (meet s _ t _ x y u v e)))
+text_apart a b s t x y (Itself p o u) (Itself q r v) e =
+    let w : a ∷ x ≡ b ∷ y = meet s _ t _ x y u v e in
+    (u ∙ ap (λ (n : ℕ). n ∷ []) (ap first w) ∙ sym v, ap (drop 1) w)
+text_apart a b s t x y (Itself p o u) (Digits v) e = absurd (p (ap first (meet s _ t _ x y u v e)))
+text_apart a b s t x y (Digits u) (Backslash q v) e = absurd (apart_by 120 92 (ap second (meet s _ t _ x y u v e)) refl)
+text_apart a b s t x y (Digits u) (Quote q v) e = absurd (apart_by 120 39 (ap second (meet s _ t _ x y u v e)) refl)
+text_apart a b s t x y (Digits u) (Itself q r v) e = absurd (q (sym (ap first (meet s _ t _ x y u v e))))
+text_apart a b s t x y (Digits u) (Digits v) e =
+    let w = meet s _ t _ x y u v e in
+    (u ∙ ap₂ (λ (c d : ℕ). 92 ∷ 120 ∷ c ∷ d ∷ []) (ap third w) (ap fourth w) ∙ sym v, ap (drop 4) w)
+
+bytes_are : (b : ℕ) (q : List ℕ) → quoted_bytes (b ∷ q) ≡ quoted_byte b ++ quoted_bytes q
+unfolding quoted_bytes
+bytes_are b q = refl
+
+texts_apart : (p q x y : List ℕ) → quoted_bytes p ++ (39 ∷ x) ≡ quoted_bytes q ++ (39 ∷ y) → (quoted_bytes p ≡ quoted_bytes q) × (x ≡ y)
+texts_apart [] [] x y e = let w : 39 ∷ x ≡ 39 ∷ y = sym (bytes_end (39 ∷ x)) ∙ e ∙ bytes_end (39 ∷ y) in (refl, ap (drop 1) w)
+texts_apart [] (b ∷ q) x y e = absurd (no_end b (quoted_byte b) x (quoted_bytes q ++ (39 ∷ y)) (stands b) (sym (bytes_end (39 ∷ x)) ∙ e ∙ bytes_step b q (39 ∷ y)))
+texts_apart (a ∷ p) [] x y e = absurd (no_end a (quoted_byte a) y (quoted_bytes p ++ (39 ∷ x)) (stands a) (sym (bytes_end (39 ∷ y)) ∙ sym e ∙ bytes_step a p (39 ∷ x)))
+texts_apart (a ∷ p) (b ∷ q) x y e =
+    let one = text_apart a b (quoted_byte a) (quoted_byte b) (quoted_bytes p ++ (39 ∷ x)) (quoted_bytes q ++ (39 ∷ y)) (stands a) (stands b) (sym (bytes_step a p (39 ∷ x)) ∙ e ∙ bytes_step b q (39 ∷ y)) in
+    let rest = texts_apart p q x y one.1 in
+    (bytes_are a p ∙ ap₂ (λ (c l : List ℕ). c ++ l) one.0 rest.0 ∙ sym (bytes_are b q), rest.1)
+
+-- what is in quotes ends in one place
+pub quotes_apart : (p q x y : List ℕ) → quoted p ++ x ≡ quoted q ++ y → (quoted p ≡ quoted q) × (x ≡ y)
+unfolding quoted ◌⧺◌
+quotes_apart p q x y e =
+    let w : 39 ∷ (quoted_bytes p ++ (39 ∷ x)) ≡ 39 ∷ (quoted_bytes q ++ (39 ∷ y)) = sym (quoted_is p x) ∙ e ∙ quoted_is q y in
+    let both = texts_apart p q x y (ap (drop 1) w) in
+    (ap (λ (l : List ℕ). (codes "'" ++ l) ++ codes "'") both.0, both.1)

@@ -47,7 +47,7 @@ use Rattle.pickle_show.proofs.Steps.{pushed_unseen, pushed_shown, none_made, Sam
 
 pub one_text : OneText
 one_text how many bytes small less =
-    let one = one_document many bytes small less in
+    let one = one_document many false bytes small less in
     (calls how one.0, (one.0, one.1, refl), λ e r. ap (calls how) (one.2 e r))
 
 -- ---- sizes

@@ -7,7 +7,7 @@ use Rattle.pickle_ops.specs.Spelling.{Operation}
 use Rattle.pickle_doc.specs.declared.item.Item.{Item}
 use Rattle.pickle_doc.specs.declared.fault.Finish.{Finish}
 use Rattle.pickle_doc.specs.DocUnit.{bytes_of}
-use Rattle.pickle_doc.specs.Document.{Contents, items_of, document_bytes, ended_by, finish_of, IsDocument, ReadsAs, size_limit}
+use Rattle.pickle_doc.specs.Document.{Contents, items_of, document_bytes, ended_by, finish_of, IsDocument, ReadsIn, size_limit}
 use Rattle.pickle_doc.specs.Place.{ops_of, tail_offset, end_at, end_of}
 use Rattle.pickle_doc.specs.Fitting.{FitsFrom}
 use Rattle.pickle_doc.proofs.Ends.{same_finish}
@@ -29,13 +29,15 @@ record RunsAlike (d e : Contents) : Type 0 where
 items_bytes : (d : Contents) → tail_offset d ≡ length (bytes_of (ops_of d))
 items_bytes d = sym (length_bytes (items_of d))
 
-reads_alike : (d e : Contents) → IsDocument d → length (document_bytes d) ≤ size_limit → ReadsAs d.many (document_bytes d) e → RunsAlike d e
+reads_alike : (d e : Contents) → IsDocument d → length (document_bytes d) ≤ size_limit → ReadsIn d.many d.loose (document_bytes d) e → RunsAlike d e
 reads_alike d e is few r =
     let small : length (document_bytes d) < 2 ^ 64 = omega (arith, few) in
-    let own : FitsFrom d.many 0 (ops_of d) d.tail (ended_by d) = document_fits d is.formed (small_document (document_bytes d) d small refl is.formed.reach) in
-    let read : FitsFrom e.many 0 (ops_of e) e.tail (ended_by e) = document_fits e r.document.formed (small_document (document_bytes d) e small r.whole r.document.formed.reach) in
-    let fit : FitsFrom d.many 0 (ops_of e) e.tail (ended_by e) = subst (λ (m : Bool). FitsFrom m 0 (ops_of e) e.tail (ended_by e)) r.mode read in
-    let one = one_reading d.many (ops_of e) (ops_of d) 0 e.tail d.tail (ended_by e) (ended_by d) fit own r.whole in
+    let own : FitsFrom d.many d.loose 0 (ops_of d) d.tail (ended_by d) = document_fits d is.formed (small_document (document_bytes d) d small refl is.formed.reach) in
+    let read : FitsFrom e.many e.loose 0 (ops_of e) e.tail (ended_by e) = document_fits e r.document.formed (small_document (document_bytes d) e small r.whole r.document.formed.reach) in
+    let fit : FitsFrom d.many d.loose 0 (ops_of e) e.tail (ended_by e) =
+    subst (λ (m : Bool). FitsFrom m d.loose 0 (ops_of e) e.tail (ended_by e)) r.mode
+    (subst (λ (w : Bool). FitsFrom e.many w 0 (ops_of e) e.tail (ended_by e)) r.framing read) in
+    let one = one_reading d.many d.loose (ops_of e) (ops_of d) 0 e.tail d.tail (ended_by e) (ended_by d) fit own r.whole in
     let finish : finish_of e ≡ finish_of d = same_finish e d r.mode one.same_ops one.same_tail one.ended in
     let at : tail_offset e ≡ tail_offset d = items_bytes e ∙ ap (λ (ops : List Operation). length (bytes_of ops)) one.same_ops ∙ sym (items_bytes d) in
     record { many = r.mode; ops = one.same_ops; ended = ap₂ (λ (n : ℕ) (f : Finish). end_at n f) at finish }
@@ -59,9 +61,9 @@ report_alike d e text status a h = record {
   answers = h.answers;
 }
 
-pub wrote_document : (d : Contents) (a b : Told) (r : Result ℕ TextStop) → IsDocument d → length (document_bytes d) ≤ size_limit → IfOk r (IsReported d.many (document_bytes d) a b) → IfOk r (WroteReport d a b)
+pub wrote_document : (d : Contents) (a b : Told) (r : Result ℕ TextStop) → IsDocument d → length (document_bytes d) ≤ size_limit → IfOk r (IsReported d.many d.loose (document_bytes d) a b) → IfOk r (WroteReport d a b)
 wrote_document d a b (Ok status) is few (e, reads, (text, report, wrote)) = (text, report_alike d e text status (reads_alike d e is few reads) report, wrote)
 wrote_document d a b (Err x) is few h = tt
 
-pub broke_document : (d : Contents) (a b : Told) → IsDocument d → length (document_bytes d) ≤ size_limit → BreaksReport d.many (document_bytes d) a b → BrokeReport d a b
+pub broke_document : (d : Contents) (a b : Told) → IsDocument d → length (document_bytes d) ≤ size_limit → BreaksReport d.many d.loose (document_bytes d) a b → BrokeReport d a b
 broke_document d a b is few (e, reads, (text, status, report, broke)) = (text, status, report_alike d e text status (reads_alike d e is few reads) report, broke)

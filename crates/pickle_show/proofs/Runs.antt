@@ -58,11 +58,11 @@ last_taken items k o e = rw (add-one k) (go items k e)
 
 -- ---- reports
 
-pub wrote_report : (many : Bool) (bytes : List ℕ) (old new : Told) (s : State) (c : Closing) (status : ℕ)
-    → EndsIn many bytes s c → status ≡ closing_status c → Wrote old new (report_text s.heap s.results c) → IsReported many bytes old new status
+pub wrote_report : {loose : Bool} (many : Bool) (bytes : List ℕ) (old new : Told) (s : State) (c : Closing) (status : ℕ)
+    → EndsIn many loose bytes s c → status ≡ closing_status c → Wrote old new (report_text s.heap s.results c) → IsReported many loose bytes old new status
 wrote_report many bytes old new s c status (d, reads, (place, reached, closes)) e w =
     (d, reads, (report_text s.heap s.results c, record { place = place; state = s; closing = c; reached = reached; closes = closes; lines = refl; answers = e }, w))
 
-pub broke_report : (many : Bool) (bytes : List ℕ) (old new : Told) (s : State) (c : Closing) → EndsIn many bytes s c → Broke old new (report_text s.heap s.results c) → BreaksReport many bytes old new
+pub broke_report : {loose : Bool} (many : Bool) (bytes : List ℕ) (old new : Told) (s : State) (c : Closing) → EndsIn many loose bytes s c → Broke old new (report_text s.heap s.results c) → BreaksReport many loose bytes old new
 broke_report many bytes old new s c (d, reads, (place, reached, closes)) b =
     (d, reads, (report_text s.heap s.results c, closing_status c, record { place = place; state = s; closing = c; reached = reached; closes = closes; lines = refl; answers = refl }, b))

@@ -1,6 +1,6 @@
 -- A text is its lines.
 use Rattle.std.proofs.Common.{◌≡◌, ◌⊎◌, ℕ, zero, suc, ◌==◌, Bool, true, false, List, [], ◌∷◌, ◌++◌, Option, Some, None, refl, sym, ap, ◌∙◌, inl, inr, append_assoc}
-use Rattle.std.specs.Prelude.{not, codes, decimal, if◌then◌else◌, ⊤}
+use Rattle.std.specs.Prelude.{◌&&◌, not, codes, decimal, if◌then◌else◌}
 use Rattle.std.specs.Option.{option_map_or}
 use Rattle.std.proofs.lemmas.List.{append-nil}
 use Rattle.pickle_io.specs.Text.{◌⧺◌}
@@ -47,7 +47,7 @@ pub record IsLine (text : List ℕ) : Type 0 where
   pub stays : Stays body
   pub is : text ≡ body ++ 10 ∷ []
 
-line_of_body : (body : List ℕ) → Stays body → IsLine (body ⧺ newline)
+pub line_of_body : (body : List ℕ) → Stays body → IsLine (body ⧺ newline)
 unfolding ◌⧺◌
 line_of_body body p = record { body = body; stays = p; is = refl }
 
@@ -63,12 +63,12 @@ cut_body (b ∷ body) rest p =
     let ind = cut_body body rest (rest_of (not (b == 10)) (is_within_line body) p) in
     ap (λ (c : Bool). if c then (b ∷ []) ∷ cut_lines (body ++ (10 ∷ rest)) else before_first b (cut_lines (body ++ (10 ∷ rest)))) plain ∙ ap (before_first b) ind
 
-cut_line : (text rest : List ℕ) → IsLine text → cut_lines (text ++ rest) ≡ text ∷ cut_lines rest
+pub cut_line : (text rest : List ℕ) → IsLine text → cut_lines (text ++ rest) ≡ text ∷ cut_lines rest
 cut_line text rest l =
     ap (λ (t : List ℕ). cut_lines (t ++ rest)) l.is ∙ ap cut_lines (append_assoc l.body (10 ∷ []) rest) ∙ cut_body l.body rest l.stays
     ∙ ap (λ (t : List ℕ). t ∷ cut_lines rest) (sym l.is)
 
-any_line : (text : List ℕ) → IsLine text → if_any text ≡ text ∷ []
+pub any_line : (text : List ℕ) → IsLine text → if_any text ≡ text ∷ []
 any_line text l = ap if_any l.is ∙ go l.body ∙ ap (λ (t : List ℕ). t ∷ []) (sym l.is)
   where
     go : (body : List ℕ) → if_any (body ++ 10 ∷ []) ≡ (body ++ 10 ∷ []) ∷ []
@@ -80,7 +80,7 @@ any_line text l = ap if_any l.is ∙ go l.body ∙ ap (λ (t : List ℕ). t ∷ 
 abbrev pub HasLine : List ℕ → Type 0
 HasLine text = (text ≡ []) ⊎ (IsLine text)
 
-cut_any : (text rest : List ℕ) → HasLine text → cut_lines (text ++ rest) ≡ if_any text ++ cut_lines rest
+pub cut_any : (text rest : List ℕ) → HasLine text → cut_lines (text ++ rest) ≡ if_any text ++ cut_lines rest
 cut_any text rest h = elim h [
   | inl none ↦ ap (λ (t : List ℕ). cut_lines (t ++ rest)) none ∙ ap (λ (t : List ℕ). if_any t ++ cut_lines rest) (sym none)
   | inr line ↦ cut_line text rest line ∙ ap (λ (ls : List (List ℕ)). ls ++ cut_lines rest) (sym (any_line text line))
@@ -88,7 +88,7 @@ cut_any text rest h = elim h [
 
 -- ---- items
 
-event_is_line : (offset : ℕ) (m : Naming) (heap : List Object) (e : Event) → IsLine (event_line offset m heap e)
+pub event_is_line : (offset : ℕ) (m : Naming) (heap : List Object) (e : Event) → IsLine (event_line offset m heap e)
 unfolding event_line
 event_is_line offset m heap e =
     line_of_body (right_aligned 5 (decimal offset) ⧺ codes ": " ⧺ event_text m heap e)
@@ -99,7 +99,7 @@ pub line_has : (offset : ℕ) (m : Naming) (heap : List Object) (e : Option Even
 line_has offset m heap None = inl refl
 line_has offset m heap (Some e) = inr (event_is_line offset m heap e)
 
-entry_has : (how : Manner) (d : Contents) (k : ℕ) → HasLine (entry_at how d k).text
+pub entry_has : (how : Manner) (d : Contents) (k : ℕ) → HasLine (entry_at how d k).text
 unfolding entry_at
 entry_has how d k = go (item_at d k) (run (start d.many) (ops_of d) k) (run (start d.many) (ops_of d) (suc k))
   where
@@ -168,7 +168,7 @@ fault_stays f offset =
     then_stays (tail_words f ⧺ fault_byte f ⧺ codes " at ") (decimal offset)
     (then_stays (tail_words f ⧺ fault_byte f) (codes " at ") (then_stays (tail_words f) (fault_byte f) (tail_stays f).0 (tail_stays f).1) refl) (decimal_stays offset)
 
-fault_is_line : (f : TailFault) (offset : ℕ) → IsLine (fault_line f offset)
+pub fault_is_line : (f : TailFault) (offset : ℕ) → IsLine (fault_line f offset)
 unfolding fault_line
 fault_is_line f offset = line_of_body (codes "fault: " ⧺ fault_at f offset) (then_stays (codes "fault: ") (fault_at f offset) refl (fault_stays f offset))
 
@@ -184,7 +184,7 @@ kept_is_line count =
     line_of_body (codes "kept: " ⧺ decimal count ⧺ codes " bytes after STOP")
     (then_stays (codes "kept: " ⧺ decimal count) (codes " bytes after STOP") (then_stays (codes "kept: ") (decimal count) refl (decimal_stays count)) refl)
 
-kept_has : (count : ℕ) → HasLine (kept_line count)
+pub kept_has : (count : ℕ) → HasLine (kept_line count)
 unfolding kept_line
 kept_has count = go (count == 0)
   where
@@ -199,14 +199,18 @@ totals_is_line imports calls =
     (then_stays (decimal imports ⧺ codes " imports, " ⧺ decimal calls) (codes " calls")
     (then_stays (decimal imports ⧺ codes " imports, ") (decimal calls) (then_stays (decimal imports) (codes " imports, ") (decimal_stays imports) refl) (decimal_stays calls)) refl)
 
-unsure_is_line : (offset : ℕ) → IsLine (unsure_line offset)
+pub unsure_is_line : (offset : ℕ) → IsLine (unsure_line offset)
 unfolding unsure_line unsure_words
 unsure_is_line offset = line_of_body (unsure_words ⧺ decimal offset) (then_stays unsure_words (decimal offset) refl (decimal_stays offset))
 
 -- the names of all rows
-abbrev AllStay : {R : Type 0} → (R → List ℕ) → List R → Type 0
-AllStay name [] = ⊤
-AllStay name (r ∷ rows) = Stays (name r) × AllStay name rows
+abbrev all_stay : {R : Type 0} → (R → List ℕ) → List R → Bool
+all_stay name [] = true
+all_stay name (r ∷ rows) = is_within_line (name r) && all_stay name rows
+
+both : (a b : Bool) → (a && b) ≡ true → (a ≡ true) × (b ≡ true)
+both true b p = (refl, p)
+both false b p = absurd cc
 
 begins_is_line : (name : List ℕ) → Stays name → IsLine (begins_line name)
 unfolding begins_line begins_words
@@ -218,16 +222,17 @@ row_has : (name : List ℕ) (found : Option (List ℕ)) (b : Bool) → Stays nam
 row_has name found true p h = inr (begins_is_line name p)
 row_has name found false p h = h
 
-rows_have : {R : Type 0} (bytes : List ℕ) (offset : R → ℕ) (magic name : R → List ℕ) (rows : List R) → AllStay name rows → HasLine (option_map_or begins_line (begins_by offset magic name rows bytes) [])
+rows_have : {R : Type 0} (bytes : List ℕ) (offset : R → ℕ) (magic name : R → List ℕ) (rows : List R) → all_stay name rows ≡ true → HasLine (option_map_or begins_line (begins_by offset magic name rows bytes) [])
 rows_have bytes offset magic name [] p = inl refl
 rows_have bytes offset magic name (r ∷ rows) p =
-    row_has (name r) (begins_by offset magic name rows bytes) (is_like (offset r) (magic r) bytes) p.0 (rows_have bytes offset magic name rows p.1)
+    let stay = both (is_within_line (name r)) (all_stay name rows) p in
+    row_has (name r) (begins_by offset magic name rows bytes) (is_like (offset r) (magic r) bytes) stay.0 (rows_have bytes offset magic name rows stay.1)
 
-begins_has : (bytes : List ℕ) → HasLine (begins_text bytes)
+pub begins_has : (bytes : List ℕ) → HasLine (begins_text bytes)
 unfolding begins_like
-begins_has bytes = rows_have bytes (λ r. r.0) (λ r. r.1.now) (λ r. r.2.now) CONTAINERS (refl, (refl, (refl, (refl, (refl, (refl, (refl, (refl, (refl, tt)))))))))
+begins_has bytes = rows_have bytes (λ r. r.0) (λ r. r.1.now) (λ r. r.2.now) CONTAINERS refl
 
-cut_last : (text : List ℕ) → HasLine text → cut_lines text ≡ if_any text
+pub cut_last : (text : List ℕ) → HasLine text → cut_lines text ≡ if_any text
 unfolding cut_lines
 cut_last text h = ap cut_lines (sym (append-nil text)) ∙ cut_any text [] h ∙ append-nil (if_any text)
 
@@ -236,17 +241,17 @@ unfolding ending_lines ◌⧺◌
 cut_ending (ending.Closed kept c) = cut_any (kept_line kept) (closing_line c) (kept_has kept) ∙ ap (λ (ls : List (List ℕ)). if_any (kept_line kept) ++ ls) (cut_last (closing_line c) (closing_has c))
 cut_ending (ending.Unsure offset) = cut_last (unsure_line offset) (inr (unsure_is_line offset)) ∙ any_line (unsure_line offset) (unsure_is_line offset)
 
-end_text : (bytes : List ℕ) (imports calls : ℕ) (e : Ending) → calls_end_text bytes imports calls e ≡ begins_text bytes ++ (totals_line imports calls ++ ending_lines e)
+pub end_text : (bytes : List ℕ) (imports calls : ℕ) (e : Ending) → calls_end_text bytes imports calls e ≡ begins_text bytes ++ (totals_line imports calls ++ ending_lines e)
 unfolding calls_end_text ◌⧺◌
 end_text bytes imports calls e = append_assoc (begins_text bytes) (totals_line imports calls) (ending_lines e)
 
-cut_end : (bytes : List ℕ) (imports calls : ℕ) (e : Ending) → cut_lines (calls_end_text bytes imports calls e) ≡ if_any (begins_text bytes) ++ (totals_line imports calls ∷ ending_pieces e)
+pub cut_end : (bytes : List ℕ) (imports calls : ℕ) (e : Ending) → cut_lines (calls_end_text bytes imports calls e) ≡ if_any (begins_text bytes) ++ (totals_line imports calls ∷ ending_pieces e)
 cut_end bytes imports calls e =
     ap cut_lines (end_text bytes imports calls e) ∙ cut_any (begins_text bytes) (totals_line imports calls ++ ending_lines e) (begins_has bytes)
     ∙ ap (λ (ls : List (List ℕ)). if_any (begins_text bytes) ++ ls)
     (cut_line (totals_line imports calls) (ending_lines e) (totals_is_line imports calls) ∙ ap (λ (ls : List (List ℕ)). totals_line imports calls ∷ ls) (cut_ending e))
 
-calls_text : (how : Manner) (d : Contents) → (calls how d).text ≡ (entries how d (calls_end d).place).text ++ calls_end_text (document_bytes d) (entries how d (calls_end d).place).imports (entries how d (calls_end d).place).calls (ending_in how.holes (calls_end d).ending)
+pub calls_text : (how : Manner) (d : Contents) → (calls how d).text ≡ (entries how d (calls_end d).place).text ++ calls_end_text (document_bytes d) (entries how d (calls_end d).place).imports (entries how d (calls_end d).place).calls (ending_in how.holes (calls_end d).ending)
 unfolding calls ◌⧺◌
 calls_text how d = refl
 

@@ -1,5 +1,5 @@
 -- The loop that writes a line for each step.
-use Rattle.std.proofs.Common.{◌≡◌, ℕ, zero, suc, ◌+◌, ◌-◌, ◌<◌, ◌≤◌, ◌==◌, ◌&&◌, Bool, true, false, List, [], ◌++◌, length, drop, Option, Some, None, Ok, refl, sym, ap, subst, ◌∙◌, add-one, append_assoc, arith, rules}
+use Rattle.std.proofs.Common.{◌≡◌, ℕ, zero, suc, ◌+◌, ◌-◌, ◌<◌, ◌≤◌, ◌==◌, ◌&&◌, Bool, true, false, List, [], ◌++◌, length, drop, Option, Some, None, Ok, refl, sym, ap, subst, ◌∙◌, add-one, append_assoc, length-append, arith, rules}
 use Rattle.std.specs.Prelude.{take, if◌then◌else◌, Result, Err, IfErr, IsErrAnd, MatchBool}
 use Rattle.std.proofs.lemmas.List.{take_all, length-map, append-nil}
 use Rattle.std.proofs.lemmas.Option.{slice_get_past}
@@ -19,7 +19,7 @@ use Rattle.pickle_doc.specs.Unread.{IsNextItem}
 use Rattle.pickle_doc.specs.Place.{ops_of, item_at, offset_of, tail_offset}
 use Rattle.pickle_doc.specs.Stream.{HasRead, IsDone}
 use Rattle.pickle_doc.proofs.Ends.{finish_at, finish_stopped}
-use Rattle.pickle_doc.proofs.Streams.{stands_first, item_is, fault_is}
+use Rattle.pickle_doc.proofs.Streams.{stands_first, item_in, fault_in}
 use Rattle.pickle_ops.specs.declared.row.Row.{Row}
 use Rattle.pickle_ops.specs.declared.row.Row.TheVariants as row
 use Rattle.pickle_ops.specs.declared.row.Filling.TheVariants as filling
@@ -53,6 +53,7 @@ use Rattle.pickle_show.specs.Naming.{begin, naming_after}
 use Rattle.pickle_show.specs.Calls.{naming_at, left_at, is_inside, or_here, first_inside, CallsEnd, end_from, end_by, calls_end, CountedText, no_entry, counted_text, entry_at, entries, closing_of, closed, calls, calls_to}
 use Rattle.pickle_show.specs.declared.calls.Ran.{Ran}
 use Rattle.pickle_show.specs.Ran.{IsRun}
+use Rattle.pickle_show.specs.Inside.Walked.{Progress, Walked}
 use Rattle.pickle_show.specs.CallsWritten.{BreaksCalls, BeginsCalls, CutsCalls}
 
 -- ---- what items come to
@@ -200,35 +201,13 @@ begins how d k s r h b =
 
 -- ---- the items that were stepped
 
--- the first k items have moves; this is the state that they reach, and these are the counts of their lines
-pub record Progress (how : Manner) (d : Contents) (k offset : ℕ) (s : State) (course : Course) : Type 0 where
-  pub reached : run (start d.many) (ops_of d) k ≡ Some s
-  pub stands : offset ≡ offset_of d k
-  pub imports : course.imports ≡ (entries how d k).imports
-  pub calls : course.calls ≡ (entries how d k).calls
-  pub heap : length s.heap ≤ k
-  pub few_imports : course.imports ≤ k
-  pub few_calls : course.calls ≤ k
-  pub naming : course.naming ≡ naming_at how.detail d k
-  pub left : course.left ≡ left_at d k
-
--- of the document that the bytes are, k items were read and stepped, their lines were written, and the last of them is STOP or not
-pub record Walked (how : Manner) (many : Bool) (bytes : List ℕ) (old new : Told) (rest : List ℕ) (left k offset : ℕ) (s : State) (course : Course) (last : Bool) : Type 0 where
-  pub d : Contents
-  pub reads : ReadsAs many bytes d
-  pub stands : HasRead d k rest left
-  pub progress : Progress how d k offset s course
-  pub written : Wrote old new (entries how d k).text
-  pub ends : ends_with_stop (take k (items_of d)) ≡ last
-  pub outside : first_inside d k ≡ None
-
 pub walked_none : (how : Manner) (many : Bool) (bytes : List ℕ) (a : Told) → (some : (d : Contents) × ReadsAs many bytes d) → length bytes ≤ size_limit
     → Walked how many bytes a a bytes 0 0 0 (start many) (record { imports = 0; calls = 0; naming = begin how.detail 0; left = 0 }) false
 unfolding first_inside
 walked_none how many bytes a some small = record {
   d = some.0;
   reads = some.1;
-  stands = stands_first many bytes some.0 (omega (arith, small)) some.1;
+  stands = stands_first many false bytes some.0 (omega (arith, small)) some.1;
   progress = record {
     reached = run_nothing (start some.0.many) (ops_of some.0) ∙ ap (λ (b : Bool). Some (start b)) some.1.mode;
     stands = refl;
@@ -307,10 +286,10 @@ unfolding calls
 run_answers {how = how} bytes a b s r w = ap (λ (e : CallsEnd). (calls_to how w.d e).status) w.ends
 
 pub refused_runs : {how : Manner} {many : Bool} {last : Bool} (bytes : List ℕ) (a b : Told) (rest : List ℕ) (left k offset : ℕ) (o : Operation) (s : State) (course : Course) (r : Refusal)
-    → Walked how many bytes a b rest left k offset s course last → IsNextItem left rest o (size_of o) → refusal_at o s ≡ Some r
+    → Walked how many bytes a b rest left k offset s course last → IsNextItem false left rest o (size_of o) → refusal_at o s ≡ Some r
     → IsRun how many bytes a b s (record { course = course; ending = ending.Closed 0 (closing.Refused k r); offset = offset; place = k })
 refused_runs bytes a b rest left k offset o s course r w n f =
-    let g = item_is w.d k left rest o (size_of o) w.stands n in
+    let g = item_in false w.d k left rest o (size_of o) w.reads.framing w.stands n in
     runs bytes a b w.d k offset s course (ending.Closed 0 (closing.Refused k r)) w.reads w.progress w.written (omega (arith, within (ops_of w.d) k o g.there))
     (refused w.d k offset o s course r w.progress g.there f w.outside)
 
@@ -348,21 +327,21 @@ tail_runs_by bytes a b rest left k offset s course f false w done is =
 
 -- after all items of the bytes, n of which are left
 pub tail_runs : {how : Manner} {many : Bool} {last : Bool} (bytes : List ℕ) (a b : Told) (rest : List ℕ) (left k offset : ℕ) (s : State) (course : Course) (f : TailFault) (n : ℕ) (c : Closing)
-    → Walked how many bytes a b rest left k offset s course last → HasTailFault left rest f → n ≡ length rest → c ≡ closing_at (n == 0 && last) f offset
+    → Walked how many bytes a b rest left k offset s course last → HasTailFault false left rest f → n ≡ length rest → c ≡ closing_at (n == 0 && last) f offset
     → IsRun how many bytes a b s (record { course = course; ending = ending.Closed 0 c; offset = offset; place = k })
 tail_runs {how = how} {many = many} {last = last} bytes a b rest left k offset s course f n c w h same is =
     let by : (length rest == 0 && last) ≡ (n == 0 && last) = ap (λ (m : ℕ). m == 0 && last) (sym same) in
     subst (λ (y : Closing). IsRun how many bytes a b s (record { course = course; ending = ending.Closed 0 y; offset = offset; place = k })) (sym is)
-    (tail_runs_by bytes a b rest left k offset s course f (n == 0 && last) w (fault_is w.d k left rest f w.stands h) by)
+    (tail_runs_by bytes a b rest left k offset s course f (n == 0 && last) w (fault_in false w.d k left rest f w.reads.framing w.stands h) by)
 
 -- ---- item k
 
 -- the line is cut short
 pub line_breaks : {how : Manner} {many : Bool} {last : Bool} (bytes : List ℕ) (a b c : Told) (rest : List ℕ) (left k offset : ℕ) (o : Operation) (s t : State) (course : Course)
-    → Walked how many bytes a b rest left k offset s course last → IsNextItem left rest o (size_of o) → move o k s ≡ Ok t → Broke b c (line_of (in_file how.holes offset) course.naming t.heap (event_of (row_of o) (before_of s) t))
+    → Walked how many bytes a b rest left k offset s course last → IsNextItem false left rest o (size_of o) → move o k s ≡ Ok t → Broke b c (line_of (in_file how.holes offset) course.naming t.heap (event_of (row_of o) (before_of s) t))
     → BreaksCalls how many bytes a c
 line_breaks {how = how} bytes a b c rest left k offset o s t course w n m q =
-    let g = item_is w.d k left rest o (size_of o) w.stands n in
+    let g = item_in false w.d k left rest o (size_of o) w.reads.framing w.stands n in
     let next : run (start w.d.many) (ops_of w.d) (suc k) ≡ Some t = rw (run-suc (start w.d.many) (ops_of w.d) k o s g.there w.progress.reached, m) refl in
     let here : (entry_at how w.d k).text ≡ line_of (in_file how.holes offset) course.naming t.heap (event_of (row_of o) (before_of s) t) =
     ap (λ (e : CountedText). e.text) (entry_here how w.d k offset course.naming o s t g.there w.progress.reached m w.progress.stands w.progress.naming) in
@@ -375,9 +354,9 @@ line_breaks {how = how} bytes a b c rest left k offset o s t course w n m q =
 
 -- memory runs out
 pub memory_stops : {how : Manner} {many : Bool} {last : Bool} (bytes : List ℕ) (a b : Told) (rest : List ℕ) (left k offset : ℕ) (o : Operation) (s : State) (course : Course)
-    → Walked how many bytes a b rest left k offset s course last → IsNextItem left rest o (size_of o) → BeginsCalls how many bytes a b
+    → Walked how many bytes a b rest left k offset s course last → IsNextItem false left rest o (size_of o) → BeginsCalls how many bytes a b
 memory_stops {how = how} bytes a b rest left k offset o s course w n =
-    let g = item_is w.d k left rest o (size_of o) w.stands n in
+    let g = item_in false w.d k left rest o (size_of o) w.reads.framing w.stands n in
     let text = begins how w.d k s w.progress.reached (omega (arith, within (ops_of w.d) k o g.there)) (λ n j e. omega (arith, inside_after w.d k n j w.outside e)) in
     let front : WroteAllBut a b (calls how w.d).text text.0 = record { front = (entries how w.d k).text; parts = text.1; wrote = w.written } in
     (w.d, w.reads, (text.0, front))
@@ -394,19 +373,19 @@ pub record Moved (how : Manner) (many : Bool) (bytes : List ℕ) (old new : Told
   pub inside : first_inside d (k + 1) ≡ or_here None (many && (is_stop o.opcode && nat_lt 0 course.left)) k
 
 inside_next : (d : Contents) (k : ℕ) (o : Operation) → item_at d k ≡ Some o → first_inside d k ≡ None
-    → first_inside d (suc k) ≡ or_here None (d.many && (is_stop o.opcode && nat_lt 0 (left_behind (left_at d k) o))) k
+    → first_inside d (suc k) ≡ or_here None (d.many && (is_stop o.opcode && nat_lt 0 (left_behind false (left_at d k) o))) k
 unfolding first_inside
 inside_next d k o e none = ap (λ (x : Option ℕ). or_here x (is_inside d.many (item_at d k) (left_at d k)) k) none ∙ ap (λ (x : Option Operation). or_here None (is_inside d.many x (left_at d k)) k) e
 
 pub moved : {how : Manner} {many : Bool} {last : Bool} (bytes : List ℕ) (a b c : Told) (rest : List ℕ) (left k offset : ℕ) (o : Operation) (s t : State) (course next : Course)
-    → Walked how many bytes a b rest left k offset s course last → IsNextItem left rest o (size_of o) → move o k s ≡ Ok t
+    → Walked how many bytes a b rest left k offset s course last → IsNextItem false left rest o (size_of o) → move o k s ≡ Ok t
     → Wrote b c (line_of (in_file how.holes offset) course.naming t.heap (event_of (row_of o) (before_of s) t))
     → next.imports ≡ course.imports + imports_of t.heap (event_of (row_of o) (before_of s) t)
     → next.calls ≡ course.calls + calls_of t.heap (event_of (row_of o) (before_of s) t)
-    → next.naming ≡ naming_after (row_of o) (length t.heap) course.naming → next.left ≡ left_behind course.left o
-    → Moved how many bytes a c (drop (size_of o) rest) (left_behind left o) k (offset + size_of o) o t next
+    → next.naming ≡ naming_after (row_of o) (length t.heap) course.naming → next.left ≡ left_behind false course.left o
+    → Moved how many bytes a c (drop (size_of o) rest) (left_behind false left o) k (offset + size_of o) o t next
 moved {how = how} {many = many} bytes a b c rest left k offset o s t course next w n m q i j u v =
-    let g = item_is w.d k left rest o (size_of o) w.stands n in
+    let g = item_in false w.d k left rest o (size_of o) w.reads.framing w.stands n in
     let r : Option Event = event_of (row_of o) (before_of s) t in
     let after : run (start w.d.many) (ops_of w.d) (suc k) ≡ Some t = rw (run-suc (start w.d.many) (ops_of w.d) k o s g.there w.progress.reached, m) refl in
     let here : entry_at how w.d k ≡ counted_text (in_file how.holes offset) course.naming t.heap r = entry_here how w.d k offset course.naming o s t g.there w.progress.reached m w.progress.stands w.progress.naming in
@@ -417,16 +396,16 @@ moved {how = how} {many = many} bytes a b c rest left k offset o s t course next
     let calls : (entries how w.d (suc k)).calls ≡ (entries how w.d k).calls + calls_of t.heap r =
     calls-suc how w.d k ∙ ap (λ (e : CountedText). (entries how w.d k).calls + e.calls) here in
     let named : naming_at how.detail w.d (suc k) ≡ naming_after (row_of o) (length t.heap) (naming_at how.detail w.d k) = rw (g.there, after) refl in
-    let left_is : left_at w.d (suc k) ≡ left_behind (left_at w.d k) o = rw g.there refl in
-    let here_left : next.left ≡ left_behind (left_at w.d k) o = v ∙ ap (λ (x : ℕ). left_behind x o) w.progress.left in
+    let left_is : left_at w.d (suc k) ≡ left_behind false (left_at w.d k) o = rw g.there refl in
+    let here_left : next.left ≡ left_behind false (left_at w.d k) o = v ∙ ap (λ (x : ℕ). left_behind false x o) w.progress.left in
     record {
       d = w.d;
       reads = w.reads;
       there = g.there;
       outside = w.outside;
-      inside = rw (add-one k) (inside_next w.d k o g.there w.outside ∙ ap (λ (b : Bool). or_here None (b && (is_stop o.opcode && nat_lt 0 (left_behind (left_at w.d k) o))) k) w.reads.mode
+      inside = rw (add-one k) (inside_next w.d k o g.there w.outside ∙ ap (λ (b : Bool). or_here None (b && (is_stop o.opcode && nat_lt 0 (left_behind false (left_at w.d k) o))) k) w.reads.mode
           ∙ ap (λ (x : ℕ). or_here None (many && (is_stop o.opcode && nat_lt 0 x)) k) (sym here_left));
-      goes = subst (λ (x : Bool). MatchBool (ends_reading x o.opcode) (IsDone w.d (k + 1) (drop (size_of o) rest) None) (HasRead w.d (k + 1) (drop (size_of o) rest) (left_behind left o))) w.reads.mode g.goes;
+      goes = subst (λ (x : Bool). MatchBool (ends_reading x o.opcode) (IsDone w.d (k + 1) (drop (size_of o) rest) None) (HasRead w.d (k + 1) (drop (size_of o) rest) (left_behind false left o))) w.reads.mode g.goes;
       progress = record {
         reached = rw (add-one k) after;
         stands = rw w.progress.stands (sym (offset_next w.d k o g.there));
@@ -517,9 +496,9 @@ pub record Bounds (bytes : List ℕ) (k offset : ℕ) (o : Operation) (s : State
   pub calls : course.calls ≤ k
 
 pub bounds : {how : Manner} {many : Bool} {last : Bool} (bytes : List ℕ) (a b : Told) (rest : List ℕ) (left k offset : ℕ) (o : Operation) (s : State) (course : Course)
-    → Walked how many bytes a b rest left k offset s course last → IsNextItem left rest o (size_of o) → Bounds bytes k offset o s course
+    → Walked how many bytes a b rest left k offset s course last → IsNextItem false left rest o (size_of o) → Bounds bytes k offset o s course
 bounds bytes a b rest left k offset o s course w n =
-    let g = item_is w.d k left rest o (size_of o) w.stands n in
+    let g = item_in false w.d k left rest o (size_of o) w.reads.framing w.stands n in
     let size : length (document_bytes w.d) ≡ length bytes = ap length w.reads.whole in
     record {
       place = omega (arith, place_within (ops_of w.d) k o g.there, ops_within w.d, size);
@@ -528,3 +507,10 @@ bounds bytes a b rest left k offset o s course w n =
       imports = w.progress.few_imports;
       calls = w.progress.few_calls;
     }
+
+-- no more items were read than there are bytes
+pub place_small : {how : Manner} {many : Bool} {last : Bool} (bytes : List ℕ) (a b : Told) (rest : List ℕ) (left k offset : ℕ) (s : State) (course : Course)
+    → Walked how many bytes a b rest left k offset s course last → k ≤ length bytes
+place_small bytes a b rest left k offset s course w =
+    let parts : length (ops_of w.d) ≡ length w.stands.done + length w.stands.to_come = ap length w.stands.parts ∙ length-append w.stands.done w.stands.to_come in
+    omega (arith, parts, w.stands.count, length-bytes_of (ops_of w.d), ops_within w.d, ap length w.reads.whole)

@@ -126,7 +126,7 @@ said_names_stay (Some id) p = if_stays (is_text p.from && is_text p.name) (pair_
 renamed_stays : (m : Naming) (object : Option ℕ) (i : NewPair) (p : Pair) → Stays (renamed_text m object i p)
 renamed_stays m None i p = if_stays m.old (import_for i p) (pair_text p) (import_for_stays i p) (pair_stays p)
 renamed_stays m (Some id) i p =
-    if_stays (nat_le m.since id) (if m.old then import_text i p else said_names (Some id) p) (id_text id)
+    if_stays (nat_le m.since id && is_text p.name) (if m.old then import_text i p else said_names (Some id) p) (id_text id)
     (if_stays m.old (import_text i p) (said_names (Some id) p) (import_stays i p) (said_names_stay (Some id) p)) (id_stays id)
 
 pub names_stay : (m : Naming) (object : Option ℕ) (p : Pair) → Stays (names_text m object p)

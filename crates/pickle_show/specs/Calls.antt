@@ -82,7 +82,7 @@ entries how d (suc k) =
 
 -- how many bytes of a frame are left before item k
 abbrev pub left_on : Option Operation → ℕ → ℕ
-left_on (Some o) left = left_behind left o
+left_on (Some o) left = left_behind false left o
 left_on None left = left
 
 abbrev pub left_at : Contents → ℕ → ℕ
@@ -91,7 +91,7 @@ left_at d (suc k) = left_on (item_at d k) (left_at d k)
 
 -- of several pickles, an item is STOP and leaves a frame unfinished
 abbrev pub is_inside : Bool → Option Operation → ℕ → Bool
-is_inside many (Some o) left = many && (is_stop o.opcode && nat_lt 0 (left_behind left o))
+is_inside many (Some o) left = many && (is_stop o.opcode && nat_lt 0 (left_behind false left o))
 is_inside many None left = false
 
 abbrev pub or_here : Option ℕ → Bool → ℕ → Option ℕ

@@ -1,7 +1,7 @@
 -- What became of the text of imports and calls that was to be written: that of the document that the bytes read as, as several
 -- pickles or as one.
 -- Source: own.
-use Rattle.std.specs.Prelude.{ℕ, Bool, List}
+use Rattle.std.specs.Prelude.{ℕ, Bool, false, List}
 use Rattle.pickle_io.specs.Device.{Told}
 use Rattle.pickle_show.specs.declared.stop.TextStop.{TextStop}
 use Rattle.pickle_show.specs.Manner.{Manner}
@@ -9,10 +9,10 @@ use Rattle.pickle_show.specs.Output.{Breaks, Begins, Cuts}
 use Rattle.pickle_show.specs.Calls.{calls}
 
 abbrev pub BreaksCalls : Manner → Bool → List ℕ → Told → Told → Type 0
-BreaksCalls how many bytes old new = Breaks (calls how) many bytes old new
+BreaksCalls how many bytes old new = Breaks (calls how) many false bytes old new
 
 abbrev pub BeginsCalls : Manner → Bool → List ℕ → Told → Told → Type 0
-BeginsCalls how many bytes old new = Begins (calls how) many bytes old new
+BeginsCalls how many bytes old new = Begins (calls how) many false bytes old new
 
 abbrev pub CutsCalls : Manner → Bool → List ℕ → Told → Told → TextStop → Type 0
-CutsCalls how many bytes old new e = Cuts (calls how) many bytes old new e
+CutsCalls how many bytes old new e = Cuts (calls how) many false bytes old new e

@@ -5,3 +5,7 @@ pub mod Protocol
 pub mod Between
 pub mod Walking
 pub mod Ending
+pub mod Part
+pub mod Listed
+pub mod Walked
+pub mod Stepped

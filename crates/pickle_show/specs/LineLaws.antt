@@ -22,8 +22,8 @@ use Rattle.pickle_ops.specs.Object.{Object}
 use Rattle.pickle_show.specs.declared.event.Event.{Event}
 use Rattle.pickle_show.specs.declared.event.Event.TheVariants as event
 use Rattle.pickle_show.specs.declared.naming.Naming.{Naming}
-use Rattle.pickle_show.specs.Naming.{Spelled, Pair, NewPair, global_pair, stack_pair, pair_renamed}
-use Rattle.pickle_show.specs.Brief.{value_text}
+use Rattle.pickle_show.specs.Naming.{Spelled, Pair, NewPair, global_pair, inst_pair, stack_pair, pair_renamed}
+use Rattle.pickle_show.specs.Brief.{briefs_text, value_text}
 use Rattle.pickle_show.specs.CallsLine.{made_at, event_line, totals_line, unsure_line}
 use Rattle.pickle_show.specs.Calls.{CallsEnd, naming_at, entry_at, entries, calls, calls_end}
 use Rattle.pickle_show.specs.CallsLaws.{IsStep}
@@ -130,3 +130,19 @@ LineOfImport = (how : Manner) (d : Contents) (k : ℕ) (s t : State) (o : Object
     → names_of t.heap o ≡ Some p → IsRead p.from from → IsRead p.name name
     → (entry_at how d k).text ≡ right_aligned 5 (decimal (in_file how.holes (offset_of d k))) ⧺ codes ": "
     ⧺ (codes "import " ⧺ import_said (naming_at how.detail d k).old (pair_renamed p) from name ⧺ codes " as " ⧺ id_text (length s.heap)) ⧺ newline
+
+-- the names of the class that INST imports and calls at once
+abbrev pub inst_names : Kind → Option Pair
+inst_names (kind.Inst names) = Some (inst_pair names.first names.second)
+inst_names _ = None
+
+-- what INST says by these names: the class as an import says it, and the arguments
+abbrev pub inst_said : Naming → List Object → Pair → List ℕ → List ℕ → List ℕ → List ℕ
+inst_said m heap p from name parts = codes "inst " ⧺ import_said m.old (pair_renamed p) from name ⧺ codes " " ⧺ briefs_text m heap parts
+
+-- an accepted item that imports a class by names which can be read, and calls it, has exactly the line with these names
+abbrev pub LineOfInst : Type 0
+LineOfInst = (how : Manner) (d : Contents) (k : ℕ) (s t : State) (o : Object) (p : Pair) (from name : List ℕ) → IsStep d k s t → slice_get t.heap (length s.heap) ≡ Some o
+    → inst_names o.kind ≡ Some p → IsRead p.from from → IsRead p.name name
+    → (entry_at how d k).text ≡ right_aligned 5 (decimal (in_file how.holes (offset_of d k))) ⧺ codes ": "
+    ⧺ (inst_said (naming_at how.detail d k) t.heap p from name o.parts ⧺ codes " as " ⧺ id_text (length s.heap)) ⧺ newline

@@ -87,10 +87,10 @@ abbrev pub short_of : Option Spelled → Option (List ℕ)
 short_of (Some s) = short_value s.coding s.bytes
 short_of None = None
 
--- a text that can be read
-abbrev pub is_readable : Option Spelled → Bool
-is_readable (Some s) = (decode_all s.coding s.bytes).good
-is_readable None = false
+-- a text that can be read; or no text, which is a name by the time that it is looked up
+abbrev pub may_be_name : Option Spelled → Bool
+may_be_name (Some s) = (decode_all s.coding s.bytes).good
+may_be_name None = true
 
 -- what is imported: from which module, and which member of it, or the one that the names say
 pub record NewPair : Type 0 where
@@ -103,15 +103,15 @@ by_both i = record { from = i.from; name = Some i.name }
 abbrev pub by_module : List ℕ → NewPair
 by_module from = record { from = from; name = None }
 
--- a member that is no short text has no row of its own; its module may have one
+-- a member that is a long text has no row of its own, and that of one which a call makes is not known; its module may have one
 abbrev pub renamed_by : Option (List ℕ) → Option (List ℕ) → Bool → Option NewPair
-renamed_by (Some from) (Some name) readable = option_map by_both (renamed from name)
-renamed_by (Some from) None readable = if readable then option_map by_module (module_renamed from) else None
-renamed_by None name readable = None
+renamed_by (Some from) (Some name) named = option_map by_both (renamed from name)
+renamed_by (Some from) None named = if named then option_map by_module (module_renamed from) else None
+renamed_by None name named = None
 
 -- what Python 3 imports for them where they are names of Python 2, if that is not what they say
 unfoldable pub pair_renamed : Pair → Option NewPair
-pair_renamed p = renamed_by (short_of p.from) (short_of p.name) (is_readable p.name)
+pair_renamed p = renamed_by (short_of p.from) (short_of p.name) (may_be_name p.name)
 
 abbrev pub member_text : Option (List ℕ) → Pair → List ℕ
 member_text (Some name) p = quoted name
@@ -134,10 +134,10 @@ said_names None p = pair_text p
 said_names (Some id) p = if is_text p.from && is_text p.name then pair_text p else id_text id
 
 -- another import than the names say: of what is imported now, both; of what was imported as this object, what it is, or where it is not
--- known any more how names were read then, its number
+-- known any more how names were read then, or the member is no text, its number
 abbrev pub renamed_text : Naming → Option ℕ → NewPair → Pair → List ℕ
 renamed_text m None i p = if m.old then import_for i p else said_names None p
-renamed_text m (Some id) i p = if nat_le m.since id then (if m.old then import_text i p else said_names (Some id) p) else id_text id
+renamed_text m (Some id) i p = if nat_le m.since id && is_text p.name then (if m.old then import_text i p else said_names (Some id) p) else id_text id
 
 abbrev pub names_by : Naming → Option ℕ → Option NewPair → Pair → List ℕ
 names_by m object None p = said_names object p

@@ -2,7 +2,7 @@
 -- function of the document.
 use Rattle.std.specs.Prelude.{◌≡◌, ℕ, Bool, List}
 use Rattle.pickle_io.specs.Device.{Told, Wrote, Broke, WroteAllBut}
-use Rattle.pickle_doc.specs.Document.{Contents, ReadsAs}
+use Rattle.pickle_doc.specs.Document.{Contents, ReadsIn}
 use Rattle.pickle_show.specs.declared.stop.TextStop.{TextStop}
 use Rattle.pickle_show.specs.declared.stop.TextStop.TheVariants as stop
 
@@ -24,21 +24,21 @@ BrokeOutput output d old new = Broke old new (output d).text
 abbrev pub BeganOutput : (Contents → Output) → Contents → Told → Told → Type 0
 BeganOutput output d old new = (rest : List ℕ) × WroteAllBut old new (output d).text rest
 
--- ---- of bytes: the text of the document that they read as, as several pickles or as one
+-- ---- of bytes: the text of the document that they read as, as several pickles or as one, and with all items loose or with frames
 
 -- the whole text was written, and this is its status
-abbrev pub Completes : (Contents → Output) → Bool → List ℕ → Told → Told → ℕ → Type 0
-Completes output many bytes old new status = (d : Contents) × ReadsAs many bytes d × WroteOutput output d old new status
+abbrev pub Completes : (Contents → Output) → Bool → Bool → List ℕ → Told → Told → ℕ → Type 0
+Completes output many loose bytes old new status = (d : Contents) × ReadsIn many loose bytes d × WroteOutput output d old new status
 
 -- a beginning of it was written, and then the sink failed
-abbrev pub Breaks : (Contents → Output) → Bool → List ℕ → Told → Told → Type 0
-Breaks output many bytes old new = (d : Contents) × ReadsAs many bytes d × BrokeOutput output d old new
+abbrev pub Breaks : (Contents → Output) → Bool → Bool → List ℕ → Told → Told → Type 0
+Breaks output many loose bytes old new = (d : Contents) × ReadsIn many loose bytes d × BrokeOutput output d old new
 
 -- a beginning of it was written, and no failure came
-abbrev pub Begins : (Contents → Output) → Bool → List ℕ → Told → Told → Type 0
-Begins output many bytes old new = (d : Contents) × ReadsAs many bytes d × BeganOutput output d old new
+abbrev pub Begins : (Contents → Output) → Bool → Bool → List ℕ → Told → Told → Type 0
+Begins output many loose bytes old new = (d : Contents) × ReadsIn many loose bytes d × BeganOutput output d old new
 
 -- a beginning of it was written, and then the sink failed, or memory ran out
-abbrev pub Cuts : (Contents → Output) → Bool → List ℕ → Told → Told → TextStop → Type 0
-Cuts output many bytes old new stop.Failed = Breaks output many bytes old new
-Cuts output many bytes old new stop.Memory = Begins output many bytes old new
+abbrev pub Cuts : (Contents → Output) → Bool → Bool → List ℕ → Told → Told → TextStop → Type 0
+Cuts output many loose bytes old new stop.Failed = Breaks output many loose bytes old new
+Cuts output many loose bytes old new stop.Memory = Begins output many loose bytes old new

@@ -5,7 +5,7 @@ use Rattle.pickle_ops.specs.Spelling.{Operation}
 use Rattle.pickle_io.specs.Text.{◌⧺◌}
 use Rattle.pickle_doc.specs.declared.fault.End.TheVariants as end
 use Rattle.pickle_doc.specs.declared.fault.TailFault.{TailFault}
-use Rattle.pickle_doc.specs.Document.{Contents, items_of, ReadsAs}
+use Rattle.pickle_doc.specs.Document.{Contents, items_of, ReadsIn}
 use Rattle.pickle_doc.specs.Place.{ops_of, item_at, end_of}
 use Rattle.pickle_ops.specs.Object.{Object}
 use Rattle.pickle_machine.specs.declared.refusal.Refusal.{Refusal}
@@ -81,15 +81,15 @@ WroteReport d old new status = (text : List ℕ) × IsReport d text status × Wr
 abbrev pub BrokeReport : Contents → Told → Told → Type 0
 BrokeReport d old new = (text : List ℕ) × (status : ℕ) × IsReport d text status × Broke old new text
 
--- ---- of bytes: the report of the document that they read as, as several pickles or as one
+-- ---- of bytes: the report of the document that they read as, as several pickles or as one, and with all items loose or with frames
 
 -- the report was written, and this is its status
-abbrev pub IsReported : Bool → List ℕ → Told → Told → ℕ → Type 0
-IsReported many bytes old new status = (d : Contents) × ReadsAs many bytes d × WroteReport d old new status
+abbrev pub IsReported : Bool → Bool → List ℕ → Told → Told → ℕ → Type 0
+IsReported many loose bytes old new status = (d : Contents) × ReadsIn many loose bytes d × WroteReport d old new status
 
 -- a front of it was written, and then a failure came
-abbrev pub BreaksReport : Bool → List ℕ → Told → Told → Type 0
-BreaksReport many bytes old new = (d : Contents) × ReadsAs many bytes d × BrokeReport d old new
+abbrev pub BreaksReport : Bool → Bool → List ℕ → Told → Told → Type 0
+BreaksReport many loose bytes old new = (d : Contents) × ReadsIn many loose bytes d × BrokeReport d old new
 
 -- ---- laws
 

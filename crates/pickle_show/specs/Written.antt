@@ -22,16 +22,16 @@ abbrev pub CutListing : Contents → Told → Told → TextStop → Type 0
 CutListing d old new stop.Failed = BrokeOutput listing d old new
 CutListing d old new stop.Memory = BeganListing d old new
 
--- ---- of bytes: the listing of the document that they read as, as many pickles or as one
+-- ---- of bytes: the listing of the document that they read as, as many pickles or as one, and with all items loose or with frames
 
-abbrev pub IsListed : Bool → List ℕ → Told → Told → ℕ → Type 0
-IsListed many bytes old new status = Completes listing many bytes old new status
+abbrev pub IsListed : Bool → Bool → List ℕ → Told → Told → ℕ → Type 0
+IsListed many loose bytes old new status = Completes listing many loose bytes old new status
 
-abbrev pub BreaksListing : Bool → List ℕ → Told → Told → Type 0
-BreaksListing many bytes old new = Breaks listing many bytes old new
+abbrev pub BreaksListing : Bool → Bool → List ℕ → Told → Told → Type 0
+BreaksListing many loose bytes old new = Breaks listing many loose bytes old new
 
-abbrev pub BeginsListing : Bool → List ℕ → Told → Told → Type 0
-BeginsListing many bytes old new = Begins listing many bytes old new
+abbrev pub BeginsListing : Bool → Bool → List ℕ → Told → Told → Type 0
+BeginsListing many loose bytes old new = Begins listing many loose bytes old new
 
-abbrev pub CutsListing : Bool → List ℕ → Told → Told → TextStop → Type 0
-CutsListing many bytes old new e = Cuts listing many bytes old new e
+abbrev pub CutsListing : Bool → Bool → List ℕ → Told → Told → TextStop → Type 0
+CutsListing many loose bytes old new e = Cuts listing many loose bytes old new e

@@ -5,11 +5,13 @@ ghost use Rattle.std.specs.Option.{option_map};
 ghost use Rattle.pickle_io.specs.Device.{Writes};
 ghost use Rattle.pickle_show.specs.Begins.{is_like, begins_by, begins_like, begins_words, begins_line, begins_text};
 
-use pickle_ops::{Failed, Page, write_all};
+use pickle_io::{Failed, Page, write_all};
 
 /// What files begin like that hold pickles inside: at which offset, with which bytes, and what such a file is called.
-pub static CONTAINERS: [(usize, &[u8], &str); 9] = [
+pub static CONTAINERS: [(usize, &[u8], &str); 21] = [
     (0, b"PK\x03\x04", "a zip archive"),
+    (0, b"PK\x05\x06", "a zip archive"),
+    (0, b"PK\x07\x08", "a zip archive"),
     (0, b"\x1f\x8b", "a gzip file"),
     (0, b"\x93NUMPY", "a .npy file"),
     (0, b"\x89HDF\r\n\x1a\n", "an HDF5 file"),
@@ -18,6 +20,16 @@ pub static CONTAINERS: [(usize, &[u8], &str); 9] = [
     (0, b"\x28\xb5\x2f\xfd", "a zstd file"),
     (257, b"ustar", "a tar archive"),
     (0, b"SQLite format 3\x00", "an SQLite file"),
+    (0, b"\x5d\x00\x00", "an lzma file"),
+    (0, b"\x78\x01", "a zlib file"),
+    (0, b"\x78\x5e", "a zlib file"),
+    (0, b"\x78\x9c", "a zlib file"),
+    (0, b"\x78\xda", "a zlib file"),
+    (0, b"ZF0x", "a zlib file of joblib"),
+    (12, b"\x61\x15\x06\x00", "a Berkeley DB file"),
+    (0, b"\xcd\x9a\x57\x13", "a gdbm file"),
+    (0, b"\xce\x9a\x57\x13", "a gdbm file"),
+    (0, b"\xcf\x9a\x57\x13", "a gdbm file"),
 ];
 
 /// Whether these bytes stand at this offset.

@@ -4,7 +4,7 @@ ghost use Rattle.std.specs.Prelude.{◌≡◌, ◌≤◌, ◌+◌, OnOk};
 ghost use Rattle.pickle_io.specs.Device.{Wrote, Writes};
 ghost use Rattle.pickle_show.specs.Column.{blanks};
 
-use pickle_ops::{Failed, Page};
+use pickle_io::{Failed, Page};
 
 /// Puts a few blanks.
 #[inline(always)]

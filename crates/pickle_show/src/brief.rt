@@ -12,8 +12,9 @@ use crate::kind::write_kind;
 use crate::name::{inner, write_global_after, write_stack_after};
 use crate::naming::{Detail, Naming};
 use crate::words::{write_id, write_with_number};
+use pickle_io::{Failed, Page, write_all, write_quoted};
 use pickle_names::{Coding, Reading, read, write_text, write_value as write_text_value};
-use pickle_ops::{Failed, Kind, ObjId, Object, Page, write_all, write_long, write_quoted};
+use pickle_ops::{Kind, ObjId, Object, write_long};
 
 /// At how many bytes a payload is cut. A name is shown whole, since names are what is looked for.
 const MOST_BYTES: usize = 64;

@@ -1,23 +1,27 @@
 //! What items would import and call, one after another.
 
-ghost use Rattle.std.specs.Prelude.{◌≡◌, IfOk, IfErr};
+ghost use Rattle.std.specs.Prelude.{◌≡◌, ◌<◌, ⊤, false, length, IfOk, IfErr};
 ghost use Rattle.pickle_machine.specs.State.{start};
 ghost use Rattle.pickle_show.specs.Source.{GivesDocument};
 ghost use Rattle.pickle_show.specs.CallsWritten.{CutsCalls};
 ghost use Rattle.pickle_show.specs.Manner.{manner};
 ghost use Rattle.pickle_show.specs.Ran.{IsRun};
+ghost use Rattle.pickle_show.specs.Inside.Part.{IsPart};
+ghost use Rattle.pickle_show.specs.Inside.Walked.{Begun, HasWalked};
 
 use crate::calls_line::write_line;
 use crate::course::Course;
 use crate::end::Ending;
 use crate::event::{Before, event_of};
 use crate::naming::{Detail, leaves_frame};
+use crate::part::{ITEMS_OF_A_PART, Part};
 use crate::report::{Closing, closing_at, step_over};
 use crate::stop::TextStop;
 use pickle_doc::{ItemSource, NextRef, ends_reading, is_stop};
 use pickle_holes::Holes;
+use pickle_io::Page;
 use pickle_machine::{Machine, Refusal};
-use pickle_ops::{Page, Row};
+use pickle_ops::Row;
 use std::alloc::Global;
 
 /// How far the items of a source were run, and how that ended.
@@ -33,11 +37,106 @@ pub struct Ran {
     pub place: usize,
 }
 
+/// How far the items of a source were run.
+#[derive(Drop)]
+struct SoFar<I> {
+    reader: I,
+    course: Course,
+    offset: u64,
+    place: usize,
+    /// Whether STOP was the last of them.
+    stop: bool,
+}
+
+/// Runs the items of one part, from how far they were run on, and writes their lines.
+#[inline(never)]
+fn run_part<'a, I: ItemSource<'a>, S: Page>(
+    alloc: Global,
+    holes: &Holes,
+    many: bool,
+    from: SoFar<I>,
+    machine: &mut Machine,
+    sink: &mut S,
+) -> Result<Part<SoFar<I>, Ran>, TextStop>
+    requires { (begun : Begun) × HasWalked holes.now many begun I.unread (S.told sink.old) machine.old.state from }
+    ensures ok { (begun : Begun) → HasWalked holes.now many begun I.unread (S.told sink.old) machine.old.state from → IfOk result (IsPart (HasWalked holes.now many begun I.unread (S.told sink.new) machine.new.state) (IsRun (manner begun.detail holes.now) many begun.rest begun.told (S.told sink.new) machine.new.state)) }
+    ensures err { (begun : Begun) → HasWalked holes.now many begun I.unread (S.told sink.old) machine.old.state from → IfErr result (CutsCalls (manner begun.detail holes.now) many begun.rest begun.told (S.told sink.new)) }
+    ensures less { IfOk result (IsPart (λ far. length (I.unread far.reader).rest < length (I.unread from.reader).rest) (λ _. ⊤)) }
+{
+    let SoFar {
+        mut reader,
+        mut course,
+        mut offset,
+        place: first,
+        mut stop,
+    } = from;
+    let end = first + ITEMS_OF_A_PART;
+    'items: for place in first..end {
+        match reader.next() {
+            NextRef::Tail(fault) => {
+                let closing = closing_at(stop, reader.unread_len(), fault, offset);
+                return Ok(Part::End(Ran {
+                    course,
+                    ending: Ending::Closed(0, closing),
+                    offset,
+                    place,
+                }));
+            }
+            NextRef::Item(op) => {
+                let row = Row::of_ref(&op);
+                let before = Before::of(machine);
+                if let Err(refusal) = step_over(alloc, row, &op, place, machine) {
+                    if refusal == Refusal::Memory {
+                        return Err(TextStop::Memory);
+                    }
+                    let ending = Ending::Closed(0, Closing::Refused(place, refusal));
+                    return Ok(Part::End(Ran {
+                        course,
+                        ending,
+                        offset,
+                        place,
+                    }));
+                }
+                let event = event_of(row, before, machine);
+                write_line(holes, offset, course.naming, machine.heap(), event, sink)?;
+                course = course.over(&op, row, machine.heap(), event);
+                let at = offset;
+                offset += op.size() as u64;
+                if ends_reading(many, op.opcode()) {
+                    let ending = Ending::Closed(reader.unread_len(), Closing::Stopped);
+                    return Ok(Part::End(Ran {
+                        course,
+                        ending,
+                        offset,
+                        place: place + 1,
+                    }));
+                }
+                if leaves_frame(op.opcode(), course.left) {
+                    return Ok(Part::End(Ran {
+                        course,
+                        ending: Ending::Unsure(at),
+                        offset,
+                        place: place + 1,
+                    }));
+                }
+                stop = is_stop(op.opcode());
+            }
+        }
+    }
+    Ok(Part::More(SoFar {
+        reader,
+        course,
+        offset,
+        place: end,
+        stop,
+    }))
+}
+
 /// Writes the lines of the items that a source gives from the first on, as several pickles or as one, and not the last lines. The machine,
 /// which has done nothing yet, runs the items; each line is written when its item was stepped, and no item, no step and no line is kept.
 /// The run ends at the end of the items, at an item that is refused, or where of several pickles STOP leaves a frame unfinished, since
 /// loaders disagree about what is behind it. The machine then stands behind the last item that was run. The source is to give a document
-/// that is not too large. It is what is left of a file without these holes, and the lines have the offsets of the file.
+/// that is not too large, with its frames. It is what is left of a file without these holes, and the lines have the offsets of the file.
 ///
 /// `Memory` (M) where memory runs out, `Failed` where the sink fails; what was written then is a beginning of the text.
 pub fn run_items<'a, I: ItemSource<'a>, S: Page>(
@@ -50,66 +149,22 @@ pub fn run_items<'a, I: ItemSource<'a>, S: Page>(
     sink: &mut S,
 ) -> Result<Ran, TextStop>
     requires source { GivesDocument many (I.unread source) }
+    requires framed { (I.unread source).loose ≡ false }
     requires fresh { machine.old.state ≡ start many }
     ensures ok { IfOk result (IsRun (manner detail holes.now) many (I.unread source).rest (S.told sink.old) (S.told sink.new) machine.new.state) }
     ensures err { IfErr result (CutsCalls (manner detail holes.now) many (I.unread source).rest (S.told sink.old) (S.told sink.new)) }
 {
-    let mut reader = source;
-    let mut course = Course::new(detail);
-    let mut offset = 0;
-    let mut place = 0;
-    let mut stop = false;
-    'items: loop {
-        match reader.next() {
-            NextRef::Tail(fault) => {
-                let closing = closing_at(stop, reader.unread_len(), fault, offset);
-                return Ok(Ran {
-                    course,
-                    ending: Ending::Closed(0, closing),
-                    offset,
-                    place,
-                });
-            }
-            NextRef::Item(op) => {
-                let row = Row::of_ref(&op);
-                let before = Before::of(machine);
-                if let Err(refusal) = step_over(alloc, row, &op, place, machine) {
-                    if refusal == Refusal::Memory {
-                        return Err(TextStop::Memory);
-                    }
-                    let ending = Ending::Closed(0, Closing::Refused(place, refusal));
-                    return Ok(Ran {
-                        course,
-                        ending,
-                        offset,
-                        place,
-                    });
-                }
-                let event = event_of(row, before, machine);
-                write_line(holes, offset, course.naming, machine.heap(), event, sink)?;
-                course = course.over(&op, row, machine.heap(), event);
-                let at = offset;
-                offset += op.size() as u64;
-                place += 1;
-                if ends_reading(many, op.opcode()) {
-                    let ending = Ending::Closed(reader.unread_len(), Closing::Stopped);
-                    return Ok(Ran {
-                        course,
-                        ending,
-                        offset,
-                        place,
-                    });
-                }
-                if leaves_frame(op.opcode(), course.left) {
-                    return Ok(Ran {
-                        course,
-                        ending: Ending::Unsure(at),
-                        offset,
-                        place,
-                    });
-                }
-                stop = is_stop(op.opcode());
-            }
+    let mut far = SoFar {
+        reader: source,
+        course: Course::new(detail),
+        offset: 0,
+        place: 0,
+        stop: false,
+    };
+    'parts: loop {
+        match run_part(alloc, holes, many, far, machine, sink)? {
+            Part::More(next) => far = next,
+            Part::End(ran) => return Ok(ran),
         }
     }
 }

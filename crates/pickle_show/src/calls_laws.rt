@@ -1,7 +1,7 @@
 //! Laws of the definitions. The functions do nothing: what they ensure holds of all documents.
 
 ghost use Rattle.pickle_show.specs.CallsLaws.{OneText, NoLineNoReach, LineExactly, FirstLinesComeFirst};
-ghost use Rattle.pickle_show.specs.LineLaws.{QuotesStay, TextIsItsLines, QuotesReadBack, OneLineOneEvent, LineOfImport};
+ghost use Rattle.pickle_show.specs.LineLaws.{QuotesStay, TextIsItsLines, QuotesReadBack, OneLineOneEvent, LineOfImport, LineOfInst};
 
 /// Each byte string has just one text, with just one status.
 pub fn one_text()
@@ -50,4 +50,10 @@ pub fn one_line_one_event()
 /// the object.
 pub fn line_of_import()
     ensures { LineOfImport }
+{}
+
+/// An accepted item that imports a class by names which can be read, and calls it, as INST does, has exactly the line with these names, its
+/// offset, the arguments and the number of the object.
+pub fn line_of_inst()
+    ensures { LineOfInst }
 {}

@@ -18,8 +18,9 @@ use crate::naming::Naming;
 use crate::number::write_right;
 use crate::words::{write_id, write_with_id, write_with_number, write_with_signed};
 use pickle_holes::Holes;
+use pickle_io::{Failed, Page, write_all};
 use pickle_names::{Coding, write_text};
-use pickle_ops::{Failed, Filling, Kind, ObjId, Object, Page, write_all};
+use pickle_ops::{Filling, Kind, ObjId, Object};
 
 /// Writes that a member of a module is imported and called.
 #[tactic(auto, using(pickle_io::proofs::Devices::text_steps), unfolding(crate::specs::CallsLine::inst_text))]

@@ -91,7 +91,7 @@ fn calls_of(heap: &[Object], event: Option<Event>) -> u64
 }
 
 impl Course {
-    ghost use Rattle.std.specs.Prelude.{◌≡◌, ◌+◌, ◌<◌, ◌^◌, length};
+    ghost use Rattle.std.specs.Prelude.{◌≡◌, ◌+◌, ◌<◌, ◌^◌, false, length};
     ghost use Rattle.pickle_doc.specs.Fitting.{left_behind};
     ghost use Rattle.pickle_show.specs.Naming.{begin, naming_after};
     ghost use Rattle.pickle_show.specs.CallsLine.{imports_of, calls_of};
@@ -134,7 +134,7 @@ impl Course {
         ensures imports { result.imports ≡ self.imports + imports_of heap.now event }
         ensures calls { result.calls ≡ self.calls + calls_of heap.now event }
         ensures naming { result.naming ≡ naming_after row (length heap.now) self.naming }
-        ensures left { result.left ≡ left_behind self.left op.now }
+        ensures left { result.left ≡ left_behind false self.left op.now }
     {
         let course = self.with(row, heap, event);
         Course {

@@ -14,7 +14,7 @@ use crate::line::write_kept_line;
 use crate::report::{Closing, status_of, write_closing};
 use crate::stop::TextStop;
 use pickle_holes::Holes;
-use pickle_ops::{Failed, Page, write_all, write_decimal};
+use pickle_io::{Failed, Page, write_all, write_decimal};
 
 /// How the lines of a document end.
 #[derive(Clone, Copy)]

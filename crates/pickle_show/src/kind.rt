@@ -7,7 +7,8 @@ use crate::words::{
     write_with_float, write_with_long, write_with_number, write_with_signed, write_with_text,
     write_with_texts,
 };
-use pickle_ops::{Failed, Kind, Page, write_all};
+use pickle_io::{Failed, Page, write_all};
+use pickle_ops::Kind;
 
 /// Writes the word of a kind, and what its opcode gave it.
 #[tactic(auto, unfolding(crate::specs::ObjectText::kind_text))]

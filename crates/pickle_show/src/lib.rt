@@ -33,6 +33,7 @@ mod note;
 mod number;
 mod object;
 mod offset;
+mod part;
 mod put;
 mod report;
 mod report_line;
@@ -44,8 +45,8 @@ mod words;
 pub use begins::{CONTAINERS, write_begins};
 pub use calls::{Ran, run_items};
 pub use calls_laws::{
-    first_lines_come_first, line_exactly, line_of_import, no_line_no_reach, one_line_one_event,
-    one_text, quotes_read_back, quotes_stay, text_is_its_lines,
+    first_lines_come_first, line_exactly, line_of_import, line_of_inst, no_line_no_reach,
+    one_line_one_event, one_text, quotes_read_back, quotes_stay, text_is_its_lines,
 };
 pub use calls_line::write_line;
 pub use course::Course;

@@ -5,8 +5,8 @@ ghost use Rattle.pickle_io.specs.Device.{Writes};
 ghost use Rattle.pickle_show.specs.Line.{refused_line, left_text, left_line, kept_text, kept_line, kept_words, protocol_words, protocol_text, protocol_line};
 
 use crate::report_line::write_refusal;
+use pickle_io::{Failed, Page, write_all, write_decimal};
 use pickle_machine::Refusal;
-use pickle_ops::{Failed, Page, write_all, write_decimal};
 
 /// Writes the line of a refused step.
 #[tactic(auto, using(pickle_io::proofs::Devices::text_steps), unfolding(crate::specs::Line::refused_line))]

@@ -1,6 +1,6 @@
 //! The listing of items, one after another.
 
-ghost use Rattle.std.specs.Prelude.{◌≡◌, ◌≤◌, ◌<◌, ◌-◌, ◌^◌, ◌==◌, ◌||◌, [], if◌then◌else◌, length, not, None, OnOk, IfOk, IfErr};
+ghost use Rattle.std.specs.Prelude.{◌≡◌, ◌≤◌, ◌<◌, ◌-◌, ◌^◌, ◌==◌, ◌||◌, ⊤, [], if◌then◌else◌, length, not, None, OnOk, IfOk, IfErr};
 ghost use Rattle.pickle_io.specs.Device.{Writes};
 ghost use Rattle.pickle_io.specs.Text.{◌⧺◌};
 ghost use Rattle.pickle_doc.specs.Document.{size_limit};
@@ -11,19 +11,35 @@ ghost use Rattle.pickle_show.specs.ReportLine.{fault_line};
 ghost use Rattle.pickle_show.specs.Line.{item_line, refused_line, left_line, kept_line, protocol_line};
 ghost use Rattle.pickle_show.specs.Inside.Marks.{followed};
 ghost use Rattle.pickle_show.specs.Inside.Answer.{IsAnswer};
+ghost use Rattle.pickle_show.specs.Inside.Part.{IsPart};
+ghost use Rattle.pickle_show.specs.Inside.Listed.{Begun, HasListed};
 ghost use Rattle.pickle_show.specs.Source.{GivesDocument};
 ghost use Rattle.pickle_show.specs.Written.{WroteListing, CutListing, IsListed, CutsListing};
 
 use crate::highest::Highest;
 use crate::line::{write_kept_line, write_left_line, write_protocol, write_refused};
 use crate::offset::Offset;
+use crate::part::{ITEMS_OF_A_PART, Part};
 use crate::put::{write_bare_item, write_item};
 use crate::report_line::write_fault;
 use crate::stop::TextStop;
 use pickle_doc::{Document, DocumentItems, ItemSource, Items, NextRef, TailFault, is_stop};
+use pickle_io::{Failed, Page};
 use pickle_machine::{Lean, Refusal};
-use pickle_ops::{Class, Failed, OpRef, Page, Row};
+use pickle_ops::{Class, OpRef, Row};
 use std::alloc::{AllocError, Global};
+
+/// How far the items of a source are listed.
+#[derive(Drop)]
+struct SoFar<I> {
+    reader: I,
+    lean: Lean,
+    /// The offsets of the open marks, which are kept besides the machine so that a note costs no search.
+    opened: Vec<u64>,
+    highest: Highest,
+    offset: Offset,
+    place: usize,
+}
 
 /// Writes the lines after all items where bytes are left that are no further item.
 #[tactic(auto, using(pickle_io::proofs::Devices::text_steps))]
@@ -86,12 +102,12 @@ fn write_refused_item<P: Page>(
     write_refused_end(refusal, highest, page)
 }
 
-/// The answer of a listing with this status whose last lines were written, or where the sink failed.
-fn answer(closed: Result<(), Failed>, status: u8) -> Result<u8, TextStop>
-    ensures { IsAnswer closed status result }
+/// What a listing comes to that ends with this status, where its last lines were written or the sink failed.
+fn answer<I: Drop>(closed: Result<(), Failed>, status: u8) -> Result<Part<SoFar<I>, u8>, TextStop>
+    ensures { IsAnswer closed (Part.End status) result }
 {
     closed?;
-    Ok(status)
+    Ok(Part::End(status))
 }
 
 /// What becomes of the offsets of the open marks when a step changes how many there are.
@@ -155,29 +171,28 @@ fn end_pickle<P: Page>(lean: &mut Lean, opened: &mut Vec<u64>, page: &mut P) -> 
     Ok(())
 }
 
-/// Writes the listing of the items that a source gives from the first on, as many pickles or as one, and answers its status: 1 where an
-/// item is refused or the bytes have a fault, else 0. The source is to give a document that is not too
-/// large.
-///
-/// `Memory` (M) comes when memory runs out, `Failed` from the sink; what was written then is a beginning of the listing.
-pub fn list_items<'a, I: ItemSource<'a>, S: Page>(
-    alloc: Global,
+/// Writes the listing of the items of one part, from how far they are listed on.
+#[inline(never)]
+fn list_part<'a, I: ItemSource<'a>, S: Page>(
     many: bool,
-    source: I,
+    from: SoFar<I>,
     sink: &mut S,
-) -> Result<u8, TextStop>
-    requires { GivesDocument many (I.unread source) }
-    ensures ok { IfOk result (IsListed many (I.unread source).rest (S.told sink.old) (S.told sink.new)) }
-    ensures err { IfErr result (CutsListing many (I.unread source).rest (S.told sink.old) (S.told sink.new)) }
+) -> Result<Part<SoFar<I>, u8>, TextStop>
+    requires { (begun : Begun) × HasListed many begun I.unread (S.told sink.old) from }
+    ensures ok { (begun : Begun) → HasListed many begun I.unread (S.told sink.old) from → IfOk result (IsPart (HasListed many begun I.unread (S.told sink.new)) (IsListed many begun.unread.loose begun.unread.rest begun.told (S.told sink.new))) }
+    ensures err { (begun : Begun) → HasListed many begun I.unread (S.told sink.old) from → IfErr result (CutsListing many begun.unread.loose begun.unread.rest begun.told (S.told sink.new)) }
+    ensures less { IfOk result (IsPart (λ far. length (I.unread far.reader).rest < length (I.unread from.reader).rest) (λ _. ⊤)) }
 {
-    let mut reader = source;
-    let mut lean = Lean::new(alloc, many);
-    // The offsets of the open marks are kept besides the machine, so that a note costs no search.
-    let mut opened = Vec::new(alloc);
-    let mut highest = Highest::none();
-    let mut offset = Offset::at(0);
-    let mut place = 0;
-    'items: loop {
+    let SoFar {
+        mut reader,
+        mut lean,
+        mut opened,
+        mut highest,
+        mut offset,
+        place: first,
+    } = from;
+    let end = first + ITEMS_OF_A_PART;
+    'items: for place in first..end {
         match reader.next() {
             NextRef::Tail(fault) => {
                 let at = offset.number();
@@ -202,7 +217,6 @@ pub fn list_items<'a, I: ItemSource<'a>, S: Page>(
                 let class = Class::of(op.opcode());
                 perform(&mut lean, &mut opened, row, class, place, &offset)?;
                 offset.advance(op.size() as u64);
-                place += 1;
                 if !is_stop(op.opcode()) {
                     continue;
                 }
@@ -214,21 +228,61 @@ pub fn list_items<'a, I: ItemSource<'a>, S: Page>(
             }
         }
     }
+    Ok(Part::More(SoFar {
+        reader,
+        lean,
+        opened,
+        highest,
+        offset,
+        place: end,
+    }))
 }
 
-/// Writes the listing of the pickle that the bytes are, or of the several pickles, which are not too many, and answers its status, as
-/// `list_items` does. No item is kept.
+/// Writes the listing of the items that a source gives from the first on, as many pickles or as one, and answers its status: 1 where an
+/// item is refused or the bytes have a fault, else 0. The source is to give a document that is not too
+/// large.
+///
+/// `Memory` (M) comes when memory runs out, `Failed` from the sink; what was written then is a beginning of the listing.
+pub fn list_items<'a, I: ItemSource<'a>, S: Page>(
+    alloc: Global,
+    many: bool,
+    source: I,
+    sink: &mut S,
+) -> Result<u8, TextStop>
+    requires { GivesDocument many (I.unread source) }
+    ensures ok { IfOk result (IsListed many (I.unread source).loose (I.unread source).rest (S.told sink.old) (S.told sink.new)) }
+    ensures err { IfErr result (CutsListing many (I.unread source).loose (I.unread source).rest (S.told sink.old) (S.told sink.new)) }
+{
+    let mut far = SoFar {
+        reader: source,
+        lean: Lean::new(alloc, many),
+        opened: Vec::new(alloc),
+        highest: Highest::none(),
+        offset: Offset::at(0),
+        place: 0,
+    };
+    'parts: loop {
+        match list_part(many, far, sink)? {
+            Part::More(next) => far = next,
+            Part::End(status) => return Ok(status),
+        }
+    }
+}
+
+/// Writes the listing of the pickle that the bytes are, or of the several pickles, which are not too many, with all items loose or with
+/// their frames, and answers its status, as `list_items` does. No item is kept.
 pub fn list_bytes<S: Page>(
     alloc: Global,
     many: bool,
+    loose: bool,
     bytes: &[u8],
     sink: &mut S,
 ) -> Result<u8, TextStop>
     requires { length bytes.now ≤ size_limit }
-    ensures ok { IfOk result (IsListed many bytes.now (S.told sink.old) (S.told sink.new)) }
-    ensures err { IfErr result (CutsListing many bytes.now (S.told sink.old) (S.told sink.new)) }
+    ensures ok { IfOk result (IsListed many loose bytes.now (S.told sink.old) (S.told sink.new)) }
+    ensures err { IfErr result (CutsListing many loose bytes.now (S.told sink.old) (S.told sink.new)) }
 {
-    list_items(alloc, many, Items::new(bytes), sink)
+    list_items(alloc, many, Items::new_as(loose, bytes), sink)
 }
 
 /// Writes the listing of a document, in its mode, and answers its status: 1 where an item is refused or the tail has a fault, else 0.

@@ -7,8 +7,9 @@ ghost use Rattle.pickle_machine.specs.Kept.{kept};
 ghost use Rattle.pickle_show.specs.MemoText.{entry_text, memo_text};
 
 use crate::words::write_id;
+use pickle_io::{Failed, Page, write_all, write_decimal};
 use pickle_machine::{Entries, Machine};
-use pickle_ops::{Failed, ObjId, Page, write_all, write_decimal};
+use pickle_ops::ObjId;
 use std::collections::BTreeMap;
 
 /// Writes a key, and the object that it has.

@@ -6,17 +6,18 @@ ghost use Rattle.pickle_io.specs.Device.{Writes};
 ghost use Rattle.pickle_io.specs.Text.{◌⧺◌};
 ghost use Rattle.pickle_names.specs.Renamed.{import_of};
 ghost use Rattle.pickle_show.specs.Brief.{kind_name, name_text};
-ghost use Rattle.pickle_show.specs.Naming.{inner, spelled_of, spelled_at, said_text, pair_text, is_text, said_names, short_of, is_readable, by_both, renamed_by, pair_renamed, member_text, import_text, import_for, renamed_text, names_by, names_text, global_pair, inst_pair, stack_pair, spelled_view, pair_view, new_view, is_as_said};
+ghost use Rattle.pickle_show.specs.Naming.{inner, spelled_of, spelled_at, said_text, pair_text, is_text, said_names, short_of, may_be_name, by_both, renamed_by, pair_renamed, member_text, import_text, import_for, renamed_text, names_by, names_text, global_pair, inst_pair, stack_pair, spelled_view, pair_view, new_view, is_as_said};
 
 use crate::event::part;
 use crate::kind::write_kind;
 use crate::naming::Naming;
 use crate::words::write_id;
 use arrayvec::ArrayVec;
+use pickle_io::{Failed, Page, write_all, write_quoted};
 use pickle_names::{
     Coding, NewNames, is_plain_name, module_renamed, read, renamed, short_value, write_text,
 };
-use pickle_ops::{Failed, Kind, ObjId, Object, Page, write_all, write_quoted};
+use pickle_ops::{Kind, ObjId, Object};
 
 /// A text as it is in a pickle.
 #[derive(Clone, Copy)]
@@ -222,13 +223,13 @@ fn plain_of<'a>(spelled: Option<SpelledText<'a>>) -> Option<&'a [u8]>
     }
 }
 
-/// Whether a name is a text that can be read.
-fn is_readable(spelled: Option<SpelledText<'_>>) -> bool
-    ensures { result ≡ is_readable (option_map spelled_view spelled.entry) }
+/// Whether a name is a text that can be read, or no text, which is a name by the time that it is looked up.
+fn may_be_name(spelled: Option<SpelledText<'_>>) -> bool
+    ensures { result ≡ may_be_name (option_map spelled_view spelled.entry) }
 {
     match spelled {
         Some(text) => read(text.coding, text.bytes.len(), text.bytes).good,
-        None => false,
+        None => true,
     }
 }
 
@@ -246,10 +247,10 @@ fn by_both<'a>(new: Option<NewNames<'a>>) -> Option<Imported<'a>>
 }
 
 /// What is imported where only the module may have a row.
-fn by_module(from: &[u8], readable: bool) -> Option<Imported<'static>>
-    ensures { option_map new_view result ≡ renamed_by (Some from.now) None readable }
+fn by_module(from: &[u8], named: bool) -> Option<Imported<'static>>
+    ensures { option_map new_view result ≡ renamed_by (Some from.now) None named }
 {
-    if !readable {
+    if !named {
         return None;
     }
     match module_renamed(from) {
@@ -342,7 +343,7 @@ fn write_renamed<S: Page>(
     match object {
         None => write_now(naming.old, new, pair, sink),
         Some(id) => {
-            if naming.since <= id {
+            if naming.since <= id && pair.name.is_some() {
                 write_known(naming.old, id, new, pair, sink)
             } else {
                 write_id(u64::from(id), sink)
@@ -375,7 +376,7 @@ fn write_decoded_of<S: Page>(
     pair: NamePair<'_>,
     sink: &mut S,
 ) -> Result<(), Failed>
-    ensures { Writes (S.told sink.old) (S.told sink.new) result (names_by naming object (renamed_by (Some from.now) (short_of (option_map spelled_view pair.entry.name)) (is_readable (option_map spelled_view pair.entry.name))) (pair_view pair.entry)) }
+    ensures { Writes (S.told sink.old) (S.told sink.new) result (names_by naming object (renamed_by (Some from.now) (short_of (option_map spelled_view pair.entry.name)) (may_be_name (option_map spelled_view pair.entry.name))) (pair_view pair.entry)) }
 {
     match short_of(pair.name) {
         Some(name) => {
@@ -383,7 +384,7 @@ fn write_decoded_of<S: Page>(
             write_names_by(naming, object, new, pair, sink)
         }
         None => {
-            let new = by_module(from, is_readable(pair.name));
+            let new = by_module(from, may_be_name(pair.name));
             write_names_by(naming, object, new, pair, sink)
         }
     }
@@ -397,7 +398,7 @@ fn write_names_of<S: Page>(
     pair: NamePair<'_>,
     sink: &mut S,
 ) -> Result<(), Failed>
-    ensures { Writes (S.told sink.old) (S.told sink.new) result (names_by naming object (renamed_by (Some from.now) (short_of (option_map spelled_view pair.entry.name)) (is_readable (option_map spelled_view pair.entry.name))) (pair_view pair.entry)) }
+    ensures { Writes (S.told sink.old) (S.told sink.new) result (names_by naming object (renamed_by (Some from.now) (short_of (option_map spelled_view pair.entry.name)) (may_be_name (option_map spelled_view pair.entry.name))) (pair_view pair.entry)) }
 {
     match plain_of(pair.name) {
         Some(name) => write_names_by(naming, object, by_both(renamed(from, name)), pair, sink),

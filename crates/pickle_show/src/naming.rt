@@ -1,6 +1,6 @@
 //! How the names of what is imported are read, how much of an argument is shown, and what is left of a frame: these go along with the items.
 
-ghost use Rattle.std.specs.Prelude.{◌≡◌, ◌&&◌, nat_lt};
+ghost use Rattle.std.specs.Prelude.{◌≡◌, ◌&&◌, false, nat_lt};
 ghost use Rattle.pickle_doc.specs.DocUnit.{is_stop, is_frame, frame_number};
 ghost use Rattle.pickle_doc.specs.Fitting.{left_behind};
 
@@ -72,7 +72,7 @@ impl Naming {
 
 /// How many bytes are left of a frame after an opcode.
 pub fn left_behind(op: &OpRef<'_>, left: u64) -> u64
-    ensures { result ≡ left_behind left op.now }
+    ensures { result ≡ left_behind false left op.now }
 {
     if matches!(op.opcode(), Opcode::Frame) {
         op.number()

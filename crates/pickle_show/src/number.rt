@@ -6,7 +6,7 @@ ghost use Rattle.pickle_show.specs.Column.{right_aligned};
 
 use crate::blanks::push_blanks;
 use itoa::write_digits;
-use pickle_ops::{Failed, Page};
+use pickle_io::{Failed, Page};
 
 /// Puts a number at the right of a column of five places; a longer one is not cut.
 #[tactic(auto, using(pickle_io::proofs::Numbers::number_steps))]

@@ -5,8 +5,9 @@ ghost use Rattle.pickle_show.specs.ObjectText.{next_text, some_parts, parts_text
 
 use crate::kind::write_kind;
 use crate::words::{write_id, write_with_id};
+use pickle_io::{Failed, Page, write_all};
 use pickle_machine::Machine;
-use pickle_ops::{Change, Failed, ObjId, Object, Page, write_all};
+use pickle_ops::{Change, ObjId, Object};
 
 /// Writes one object more, by its number after a blank.
 #[tactic(auto, using(pickle_io::proofs::Devices::text_steps), unfolding(crate::specs::ObjectText::next_text))]

@@ -7,7 +7,7 @@ ghost use Rattle.pickle_show.specs.Column.{right_aligned};
 
 use crate::number::push_right;
 use itoa::write_digits;
-use pickle_ops::Page;
+use pickle_io::Page;
 use std::marker::Model;
 
 /// The two digits of each number below 100.

@@ -15,8 +15,9 @@ use crate::blanks::write_blanks;
 use crate::column::code_block;
 use crate::note::{Note, note_of};
 use crate::offset::{Offset, push_offset};
+use pickle_io::{Failed, Page, push_decimal};
 use pickle_machine::Lean;
-use pickle_ops::{Failed, OpRef, Opcode, Page, Row, opcodes, push_decimal, write_arg};
+use pickle_ops::{OpRef, Opcode, Row, opcodes, write_arg};
 
 /// Writes where an item is, a colon, the code of its opcode and four blanks for each open mark.
 #[inline(always)]

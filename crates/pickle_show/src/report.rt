@@ -1,6 +1,6 @@
 //! The report of a document.
 
-ghost use Rattle.std.specs.Prelude.{◌≡◌, ◌≢◌, ◌+◌, ◌-◌, ◌^◌, ◌<◌, ◌≤◌, ◌==◌, ◌&&◌, length, Ok, Err, OnOk, OnErr, IfOk, IfErr};
+ghost use Rattle.std.specs.Prelude.{◌≡◌, ◌≢◌, ◌+◌, ◌-◌, ◌^◌, ◌<◌, ◌≤◌, ◌==◌, ◌&&◌, ⊤, length, Ok, Err, OnOk, OnErr, IfOk, IfErr};
 ghost use Rattle.pickle_doc.specs.Document.{size_limit};
 ghost use Rattle.pickle_ops.specs.Row.{row_of};
 ghost use Rattle.pickle_machine.specs.State.{start};
@@ -9,15 +9,20 @@ ghost use Rattle.pickle_io.specs.Device.{Writes, each};
 ghost use Rattle.pickle_show.specs.Source.{GivesDocument};
 ghost use Rattle.pickle_show.specs.Report.{result_line, refused_item_line, closing_line, closing_status, closing_at, report_text, WroteReport, BrokeReport, IsReported, BreaksReport};
 ghost use Rattle.pickle_show.specs.Inside.Ending.{EndsIn};
+ghost use Rattle.pickle_doc.specs.Unread.{Unread};
+ghost use Rattle.pickle_show.specs.Inside.Part.{IsPart};
+ghost use Rattle.pickle_show.specs.Inside.Stepped.{HasStepped};
 
 use crate::object::{write_next, write_objects};
+use crate::part::{ITEMS_OF_A_PART, Part};
 use crate::report_line::{write_fault, write_item_refused};
 use crate::stop::TextStop;
 use pickle_doc::{
     Document, DocumentItems, ItemSource, Items, NextRef, TailFault, ends_reading, is_stop,
 };
+use pickle_io::{Failed, Page, write_all};
 use pickle_machine::{Machine, Refusal};
-use pickle_ops::{Failed, ObjId, OpRef, Page, Row, write_all};
+use pickle_ops::{ObjId, OpRef, Row};
 use std::alloc::Global;
 
 /// How a run over the items of a document ended.
@@ -142,6 +147,63 @@ pub fn closing_at(stop: bool, left: u64, fault: TailFault, offset: u64) -> Closi
     }
 }
 
+/// How far a machine was stepped over the items of a source.
+#[derive(Drop)]
+struct SoFar<I> {
+    reader: I,
+    place: usize,
+    /// Whether STOP was the last of them.
+    stop: bool,
+}
+
+/// Steps a machine over the items of one part, from how far it was stepped on. There are `total` bytes.
+#[inline(never)]
+fn run_part<'a, I: ItemSource<'a>>(
+    alloc: Global,
+    many: bool,
+    total: u64,
+    from: SoFar<I>,
+    machine: &mut Machine,
+) -> Result<Part<SoFar<I>, Closing>, TextStop>
+    requires { (begun : Unread) × HasStepped many begun total I.unread machine.old.state from }
+    ensures closes { (begun : Unread) → HasStepped many begun total I.unread machine.old.state from → IfOk result (IsPart (HasStepped many begun total I.unread machine.new.state) (EndsIn many begun.loose begun.rest machine.new.state)) }
+    ensures memory { IfErr result (λ e. e ≡ TextStop.Memory) }
+    ensures less { IfOk result (IsPart (λ far. length (I.unread far.reader).rest < length (I.unread from.reader).rest) (λ _. ⊤)) }
+{
+    let SoFar {
+        mut reader,
+        place: first,
+        mut stop,
+    } = from;
+    let end = first + ITEMS_OF_A_PART;
+    'items: for place in first..end {
+        match reader.next() {
+            NextRef::Tail(fault) => {
+                let left = reader.unread_len();
+                return Ok(Part::End(closing_at(stop, left, fault, total - left)));
+            }
+            NextRef::Item(op) => {
+                let row = Row::of_ref(&op);
+                if let Err(refusal) = step_over(alloc, row, &op, place, machine) {
+                    if refusal == Refusal::Memory {
+                        return Err(TextStop::Memory);
+                    }
+                    return Ok(Part::End(Closing::Refused(place, refusal)));
+                }
+                if ends_reading(many, op.opcode()) {
+                    return Ok(Part::End(Closing::Stopped));
+                }
+                stop = is_stop(op.opcode());
+            }
+        }
+    }
+    Ok(Part::More(SoFar {
+        reader,
+        place: end,
+        stop,
+    }))
+}
+
 /// Steps a machine that has done nothing over the items that a source gives from the first on, as far as they have moves, and says
 /// how the run ended. `Memory` where there is no memory for a step.
 fn run_items<'a, I: ItemSource<'a>>(
@@ -152,33 +214,19 @@ fn run_items<'a, I: ItemSource<'a>>(
 ) -> Result<Closing, TextStop>
     requires start { machine.old.state ≡ start many }
     requires document { GivesDocument many (I.unread source) }
-    ensures closes { IfOk result (EndsIn many (I.unread source).rest machine.new.state) }
+    ensures closes { IfOk result (EndsIn many (I.unread source).loose (I.unread source).rest machine.new.state) }
     ensures memory { IfErr result (λ e. e ≡ TextStop.Memory) }
 {
-    let mut reader = source;
-    let total = reader.unread_len();
-    let mut place = 0;
-    let mut stop = false;
-    'items: loop {
-        match reader.next() {
-            NextRef::Tail(fault) => {
-                let left = reader.unread_len();
-                return Ok(closing_at(stop, left, fault, total - left));
-            }
-            NextRef::Item(op) => {
-                let row = Row::of_ref(&op);
-                if let Err(refusal) = step_over(alloc, row, &op, place, machine) {
-                    if refusal == Refusal::Memory {
-                        return Err(TextStop::Memory);
-                    }
-                    return Ok(Closing::Refused(place, refusal));
-                }
-                place += 1;
-                if ends_reading(many, op.opcode()) {
-                    return Ok(Closing::Stopped);
-                }
-                stop = is_stop(op.opcode());
-            }
+    let total = source.unread_len();
+    let mut far = SoFar {
+        reader: source,
+        place: 0,
+        stop: false,
+    };
+    'parts: loop {
+        match run_part(alloc, many, total, far, machine)? {
+            Part::More(next) => far = next,
+            Part::End(closing) => return Ok(closing),
         }
     }
 }
@@ -198,8 +246,8 @@ pub fn report_of_items<'a, I: ItemSource<'a>, S: Page>(
     sink: &mut S,
 ) -> Result<u8, TextStop>
     requires { GivesDocument many (I.unread source) }
-    ensures ok { IfOk result (IsReported many (I.unread source).rest (S.told sink.old) (S.told sink.new)) }
-    ensures failed { result ≡ Err TextStop.Failed → BreaksReport many (I.unread source).rest (S.told sink.old) (S.told sink.new) }
+    ensures ok { IfOk result (IsReported many (I.unread source).loose (I.unread source).rest (S.told sink.old) (S.told sink.new)) }
+    ensures failed { result ≡ Err TextStop.Failed → BreaksReport many (I.unread source).loose (I.unread source).rest (S.told sink.old) (S.told sink.new) }
     ensures memory { result ≡ Err TextStop.Memory → sink.new ≡ sink.old }
 {
     let mut machine = Machine::start(alloc, many);
@@ -208,20 +256,22 @@ pub fn report_of_items<'a, I: ItemSource<'a>, S: Page>(
     Ok(status)
 }
 
-/// Writes the report of the pickle that the bytes are, or of the several pickles, and answers its status, as `report_of_items` does.
+/// Writes the report of the pickle that the bytes are, or of the several pickles, with all items loose or with their frames, and answers
+/// its status, as `report_of_items` does.
 /// There are to be no more bytes than the limit.
 pub fn report_of_bytes<S: Page>(
     alloc: Global,
     many: bool,
+    loose: bool,
     bytes: &[u8],
     sink: &mut S,
 ) -> Result<u8, TextStop>
     requires { length bytes.now ≤ size_limit }
-    ensures ok { IfOk result (IsReported many bytes.now (S.told sink.old) (S.told sink.new)) }
-    ensures failed { result ≡ Err TextStop.Failed → BreaksReport many bytes.now (S.told sink.old) (S.told sink.new) }
+    ensures ok { IfOk result (IsReported many loose bytes.now (S.told sink.old) (S.told sink.new)) }
+    ensures failed { result ≡ Err TextStop.Failed → BreaksReport many loose bytes.now (S.told sink.old) (S.told sink.new) }
     ensures memory { result ≡ Err TextStop.Memory → sink.new ≡ sink.old }
 {
-    report_of_items(alloc, many, Items::new(bytes), sink)
+    report_of_items(alloc, many, Items::new_as(loose, bytes), sink)
 }
 
 /// Writes the report of a document, in its mode, and answers its status, as `report_of_items` does.

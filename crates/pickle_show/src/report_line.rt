@@ -5,8 +5,9 @@ ghost use Rattle.pickle_io.specs.Device.{Writes};
 ghost use Rattle.pickle_show.specs.ReportLine.{refusal_words, refusal_number, refusal_text, item_text, item_refused, tail_words, fault_byte, fault_text, fault_at, fault_line};
 
 use pickle_doc::TailFault;
+use pickle_io::{Failed, Page, write_all, write_decimal, write_hex, write_signed};
 use pickle_machine::Refusal;
-use pickle_ops::{Failed, FrontFault, Page, write_all, write_decimal, write_hex, write_signed};
+use pickle_ops::FrontFault;
 
 /// The words of a refusal.
 #[tactic(auto, unfolding(crate::specs::ReportLine::refusal_words))]

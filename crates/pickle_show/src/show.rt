@@ -10,8 +10,9 @@ ghost use Rattle.pickle_show.specs.Inside.Walking.{unseen, place_line, seen_afte
 use crate::content::RemainingContent;
 use crate::object::{write_next, write_object};
 use crate::stop::TextStop;
+use pickle_io::{Failed, Page, write_all, write_decimal};
 use pickle_machine::Machine;
-use pickle_ops::{Failed, ObjId, Object, Page, write_all, write_decimal};
+use pickle_ops::{ObjId, Object};
 use std::alloc::Global;
 
 /// Writes the line of an object that is shown elsewhere.

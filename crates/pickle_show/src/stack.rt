@@ -9,8 +9,8 @@ ghost use Rattle.pickle_show.specs.StackText.{stack_mark_text, section_text, mar
 ghost use Rattle.pickle_show.specs.Inside.Between.{between};
 
 use crate::object::write_next;
+use pickle_io::{Failed, Page, write_all, write_decimal};
 use pickle_machine::Machine;
-use pickle_ops::{Failed, Page, write_all, write_decimal};
 
 /// Writes a mark, by the place of its item.
 #[tactic(auto, using(pickle_io::proofs::Devices::text_steps), unfolding(crate::specs::StackText::stack_mark_text))]

@@ -1,6 +1,6 @@
 //! Why a text was not written.
 
-use pickle_ops::Failed;
+use pickle_io::Failed;
 use std::alloc::AllocError;
 
 /// Why a text that asks for memory was not written to its end.

@@ -8,9 +8,8 @@ ghost use Rattle.pickle_ops.specs.Text.{float_text, long_text};
 ghost use Rattle.pickle_io.specs.Device.{Writes};
 ghost use Rattle.pickle_show.specs.ObjectText.{id_text};
 
-use pickle_ops::{
-    Failed, Page, write_all, write_decimal, write_float, write_long, write_quoted, write_signed,
-};
+use pickle_io::{Failed, Page, write_all, write_decimal, write_quoted, write_signed};
+use pickle_ops::{write_float, write_long};
 
 /// Writes an object by its number: `#n`.
 #[tactic(auto, using(pickle_io::proofs::Devices::text_steps), unfolding(crate::specs::ObjectText::id_text))]

@@ -1,8 +1,8 @@
 -- From what a page took to what its device did.
 use Rattle.std.proofs.Common.{◌≡◌, ◌≢◌, ◌⊎◌, inl, inr, ℕ, ◌+◌, ◌<◌, ◌≤◌, Bool, List, [], ◌∷◌, ◌++◌, length, Option, None, Some, Result, Ok, Err, refl, sym, ap, subst, ◌∙◌, append_assoc, append-nil, arith}
-use Rattle.std.specs.Prelude.{IsErr, IsErrAnd, IfErr}
+use Rattle.std.specs.Prelude.{MatchResult, IsErr, IsErrAnd, IfErr}
 use Rattle.std.specs.List.{concat}
-use Rattle.pickle_io.specs.Device.{Told, holding, AppendsPrefix, Wrote, Broke, WroteAllBut}
+use Rattle.pickle_io.specs.Device.{Told, holding, AppendsPrefix, HasFailed, Wrote, Broke, WroteAllBut}
 use Rattle.pickle_io.specs.Whole.{IsWhole}
 use Rattle.pickle_io.proofs.Devices.{Wrote-trans, Broke-after, WroteAllBut-none, WroteAllBut-stopped}
 use Rattle.pickle_io.proofs.Holding.{Broke-below, nothing-held}
@@ -19,8 +19,11 @@ use Rattle.pickle_script.specs.FormText.{form_output}
 use Rattle.pickle_script.specs.Output.{AnswersText, AnswersCalls, IsCallsOfFile}
 use Rattle.pickle_session.specs.Allowed.{SessionState}
 use Rattle.pickle_script.specs.Conversation.{AppendsPast, BrokePast, BrokeSince, StopsReading, StopsWriting}
-use Rattle.picklestep.specs.Talk.{StopsAtDevice, Cuts}
+use Rattle.picklestep.specs.Talk.{StopsAtDevice, Cuts, IsUnopened}
 use Rattle.picklestep.specs.declared.task.CallsOptions.{CallsOptions}
+use Rattle.picklestep.specs.Files.{Gives, Reports, IsRead}
+use Rattle.picklestep.specs.Skips.{StandFor}
+use Rattle.picklestep.specs.Program.{AnswersWords, Answers}
 use Rattle.picklestep.specs.Device.{Took, TookText, nothing, IsTextOf, is_calls, AnswersInput}
 
 -- ---- what was written on the page
@@ -31,28 +34,28 @@ too_large bytes few many = absurd (omega (arith, few, many))
 wrote_nothing : (old new : Told) → new ≡ old → Took nothing old new (Err stop.Memory)
 wrote_nothing old new e = rw e ([], WroteAllBut-none old [])
 
-said_text : {S : Type 0} (told : S → Told) (t : Text) (many : Bool) (bytes : List ℕ) (old new : S) (answer : Result ℕ Stop) → length bytes ≤ size_limit
-    → AnswersText t many bytes told old new answer → TookText (IsTextOf t many bytes) (told old) (told new) answer
-said_text told text.Listing many bytes old new (Ok status) few p = let w = p.whole in inl (listing w.0, (w.0, w.1, refl), w.2)
-said_text told text.Form many bytes old new (Ok status) few p = let w = p.whole in inl (form_output w.0, (w.0, w.1, refl), w.2)
-said_text told text.Objects many bytes old new (Ok status) few p = let w = p.whole in inl (record { text = w.2.0; status = status }, (w.0, w.1, w.2.1), (w.2.2, refl))
-said_text told (text.Calls pickles detail) many bytes old new (Ok status) few p = let w = p.whole in inl (w.0, w.1, (w.2, w.3))
-said_text told text.Listing many bytes old new (Err stop.Write) few p = let w = p.stopped in inl (listing w.0, (w.0, w.1, refl), w.2)
-said_text told text.Form many bytes old new (Err stop.Write) few p = let w = p.stopped in inl (form_output w.0, (w.0, w.1, refl), w.2)
-said_text told text.Objects many bytes old new (Err stop.Write) few p = let w = p.stopped in inl (record { text = w.2.0; status = w.2.1 }, (w.0, w.1, w.2.2), w.2.3)
-said_text told (text.Calls pickles detail) many bytes old new (Err stop.Write) few p = inl p.stopped
-said_text told text.Listing many bytes old new (Err stop.Memory) few p = let w = p.stopped in inl (listing w.0, (w.0, w.1, refl), w.2)
-said_text told text.Form many bytes old new (Err stop.Memory) few p = let w = p.stopped in inl (form_output w.0, (w.0, w.1, refl), w.2)
-said_text told text.Objects many bytes old new (Err stop.Memory) few p = inr (refl, wrote_nothing (told old) (told new) p.stopped)
-said_text told (text.Calls pickles detail) many bytes old new (Err stop.Memory) few p = inl p.stopped
-said_text told text.Listing many bytes old new (Err stop.Read) few p = absurd p.stopped
-said_text told text.Form many bytes old new (Err stop.Read) few p = absurd p.stopped
-said_text told text.Objects many bytes old new (Err stop.Read) few p = absurd p.stopped
-said_text told (text.Calls pickles detail) many bytes old new (Err stop.Read) few p = absurd p.stopped
-said_text told text.Listing many bytes old new (Err stop.TooLarge) few p = too_large bytes few (p.too_large.0 refl)
-said_text told text.Form many bytes old new (Err stop.TooLarge) few p = too_large bytes few (p.too_large.0 refl)
-said_text told text.Objects many bytes old new (Err stop.TooLarge) few p = too_large bytes few (p.too_large.0 refl)
-said_text told (text.Calls pickles detail) many bytes old new (Err stop.TooLarge) few p = too_large bytes few (p.too_large.0 refl)
+said_text : {S : Type 0} (told : S → Told) (t : Text) (many loose : Bool) (bytes : List ℕ) (old new : S) (answer : Result ℕ Stop) → length bytes ≤ size_limit
+    → AnswersText t many loose bytes told old new answer → TookText (IsTextOf t many loose bytes) (told old) (told new) answer
+said_text told text.Listing many loose bytes old new (Ok status) few p = let w = p.whole in inl (listing w.0, (w.0, w.1, refl), w.2)
+said_text told text.Form many loose bytes old new (Ok status) few p = let w = p.whole in inl (form_output w.0, (w.0, w.1, refl), w.2)
+said_text told text.Objects many loose bytes old new (Ok status) few p = let w = p.whole in inl (record { text = w.2.0; status = status }, (w.0, w.1, w.2.1), (w.2.2, refl))
+said_text told (text.Calls pickles detail) many loose bytes old new (Ok status) few p = let w = p.whole in inl (w.0, w.1, (w.2, w.3))
+said_text told text.Listing many loose bytes old new (Err stop.Write) few p = let w = p.stopped in inl (listing w.0, (w.0, w.1, refl), w.2)
+said_text told text.Form many loose bytes old new (Err stop.Write) few p = let w = p.stopped in inl (form_output w.0, (w.0, w.1, refl), w.2)
+said_text told text.Objects many loose bytes old new (Err stop.Write) few p = let w = p.stopped in inl (record { text = w.2.0; status = w.2.1 }, (w.0, w.1, w.2.2), w.2.3)
+said_text told (text.Calls pickles detail) many loose bytes old new (Err stop.Write) few p = inl p.stopped
+said_text told text.Listing many loose bytes old new (Err stop.Memory) few p = let w = p.stopped in inl (listing w.0, (w.0, w.1, refl), w.2)
+said_text told text.Form many loose bytes old new (Err stop.Memory) few p = let w = p.stopped in inl (form_output w.0, (w.0, w.1, refl), w.2)
+said_text told text.Objects many loose bytes old new (Err stop.Memory) few p = inr (refl, wrote_nothing (told old) (told new) p.stopped)
+said_text told (text.Calls pickles detail) many loose bytes old new (Err stop.Memory) few p = inl p.stopped
+said_text told text.Listing many loose bytes old new (Err stop.Read) few p = absurd p.stopped
+said_text told text.Form many loose bytes old new (Err stop.Read) few p = absurd p.stopped
+said_text told text.Objects many loose bytes old new (Err stop.Read) few p = absurd p.stopped
+said_text told (text.Calls pickles detail) many loose bytes old new (Err stop.Read) few p = absurd p.stopped
+said_text told text.Listing many loose bytes old new (Err stop.TooLarge) few p = too_large bytes few (p.too_large.0 refl)
+said_text told text.Form many loose bytes old new (Err stop.TooLarge) few p = too_large bytes few (p.too_large.0 refl)
+said_text told text.Objects many loose bytes old new (Err stop.TooLarge) few p = too_large bytes few (p.too_large.0 refl)
+said_text told (text.Calls pickles detail) many loose bytes old new (Err stop.TooLarge) few p = too_large bytes few (p.too_large.0 refl)
 
 said_calls : {S : Type 0} (told : S → Told) (how : Manner) (pickles : Pickles) (bytes : List ℕ) (old new : S) (answer : Result ℕ Stop) → length bytes ≤ size_limit
     → AnswersCalls how pickles bytes told old new answer → TookText (IsCallsOfFile how pickles bytes) (told old) (told new) answer
@@ -69,6 +72,12 @@ Wrote-flushed a b c text p q = subst (λ (t : List ℕ). Wrote a c t) (append-ni
 
 Broke-flushed : (a b c : Told) (text : List ℕ) → Wrote a b text → Broke b c [] → Broke a c text
 Broke-flushed a b c text p q = subst (λ (t : List ℕ). Broke a c t) (append-nil text) (Broke-after a b c text [] p q)
+
+-- the last piece first
+pub Broke-handed : (a b c : Told) (text : List ℕ) → Broke b c [] → Wrote a b text → Broke a c text
+Broke-handed a b c text q p = Broke-flushed a b c text p q
+
+pub ruleset handing_steps = (Broke-handed)
 
 took_on : (o : Output) (a b c : Told) (r : Result ℕ Stop) → r ≢ Err stop.Write → Took o a b r → Wrote b c [] → Took o a c r
 took_on o a b c (Ok status) n w f = (Wrote-flushed a b c o.text w.0 f, w.1)
@@ -138,35 +147,35 @@ text_below Is d e first held r none all (inl w) = inl (w.0, w.1, took_below w.0 
 text_below Is d e first held r none all (inr w) = inr (w.0, took_below nothing d e held r (none_below d first none) all (subst (λ (t : Told). Took nothing t (holding e held) r) (nothing-held d first none) w.1))
 
 -- a source was read whole, a text of its bytes written, and what the page held handed on
-pub answers_text : {S : Type 0} (told : S → Told) (t : Text) (many : Bool) (source source' : Option (List ℕ)) (whole bytes : List ℕ) (old mid new : S) (d e : Told) (first held : List ℕ) (answer result : Result ℕ Stop)
-    → IsWhole source source' size_limit whole → bytes ≡ whole → AnswersText t many bytes told old mid answer
+pub answers_text : {S : Type 0} (told : S → Told) (t : Text) (many loose : Bool) (source source' : Gives) (whole bytes : List ℕ) (old mid new : S) (d e : Told) (first held : List ℕ) (answer result : Result ℕ Stop)
+    → IsWhole source.remaining source'.remaining size_limit whole → source'.failures ≡ source.failures → bytes ≡ whole → AnswersText t many loose bytes told old mid answer
     → (result ≢ Err stop.Write → result ≡ answer) → (result ≢ Err stop.Write → Wrote (told mid) (told new) []) → (answer ≡ Err stop.Write → new ≡ mid)
     → (result ≡ Err stop.Write → answer ≢ Err stop.Write → Broke (told mid) (told new) [])
     → told old ≡ holding d first → told new ≡ holding e held → (holding d first).held ≡ 0 → (result ≢ Err stop.Write → (holding e held).held ≡ 0)
-    → AnswersInput (IsTextOf t many) source source' d e result
-answers_text told t many source source' whole bytes old mid new d e first held answer result read same w passed calm untouched failed before after none all =
+    → AnswersInput (IsTextOf t many loose) source source' d e result
+answers_text told t many loose source source' whole bytes old mid new d e first held answer result read still same w passed calm untouched failed before after none all =
     let few : length bytes ≤ size_limit = rw same read.within in
     let h : HandsOn (told mid) (told new) answer result = record { passed = passed; calm = calm; untouched = λ e. ap told (untouched e); failed = failed } in
-    let said = text_handed (IsTextOf t many bytes) (told old) (told mid) (told new) answer result (said_text told t many bytes old mid answer few w) h in
-    let from : TookText (IsTextOf t many bytes) (holding d first) (told new) result = subst (λ (x : Told). TookText (IsTextOf t many bytes) x (told new) result) before said in
-    let to : TookText (IsTextOf t many bytes) (holding d first) (holding e held) result = subst (λ (x : Told). TookText (IsTextOf t many bytes) (holding d first) x result) after from in
-    let took : TookText (IsTextOf t many bytes) d e result = text_below (IsTextOf t many bytes) d e first held result none all to in
-    inr (record { bytes = whole; read = read; took = subst (λ (b : List ℕ). TookText (IsTextOf t many b) d e result) same took })
+    let said = text_handed (IsTextOf t many loose bytes) (told old) (told mid) (told new) answer result (said_text told t many loose bytes old mid answer few w) h in
+    let from : TookText (IsTextOf t many loose bytes) (holding d first) (told new) result = subst (λ (x : Told). TookText (IsTextOf t many loose bytes) x (told new) result) before said in
+    let to : TookText (IsTextOf t many loose bytes) (holding d first) (holding e held) result = subst (λ (x : Told). TookText (IsTextOf t many loose bytes) (holding d first) x result) after from in
+    let took : TookText (IsTextOf t many loose bytes) d e result = text_below (IsTextOf t many loose bytes) d e first held result none all to in
+    inr (record { bytes = whole; read = read; calm = still; took = subst (λ (b : List ℕ). TookText (IsTextOf t many loose b) d e result) same took })
 
-pub answers_calls : {S : Type 0} (told : S → Told) (options : CallsOptions) (source source' : Option (List ℕ)) (whole bytes : List ℕ) (old mid new : S) (d e : Told) (first held : List ℕ) (answer result : Result ℕ Stop)
-    → IsWhole source source' size_limit whole → bytes ≡ whole → AnswersCalls (manner options.detail options.holes) options.pickles bytes told old mid answer
+pub answers_calls : {S : Type 0} (told : S → Told) (options : CallsOptions) (source source' : Gives) (whole bytes : List ℕ) (old mid new : S) (d e : Told) (first held : List ℕ) (answer result : Result ℕ Stop)
+    → IsWhole source.remaining source'.remaining size_limit whole → source'.failures ≡ source.failures → bytes ≡ whole → AnswersCalls (manner options.detail options.holes) options.pickles bytes told old mid answer
     → (result ≢ Err stop.Write → result ≡ answer) → (result ≢ Err stop.Write → Wrote (told mid) (told new) []) → (answer ≡ Err stop.Write → new ≡ mid)
     → (result ≡ Err stop.Write → answer ≢ Err stop.Write → Broke (told mid) (told new) [])
     → told old ≡ holding d first → told new ≡ holding e held → (holding d first).held ≡ 0 → (result ≢ Err stop.Write → (holding e held).held ≡ 0)
     → AnswersInput (is_calls options) source source' d e result
-answers_calls told options source source' whole bytes old mid new d e first held answer result read same w passed calm untouched failed before after none all =
+answers_calls told options source source' whole bytes old mid new d e first held answer result read still same w passed calm untouched failed before after none all =
     let few : length bytes ≤ size_limit = rw same read.within in
     let h : HandsOn (told mid) (told new) answer result = record { passed = passed; calm = calm; untouched = λ e. ap told (untouched e); failed = failed } in
     let said = text_handed (is_calls options bytes) (told old) (told mid) (told new) answer result (said_calls told (manner options.detail options.holes) options.pickles bytes old mid answer few w) h in
     let from : TookText (is_calls options bytes) (holding d first) (told new) result = subst (λ (x : Told). TookText (is_calls options bytes) x (told new) result) before said in
     let to : TookText (is_calls options bytes) (holding d first) (holding e held) result = subst (λ (x : Told). TookText (is_calls options bytes) (holding d first) x result) after from in
     let took : TookText (is_calls options bytes) d e result = text_below (is_calls options bytes) d e first held result none all to in
-    inr (record { bytes = whole; read = read; took = subst (λ (b : List ℕ). TookText (is_calls options b) d e result) same took })
+    inr (record { bytes = whole; read = read; calm = still; took = subst (λ (b : List ℕ). TookText (is_calls options b) d e result) same took })
 
 -- ---- a conversation
 
@@ -217,20 +226,37 @@ pub same_below : (P : Told → Told → Type 0) (d e : Told) (first held : List 
 same_below P d e first held none last w = subst (λ (t : Told). P t e) (nothing-held d first none) (subst (λ (t : Told). P (holding d first) t) (nothing-held e held last) w)
 
 -- what a stop of a conversation leaves, by what is promised of it
-pub cuts_below : (s after : SessionState) (a b : Option (List ℕ)) (d e : Told) (first held : List ℕ) (x : Stop) (r : Result ℕ Stop) → r ≡ Err x → (holding d first).held ≡ 0
+pub cuts_below : (s after : SessionState) (a b : Gives) (d e : Told) (first held : List ℕ) (x : Stop) (r : Result ℕ Stop) → r ≡ Err x → (holding d first).held ≡ 0
     → (r ≢ Err stop.Write → (holding e held).held ≡ 0)
-    → (r ≡ Err stop.Read → StopsReading s after a b (holding d first) (holding e held))
-    → (r ≡ Err stop.Write → StopsWriting s after a b (holding d first) (holding e held))
+    → (r ≡ Err stop.Read → StopsReading s after a.remaining b.remaining (holding d first) (holding e held))
+    → (r ≡ Err stop.Read → HasFailed a.failures b.failures) → (r ≢ Err stop.Read → b.failures ≡ a.failures)
+    → (r ≡ Err stop.Write → StopsWriting s after a.remaining b.remaining (holding d first) (holding e held))
     → (r ≡ Err stop.Memory → (after ≡ s) × (b ≡ a) × (e ≡ d))
     → r ≢ Err stop.TooLarge → Cuts s after a b d e x
-cuts_below s after a b d e first held stop.Read r is none all reading writing memory no_other =
+cuts_below s after a b d e first held stop.Read r is none all reading failed calm writing memory no_other =
     let n : r ≢ Err stop.Write = λ w. let c : err stop.Read ≡ err stop.Write = sym is ∙ w in absurd cc in
-    same_below (StopsReading s after a b) d e first held none (all n) (reading is)
-cuts_below s after a b d e first held stop.Write r is none all reading writing memory no_other = stops_below s after a b d e first held none (writing is)
-cuts_below s after a b d e first held stop.TooLarge r is none all reading writing memory no_other = absurd (no_other is)
-cuts_below s after a b d e first held stop.Memory r is none all reading writing memory no_other = memory is
+    (same_below (StopsReading s after a.remaining b.remaining) d e first held none (all n) (reading is), failed is)
+cuts_below s after a b d e first held stop.Write r is none all reading failed calm writing memory no_other =
+    let n : r ≢ Err stop.Read = λ w. let c : err stop.Write ≡ err stop.Read = sym is ∙ w in absurd cc in
+    (stops_below s after a.remaining b.remaining d e first held none (writing is), calm n)
+cuts_below s after a b d e first held stop.TooLarge r is none all reading failed calm writing memory no_other = absurd (no_other is)
+cuts_below s after a b d e first held stop.Memory r is none all reading failed calm writing memory no_other = memory is
 
 -- the error of a `?` is passed on as it is
 pub unsaved_so : {A : Type 0} (P : Stop → Type 0) (x : Stop) (r : Result A Stop) → IsErrAnd r (λ y. y ≡ x) → P x → IfErr r P
 unsaved_so P x (Ok y) h w = absurd h
 unsaved_so P x (Err y) h w = subst P (sym h) w
+
+-- without memory for a session nothing was touched
+pub unopened : {F : Type 0} (files : F) (input : Gives) (old : Told) (P : ℕ → Type 0) (Q : Stop → Type 0) (x : Stop) (r : Result ℕ Stop) → IsErrAnd r (λ y. y ≡ x) → x ≡ stop.Memory
+    → MatchResult r P (λ e. IsUnopened files files input input old old e ⊎ Q e)
+unopened files input old P Q x (Ok y) h m = absurd h
+unopened files input old P Q x (Err y) h m = inl (record { memory = h ∙ m; untouched = record { unsaved = refl; unread = refl; unwritten = refl } })
+
+-- ---- words
+
+pub words_answered : {F O : Type 0} (r : Reports F O) (given words texts : List (List ℕ)) (files files' : F) (source source' : Gives) (old new errors errors' : Told) (status : ℕ)
+    → StandFor (λ path bytes. IsRead (r.bytes_of files path) bytes) given words → texts ≡ words → AnswersWords r texts files files' source source' old new errors errors' status
+    → Answers r given files files' source source' old new errors errors' status
+words_answered r given words texts files files' source source' old new errors errors' status stand same answers =
+    inl (record { words = words; stand = stand; answers = subst (λ (t : List (List ℕ)). AnswersWords r t files files' source source' old new errors errors' status) same answers })

@@ -40,6 +40,9 @@ save_rule = record (new_rule (codes "save")) { long = Some (codes "save"); value
 abbrev pub many_rule : Rule
 many_rule = record (new_rule (codes "many")) { long = Some (codes "many"); action = Some SetTrue }
 
+abbrev pub unframed_rule : Rule
+unframed_rule = record (new_rule (codes "unframed")) { long = Some (codes "unframed"); action = Some SetTrue }
+
 abbrev pub first_rule : Rule
 first_rule = record (new_rule (codes "first")) { long = Some (codes "first"); action = Some SetTrue }
 
@@ -56,18 +59,22 @@ full_rule = record (new_rule (codes "full")) { long = Some (codes "full"); actio
 abbrev pub on_file : Text → App
 on_file name = with_rule (with_rule (new_app name) file_rule) many_rule
 
+-- one that may be done without a look at frames
+abbrev pub frames_app : Text → App
+frames_app name = with_rule (on_file name) unframed_rule
+
 abbrev pub calls_app : App
 calls_app = with_rule (with_rule (with_rule (with_rule (on_file (codes "calls")) first_rule) memo_rule) full_rule) skip_rule
 
 abbrev pub debug_app : App
-debug_app = with_rule (with_rule (on_file (codes "debug")) window_rule) save_rule
+debug_app = with_rule (with_rule (frames_app (codes "debug")) window_rule) save_rule
 
 abbrev pub wants_subcommand : App → App
 wants_subcommand a = record a { top = record a.top { subcommand_required = true } }
 
 abbrev pub program : App
 program =
-    with_subcommand (with_subcommand (with_subcommand (with_subcommand (with_subcommand (wants_subcommand (new_app (codes "picklestep"))) (on_file (codes "list")).top) (on_file (codes "objects")).top) calls_app.top) debug_app.top) (on_file (codes "form")).top
+    with_subcommand (with_subcommand (with_subcommand (with_subcommand (with_subcommand (wants_subcommand (new_app (codes "picklestep"))) (frames_app (codes "list")).top) (frames_app (codes "objects")).top) calls_app.top) debug_app.top) (on_file (codes "form")).top
 
 -- ---- the task that matches name
 
@@ -88,13 +95,15 @@ IsWindow (Some text) (Some n) = IsCount text n
 IsWindow None (Some n) = ⊥
 IsWindow (Some text) None = ⊥
 
--- the subcommand of this name was used, with this FILE, and with `--many` or not
+-- the subcommand of this name was used, with this FILE, and with `--many` and with `--unframed` or not
 pub record IsUsed (name : Text) (matches : Matches) (input : GivenFile) : Type 0 where
   pub rows : List Row
   pub used : matches ≡ Some (name, rows)
   pub file_is : first_of (codes "FILE") rows ≡ Some (string_bytes input.file)
   pub many_is : IsTrue input.many → first_of (codes "many") rows ≡ Some (codes "true")
   pub one_is : first_of (codes "many") rows ≡ Some (codes "true") → IsTrue input.many
+  pub unframed_is : IsTrue input.unframed → first_of (codes "unframed") rows ≡ Some (codes "true")
+  pub framed_is : first_of (codes "unframed") rows ≡ Some (codes "true") → IsTrue input.unframed
 
 -- the pickles that are told of: all, the first, or all with the memo kept
 abbrev pub GivesReading : Bool → Option Text → Pickles → Type 0

@@ -1,11 +1,12 @@
 -- What is left at the devices of the program: its input, and its output itself, behind the page.
 -- Source: own.
-use Rattle.std.specs.Prelude.{◌≡◌, ◌⊎◌, ℕ, List, [], Bool, true, false, Option, Result, Ok, Err, IsErr, ⊤}
+use Rattle.std.specs.Prelude.{◌≡◌, ◌⊎◌, ℕ, List, [], Bool, true, false, Option, Result, Ok, Err, IsErr, IsErrAnd, ⊤}
+use Rattle.std.specs.String.{string_bytes}
 use Rattle.pickle_io.specs.Device.{Told, Wrote, Broke, WroteAllBut}
-use Rattle.pickle_io.specs.Whole.{IsWhole, StopsSo}
+use Rattle.pickle_io.specs.Whole.{IsWhole}
 use Rattle.pickle_io.specs.declared.buffered.Buffered.{Buffered}
 use Rattle.pickle_io.specs.declared.whole.ReadStop.{ReadStop}
-use Rattle.pickle_doc.specs.Document.{Contents, ReadsAs, size_limit}
+use Rattle.pickle_doc.specs.Document.{Contents, ReadsIn, ReadsAs, size_limit}
 use Rattle.pickle_show.specs.Output.{Output}
 use Rattle.pickle_show.specs.Listing.{listing}
 use Rattle.pickle_show.specs.Report.{IsReport}
@@ -22,6 +23,7 @@ use Rattle.picklestep.specs.declared.task.Task.{Task}
 use Rattle.picklestep.specs.declared.task.Task.TheVariants as task
 use Rattle.picklestep.specs.declared.task.GivenFile.{GivenFile}
 use Rattle.picklestep.specs.declared.task.CallsOptions.{CallsOptions}
+use Rattle.picklestep.specs.Files.{Gives, Reports, IsCutShort, IsShut}
 
 -- ---- a page
 
@@ -50,26 +52,27 @@ TookText Is old new result = ((o : Output) × Is o × Took o old new result) ⊎
 
 -- this is the text of bytes: the listing or the report of the document that they read as, what is imported and called, or whether the one
 -- pickle that they are is in the form that picklers write
-abbrev pub IsTextOf : Text → Bool → List ℕ → Output → Type 0
-IsTextOf text.Listing many bytes o = (d : Contents) × ReadsAs many bytes d × (o ≡ listing d)
-IsTextOf text.Form many bytes o = (d : Contents) × ReadsAs false bytes d × (o ≡ form_output d)
-IsTextOf text.Objects many bytes o = (d : Contents) × ReadsAs many bytes d × IsReport d o.text o.status
-IsTextOf (text.Calls pickles detail) many bytes o = IsCallsText (whole detail) pickles bytes o
+abbrev pub IsTextOf : Text → Bool → Bool → List ℕ → Output → Type 0
+IsTextOf text.Listing many loose bytes o = (d : Contents) × ReadsIn many loose bytes d × (o ≡ listing d)
+IsTextOf text.Form many loose bytes o = (d : Contents) × ReadsAs false bytes d × (o ≡ form_output d)
+IsTextOf text.Objects many loose bytes o = (d : Contents) × ReadsIn many loose bytes d × IsReport d o.text o.status
+IsTextOf (text.Calls pickles detail) many loose bytes o = IsCallsText (whole detail) pickles bytes o
 
 -- the source was not read whole, and nothing was written
-pub record WasNotRead (source source' : Option (List ℕ)) (old new : Told) (result : Result ℕ Stop) : Type 0 where
+pub record WasNotRead (source source' : Gives) (old new : Told) (result : Result ℕ Stop) : Type 0 where
   pub why : ReadStop
   pub result_is : result ≡ Err (stop_of_read why)
-  pub stopped : StopsSo source source' size_limit why
+  pub cut : IsCutShort source source' why
   pub unwritten : new ≡ old
 
 -- these are all bytes of the source, and the device took so of their text; `Is` says which text bytes have
-pub record WasAnswered (Is : List ℕ → Output → Type 0) (source source' : Option (List ℕ)) (old new : Told) (result : Result ℕ Stop) : Type 0 where
+pub record WasAnswered (Is : List ℕ → Output → Type 0) (source source' : Gives) (old new : Told) (result : Result ℕ Stop) : Type 0 where
   pub bytes : List ℕ
-  pub read : IsWhole source source' size_limit bytes
+  pub read : IsWhole source.remaining source'.remaining size_limit bytes
+  pub calm : source'.failures ≡ source.failures
   pub took : TookText (Is bytes) old new result
 
-abbrev pub AnswersInput : (List ℕ → Output → Type 0) → Option (List ℕ) → Option (List ℕ) → Told → Told → Result ℕ Stop → Type 0
+abbrev pub AnswersInput : (List ℕ → Output → Type 0) → Gives → Gives → Told → Told → Result ℕ Stop → Type 0
 AnswersInput Is source source' old new result = WasNotRead source source' old new result ⊎ WasAnswered Is source source' old new result
 
 -- ---- the text that a task asks for
@@ -92,13 +95,22 @@ asks_for_text (task.Debug input options) = false
 asks_for_text _ = true
 
 -- the device took so of the text that is asked for, in the mode that is asked for, of all bytes of the source
-abbrev pub AnswersTask : Task → Option (List ℕ) → Option (List ℕ) → Told → Told → Result ℕ Stop → Type 0
-AnswersTask (task.List input) source source' old new result = AnswersInput (IsTextOf text.Listing input.many) source source' old new result
-AnswersTask (task.Objects input) source source' old new result = AnswersInput (IsTextOf text.Objects input.many) source source' old new result
+abbrev pub AnswersTask : Task → Gives → Gives → Told → Told → Result ℕ Stop → Type 0
+AnswersTask (task.List input) source source' old new result = AnswersInput (IsTextOf text.Listing input.many input.unframed) source source' old new result
+AnswersTask (task.Objects input) source source' old new result = AnswersInput (IsTextOf text.Objects input.many input.unframed) source source' old new result
 AnswersTask (task.Calls input options) source source' old new result = AnswersInput (is_calls options) source source' old new result
-AnswersTask (task.Form input) source source' old new result = AnswersInput (IsTextOf text.Form false) source source' old new result
+AnswersTask (task.Form input) source source' old new result = AnswersInput (IsTextOf text.Form false false) source source' old new result
 AnswersTask (task.Debug input options) source source' old new result = ⊤
 
--- of all bytes of the file; or there was an error, and nothing was written
-abbrev pub AnswersFile : Task → Option (List ℕ) → Told → Told → Result ℕ Stop → Type 0
-AnswersFile t file old new result = (IsErr result × (new ≡ old)) ⊎ ((rest : Option (List ℕ)) × AnswersTask t file rest old new result)
+-- of all bytes of a file that was opened
+pub record AnswersOpened (t : Task) {F O : Type 0} (r : Reports F O) (file : Option (List ℕ)) (old new : Told) (result : Result ℕ Stop) : Type 0 where
+  pub opened : O
+  pub left : O
+  pub opened_is : (r.file opened).remaining ≡ file
+  pub answers : AnswersTask t (r.file opened) (r.file left) old new result
+
+-- of all bytes of the file that it names; or this could not be opened, and nothing was written
+abbrev pub AnswersFile : Task → {F O : Type 0} → Reports F O → F → Told → Told → Result ℕ Stop → Type 0
+AnswersFile t r files old new result =
+    (IsErrAnd result (IsShut r files (string_bytes (input_of t).file)) × (new ≡ old))
+    ⊎ AnswersOpened t r (r.bytes_of files (string_bytes (input_of t).file)) old new result

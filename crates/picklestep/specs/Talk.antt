@@ -1,14 +1,13 @@
 -- What is left of the devices of a conversation about a file, and of the file that its document is saved to. `old` and `new` are what the
 -- output itself reports, behind the page.
 -- Source: own.
-use Rattle.std.specs.Prelude.{◌≡◌, ◌≢◌, ◌⊎◌, ◌++◌, ℕ, Bool, List, Option, None, Some, option_map, Result, MatchResult, IsErr}
+use Rattle.std.specs.Prelude.{◌≡◌, ◌≢◌, ◌⊎◌, ◌++◌, ℕ, Bool, IsTrue, List, Option, None, Some, option_map, Result, MatchResult, IsErrAnd}
 use Rattle.std.specs.List.{concat}
 use Rattle.std.specs.String.{string_bytes}
-use Rattle.pickle_io.specs.Device.{Told, Wrote, Broke}
-use Rattle.pickle_io.specs.Whole.{IsWhole}
-use Rattle.pickle_doc.specs.Document.{size_limit, document_bytes}
+use Rattle.pickle_io.specs.Device.{Told, HasFailed, Wrote, Broke}
+use Rattle.pickle_doc.specs.Document.{document_bytes}
 use Rattle.pickle_session.specs.Allowed.{SessionState}
-use Rattle.pickle_session.specs.Opening.{IsOpened}
+use Rattle.pickle_session.specs.Opening.{IsOpenedIn}
 use Rattle.pickle_script.specs.Conversation.{Finishes, StopsReading, StopsInLine, BrokeSince}
 use Rattle.pickle_script.specs.declared.stop.Stop.{Stop}
 use Rattle.pickle_script.specs.declared.stop.Stop.TheVariants as stop
@@ -16,7 +15,8 @@ use Rattle.picklestep.specs.declared.task.GivenFile.{GivenFile}
 use Rattle.picklestep.specs.declared.task.Options.{Options}
 use Rattle.picklestep.specs.declared.task.Task.{Task}
 use Rattle.picklestep.specs.declared.task.Task.TheVariants as task
-use Rattle.picklestep.specs.Device.{AnswersFile, input_of}
+use Rattle.picklestep.specs.Device.{AnswersFile}
+use Rattle.picklestep.specs.Files.{Gives, Reports, IsRead, IsUnread}
 
 -- ---- what is saved
 
@@ -34,82 +34,91 @@ abbrev pub StopsAtDevice : SessionState → SessionState → Option (List ℕ) �
 StopsAtDevice s after input input' old new =
     StopsInLine (λ given texts text. Broke old new (concat texts ++ text) × BrokeSince s given old new) s after input input'
 
--- what a stop leaves of it
-abbrev pub Cuts : SessionState → SessionState → Option (List ℕ) → Option (List ℕ) → Told → Told → Stop → Type 0
-Cuts s after input input' old new stop.Read = StopsReading s after input input' old new
-Cuts s after input input' old new stop.Write = StopsAtDevice s after input input' old new
+-- what a stop leaves of it: the source failed just where that is the stop, and the device where it is Write
+abbrev pub Cuts : SessionState → SessionState → Gives → Gives → Told → Told → Stop → Type 0
+Cuts s after input input' old new stop.Read = StopsReading s after input.remaining input'.remaining old new × HasFailed input.failures input'.failures
+Cuts s after input input' old new stop.Write = StopsAtDevice s after input.remaining input'.remaining old new × (input'.failures ≡ input.failures)
 Cuts s after input input' old new stop.TooLarge = ⊥
 Cuts s after input input' old new stop.Memory = (after ≡ s) × (input' ≡ input) × (new ≡ old)
 
--- it was held to its end, and then the document was not saved as it was asked for
-pub record IsLost (s after : SessionState) (save : Option (List ℕ)) (input input' : Option (List ℕ)) (old new : Told) : Type 0 where
-  pub asked : save ≢ None
+-- it was held to its end, and no read failed
+pub record IsHeld (s after : SessionState) (status : ℕ) (input input' : Gives) (old new : Told) : Type 0 where
+  pub finishes : Finishes s after status input.remaining input'.remaining old new
+  pub calm : input'.failures ≡ input.failures
+
+-- it was held to its end, and then saving the document to the file of that name failed so; no other file took anything
+pub record IsLost (s after : SessionState) (save : Option (List ℕ)) {F O : Type 0} (r : Reports F O) (files files' : F) (input input' : Gives) (old new : Told) (e : Stop) : Type 0 where
+  pub path : List ℕ
+  pub asked : save ≡ Some path
+  pub lost : IsTrue (r.loses files path e)
+  pub others : (name : List ℕ) → name ≢ path → r.took files' name ≡ r.took files name
   pub status : ℕ
-  pub finishes : Finishes s after status input input' old new
+  pub held : IsHeld s after status input input' old new
 
 -- nothing was saved of it, since it stopped, or the file did
-abbrev pub IsUnsaved : {F : Type 0} → SessionState → SessionState → Option (List ℕ) → F → F → Option (List ℕ) → Option (List ℕ) → Told → Told → Stop → Type 0
-IsUnsaved s after save files files' input input' old new e = ((files' ≡ files) × Cuts s after input input' old new e) ⊎ IsLost s after save input input' old new
+abbrev pub IsUnsaved : SessionState → SessionState → Option (List ℕ) → {F O : Type 0} → Reports F O → F → F → Gives → Gives → Told → Told → Stop → Type 0
+IsUnsaved s after save r files files' input input' old new e = ((files' ≡ files) × Cuts s after input input' old new e) ⊎ IsLost s after save r files files' input input' old new e
 
 -- ---- a conversation about bytes
 
 -- the session of the bytes, which keeps as many records as the options say
-pub record Opens (many : Bool) (bytes : List ℕ) (options : Options) (s : SessionState) : Type 0 where
-  pub opened : IsOpened many bytes s
+pub record Opens (many loose : Bool) (bytes : List ℕ) (options : Options) (s : SessionState) : Type 0 where
+  pub opened : IsOpenedIn many loose bytes s
   pub limit : s.past.limit ≡ options.window
 
 abbrev pub path_of : Options → Option (List ℕ)
 path_of options = option_map string_bytes options.save
 
 -- it was held to its end with a session of the bytes, and its document saved where that is asked for
-pub record Talked (many : Bool) (bytes : List ℕ) (options : Options) {F : Type 0} (took : F → List ℕ → Told) (files files' : F) (input input' : Option (List ℕ)) (old new : Told) (status : ℕ) : Type 0 where
+pub record Talked (many loose : Bool) (bytes : List ℕ) (options : Options) {F O : Type 0} (r : Reports F O) (files files' : F) (input input' : Gives) (old new : Told) (status : ℕ) : Type 0 where
   pub start : SessionState
   pub after : SessionState
-  pub opens : Opens many bytes options start
-  pub finishes : Finishes start after status input input' old new
-  pub saves : Saves took (path_of options) files files' (document_bytes after.session.document)
+  pub opens : Opens many loose bytes options start
+  pub held : IsHeld start after status input input' old new
+  pub saves : Saves r.took (path_of options) files files' (document_bytes after.session.document)
 
 -- there was a session of the bytes, but nothing was saved
-pub record Fell (many : Bool) (bytes : List ℕ) (options : Options) {F : Type 0} (files files' : F) (input input' : Option (List ℕ)) (old new : Told) (e : Stop) : Type 0 where
+pub record Fell (many loose : Bool) (bytes : List ℕ) (options : Options) {F O : Type 0} (r : Reports F O) (files files' : F) (input input' : Gives) (old new : Told) (e : Stop) : Type 0 where
   pub start : SessionState
   pub after : SessionState
-  pub opens : Opens many bytes options start
-  pub unsaved : IsUnsaved start after (path_of options) files files' input input' old new e
+  pub opens : Opens many loose bytes options start
+  pub unsaved : IsUnsaved start after (path_of options) r files files' input input' old new e
 
 -- nothing was read, written or saved
-pub record Untouched {F : Type 0} (files files' : F) (input input' : Option (List ℕ)) (old new : Told) : Type 0 where
+pub record Untouched {F : Type 0} (files files' : F) (input input' : Gives) (old new : Told) : Type 0 where
   pub unsaved : files' ≡ files
   pub unread : input' ≡ input
   pub unwritten : new ≡ old
 
-abbrev pub Talks : Bool → List ℕ → Options → {F : Type 0} → (F → List ℕ → Told) → F → F → Option (List ℕ) → Option (List ℕ) → Told → Told → Result ℕ Stop → Type 0
-Talks many bytes options took files files' input input' old new result =
-    MatchResult result (Talked many bytes options took files files' input input' old new)
-    (λ e. Untouched files files' input input' old new ⊎ Fell many bytes options files files' input input' old new e)
+-- there was no memory for a session
+pub record IsUnopened {F : Type 0} (files files' : F) (input input' : Gives) (old new : Told) (e : Stop) : Type 0 where
+  pub memory : e ≡ stop.Memory
+  pub untouched : Untouched files files' input input' old new
+
+abbrev pub Talks : Bool → Bool → List ℕ → Options → {F O : Type 0} → Reports F O → F → F → Gives → Gives → Told → Told → Result ℕ Stop → Type 0
+Talks many loose bytes options r files files' input input' old new result =
+    MatchResult result (Talked many loose bytes options r files files' input input' old new)
+    (λ e. IsUnopened files files' input input' old new e ⊎ Fell many loose bytes options r files files' input input' old new e)
 
 -- ---- a conversation about a file
 
--- these are all bytes of a file
-abbrev pub IsRead : Option (List ℕ) → List ℕ → Type 0
-IsRead file bytes = (rest : Option (List ℕ)) × IsWhole file rest size_limit bytes
-
--- all bytes of the file were read and talked of; or there was an error, and nothing was read of the input, written or saved
-abbrev pub TalksOfFile : GivenFile → Options → {F : Type 0} → (F → List ℕ → Option (List ℕ)) → (F → List ℕ → Told) → F → F → Option (List ℕ) → Option (List ℕ) → Told → Told → Result ℕ Stop → Type 0
-TalksOfFile input options bytes_of took files files' source source' old new result =
-    (IsErr result × Untouched files files' source source' old new)
-    ⊎ ((bytes : List ℕ) × IsRead (bytes_of files (string_bytes input.file)) bytes × Talks input.many bytes options took files files' source source' old new result)
+-- all bytes of the file were read and talked of; or it was not read, and nothing was read of the input, written or saved
+abbrev pub TalksOfFile : GivenFile → Options → {F O : Type 0} → Reports F O → F → F → Gives → Gives → Told → Told → Result ℕ Stop → Type 0
+TalksOfFile input options r files files' source source' old new result =
+    (IsErrAnd result (IsUnread r files (string_bytes input.file)) × Untouched files files' source source' old new)
+    ⊎ ((bytes : List ℕ) × IsRead (r.bytes_of files (string_bytes input.file)) bytes × Talks input.many input.unframed bytes options r files files' source source' old new result)
 
 -- ---- a task
 
 -- the text that it asks for was answered of the file that it names; nothing was read of the input, and nothing saved
-pub record WritesText (t : Task) {F : Type 0} (bytes_of : F → List ℕ → Option (List ℕ)) (files files' : F) (source source' : Option (List ℕ)) (old new : Told) (result : Result ℕ Stop) : Type 0 where
-  pub answers : AnswersFile t (bytes_of files (string_bytes (input_of t).file)) old new result
+pub record WritesText (t : Task) {F O : Type 0} (r : Reports F O) (files files' : F) (source source' : Gives) (old new : Told) (result : Result ℕ Stop) : Type 0 where
+  pub answers : AnswersFile t r files old new result
   pub unread : source' ≡ source
   pub unsaved : files' ≡ files
 
-abbrev pub CarriesOut : Task → {F : Type 0} → (F → List ℕ → Option (List ℕ)) → (F → List ℕ → Told) → F → F → Option (List ℕ) → Option (List ℕ) → Told → Told → Result ℕ Stop → Type 0
-CarriesOut (task.List input) bytes_of took files files' source source' old new result = WritesText (task.List input) bytes_of files files' source source' old new result
-CarriesOut (task.Objects input) bytes_of took files files' source source' old new result = WritesText (task.Objects input) bytes_of files files' source source' old new result
-CarriesOut (task.Calls input pickles) bytes_of took files files' source source' old new result = WritesText (task.Calls input pickles) bytes_of files files' source source' old new result
-CarriesOut (task.Form input) bytes_of took files files' source source' old new result = WritesText (task.Form input) bytes_of files files' source source' old new result
-CarriesOut (task.Debug input options) bytes_of took files files' source source' old new result = TalksOfFile input options bytes_of took files files' source source' old new result
+abbrev pub CarriesOut : Task → {F O : Type 0} → Reports F O → F → F → Gives → Gives → Told → Told → Result ℕ Stop → Type 0
+CarriesOut (task.List input) r files files' source source' old new result = WritesText (task.List input) r files files' source source' old new result
+CarriesOut (task.Objects input) r files files' source source' old new result = WritesText (task.Objects input) r files files' source source' old new result
+CarriesOut (task.Calls input pickles) r files files' source source' old new result = WritesText (task.Calls input pickles) r files files' source source' old new result
+CarriesOut (task.Form input) r files files' source source' old new result = WritesText (task.Form input) r files files' source source' old new result
+CarriesOut (task.Debug input options) r files files' source source' old new result = TalksOfFile input options r files files' source source' old new result

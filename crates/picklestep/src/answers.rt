@@ -2,32 +2,33 @@
 //! speak of the device.
 
 ghost use Rattle.std.specs.Prelude.{◌≡◌, ◌≢◌, true, Err};
-ghost use Rattle.std.specs.String.{string_bytes};
 ghost use Rattle.picklestep.specs.Device.{IsTextOf, AnswersInput, AnswersTask, AnswersFile, is_calls, asks_for_text, device_of, input_of as asked_input};
+ghost use Rattle.picklestep.specs.Files.{gives, reports};
 
-use crate::files::Files;
+use crate::files::{Files, open_file};
 use crate::output::write_out;
 use crate::task::{CallsOptions, GivenFile, Task};
 use pickle_doc::LIMIT;
-use pickle_ops::{Buffered, Sink, Source, read_limited};
+use pickle_io::{Buffered, Sink, Source, read_limited};
 use pickle_script::{Stop, Text, calls_of_file, write_text};
 use std::alloc::Global;
 
 /// Reads a source whole, writes this text of its bytes, hands all of it on, and answers the status. The bytes are one pickle, or where
-/// `many` holds several that follow one another. The stops are those of `answer_task`.
+/// `many` holds several that follow one another; where `loose` holds frames are not looked at. The stops are those of `answer_task`.
 fn answer_text<R: Source, K: Sink + Drop>(
     alloc: Global,
     text: Text,
     many: bool,
+    loose: bool,
     source: &mut R,
     page: &mut Buffered<K>,
 ) -> Result<u8, Stop>
     requires handed { (⟦<Buffered<K> as Sink>⟧.told page.old).held ≡ 0 }
-    ensures answers { AnswersInput (IsTextOf text many) (R.remaining source.old) (R.remaining source.new) (K.told (device_of page.old)) (K.told (device_of page.new)) result }
+    ensures answers { AnswersInput (IsTextOf text many loose) (gives (R.remaining source.old) (R.failures source.old)) (gives (R.remaining source.new) (R.failures source.new)) (K.told (device_of page.old)) (K.told (device_of page.new)) result }
     ensures handed { result ≢ Err Stop.Write → (⟦<Buffered<K> as Sink>⟧.told page.new).held ≡ 0 }
 {
     let bytes = read_limited(alloc, source, LIMIT)?;
-    let written = write_text(alloc, text, many, bytes.as_slice(), page);
+    let written = write_text(alloc, text, many, loose, bytes.as_slice(), page);
     write_out(page, written)
 }
 
@@ -40,7 +41,7 @@ fn answer_calls<R: Source, K: Sink + Drop>(
     page: &mut Buffered<K>,
 ) -> Result<u8, Stop>
     requires handed { (⟦<Buffered<K> as Sink>⟧.told page.old).held ≡ 0 }
-    ensures answers { AnswersInput (is_calls options.now) (R.remaining source.old) (R.remaining source.new) (K.told (device_of page.old)) (K.told (device_of page.new)) result }
+    ensures answers { AnswersInput (is_calls options.now) (gives (R.remaining source.old) (R.failures source.old)) (gives (R.remaining source.new) (R.failures source.new)) (K.told (device_of page.old)) (K.told (device_of page.new)) result }
     ensures handed { result ≢ Err Stop.Write → (⟦<Buffered<K> as Sink>⟧.told page.new).held ≡ 0 }
 {
     let mut bytes = read_limited(alloc, source, LIMIT)?;
@@ -76,19 +77,25 @@ fn answer_task<R: Source, K: Sink + Drop>(
 ) -> Result<u8, Stop>
     requires text { asks_for_text task.now ≡ true }
     requires handed { (⟦<Buffered<K> as Sink>⟧.told page.old).held ≡ 0 }
-    ensures answers { AnswersTask task.now (R.remaining source.old) (R.remaining source.new) (K.told (device_of page.old)) (K.told (device_of page.new)) result }
+    ensures answers { AnswersTask task.now (gives (R.remaining source.old) (R.failures source.old)) (gives (R.remaining source.new) (R.failures source.new)) (K.told (device_of page.old)) (K.told (device_of page.new)) result }
     ensures handed { result ≢ Err Stop.Write → (⟦<Buffered<K> as Sink>⟧.told page.new).held ≡ 0 }
 {
     match task {
-        Task::List(input) => answer_text(alloc, Text::Listing, input.many, source, page),
-        Task::Objects(input) => answer_text(alloc, Text::Objects, input.many, source, page),
+        Task::List(input) => {
+            let (many, loose) = (input.many, input.unframed);
+            answer_text(alloc, Text::Listing, many, loose, source, page)
+        }
+        Task::Objects(input) => {
+            let (many, loose) = (input.many, input.unframed);
+            answer_text(alloc, Text::Objects, many, loose, source, page)
+        }
         Task::Calls(_, options) => answer_calls(alloc, options, source, page),
-        Task::Form(_) => answer_text(alloc, Text::Form, false, source, page),
+        Task::Form(_) => answer_text(alloc, Text::Form, false, false, source, page),
         Task::Debug(_, _) => unreachable!(),
     }
 }
 
-/// Opens the file that such a task is done on, and answers the task as `answer_task` does. The stops are those of `Files::open` too.
+/// Opens the file that such a task is done on, and answers the task as `answer_task` does. The stops are those of `open_file` too.
 pub fn answer_file<K: Sink + Drop, F: Files>(
     alloc: Global,
     task: &Task,
@@ -97,9 +104,9 @@ pub fn answer_file<K: Sink + Drop, F: Files>(
 ) -> Result<u8, Stop>
     requires text { asks_for_text task.now ≡ true }
     requires handed { (⟦<Buffered<K> as Sink>⟧.told page.old).held ≡ 0 }
-    ensures answers { AnswersFile task.now (F.bytes_of files.now (string_bytes (asked_input task.now).file)) (K.told (device_of page.old)) (K.told (device_of page.new)) result }
+    ensures answers { AnswersFile task.now (reports F.bytes_of F.refuses F.Opened.remaining F.Opened.failures F.took F.loses) files.now (K.told (device_of page.old)) (K.told (device_of page.new)) result }
     ensures handed { result ≢ Err Stop.Write → (⟦<Buffered<K> as Sink>⟧.told page.new).held ≡ 0 }
 {
-    let mut source = files.open(input_of(task).file.as_str())?;
+    let mut source = open_file(files, input_of(task).file.as_str())?;
     answer_task(alloc, task, &mut source, page)
 }

@@ -2,7 +2,7 @@
 
 ghost use Rattle.std.specs.Prelude.{◌≡◌, IfOk, false};
 ghost use Rattle.clap.specs.Words.{rule_of, app_of};
-ghost use Rattle.picklestep.specs.CommandLine.{file_rule, many_rule, first_rule, memo_rule, full_rule, skip_rule, window_rule, save_rule, on_file, calls_app, debug_app, program};
+ghost use Rattle.picklestep.specs.CommandLine.{file_rule, many_rule, unframed_rule, first_rule, memo_rule, full_rule, skip_rule, window_rule, save_rule, on_file, frames_app, calls_app, debug_app, program};
 
 use clap::{Arg, ArgAction, Command};
 use std::alloc::{AllocError, Global};
@@ -38,6 +38,17 @@ fn many_argument<'a>(alloc: Global, help: &'a str) -> Arg<'a>
     Arg::new(alloc, "many")
         .long("many")
         .help(help)
+        .action(ArgAction::SetTrue)
+}
+
+/// Whether frames are not looked at.
+fn unframed_argument<'a>(alloc: Global) -> Arg<'a>
+    ensures rule { rule_of result ≡ unframed_rule }
+    ensures local { result.global ≡ false }
+{
+    Arg::new(alloc, "unframed")
+        .long("unframed")
+        .help("take FRAME for an opcode like others, as a pickle needs that was cut off")
         .action(ArgAction::SetTrue)
 }
 
@@ -129,6 +140,13 @@ fn on_file<'a>(
         .arg(many_argument(alloc, many))
 }
 
+/// One that may be done without a look at frames.
+fn with_frames<'a>(alloc: Global, name: &'a str, about: &'a str) -> Result<Command<'a>, AllocError>
+    ensures { IfOk result (λ c. app_of c ≡ frames_app name.now) }
+{
+    on_file(alloc, name, about, MANY)?.arg(unframed_argument(alloc))
+}
+
 /// The command that prints what a file would import and call.
 fn calls_command<'a>(alloc: Global) -> Result<Command<'a>, AllocError>
     ensures { IfOk result (λ c. app_of c ≡ calls_app) }
@@ -149,11 +167,10 @@ fn calls_command<'a>(alloc: Global) -> Result<Command<'a>, AllocError>
 fn debug_command<'a>(alloc: Global) -> Result<Command<'a>, AllocError>
     ensures { IfOk result (λ c. app_of c ≡ debug_app) }
 {
-    on_file(
+    with_frames(
         alloc,
         "debug",
         "Runs the commands of standard input on FILE: steps forwards and back, shows, edits",
-        MANY,
     )?
     .arg(window_argument(alloc))?
     .arg(save_argument(alloc))
@@ -163,17 +180,15 @@ fn debug_command<'a>(alloc: Global) -> Result<Command<'a>, AllocError>
 pub fn command_line<'a>(alloc: Global) -> Result<Command<'a>, AllocError>
     ensures { IfOk result (λ c. app_of c ≡ program) }
 {
-    let listing = on_file(
+    let listing = with_frames(
         alloc,
         "list",
         "Lists the opcodes of FILE with their offsets and arguments",
-        MANY,
     )?;
-    let reporting = on_file(
+    let reporting = with_frames(
         alloc,
         "objects",
         "Prints the objects that the opcodes of FILE make, and which of them is the result",
-        MANY,
     )?;
     let calling = calls_command(alloc)?;
     let debugging = debug_command(alloc)?;

@@ -3,7 +3,7 @@
 ghost use Rattle.std.specs.Prelude.{◌≡◌, ◌≢◌, [], Err};
 ghost use Rattle.pickle_io.specs.Device.{Wrote, Broke};
 
-use pickle_ops::Sink;
+use pickle_io::Sink;
 use pickle_script::Stop;
 
 /// Writes out what the sink holds, also after a stop, and passes the answer on; `Stop::Write` instead of it where that fails. After

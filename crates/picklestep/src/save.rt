@@ -1,15 +1,17 @@
 //! How a document is saved so that no file is lost: into a new file, which takes the name of the old one when all of it is stored.
 
-use crate::file::{open_file, stop_for};
-use crate::files::{Files, write_document};
+ghost use Rattle.std.specs.Prelude.{IfErr, IsTrue};
+ghost use Rattle.picklestep.specs.Files.{is_loss};
+
+use crate::files::{Files, stop_for, write_document};
 use pickle_doc::Document;
-use pickle_ops::{Buffered, FromRead, ToWrite};
+use pickle_io::{Buffered, FromRead, ToWrite};
 use pickle_script::Stop;
-use std::fs;
 use std::fs::{File, Metadata, OpenOptions};
 use std::io::ErrorKind;
 use std::os::unix::fs::{MetadataExt, OpenOptionsExt, fchown};
 use std::path::{Path, PathBuf};
+use std::{fs, io};
 
 /// The most symbolic links that are followed one after another, which is as many as Linux follows.
 const MOST_LINKS: u32 = 40;
@@ -28,7 +30,9 @@ struct NewFile {
 impl NewFile {
     /// Makes a file in the folder of `target`. Its name does not hold that of `target`, since it would be too long where that is as
     /// long as a name can be.
-    fn next_to(rt: &HostRuntime, target: &PathBuf, mode: u32) -> Result<NewFile, Stop> {
+    fn next_to(rt: &HostRuntime, target: &PathBuf, mode: u32) -> Result<NewFile, Stop>
+        ensures { IfErr result (λ e. IsTrue (is_loss e)) }
+    {
         for number in 1..=MOST_NAMES {
             let name = format!(in rt.alloc(); "picklestep-save-{number}.unfinished")?;
             let path = target.with_file_name(rt.alloc(), name.as_str())?;
@@ -45,7 +49,9 @@ impl NewFile {
 
     /// Gives the file the mode of another file, and its owner and group where the system permits it. A change of owner may clear bits of
     /// the mode, so it comes first.
-    fn take_after(&self, about: &Metadata) -> Result<(), Stop> {
+    fn take_after(&self, about: &Metadata) -> Result<(), Stop>
+        ensures { IfErr result (λ e. IsTrue (is_loss e)) }
+    {
         let _ = fchown(&self.file, None, Some(about.gid()));
         let _ = fchown(&self.file, Some(about.uid()), None);
         match self.file.set_permissions(about.permissions()) {
@@ -56,7 +62,9 @@ impl NewFile {
 
     /// Waits until the bytes are stored, and then gives the file this name. A mount point is not replaced:
     /// `Stop::Write`.
-    fn move_to(&self, rt: &HostRuntime, target: &PathBuf) -> Result<(), Stop> {
+    fn move_to(&self, rt: &HostRuntime, target: &PathBuf) -> Result<(), Stop>
+        ensures { IfErr result (λ e. IsTrue (is_loss e)) }
+    {
         if self.file.sync_all().is_err() || fs::rename(rt, &self.path, target).is_err() {
             return Err(Stop::Write);
         }
@@ -80,7 +88,9 @@ fn sync_folder(rt: &HostRuntime, path: &PathBuf) {
 /// The path to which the symbolic links of a path lead, where there need not be a file. A path that is no link leads to itself.
 /// A link whose text is not UTF-8 is `Stop::Write`, since paths are text. Who exchanges one of the links during a save may
 /// redirect it.
-fn target_of(rt: &HostRuntime, path: &str) -> Result<PathBuf, Stop> {
+fn target_of(rt: &HostRuntime, path: &str) -> Result<PathBuf, Stop>
+    ensures { IfErr result (λ e. IsTrue (is_loss e)) }
+{
     let mut target = PathBuf::from_str(rt.alloc(), path)?;
     for _ in 0..MOST_LINKS {
         match fs::read_link(rt, &target) {
@@ -108,7 +118,9 @@ fn has_name(rt: &HostRuntime, about: &Metadata, target: &PathBuf) -> bool {
 }
 
 /// Writes the bytes of a document to a file.
-fn write_to(rt: &HostRuntime, document: &Document, file: &File) -> Result<(), Stop> {
+fn write_to(rt: &HostRuntime, document: &Document, file: &File) -> Result<(), Stop>
+    ensures { IfErr result (λ e. IsTrue (is_loss e)) }
+{
     let mut page = Buffered::new(rt.alloc(), ToWrite::new(file))?;
     write_document(document, &mut page)
 }
@@ -120,7 +132,9 @@ fn fill(
     new: &NewFile,
     target: &PathBuf,
     about: Option<&Metadata>,
-) -> Result<(), Stop> {
+) -> Result<(), Stop>
+    ensures { IfErr result (λ e. IsTrue (is_loss e)) }
+{
     if let Some(about) = about {
         new.take_after(about)?;
     }
@@ -135,7 +149,9 @@ fn replace(
     document: &Document,
     target: &PathBuf,
     about: Option<&Metadata>,
-) -> Result<(), Stop> {
+) -> Result<(), Stop>
+    ensures { IfErr result (λ e. IsTrue (is_loss e)) }
+{
     // Nobody else may read the new file before it has the mode of the old one.
     let mode = if about.is_some() { 0o600 } else { 0o666 };
     let new = NewFile::next_to(rt, target, mode)?;
@@ -148,7 +164,9 @@ fn replace(
 
 /// Saves a document where `path` opened this file. A device or a pipe takes the bytes, and so does a regular file that was removed
 /// while it is open, to which `/dev/stdout` may lead.
-fn save_over(rt: &HostRuntime, document: &Document, path: &str, file: &File) -> Result<(), Stop> {
+fn save_over(rt: &HostRuntime, document: &Document, path: &str, file: &File) -> Result<(), Stop>
+    ensures { IfErr result (λ e. IsTrue (is_loss e)) }
+{
     let Ok(about) = file.metadata() else {
         return Err(Stop::Write);
     };
@@ -166,7 +184,9 @@ fn save_over(rt: &HostRuntime, document: &Document, path: &str, file: &File) -> 
 
 /// Saves a document to a path. `Stop::Write` where the file, or a new one next to it, cannot be written, `Stop::Memory` where there is
 /// no room; a regular file is then as it was. A device or a pipe may have taken a beginning of the bytes.
-fn save_document(rt: &HostRuntime, document: &Document, path: &str) -> Result<(), Stop> {
+fn save_document(rt: &HostRuntime, document: &Document, path: &str) -> Result<(), Stop>
+    ensures { IfErr result (λ e. IsTrue (is_loss e)) }
+{
     // The file is opened first, and left unchanged, so that one that may not be written is not replaced.
     match OpenOptions::new().write(true).open(rt, path) {
         Ok(file) => save_over(rt, document, path, &file),
@@ -177,24 +197,39 @@ fn save_document(rt: &HostRuntime, document: &Document, path: &str) -> Result<()
     }
 }
 
-/// The files of the system. They do not report which bytes they have, nor what they have taken.
+/// The files of the system. They do not report which bytes they have, nor what they have taken. Opening one may fail with any error.
 #[derive(Drop)]
 pub struct SystemFiles<'a> {
     /// What runs the program.
     pub rt: &'a HostRuntime,
 }
 
+/// How long the system says that a file is; 0 where it says nothing. Of a pipe or a device it says 0.
+fn length_of(file: &File) -> u64 {
+    match file.metadata() {
+        Ok(about) => about.len(),
+        Err(_) => 0,
+    }
+}
+
 impl Files for SystemFiles<'_> {
-    ghost use Rattle.std.specs.Prelude.{None};
+    ghost use Rattle.std.specs.Prelude.{None, true};
+    ghost use Rattle.picklestep.specs.Files.{is_loss};
 
     type Opened = FromRead<File>;
 
     ghost bytes_of = { λ _ _. None };
 
+    ghost refuses = { λ _ _ _. true };
+
     ghost took = { λ _ _. record { taken = None; held = 0; failures = 0 } };
 
-    fn open(&self, path: &str) -> Result<FromRead<File>, Stop> {
-        Ok(FromRead::new(open_file(self.rt, path)?))
+    ghost loses = { λ _ _ e. is_loss e };
+
+    fn open(&self, path: &str) -> io::Result<(FromRead<File>, u64)> {
+        let file = File::open(self.rt, path)?;
+        let least = length_of(&file);
+        Ok((FromRead::new(file), least))
     }
 
     fn save(&mut self, path: &str, document: &Document) -> Result<(), Stop> {

@@ -23,6 +23,9 @@ pub struct GivenFile {
     pub file: String,
     /// Whether it is read as several pickles that follow one another.
     pub many: bool,
+    /// Whether frames are not looked at: a FRAME is then an opcode like others. Of what is imported and called, and of the form, this says
+    /// nothing.
+    pub unframed: bool,
 }
 
 /// What the program is asked to do, each with the file that it is done on.
@@ -248,27 +251,54 @@ fn named(alloc: Global, matches: &ArgMatches<'_>) -> Result<Option<Task>, AllocE
         return Ok(None);
     };
     let many = is_given(found, "many");
+    let unframed = is_given(found, "unframed");
     if name == "list" {
         let file = String::from_str(alloc, file)?;
-        Ok(Some(Task::List(GivenFile { file, many })))
+        Ok(Some(Task::List(GivenFile {
+            file,
+            many,
+            unframed,
+        })))
     } else if name == "objects" {
         let file = String::from_str(alloc, file)?;
-        Ok(Some(Task::Objects(GivenFile { file, many })))
+        Ok(Some(Task::Objects(GivenFile {
+            file,
+            many,
+            unframed,
+        })))
     } else if name == "calls" {
         let Some(options) = calls_options_of(alloc, found)? else {
             return Ok(None);
         };
         let file = String::from_str(alloc, file)?;
-        Ok(Some(Task::Calls(GivenFile { file, many }, options)))
+        Ok(Some(Task::Calls(
+            GivenFile {
+                file,
+                many,
+                unframed,
+            },
+            options,
+        )))
     } else if name == "debug" {
         let Some(options) = options_of(alloc, found)? else {
             return Ok(None);
         };
         let file = String::from_str(alloc, file)?;
-        Ok(Some(Task::Debug(GivenFile { file, many }, options)))
+        Ok(Some(Task::Debug(
+            GivenFile {
+                file,
+                many,
+                unframed,
+            },
+            options,
+        )))
     } else if name == "form" {
         let file = String::from_str(alloc, file)?;
-        Ok(Some(Task::Form(GivenFile { file, many })))
+        Ok(Some(Task::Form(GivenFile {
+            file,
+            many,
+            unframed,
+        })))
     } else {
         Ok(None)
     }

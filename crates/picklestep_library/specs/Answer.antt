@@ -1,14 +1,19 @@
 -- What a function of the library leaves in its caller's memory.
 -- Source: own.
-use Rattle.std.specs.Prelude.{◌≡◌, ◌≢◌, ◌≤◌, ◌<◌, ◌↔◌, ◌⊎◌, ℕ, Bool, List, [], length, take, drop, Some}
+use Rattle.std.specs.Prelude.{◌≡◌, ◌≢◌, ◌≤◌, ◌<◌, ◌↔◌, ◌⊎◌, ℕ, Bool, List, [], length, take, drop, Option, Some, None, MatchBool}
 use Rattle.pickle_io.specs.Device.{Told}
 use Rattle.pickle_doc.specs.Document.{size_limit, document_bytes}
-use Rattle.pickle_session.specs.Opening.{IsOpened}
+use Rattle.pickle_holes.specs.declared.hole.Hole.{Hole}
+use Rattle.pickle_session.specs.Opening.{IsOpenedIn}
 use Rattle.pickle_session.specs.Allowed.{SessionState}
-use Rattle.pickle_script.specs.Output.{CompletesText}
+use Rattle.pickle_show.specs.declared.naming.Detail.{Detail}
+use Rattle.pickle_show.specs.Manner.{manner}
+use Rattle.pickle_further.specs.declared.way.Pickles.{Pickles}
+use Rattle.pickle_script.specs.Output.{CompletesText, CompletesFile}
 use Rattle.pickle_script.specs.Conversation.{Finishes}
 use Rattle.pickle_script.specs.declared.texts.Text.{Text}
 use Rattle.picklestep_library.specs.declared.fill.Written.{Written}
+use Rattle.picklestep_library.specs.Asked.{are_modes}
 
 -- ---- a text
 
@@ -16,28 +21,32 @@ use Rattle.picklestep_library.specs.declared.fill.Written.{Written}
 abbrev pub took : List ℕ → Told
 took bytes = record { taken = Some bytes; held = 0; failures = 0 }
 
--- these bytes are the whole text of an input, and this is its status
-abbrev pub IsTextOf : Text → Bool → List ℕ → List ℕ → ℕ → Type 0
-IsTextOf text many bytes written status = CompletesText text many bytes (took []) (took written) status
+-- these bytes are the whole text of an input, read as several pickles or as one, and with its frames or loose, and this is its status
+abbrev pub IsTextOf : Text → Bool → Bool → List ℕ → List ℕ → ℕ → Type 0
+IsTextOf text many loose bytes written status = CompletesText text many loose bytes (took []) (took written) status
+
+-- these bytes are the whole text of what is imported and called by what is left of an input without its holes, and this is its status
+abbrev pub IsCallsOf : Detail → List Hole → Pickles → List ℕ → List ℕ → ℕ → Type 0
+IsCallsOf detail holes pickles bytes written status = CompletesFile (manner detail holes) pickles bytes (took []) (took written) status
 
 -- these bytes are all answers to the lines of a script, in a session of an input, and this is its status
-pub record IsTalkOf (many : Bool) (bytes script written : List ℕ) (status : ℕ) : Type 0 where
+pub record IsTalkOf (many loose : Bool) (bytes script written : List ℕ) (status : ℕ) : Type 0 where
   pub begun : SessionState
-  pub opened : IsOpened many bytes begun
+  pub opened : IsOpenedIn many loose bytes begun
   pub after : SessionState
   pub rest : List ℕ
   pub finishes : Finishes begun after status (Some script) (Some rest) (took []) (took written)
 
 -- these bytes are the whole text of the document that a session of an input has after the lines of a script, and this is its status
-pub record IsTextAfter (text : Text) (many : Bool) (bytes script written : List ℕ) (status : ℕ) : Type 0 where
+pub record IsTextAfter (text : Text) (many loose : Bool) (bytes script written : List ℕ) (status : ℕ) : Type 0 where
   pub begun : SessionState
-  pub opened : IsOpened many bytes begun
+  pub opened : IsOpenedIn many loose bytes begun
   pub after : SessionState
   pub rest : List ℕ
   pub answers : List ℕ
   pub answered : ℕ
   pub finishes : Finishes begun after answered (Some script) (Some rest) (took []) (took answers)
-  pub completes : CompletesText text after.session.document.many (document_bytes after.session.document) (took []) (took written) status
+  pub completes : CompletesText text after.session.document.many after.session.document.loose (document_bytes after.session.document) (took []) (took written) status
 
 -- ---- the caller's memory
 
@@ -58,3 +67,18 @@ pub record Fills (IsWanted : List ℕ → ℕ → Type 0) (bytes old new : List 
   pub untouched : answer ≢ 0 → new ≡ old
   pub large : (answer ≡ 2) ↔ (size_limit < length bytes)
   pub bounded : answer ≤ 3
+
+-- ---- by options
+
+-- the options or the holes are none of the function, and nothing was put there
+abbrev pub IsNoTask : List ℕ → List ℕ → ℕ → Type 0
+IsNoTask old new answer = (answer ≡ 4) × (new ≡ old)
+
+-- where the options only say how an input is read, the text was put there
+abbrev pub FillsIn : ℕ → (List ℕ → ℕ → Type 0) → List ℕ → List ℕ → List ℕ → Written → ℕ → Type 0
+FillsIn options IsWanted bytes old new written answer = MatchBool (are_modes options) (Fills IsWanted bytes old new written answer) (IsNoTask old new answer)
+
+-- where there are pickles to tell of, it was
+abbrev pub FillsOf : Option Pickles → (Pickles → List ℕ → ℕ → Type 0) → List ℕ → List ℕ → List ℕ → Written → ℕ → Type 0
+FillsOf (Some p) IsWanted bytes old new written answer = Fills (IsWanted p) bytes old new written answer
+FillsOf None IsWanted bytes old new written answer = IsNoTask old new answer

@@ -14,6 +14,8 @@ const OUT_OF_MEMORY: u8 = 1;
 const TOO_LARGE: u8 = 2;
 /// The text has no room in what was offered for it.
 const NO_ROOM: u8 = 3;
+/// The options, or the holes, are none of the function.
+pub const NO_TASK: u8 = 4;
 
 /// How long a text is, and its status, which is that of the program: 1 where an opcode or a line is refused, the bytes have a fault, or lines
 /// of `calls` end in `unsure:` or `kept:`, else 0.

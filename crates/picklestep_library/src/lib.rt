@@ -2,9 +2,11 @@
 //! text; nothing else is read or written. `picklestep.h` says the same to a reader of C.
 //!
 //! Each function answers 0 where the whole text is at the start of `out`, 1 where memory ran out, 2 where the input has more than
-//! 1,073,741,824 bytes, and 3 where the text has no room in `out`: `written` has its size then.
+//! 1,073,741,824 bytes, and 3 where the text has no room in `out`: `written` has its size then. One that takes options answers 4 where they
+//! are not its own.
 #![tactic(auto)]
 
+mod asked;
 mod edited;
 mod fill;
 mod talk;
@@ -12,10 +14,12 @@ mod texts;
 
 ghost use Rattle.pickle_further.specs.declared.way.Pickles.TheVariants as pickles;
 ghost use Rattle.pickle_show.specs.declared.naming.Detail.TheVariants as detail;
-ghost use Rattle.pickle_script.specs.declared.texts.Text.TheVariants as asked;
+ghost use Rattle.pickle_script.specs.declared.texts.Text.TheVariants as asked_text;
 ghost use Rattle.std.specs.Prelude.{false};
-ghost use Rattle.picklestep_library.specs.Answer.{IsTextOf, IsTalkOf, IsTextAfter, Fills};
+ghost use Rattle.picklestep_library.specs.Asked.{is_many, is_loose, pickles_of, pickles_left, detail_of, holes_of};
+ghost use Rattle.picklestep_library.specs.Answer.{IsTextOf, IsCallsOf, IsTalkOf, IsTextAfter, Fills, FillsIn, FillsOf};
 
+pub use asked::GivenHole;
 pub use fill::Written;
 use pickle_script::{Detail, Pickles, Text};
 use std::alloc::Global;
@@ -29,9 +33,9 @@ pub extern "C" fn picklestep_list(
     out: &mut [u8],
     written: &mut Written,
 ) -> u8
-    ensures { Fills (IsTextOf asked.Listing many bytes.now) bytes.now out.old out.new written.new result }
+    ensures { Fills (IsTextOf asked_text.Listing many false bytes.now) bytes.now out.old out.new written.new result }
 {
-    texts::fill(alloc, Text::Listing, many, bytes, out, written)
+    texts::fill(alloc, Text::Listing, many, false, bytes, out, written)
 }
 
 /// The report of the objects that a pickle makes, or where `many` holds several that follow one another.
@@ -43,9 +47,9 @@ pub extern "C" fn picklestep_objects(
     out: &mut [u8],
     written: &mut Written,
 ) -> u8
-    ensures { Fills (IsTextOf asked.Objects many bytes.now) bytes.now out.old out.new written.new result }
+    ensures { Fills (IsTextOf asked_text.Objects many false bytes.now) bytes.now out.old out.new written.new result }
 {
-    texts::fill(alloc, Text::Objects, many, bytes, out, written)
+    texts::fill(alloc, Text::Objects, many, false, bytes, out, written)
 }
 
 /// What pickles that follow one another would import and call.
@@ -56,16 +60,10 @@ pub extern "C" fn picklestep_calls(
     out: &mut [u8],
     written: &mut Written,
 ) -> u8
-    ensures { Fills (IsTextOf (asked.Calls pickles.All detail.Cut) false bytes.now) bytes.now out.old out.new written.new result }
+    ensures { Fills (IsTextOf (asked_text.Calls pickles.All detail.Cut) false false bytes.now) bytes.now out.old out.new written.new result }
 {
-    texts::fill(
-        alloc,
-        Text::Calls(Pickles::All, Detail::Cut),
-        false,
-        bytes,
-        out,
-        written,
-    )
+    let text = Text::Calls(Pickles::All, Detail::Cut);
+    texts::fill(alloc, text, false, false, bytes, out, written)
 }
 
 /// What the first pickle alone would import and call.
@@ -76,16 +74,10 @@ pub extern "C" fn picklestep_calls_first(
     out: &mut [u8],
     written: &mut Written,
 ) -> u8
-    ensures { Fills (IsTextOf (asked.Calls pickles.First detail.Cut) false bytes.now) bytes.now out.old out.new written.new result }
+    ensures { Fills (IsTextOf (asked_text.Calls pickles.First detail.Cut) false false bytes.now) bytes.now out.old out.new written.new result }
 {
-    texts::fill(
-        alloc,
-        Text::Calls(Pickles::First, Detail::Cut),
-        false,
-        bytes,
-        out,
-        written,
-    )
+    let text = Text::Calls(Pickles::First, Detail::Cut);
+    texts::fill(alloc, text, false, false, bytes, out, written)
 }
 
 /// What pickles that follow one another would import and call, read by one unpickler that keeps its memo.
@@ -96,16 +88,23 @@ pub extern "C" fn picklestep_calls_one_memo(
     out: &mut [u8],
     written: &mut Written,
 ) -> u8
-    ensures { Fills (IsTextOf (asked.Calls pickles.OneMemo detail.Cut) false bytes.now) bytes.now out.old out.new written.new result }
+    ensures { Fills (IsTextOf (asked_text.Calls pickles.OneMemo detail.Cut) false false bytes.now) bytes.now out.old out.new written.new result }
 {
-    texts::fill(
-        alloc,
-        Text::Calls(Pickles::OneMemo, Detail::Cut),
-        false,
-        bytes,
-        out,
-        written,
-    )
+    let text = Text::Calls(Pickles::OneMemo, Detail::Cut);
+    texts::fill(alloc, text, false, false, bytes, out, written)
+}
+
+/// Whether the bytes are one pickle in the form that picklers write, or the first place at which they are not, and why.
+#[unsafe(no_mangle)]
+pub extern "C" fn picklestep_form(
+    alloc: Global,
+    bytes: &[u8],
+    out: &mut [u8],
+    written: &mut Written,
+) -> u8
+    ensures { Fills (IsTextOf asked_text.Form false false bytes.now) bytes.now out.old out.new written.new result }
+{
+    texts::fill(alloc, Text::Form, false, false, bytes, out, written)
 }
 
 /// The answers of a conversation: those to all lines of a script, in a session of a pickle, or where `many` holds of several. `written` has
@@ -119,9 +118,9 @@ pub extern "C" fn picklestep_debug(
     out: &mut [u8],
     written: &mut Written,
 ) -> u8
-    ensures { Fills (IsTalkOf many bytes.now script.now) bytes.now out.old out.new written.new result }
+    ensures { Fills (IsTalkOf many false bytes.now script.now) bytes.now out.old out.new written.new result }
 {
-    talk::fill_talk(alloc, many, bytes, script, out, written)
+    talk::fill_talk(alloc, many, false, bytes, script, out, written)
 }
 
 /// The listing of a pickle as the lines of a script leave it, in a session of it, or where `many` holds of several: that of its bytes then.
@@ -134,9 +133,18 @@ pub extern "C" fn picklestep_edited_list(
     out: &mut [u8],
     written: &mut Written,
 ) -> u8
-    ensures { Fills (IsTextAfter asked.Listing many bytes.now script.now) bytes.now out.old out.new written.new result }
+    ensures { Fills (IsTextAfter asked_text.Listing many false bytes.now script.now) bytes.now out.old out.new written.new result }
 {
-    edited::fill_after(alloc, Text::Listing, many, bytes, script, out, written)
+    edited::fill_after(
+        alloc,
+        Text::Listing,
+        many,
+        false,
+        bytes,
+        script,
+        out,
+        written,
+    )
 }
 
 /// The report of the objects that it makes.
@@ -149,9 +157,18 @@ pub extern "C" fn picklestep_edited_objects(
     out: &mut [u8],
     written: &mut Written,
 ) -> u8
-    ensures { Fills (IsTextAfter asked.Objects many bytes.now script.now) bytes.now out.old out.new written.new result }
+    ensures { Fills (IsTextAfter asked_text.Objects many false bytes.now script.now) bytes.now out.old out.new written.new result }
 {
-    edited::fill_after(alloc, Text::Objects, many, bytes, script, out, written)
+    edited::fill_after(
+        alloc,
+        Text::Objects,
+        many,
+        false,
+        bytes,
+        script,
+        out,
+        written,
+    )
 }
 
 /// What it would import and call, read as pickles that follow one another.
@@ -164,7 +181,7 @@ pub extern "C" fn picklestep_edited_calls(
     out: &mut [u8],
     written: &mut Written,
 ) -> u8
-    ensures { Fills (IsTextAfter (asked.Calls pickles.All detail.Cut) many bytes.now script.now) bytes.now out.old out.new written.new result }
+    ensures { Fills (IsTextAfter (asked_text.Calls pickles.All detail.Cut) many false bytes.now script.now) bytes.now out.old out.new written.new result }
 {
     edited::fill_calls(alloc, Pickles::All, many, bytes, script, out, written)
 }
@@ -179,7 +196,7 @@ pub extern "C" fn picklestep_edited_calls_first(
     out: &mut [u8],
     written: &mut Written,
 ) -> u8
-    ensures { Fills (IsTextAfter (asked.Calls pickles.First detail.Cut) many bytes.now script.now) bytes.now out.old out.new written.new result }
+    ensures { Fills (IsTextAfter (asked_text.Calls pickles.First detail.Cut) many false bytes.now script.now) bytes.now out.old out.new written.new result }
 {
     edited::fill_calls(alloc, Pickles::First, many, bytes, script, out, written)
 }
@@ -194,7 +211,113 @@ pub extern "C" fn picklestep_edited_calls_one_memo(
     out: &mut [u8],
     written: &mut Written,
 ) -> u8
-    ensures { Fills (IsTextAfter (asked.Calls pickles.OneMemo detail.Cut) many bytes.now script.now) bytes.now out.old out.new written.new result }
+    ensures { Fills (IsTextAfter (asked_text.Calls pickles.OneMemo detail.Cut) many false bytes.now script.now) bytes.now out.old out.new written.new result }
 {
     edited::fill_calls(alloc, Pickles::OneMemo, many, bytes, script, out, written)
+}
+
+// ---- with options
+
+/// The listing of an input that is read as the options say.
+#[unsafe(no_mangle)]
+pub extern "C" fn picklestep_list_with(
+    alloc: Global,
+    options: u32,
+    bytes: &[u8],
+    out: &mut [u8],
+    written: &mut Written,
+) -> u8
+    ensures { FillsIn options (IsTextOf asked_text.Listing (is_many options) (is_loose options) bytes.now) bytes.now out.old out.new written.new result }
+{
+    texts::fill_in(alloc, Text::Listing, options, bytes, out, written)
+}
+
+/// The report of the objects that it makes.
+#[unsafe(no_mangle)]
+pub extern "C" fn picklestep_objects_with(
+    alloc: Global,
+    options: u32,
+    bytes: &[u8],
+    out: &mut [u8],
+    written: &mut Written,
+) -> u8
+    ensures { FillsIn options (IsTextOf asked_text.Objects (is_many options) (is_loose options) bytes.now) bytes.now out.old out.new written.new result }
+{
+    texts::fill_in(alloc, Text::Objects, options, bytes, out, written)
+}
+
+/// What is imported and called by what is left of an input without holes, as the options ask for it. The offsets are those in the input. Each
+/// hole stands behind those before it.
+#[unsafe(no_mangle)]
+pub extern "C" fn picklestep_calls_with(
+    alloc: Global,
+    options: u32,
+    holes: &[GivenHole],
+    bytes: &[u8],
+    out: &mut [u8],
+    written: &mut Written,
+) -> u8
+    ensures { FillsOf (pickles_left options holes.now) (λ p. IsCallsOf (detail_of options) (holes_of holes.now) p bytes.now) bytes.now out.old out.new written.new result }
+{
+    texts::fill_left(alloc, options, holes, bytes, out, written)
+}
+
+/// The answers of a conversation, as `picklestep_debug` gives them, in a session of an input that is read as the options say.
+#[unsafe(no_mangle)]
+pub extern "C" fn picklestep_debug_with(
+    alloc: Global,
+    options: u32,
+    bytes: &[u8],
+    script: &[u8],
+    out: &mut [u8],
+    written: &mut Written,
+) -> u8
+    ensures { FillsIn options (IsTalkOf (is_many options) (is_loose options) bytes.now script.now) bytes.now out.old out.new written.new result }
+{
+    talk::fill_talk_in(alloc, options, bytes, script, out, written)
+}
+
+/// The listing of what the lines of a script leave of it.
+#[unsafe(no_mangle)]
+pub extern "C" fn picklestep_edited_list_with(
+    alloc: Global,
+    options: u32,
+    bytes: &[u8],
+    script: &[u8],
+    out: &mut [u8],
+    written: &mut Written,
+) -> u8
+    ensures { FillsIn options (IsTextAfter asked_text.Listing (is_many options) (is_loose options) bytes.now script.now) bytes.now out.old out.new written.new result }
+{
+    edited::fill_after_in(alloc, Text::Listing, options, bytes, script, out, written)
+}
+
+/// The report of the objects that this makes.
+#[unsafe(no_mangle)]
+pub extern "C" fn picklestep_edited_objects_with(
+    alloc: Global,
+    options: u32,
+    bytes: &[u8],
+    script: &[u8],
+    out: &mut [u8],
+    written: &mut Written,
+) -> u8
+    ensures { FillsIn options (IsTextAfter asked_text.Objects (is_many options) (is_loose options) bytes.now script.now) bytes.now out.old out.new written.new result }
+{
+    edited::fill_after_in(alloc, Text::Objects, options, bytes, script, out, written)
+}
+
+/// What it would import and call, as the options ask for it.
+#[unsafe(no_mangle)]
+pub extern "C" fn picklestep_edited_calls_with(
+    alloc: Global,
+    options: u32,
+    bytes: &[u8],
+    script: &[u8],
+    out: &mut [u8],
+    written: &mut Written,
+) -> u8
+    ensures { FillsOf (pickles_of options) (λ p. IsTextAfter (asked_text.Calls p (detail_of options)) (is_many options) (is_loose options) bytes.now script.now) bytes.now out.old out.new written.new result }
+{
+    edited::fill_calls_in(alloc, options, bytes, script, out, written)
 }

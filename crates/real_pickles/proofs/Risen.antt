@@ -10,12 +10,12 @@ use Rattle.pickle_doc.specs.Swap.{EditLeads, EditLeadsOn, risen}
 not_risen : (d : Contents) → risen 0 d ≡ d
 not_risen d =
     let next : d.next + 0 ≡ d.next = omega arith in
-    ap (λ (k : ℕ). record { many = d.many; units = d.units; tail = d.tail; next = k }) next
+    ap (λ (k : ℕ). record { many = d.many; loose = d.loose; units = d.units; tail = d.tail; next = k }) next
 
 pub risen_more : (n m : ℕ) (d : Contents) → risen m (risen n d) ≡ risen (n + m) d
 risen_more n m d =
     let next : d.next + n + m ≡ d.next + (n + m) = omega arith in
-    ap (λ (k : ℕ). record { many = d.many; units = d.units; tail = d.tail; next = k }) next
+    ap (λ (k : ℕ). record { many = d.many; loose = d.loose; units = d.units; tail = d.tail; next = k }) next
 
 -- the record of an edit, which may have given an identity
 pub given : (e : Edit Operation) (r : EditRecord) (d f : Contents) → EditLeads r d (raised_next_by e f) → (n : ℕ) × EditLeads r d (risen n f)

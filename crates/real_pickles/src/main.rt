@@ -8,7 +8,8 @@ mod plain;
 
 use crate::edits::{Dice, edit_by_dice};
 use pickle_doc::{DocFault, Document, EditFault, End, LIMIT, TailFault};
-use pickle_ops::{Failed, FrontFault, ToWrite};
+use pickle_io::{Failed, ToWrite};
+use pickle_ops::FrontFault;
 use std::alloc::{AllocError, AllocFailed, Global};
 use std::fs::File;
 use std::io::Read;

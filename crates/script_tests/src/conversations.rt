@@ -1,7 +1,7 @@
 //! Conversations over memory, and over devices that fail; the objects of an input; the words of stops.
 
 use pickle_doc::DocFault;
-use pickle_ops::{Buffered, FromRead};
+use pickle_io::{Buffered, FromRead};
 use pickle_script::{Stop, converse, line_of, objects, one_cut};
 use pickle_session::{Session, Whole};
 use std::alloc::{AllocError, Global};

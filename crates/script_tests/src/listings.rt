@@ -1,7 +1,7 @@
 //! Listings over memory. The expected texts are what `pickletools.dis` prints for these bytes, in this program's form
 //! of arguments, notes and closing lines.
 
-use pickle_ops::{Failed, Sink};
+use pickle_io::{Failed, Sink};
 use pickle_script::{Stop, list};
 use std::alloc::Global;
 use std::test::Fail;

@@ -7,7 +7,7 @@ use crate::scripts::rows::{
     MARK_LEFT_BEHIND, REPORTS, SCRIPTS, Script,
 };
 use pickle_doc::DocFault;
-use pickle_ops::FromRead;
+use pickle_io::FromRead;
 use pickle_script::{Stop, converse, objects};
 use pickle_session::{Past, Session, Whole, Window};
 use std::alloc::{AllocError, Global};

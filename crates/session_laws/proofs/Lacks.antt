@@ -89,7 +89,7 @@ pub lacks_signed : (b : ℕ) (z : ℤ) → not (45 == b) ≡ true → IsNoDigit 
 lacks_signed b (pos n) m h = lacks_decimal b n h
 lacks_signed b (negsuc n) m h = both_hold (not (45 == b)) (lacks b (decimal (suc n))) m (lacks_decimal b (suc n) h)
 
-no_digit_by : (b d : ℕ) (x : Bool) → nat_lt d 10 ≡ x → ((n : ℕ) → 48 + n ≡ b → n < 10 → ⊥) → ((n : ℕ) → 87 + n ≡ b → ⊥) → (if x then 48 + d else (if false then 55 + d else 87 + d)) ≢ b
+pub no_digit_by : (b d : ℕ) (x : Bool) → nat_lt d 10 ≡ x → ((n : ℕ) → 48 + n ≡ b → n < 10 → ⊥) → ((n : ℕ) → 87 + n ≡ b → ⊥) → (if x then 48 + d else (if false then 55 + d else 87 + d)) ≢ b
 no_digit_by b d true e f g = λ q. f d q (ltb-true d 10 e)
 no_digit_by b d false e f g = λ q. g d q
 
@@ -101,6 +101,9 @@ colon_no_digit = record { no_digit = λ d. no_digit_by 58 d (nat_lt d 10) refl (
 
 pub blank_no_digit : IsNoDigit 32
 blank_no_digit = record { no_digit = λ d. no_digit_by 32 d (nat_lt d 10) refl (λ n q l. omega (arith, q)) (λ n q. omega (arith, q)) }
+
+pub quote_no_digit : IsNoDigit 39
+quote_no_digit = record { no_digit = λ d. no_digit_by 39 d (nat_lt d 10) refl (λ n q l. omega (arith, q)) (λ n q. omega (arith, q)) }
 
 -- ---- hexadecimal and quotes: no newline
 

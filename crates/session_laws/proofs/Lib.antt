@@ -7,4 +7,6 @@ pub mod Shown
 pub mod Lacks
 pub mod Pieces
 pub mod Texts
+pub mod Arguments
+pub mod ObjectLines
 pub mod Says

@@ -27,6 +27,8 @@ use Rattle.pickle_show.specs.declared.note.Note.{Note}
 use Rattle.pickle_show.specs.declared.note.Note.TheVariants as note
 use Rattle.pickle_show.specs.Column.{newline, blanks, left_aligned}
 use Rattle.pickle_show.specs.ListingColumn.{code_text}
+use Rattle.pickle_holes.specs.declared.hole.Hole.{Hole}
+use Rattle.pickle_script.specs.Output.{hole_text, outside_words, outside_line}
 use Rattle.pickle_show.specs.Line.{offset_column, code_column, mark_text, as_text, note_text, described, named, item_line, refused_line, left_text, kept_words, kept_text, protocol_words, protocol_text}
 use Rattle.pickle_show.specs.ObjectText.{id_text, kind_text, next_text, some_parts, parts_text, set_text, change_text, object_text, object_line}
 use Rattle.pickle_show.specs.Report.{result_line, refused_item_line}
@@ -158,6 +160,20 @@ unfolding kept_text kept_words
 kept count =
     is_line (codes "kept: " ⧺ decimal count ⧺ codes " bytes after STOP")
     (join (codes "kept: " ⧺ decimal count) (codes " bytes after STOP") (join (codes "kept: ") (decimal count) refl (number count)) refl)
+
+hole_there : (h : Hole) → Within (hole_text h)
+unfolding hole_text
+hole_there h =
+    join (codes "hole " ⧺ decimal h.offset ⧺ codes ":") (decimal h.size)
+    (join (codes "hole " ⧺ decimal h.offset) (codes ":") (join (codes "hole ") (decimal h.offset) refl (number h.offset)) refl) (number h.size)
+
+hole : (h : Hole) (size : ℕ) → IsOneLine (outside_line h size)
+unfolding outside_line outside_words
+hole h size =
+    let front : List ℕ = codes "refused: " ⧺ hole_text h ⧺ codes " ends behind the last of " in
+    is_line (front ⧺ decimal size ⧺ codes " bytes")
+    (join (front ⧺ decimal size) (codes " bytes")
+    (join front (decimal size) (join (codes "refused: " ⧺ hole_text h) (codes " ends behind the last of ") (join (codes "refused: ") (hole_text h) refl (hole_there h)) refl) (number size)) refl)
 
 protocol : (n : ℕ) → IsOneLine (protocol_text n)
 unfolding protocol_text protocol_words
@@ -354,4 +370,5 @@ pieces = record {
   object = object;
   result = result;
   stopped = stopped;
+  hole = hole;
 }

@@ -4,7 +4,7 @@ use Rattle.std.proofs.lemmas.Bool.{le-ltb}
 use Rattle.std.specs.Prelude.{nat_lt}
 use Rattle.pickle_doc.specs.declared.item.Item.{Item}
 use Rattle.pickle_doc.specs.DocUnit.{operations}
-use Rattle.pickle_doc.specs.Document.{Contents, ReadsAs, SameApart, IsReadAgain, items_of, document_bytes}
+use Rattle.pickle_doc.specs.Document.{Contents, ReadsIn, SameApart, IsReadAgain, items_of, document_bytes}
 use Rattle.pickle_doc.specs.Place.{ops_of}
 use Rattle.pickle_machine.specs.State.{State, start}
 use Rattle.pickle_session.specs.declared.command.Command.TheVariants as command
@@ -14,7 +14,7 @@ use Rattle.pickle_session.specs.Allowed.{SessionState, Answers, IsAtCursor}
 use Rattle.pickle_session.proofs.Trails.{run_moves, reached_within, some_same}
 use Rattle.session_laws.specs.Saved.{ComesTo, IsSavedWhole}
 
-pub read_is_same : (d : Contents) → IsReadAgain d → (e : Contents) → ReadsAs d.many (document_bytes d) e → SameApart d e
+pub read_is_same : (d : Contents) → IsReadAgain d → (e : Contents) → ReadsIn d.many d.loose (document_bytes d) e → SameApart d e
 read_is_same d again e r = subst (SameApart d) (again.only e r) again.same
 
 -- ---- going to a place that is reached
@@ -57,7 +57,7 @@ comes p q r answer e (inl o) at =
     inl (ap (λ (a : Answer). a.reply) is, some_same (state_at q.session.document k) r.machine.state p.machine.state there e)
 
 pub saved_whole : (p : SessionState) → IsReadAgain p.session.document
-    → ((d : Contents) → ReadsAs p.session.document.many (document_bytes p.session.document) d → state_at d p.session.cursor ≡ Some p.machine.state)
+    → ((d : Contents) → ReadsIn p.session.document.many p.session.document.loose (document_bytes p.session.document) d → state_at d p.session.cursor ≡ Some p.machine.state)
     → IsSavedWhole p
 saved_whole p again reached = record {
   document = read_is_same p.session.document again;

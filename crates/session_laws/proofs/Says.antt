@@ -1,5 +1,5 @@
 -- What the line of an item, and that of an object, says.
-use Rattle.std.proofs.Common.{◌≡◌, ℕ, zero, suc, ◌+◌, ◌-◌, ◌*◌, ◌==◌, ◌&&◌, Bool, true, false, List, [], ◌∷◌, ◌++◌, length, Option, refl, sym, ap, ◌∙◌, append_assoc}
+use Rattle.std.proofs.Common.{◌≡◌, ℕ, zero, suc, ◌+◌, ◌-◌, ◌*◌, ◌==◌, ◌&&◌, Bool, true, false, List, [], ◌∷◌, ◌++◌, length, drop, Option, None, Some, refl, sym, ap, subst, ◌∙◌, append_assoc}
 use Rattle.std.proofs.lemmas.Fmt.{decimal_injective}
 use Rattle.std.specs.Prelude.{not, nat_lt, decimal, replicate, if◌then◌else◌}
 use Rattle.hex.specs.Hex.{encode_with}
@@ -9,14 +9,17 @@ use Rattle.pickle_ops.specs.declared.opcode.Opcode.{Opcode}
 use Rattle.pickle_ops.specs.declared.opcode.Opcode.TheVariants as op
 use Rattle.pickle_ops.specs.Object.{Object}
 use Rattle.pickle_ops.specs.Spelling.{Operation}
-use Rattle.pickle_ops.specs.Table.{code_of}
+use Rattle.pickle_ops.specs.Table.{code_of, name_of}
+use Rattle.pickle_ops.specs.Text.{arg_text}
 use Rattle.pickle_ops.proofs.TableLemmas.{one_code}
 use Rattle.pickle_show.specs.declared.note.Note.{Note}
 use Rattle.pickle_show.specs.Column.{blanks, left_aligned, right_aligned, newline}
 use Rattle.pickle_show.specs.ListingColumn.{code_text}
-use Rattle.pickle_show.specs.Line.{offset_column, code_column, named, item_line}
+use Rattle.pickle_show.specs.Line.{offset_column, code_column, described, named, note_text, item_line}
 use Rattle.pickle_show.specs.ObjectText.{id_text, kind_text, parts_text, change_text, object_text, object_line}
 use Rattle.session_laws.specs.Lines.{ItemLineSays, ObjectLineSays}
+use Rattle.session_laws.proofs.Arguments.{named_same}
+use Rattle.session_laws.proofs.ObjectLines.{about, tail_of, about_same}
 use Rattle.session_laws.proofs.Lacks.{lacks, first_holds, second_holds, lacks_right, lacks_decimal, colon_no_digit, blank_no_digit}
 
 -- ---- columns
@@ -120,20 +123,73 @@ code_of_line o offset marks n =
     ap (λ (t : List ℕ). code_in (behind 58 t)) (parts o offset marks n)
     ∙ ap code_in (behind_it 58 (offset_column offset) (32 ∷ (cells o.opcode ++ rest_of o marks n)) refl (offset_lacks offset)) ∙ code_read o.opcode (rest_of o marks n)
 
+-- ---- its argument
+
+-- a text that begins with another byte than a blank
+is_dark : List ℕ → Bool
+is_dark [] = false
+is_dark (x ∷ xs) = not (x == 32)
+
+stripped_dark : (t more : List ℕ) → is_dark t ≡ true → stripped (t ++ more) ≡ t ++ more
+unfolding stripped is_dark
+stripped_dark [] more h = absurd cc
+stripped_dark (x ∷ xs) more h = rw (is_false (x == 32) h) refl
+
+dark_name : (o : Opcode) → is_dark (name_of o) ≡ true
+unfolding is_dark
+dark_name op.Int = refl
+dark_name _ = refl
+
+dark_front : (a b : List ℕ) → is_dark a ≡ true → is_dark (a ++ b) ≡ true
+unfolding is_dark
+dark_front [] b h = absurd cc
+dark_front (x ∷ xs) b h = h
+
+dark_described : (name : List ℕ) (a : Option (List ℕ)) (n : Option Note) → is_dark name ≡ true → is_dark (described name a n) ≡ true
+unfolding ◌⧺◌ left_aligned
+dark_described name None None h = h
+dark_described name (Some a) None h = dark_front _ a (dark_front _ (32 ∷ []) (dark_front name _ h))
+dark_described name None (Some n) h = dark_front _ (note_text n) (dark_front _ (32 ∷ []) (dark_front name _ h))
+dark_described name (Some a) (Some n) h = dark_front _ (note_text n) (dark_front _ (32 ∷ []) (dark_front _ a (dark_front _ (32 ∷ []) (dark_front name _ h))))
+
+-- what is behind the colon, without the blank, the code, the blank behind it, and the blanks for open marks
+described_in : Opcode → List ℕ → List ℕ
+described_in o line = stripped (drop (length (cells o)) (drop 1 (behind 58 line)))
+
+drop_front : (a b : List ℕ) → drop (length a) (a ++ b) ≡ b
+drop_front [] b = refl
+drop_front (x ∷ a) b = drop_front a b
+
+described_read : (o : Operation) (offset marks : ℕ) (n : Option Note) → described_in o.opcode (item_line o offset marks n) ≡ described (name_of o.opcode) (arg_text o) n ++ newline
+unfolding described_in rest_of named stripped
+described_read o offset marks n =
+    let text : List ℕ = described (name_of o.opcode) (arg_text o) n in
+    ap (λ (t : List ℕ). stripped (drop (length (cells o.opcode)) (drop 1 (behind 58 t)))) (parts o offset marks n)
+    ∙ ap (λ (t : List ℕ). stripped (drop (length (cells o.opcode)) (drop 1 t))) (behind_it 58 (offset_column offset) (32 ∷ (cells o.opcode ++ rest_of o marks n)) refl (offset_lacks offset))
+    ∙ ap stripped (drop_front (cells o.opcode) (rest_of o marks n)) ∙ stripped_blanks (4 * marks) (text ++ newline)
+    ∙ stripped_dark text newline (dark_described (name_of o.opcode) (arg_text o) n (dark_name o.opcode))
+
+argument_of_line : (opcode other : Opcode) (s t : List ℕ) (offset at marks deeper : ℕ) (n m : Option Note) → opcode ≡ other
+    → item_line (record { opcode = opcode; arg = s }) offset marks n ≡ item_line (record { opcode = other; arg = t }) at deeper m
+    → arg_text (record { opcode = opcode; arg = s }) ≡ arg_text (record { opcode = other; arg = t })
+argument_of_line opcode other s t offset at marks deeper n m same e =
+    subst (λ (q : Opcode). item_line (record { opcode = opcode; arg = s }) offset marks n ≡ item_line (record { opcode = q; arg = t }) at deeper m
+    → arg_text (record { opcode = opcode; arg = s }) ≡ arg_text (record { opcode = q; arg = t })) same
+    (λ f. named_same opcode s t n m (sym (described_read (record { opcode = opcode; arg = s }) offset marks n) ∙ ap (described_in opcode) f
+    ∙ described_read (record { opcode = opcode; arg = t }) at deeper m)) e
+
 pub item_says : ItemLineSays
-item_says o p offset other marks deeper n m h k e = (
-  one_code o.opcode p.opcode (sym (code_of_line o offset marks n) ∙ ap (λ (t : List ℕ). code_in (behind 58 t)) e ∙ code_of_line p other deeper m),
-  decimal_injective offset other h k (sym (offset_of_line o offset marks n) ∙ ap (λ (t : List ℕ). stripped (before 58 t)) e ∙ offset_of_line p other deeper m),
-)
+item_says o p offset other marks deeper n m h k e =
+    let same : o.opcode ≡ p.opcode = one_code o.opcode p.opcode (sym (code_of_line o offset marks n) ∙ ap (λ (t : List ℕ). code_in (behind 58 t)) e ∙ code_of_line p other deeper m) in (
+      same,
+      argument_of_line o.opcode p.opcode o.arg p.arg offset other marks deeper n m same e,
+      decimal_injective offset other h k (sym (offset_of_line o offset marks n) ∙ ap (λ (t : List ℕ). stripped (before 58 t)) e ∙ offset_of_line p other deeper m),
+    )
 
 -- ---- the line of an object
 
--- what is behind the number
-about : Object → List ℕ
-about o = kind_text o.kind ++ (parts_text o.parts ++ (each change_text o.changes ++ newline))
-
 object_parts : (id : ℕ) (o : Object) → object_line id o ≡ (35 ∷ decimal id) ++ 32 ∷ about o
-unfolding object_line object_text id_text ◌⧺◌ about
+unfolding object_line object_text id_text ◌⧺◌ about tail_of
 object_parts id o =
     let i : List ℕ = 35 ∷ decimal id in
     append_assoc ((((i ++ 32 ∷ []) ++ kind_text o.kind) ++ parts_text o.parts)) (each change_text o.changes) newline
@@ -144,8 +200,12 @@ object_parts id o =
 number_of_line : (id : ℕ) (o : Object) → before 32 (object_line id o) ≡ 35 ∷ decimal id
 number_of_line id o = ap (before 32) (object_parts id o) ∙ before_it 32 (35 ∷ decimal id) (about o) refl (lacks_decimal 32 id blank_no_digit)
 
+about_line : (id : ℕ) (o : Object) → behind 32 (object_line id o) ≡ about o
+about_line id o = ap (behind 32) (object_parts id o) ∙ behind_it 32 (35 ∷ decimal id) (about o) refl (lacks_decimal 32 id blank_no_digit)
+
 pub object_says : ObjectLineSays
-object_says id other o p h k e =
+object_says id other o p h k l m e =
     let same : 35 ∷ decimal id ≡ 35 ∷ decimal other = sym (number_of_line id o) ∙ ap (before 32) e ∙ number_of_line other p in
     let digits : decimal id ≡ decimal other = cc in
-    decimal_injective id other h k digits
+    let said = about_same o p l m (sym (about_line id o) ∙ ap (behind 32) e ∙ about_line other p) in
+    (decimal_injective id other h k digits, said.0, said.1, said.2)

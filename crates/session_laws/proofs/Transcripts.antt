@@ -37,7 +37,7 @@ begun p r a b c d e =
     ∙ ap₂ (λ (breaks : List ℕ) (past : List Snapshot). session_of r.document r.cursor breaks past p.future) c d ∙ ap (λ (future : List Snapshot). session_of r.document r.cursor r.breaks r.past future) e
 
 pub one_opening : OneDocument → OneOpening
-one_opening law many bytes p r is few x y =
-    let one = law many bytes is few in
+one_opening law many loose bytes p r is few x y =
+    let one = law many loose bytes is few in
     let document = sym (one.2 p.session.document x.document) ∙ one.2 r.session.document y.document in
     begun p.session r.session document (x.begun.cursor ∙ sym y.begun.cursor) (x.begun.breaks ∙ sym y.begun.breaks) (x.begun.past ∙ sym y.begun.past) (x.begun.future ∙ sym y.begun.future)

@@ -4,7 +4,7 @@ use Rattle.std.specs.Prelude.{◌≡◌, ◌≢◌, ◌<◌, ◌^◌, ℕ, Bool,
 use Rattle.std.specs.List.{AllByRecursion}
 use Rattle.pickle_doc.specs.Document.{AreBytes}
 use Rattle.pickle_session.specs.Allowed.{SessionState}
-use Rattle.pickle_session.specs.Opening.{IsOpened}
+use Rattle.pickle_session.specs.Opening.{IsOpenedIn}
 use Rattle.pickle_script.specs.declared.line.Syntax.TheVariants as syntax
 use Rattle.pickle_script.specs.ReplyText.{syntax_line}
 use Rattle.pickle_script.specs.Transcript.{IsTranscript}
@@ -27,4 +27,5 @@ OneTranscript = (lines texts others : List (List ℕ)) (p q r s : SessionState) 
 
 -- and sessions that are opened of the same bytes, in the same mode, have the same document, cursor, breakpoints and edits
 abbrev pub OneOpening : Type 0
-OneOpening = (many : Bool) (bytes : List ℕ) (p r : SessionState) → AreBytes bytes → length bytes < 2 ^ 64 → IsOpened many bytes p → IsOpened many bytes r → p.session ≡ r.session
+OneOpening = (many loose : Bool) (bytes : List ℕ) (p r : SessionState) → AreBytes bytes → length bytes < 2 ^ 64
+    → IsOpenedIn many loose bytes p → IsOpenedIn many loose bytes r → p.session ≡ r.session

@@ -51,12 +51,12 @@ pub fn texts_are_lines()
     ensures { TextsAreLines }
 {}
 
-/// Of two opcodes with the same line in a listing the opcode is the same, and so is the offset.
+/// Of two opcodes with the same line in a listing the opcode is the same, and so are the text of its argument and the offset.
 pub fn item_line_says()
     ensures { ItemLineSays }
 {}
 
-/// The line of an object says which object it is.
+/// The line of an object says its number, its kind, its parts and what was done to it.
 pub fn object_line_says()
     ensures { ObjectLineSays }
 {}

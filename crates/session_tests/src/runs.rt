@@ -4,8 +4,9 @@
 ghost use Rattle.std.specs.Prelude.{◌≡◌, []};
 
 use pickle_doc::{DocFault, LIMIT};
+use pickle_io::{Failed, ToWrite};
 use pickle_machine::Machine;
-use pickle_ops::{Failed, Op, OpFault, Opcode, ToWrite, op_of};
+use pickle_ops::{Op, OpFault, Opcode, op_of};
 use pickle_session::{Command, Reply, Session, Whole};
 use std::alloc::{AllocError, Global};
 use std::fs::File;

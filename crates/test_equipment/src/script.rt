@@ -6,7 +6,8 @@ ghost use Rattle.std.specs.Prelude.{◌≡◌, []};
 use crate::pages::{paper, taken};
 use crate::session::{shows, write_session};
 use pickle_doc::DocFault;
-use pickle_ops::{Failed, OpFault, Opcode, ToWrite, op_of};
+use pickle_io::{Failed, ToWrite};
+use pickle_ops::{OpFault, Opcode, op_of};
 use pickle_session::{Command, Fault, Past, Reply, Session, Whole, Window};
 use std::alloc::{AllocError, AllocFailed, Global};
 

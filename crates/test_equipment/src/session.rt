@@ -1,7 +1,7 @@
 //! What a session shows as a text, by its readers.
 
 use crate::state::{Comparison, write_state};
-use pickle_ops::{Failed, Page, write_all, write_decimal};
+use pickle_io::{Failed, Page, write_all, write_decimal};
 use pickle_session::{Past, Session};
 
 /// Writes a blank and a number.

@@ -3,10 +3,11 @@
 
 ghost use Rattle.std.specs.Prelude.{◌≡◌};
 
-use pickle_machine::{Change, Kind, Machine, ObjId, Object};
-use pickle_ops::{
-    Failed, Page, Payload, Sink, write_all, write_decimal, write_hex, write_quoted, write_signed,
+use pickle_io::{
+    Failed, Page, Sink, write_all, write_decimal, write_hex, write_quoted, write_signed,
 };
+use pickle_machine::{Change, Kind, Machine, ObjId, Object};
+use pickle_ops::Payload;
 
 /// Writes signs and the number of an object after them.
 fn write_id<S: Page>(signs: &str, id: ObjId, sink: &mut S) -> Result<(), Failed> {

@@ -10,13 +10,15 @@ from __future__ import annotations
 import pickletools
 from ast import literal_eval
 from functools import lru_cache
-from typing import Callable, Dict, Iterable, List, Optional, Sequence, Set, Tuple
+from itertools import repeat
+from typing import Callable, Dict, Iterable, List, Optional, Sequence, Set, Tuple, Union
 
 from ..listed import offset_of
 from ..texts import opcode_of
-from .literals import of_bytes, of_float, of_integer, of_line, of_text
+from .literals import of_bytes, of_float, of_floats, of_integer, of_line, of_text
 from .names import Names, python3_name
-from .nodes import Arguments, Called, Entry, Event, Filled, Node, Paired, Statement, is_pure
+from .nodes import Arguments, Called, Entry, Event, Filled, Formed, Insides, Node, Paired, Statement, is_pure
+from .shapes import ALIKE, GETS, LETTERS, RUNS, RUNS_WITHOUT_UNITS, Part, Shape, argument_at, decoded, shape_of
 
 __all__ = ['Builder', 'KINDS', 'MOST_SHORT', 'taken_count']
 
@@ -25,12 +27,25 @@ MOST_SHORT = 80
 
 _Handler = Callable[[str], None]
 
-# Codes as a listing shows them: of opcodes with a number, of those that take from the memo, of texts, and two others.
-_NUMBERS = frozenset(('K   ', 'M   ', 'J   '))
-_GETS = frozenset(('h   ', 'j   '))
-_TEXTS = frozenset(('\\x8c', 'X   ', '\\x8d'))
-_MEMOIZE, _MARK = '\\x94', '(   '
-_READ = _NUMBERS | _GETS | _TEXTS | {_MEMOIZE, _MARK}
+# Codes of opcodes that there are most of.
+_TEXTS = frozenset('X\x8c\x8d')
+_NUMBER, _MEMOIZE, _MARK, _LIST, _DICT, _FLOAT = 'K', '\x94', '(', ']', '}', 'G'
+_FLOAT_LETTERS = len('f8:') + 16
+_NUMBER_AT = argument_at(_NUMBER, 0, 0)
+_READ = GETS | _TEXTS | {_NUMBER, _MEMOIZE, _MARK, _LIST, _DICT, _FLOAT, *ALIKE}
+
+# So many letters of lines are split at once. So many units of a shape are read at once; where many are in these lines, more are looked for in the
+# text, by patterns of so many shapes. Where there are none, they are not looked for in the next pieces, in at most so many.
+_PIECE = 1 << 15
+_SOME_UNITS = 4
+_MANY_UNITS = 8
+_NEAR = 1 << 12
+_MOST_PATTERNS = 30
+_MOST_PASSED = 16
+_MANY_ENTRIES = 32
+
+# What is under a key of the memo: an entry, or a container in another one that was not opened.
+_Stored = Union[Entry, Tuple[Formed, Part]]
 
 
 class Builder:
@@ -43,6 +58,9 @@ class Builder:
         self.results = 0
         self._names = Names()
         self._made = 0
+        self._known: Set[Tuple[Shape, int, int]] = set()  # shapes that are looked for in the text, with the columns and the open marks
+        self._latest: Optional[Tuple[Shape, int, int]] = None
+        self._misses = self._passes = 0  # in how many pieces there were no units, and in how many they are not looked for
         self._begin()
         self._handlers = self._handlers_by_code()
 
@@ -50,52 +68,221 @@ class Builder:
         """A pickle begins."""
         self.stack.clear()
         self._marks: List[int] = []
-        self._memo: Dict[int, Entry] = {}
+        self._memo: Dict[int, _Stored] = {}
+        self._has_gaps = False  # (in the keys of the memo)
         self._protocol = 0
 
-    def read(self, column: int, lines: Iterable[str]) -> None:
-        """Reads lines whose codes begin in this column.
+    # --- Lines ---
 
-        What there is most of is done here and not by a handler, which would take twice the time.
-        """
-        handlers, end, stack, memo, marks, made = self._handlers, column + 4, self.stack, self._memo, self._marks, self._made
-        argument = column + 16 + 4 * len(marks)  # (where numbers begin: before each name are four blanks for each open mark)
-        for line in lines:
-            code = line[column:end]
-            if code in _NUMBERS:
-                stack.append(line[argument:])
-                made += 1
-            elif code in _GETS:
-                stack.append(memo[int(line[argument:])])
-            elif code == _MEMOIZE:
+    def read(self, column: int, text: str) -> None:
+        """Reads the text of lines, each with its newline, whose codes begin in this column."""
+        at = 0
+        while at < len(text):
+            at = self._read_units_near(text, at, column)
+            if at == len(text):
+                break
+            end = text.find('\n', at + _PIECE) + 1 or len(text)
+            lines = text[at:end - 1].split('\n')
+            shape, left = self._read_lines(column, lines)
+            at = end - sum(map(len, left)) - len(left)
+            if shape is not None:
+                at = self._read_units_in(text, at, shape, column)
+
+    def _read_lines(self, column: int, lines: List[str]) -> Tuple[Optional[Shape], List[str]]:
+        """Reads lines. Where they end within units of one shape, these may go on: then it answers the shape, and the lines of the last unit."""
+        end = column + 4
+        codes = ''.join([line[column] for line in lines])
+        if '\\' in codes:
+            codes = ''.join([code if code != '\\' else LETTERS[line[column + 2:end]] for code, line in zip(codes, lines)])
+        for other, like in ALIKE.items():
+            codes = codes.replace(other, like)
+        read = 0
+        is_passed = self._passes > 0
+        if is_passed:
+            self._passes -= 1
+        else:
+            self._misses, self._passes = self._misses + 1, min(_MOST_PASSED, 1 << self._misses >> 2)
+        for run in (RUNS_WITHOUT_UNITS if is_passed else RUNS).finditer(codes):
+            begin, end = run.span()
+            self._read_each(column, lines[read:begin], codes[read:begin])
+            read = end
+            if run.lastgroup == 'units':
+                size = len(run['unit'])
+                self._read_units(column, lines[begin:end], codes[begin:end], size)
+                if len(lines) - end < size and (end - begin) // size >= _MANY_UNITS:
+                    return shape_of(run['unit']), lines[end:]
+            elif self._has_gaps:
+                self._read_each(column, lines[begin:end], codes[begin:end])
+            else:
+                entries: Sequence[Entry] = getattr(self, f'_{run.lastgroup}')(lines[begin:end], column)
+                self.stack += entries
+                self._made += len(entries)
+        self._read_each(column, lines[read:], codes[read:])
+        return None, []
+
+    def _numbers(self, lines: List[str], column: int) -> List[str]:
+        argument = column + _NUMBER_AT + 4 * len(self._marks)
+        return [line[argument:] for line in lines]
+
+    @staticmethod
+    def _floats(lines: List[str], column: int) -> List[str]:
+        return of_floats(lines)
+
+    def _texts(self, lines: List[str], column: int) -> List[Entry]:
+        """Texts that are stored as they come."""
+        entries = [self._text(line[line.index("'"):], number) for number, line in enumerate(lines[::2], self._made)]
+        self._memo.update(enumerate(entries, len(self._memo)))
+        return entries
+
+    def _read_each(self, column: int, lines: List[str], codes: str) -> None:
+        """Reads lines one by one. What there is most of is done here and not by a handler, which would take twice the time."""
+        handlers, stack, memo, marks, made = self._handlers, self.stack, self._memo, self._marks, self._made
+        argument = column + _NUMBER_AT + 4 * len(marks)
+        for code, line in zip(codes, lines):
+            if code == _MEMOIZE:
                 memo[len(memo)] = stack[-1]
+            elif code in GETS:
+                entry = memo[int(line[argument:])]
+                if isinstance(entry, tuple):
+                    entry = entry[0].open()[entry[1]]
+                stack.append(entry)
             elif code in _TEXTS:
                 text = line[line.index("'"):]
                 stack.append(text if len(text) <= MOST_SHORT and '\\' not in text else self._text(text, made))
                 made += 1
+            elif code == _NUMBER:
+                stack.append(line[argument:])
+                made += 1
             elif code == _MARK:
                 marks.append(len(stack))
                 argument += 4
+            elif code == _DICT or code == _LIST:
+                stack.append(Node('list' if code == _LIST else 'dict', made, []))
+                made += 1
+            elif code == _FLOAT:
+                stack.append(of_float(line[-_FLOAT_LETTERS:]))
+                made += 1
             else:
                 self._made = made
                 handlers[code](line)
                 memo, marks, made = self._memo, self._marks, self._made
-                argument = column + 16 + 4 * len(marks)
+                argument = column + _NUMBER_AT + 4 * len(marks)
         self._made = made
+
+    # --- Units of one shape ---
+
+    def _read_units(self, column: int, lines: List[str], codes: str, size: int) -> None:
+        """Reads the lines of units of one shape, at once where that can be."""
+        count = len(lines) // size
+        if count < _SOME_UNITS:
+            self._read_each(column, lines, codes)
+            return
+        self._misses = self._passes = 0
+        shape = shape_of(codes[:size])
+        columns = shape.columns_of(lines, column, len(self._marks))
+        odd = self._take_units(shape, columns, count)
+        if not odd:
+            return
+        if 4 * len(odd) > count:
+            self._read_each(column, lines, codes)
+            return
+        begin = 0
+        for each in [*odd, count]:
+            if each > begin:
+                self._read_units(column, lines[size * begin:size * each], codes[size * begin:size * each], size)
+            self._read_each(column, lines[size * each:size * each + size], codes[:size])
+            begin = each + 1
+
+    def _read_units_in(self, text: str, begin: int, shape: Shape, column: int) -> int:
+        """Reads units of one shape as long as they follow one another in the text of lines, and answers where they end."""
+        marks = len(self._marks)
+        if not shape.columns or (shape, column, marks) not in self._known and len(self._known) == _MOST_PATTERNS:
+            return begin
+        self._known.add((shape, column, marks))
+        self._latest = shape, column, marks
+        columns, end = shape.columns_in(text, begin, column, marks)
+        if columns and self._take_units(shape, columns, len(columns[0])):
+            lines = text[begin:end - 1].split('\n')
+            self._read_units(column, lines, shape.codes * len(columns[0]), len(shape.codes))
+        return end
+
+    def _read_units_near(self, text: str, at: int, column: int) -> int:
+        """Where units of the shape that was read last begin again near a position, reads up to their end, and answers where that is."""
+        while self._latest is not None:
+            shape, known_column, marks = self._latest
+            self._latest = None
+            begin = shape.find(text, at, at + _NEAR, column, marks) if known_column == column else -1
+            if begin >= 0:
+                left = self._read_lines(column, text[at:begin - 1].split('\n'))[1] if begin > at else []
+                at = begin - sum(map(len, left)) - len(left)
+                if not left and len(self._marks) == marks:
+                    at = self._read_units_in(text, at, shape, column)
+        return at
+
+    def _take_units(self, shape: Shape, columns: List[Sequence[str]], count: int) -> List[int]:
+        """Takes units of one shape, whose arguments are in columns. Where it cannot it answers those in which more is than short plain values."""
+        memo, step = self._memo, len(shape.stores)
+        keys = [range(len(memo) + at, len(memo) + step * count, step) for at in range(step)]
+        if step and not self._are_next(shape, columns, keys):
+            return list(range(count))
+        known: Dict[int, _Stored] = {}
+        values: List[Sequence[str]] = [decoded(shape.columns[at].code, columns[at]) if shape.columns[at].code not in GETS else () for at in shape.values]
+        for (item, _), numbers in zip(shape.stores, keys):
+            if not isinstance(item, Part):
+                plain: Iterable[str] = values[item] if isinstance(item, int) else repeat(item)
+                known.update(zip(numbers, plain))
+        odd: Set[int] = set()
+        for number, at in enumerate(shape.values):
+            if shape.columns[at].code in GETS:
+                values[number] = self._taken(columns[at], known, odd)
+            elif max(map(len, values[number])) > MOST_SHORT:
+                odd.update(place for place, value in enumerate(values[number]) if len(value) > MOST_SHORT)
+        if not odd:
+            numbers = range(self._made + shape.part.number, self._made + shape.made * count, shape.made)
+            rows: Iterable[Tuple[str, ...]] = zip(*values) if values else repeat(())
+            nodes = list(map(Formed, repeat(shape), numbers, rows))
+            memo.update(known)
+            for (item, _), numbers in zip(shape.stores, keys):
+                if isinstance(item, Part):
+                    inner: Iterable[_Stored] = zip(nodes, repeat(item))
+                    if item is shape.part:
+                        inner = nodes
+                    memo.update(zip(numbers, inner))
+            if shape.taken:
+                self.events.append(Insides(nodes))
+            self.stack += nodes
+            self._made += shape.made * count
+        return sorted(odd)
+
+    def _are_next(self, shape: Shape, columns: List[Sequence[str]], keys: List[range]) -> bool:
+        """Whether units store under these keys, and nothing is under them."""
+        return not self._has_gaps and all(key is None or list(map(int, columns[key])) == list(numbers)
+                                          for (_, key), numbers in zip(shape.stores, keys))
+
+    def _taken(self, column: Sequence[str], known: Dict[int, _Stored], odd: Set[int]) -> Sequence[str]:
+        """What is in the memo under keys. The places of those under which no short plain value is, are added to `odd`."""
+        found: Dict[str, str] = {}
+        for key in set(column):
+            entry = known.get(int(key)) or self._memo.get(int(key))
+            if isinstance(entry, str):
+                found[key] = entry
+        if len(found) < len(set(column)):
+            odd.update(place for place, key in enumerate(column) if key not in found)
+            return column
+        return list(map(found.__getitem__, column))
 
     @staticmethod
     def _text(quoted: str, number: int) -> Entry:
         """A text as its source, or as a node where that is long."""
         text = of_text(quoted) if '\\' in quoted else quoted
-        return text if len(text) <= MOST_SHORT else Node('atom', number, [], text, is_pure=True)
+        return text if len(text) <= MOST_SHORT else Node.atom(number, text)
 
     def _handlers_by_code(self) -> Dict[str, _Handler]:
-        """What reads each other opcode, by its code as a listing shows it."""
+        """What reads each other opcode, by its code."""
         handlers: Dict[str, _Handler] = {}
         for opcode in pickletools.opcodes:
-            shown = opcode.code if '!' <= opcode.code <= '~' else f'\\x{ord(opcode.code):02x}'
-            if f'{shown:4}' not in _READ:
-                handlers[f'{shown:4}'] = self._handler(opcode)
+            if opcode.code not in _READ:
+                handlers[opcode.code] = self._handler(opcode)
         return handlers
 
     def _handler(self, opcode: pickletools.OpcodeInfo) -> _Handler:
@@ -107,16 +294,16 @@ class Builder:
             return self._maker(KINDS[opcode.name], opcode)
         if opcode.name.startswith('EXT'):
             return self._on_extension
-        if opcode.name.endswith('PUT') or opcode.name.endswith('GET'):
-            return self._on_put if opcode.name.endswith('PUT') else self._on_get
+        if opcode.name.endswith('PUT'):
+            return self._on_put
         return self._pusher(opcode.name, form)
 
     # --- Plain values ---
 
     def _pusher(self, name: str, form: str) -> _Handler:
         """A handler for an opcode whose argument is a plain value, or that makes one without an argument."""
-        if form in ('long1', 'long4', 'float8'):
-            return self._number_pusher(of_float if form == 'float8' else of_integer)
+        if form in ('long1', 'long4'):
+            return lambda line: self._push_value(of_integer(line[line.rindex(' ') + 1:]))
         if form in ('bytes1', 'bytes4', 'bytes8'):
             return lambda line: self._push_value(of_bytes(line[line.index("'"):]))
         if form:
@@ -124,15 +311,12 @@ class Builder:
         value = {'NONE': 'None', 'NEWTRUE': 'True', 'NEWFALSE': 'False'}[name]
         return lambda line: self._push_value(value)
 
-    def _number_pusher(self, shown: Callable[[str], str]) -> _Handler:
-        return lambda line: self._push_value(shown(line[line.rindex(' ') + 1:]))
-
     def _push_value(self, text: str) -> None:
-        self.stack.append(text if len(text) <= MOST_SHORT else Node('atom', self._made, [], text, is_pure=True))
+        self.stack.append(text if len(text) <= MOST_SHORT else Node.atom(self._made, text))
         self._made += 1
 
     def _on_bytearray8(self, line: str) -> None:
-        self._push(Node('atom', self._made, [], f"bytearray({of_bytes(line[line.index(chr(39)):])})"))
+        self._push(Node.atom(self._made, f"bytearray({of_bytes(line[line.index(chr(39)):])})", is_pure=False))
 
     # --- Stack and memo ---
 
@@ -166,10 +350,9 @@ class Builder:
         self.stack.append(self.stack[-1])
 
     def _on_put(self, line: str) -> None:
-        self._memo[int(line[line.rindex(' ') + 1:])] = self.stack[-1]
-
-    def _on_get(self, line: str) -> None:
-        self.stack.append(self._memo[int(line[line.rindex(' ') + 1:])])
+        key = int(line[line.rindex(' ') + 1:])
+        self._has_gaps = self._has_gaps or key > len(self._memo)
+        self._memo[key] = self.stack[-1]
 
     def _on_stop(self, line: str) -> None:
         result = self._take(self.stack.pop())
@@ -191,6 +374,8 @@ class Builder:
 
     def _take_all(self, entries: List[Entry]) -> List[Node]:
         """Objects are needed. Answers those of them that are nodes."""
+        if len(entries) > _MANY_ENTRIES and set(map(type, entries)) == {str}:
+            return []
         nodes: List[Node] = [entry for entry in entries if type(entry) is not str]  # type: ignore[misc]
         for node in nodes:
             node.uses += 1
@@ -232,7 +417,10 @@ class Builder:
         self._fill(line, [self.stack.pop()], 'append')
 
     def _on_appends(self, line: str) -> None:
-        self._fill(line, self._cut(), 'append')
+        at = self._marks.pop()
+        items = self.stack[at:]
+        del self.stack[at:]
+        self._fill(line, items, 'append')
 
     def _on_additems(self, line: str) -> None:
         self._fill(line, self._cut(), 'add')
@@ -247,21 +435,29 @@ class Builder:
         if target.is_taken:
             target.uses += 1
             return target
+        if isinstance(target, Formed):
+            target.open()
         if target.items:
             target.items += items
         else:
             target.items = items
         if not nodes:
             return None
-        target.inner += nodes
+        if isinstance(target.inner, list):
+            target.inner += nodes
+        else:
+            target.inner = nodes
         if target.kind != 'list' and not is_pure(keys):
             self._name_now(target)
         return None
 
     def _fill(self, line: str, items: List[Entry], method: str) -> None:
         target = self._extend_literal(items, items)
-        if target is None:
-            return
+        if target is not None:
+            self._fill_later(line, target, items, method)
+
+    def _fill_later(self, line: str, target: Node, items: List[Entry], method: str) -> None:
+        """A statement puts items into a container."""
         is_each = len(items) == 1 or (target.is_opaque and method == 'add')
         form = f'{{}}.{method}({{}})' if is_each else '{}.update({})' if method == 'add' else '{}.extend({})'
         if target.is_opaque and not is_each:
@@ -283,7 +479,7 @@ class Builder:
     # --- What reaches out ---
 
     def _push_name(self, text: str = '') -> Node:
-        node = Node('name', self._made, [], text or f'_{self._made}')
+        node = Node.name(self._made, text or f'_{self._made}')
         self._push(node)
         return node
 
@@ -330,6 +526,9 @@ class Builder:
     def _call(self, line: str, form: str, function: Entry, arguments: Arguments) -> None:
         for entry in (function, *arguments.items, arguments.spread or '', arguments.keywords or ''):
             self._take(entry)
+        for several in (arguments.spread, arguments.keywords):
+            if isinstance(several, Formed):
+                several.open()
         self.events.append(Called(self._made, form, function, arguments, offset_of(line)))
         self._push_name()
 
@@ -352,7 +551,7 @@ class Builder:
     def _on_inst(self, line: str) -> None:
         items = self._cut()
         offset, (module, name) = _names_of(line)
-        self._instantiate(line, Node('name', self._made, [], self._import(offset, module, name)), items)
+        self._instantiate(line, Node.name(self._made, self._import(offset, module, name)), items)
 
     def _instantiate(self, line: str, kind: Entry, items: List[Entry]) -> None:
         if items:

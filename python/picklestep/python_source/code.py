@@ -11,6 +11,8 @@ from ..answers import Answer
 from ..listed import Listed
 from ..records import End
 from ..sources import Input, Source
+from ..tasks import modes
+from ..texts import LineReader
 from .builder import Builder
 from .helpers import HELPERS
 from .nodes import Event, Statement
@@ -29,15 +31,12 @@ class PythonSource(Answer[str]):
     ('result = None', 'F1')
     """
 
-    _line = re.compile(r'^.*\n', re.MULTILINE)
+    _lines = LineReader(re.compile(r'^.*\n', re.MULTILINE), lambda match: match[0][:-1])
 
     def __init__(self, text: str, end: End, kept: int) -> None:
         super().__init__(text)
         self.end = end
         self.kept = kept
-
-    def _read(self, match: 're.Match[str]') -> str:
-        return match[0][:-1]
 
     def __str__(self) -> str:
         return self.text
@@ -46,13 +45,14 @@ class PythonSource(Answer[str]):
         return f'{len(self)} lines, {self.end.text}'
 
 
-def source(pickle: Source, *, full: bool = True, many: bool = False, timeout: Optional[float] = None,
+def source(pickle: Source, *, full: bool = True, many: bool = False, unframed: bool = False, timeout: Optional[float] = None,
            memory: Optional[int] = None) -> PythonSource:
     """A pickle as Python source: what loading it would import, call, build and change, one statement for each.
 
     Plain values are written where they are used; what is used twice has a name with the number of the object. A statement that reaches out
     of the pickle has the offset of its opcode behind it. Unless it is `full`, texts are cut after 64 letters and containers after 16 items;
-    `cut(N)` stands for N that are not shown. It is to be read: whoever runs it does what loading the pickle would do.
+    `cut(N)` stands for N that are not shown. `many` and `unframed` are as for `listing`. It is to be read: whoever runs it does what loading the
+    pickle would do.
 
     >>> print(source(b'cposix\\nsystem\\n(X\\x02\\x00\\x00\\x00idtR.'))
     # What loading the pickle would do. Running this does the same.
@@ -63,9 +63,9 @@ def source(pickle: Source, *, full: bool = True, many: bool = False, timeout: Op
     """
     builder = Builder()
     with _without_collector(), Input(pickle) as given:
-        listed = Listed(given, many, timeout, memory)
-        for column, lines in listed.batches():
-            builder.read(column, lines)
+        listed = Listed(given, modes(many, unframed), timeout, memory)
+        for column, text in listed.batches():
+            builder.read(column, text)
         return _written(builder, listed, full)
 
 

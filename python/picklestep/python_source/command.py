@@ -16,6 +16,7 @@ def _parser() -> argparse.ArgumentParser:
     parser = argparse.ArgumentParser(prog='picklestep source', description='Shows a pickle as Python source; nothing of it is run.')
     parser.add_argument('file', metavar='FILE', help='the pickle')
     parser.add_argument('--many', action='store_true', help='FILE holds several pickles one after another')
+    parser.add_argument('--unframed', action='store_true', help='take FRAME for an opcode like others, as a pickle needs that was cut off')
     parser.add_argument('--full', action='store_true', help='show texts and containers whole')
     return parser
 
@@ -31,7 +32,7 @@ def main(arguments: List[str]) -> int:
     """Writes the source of a pickle. The status is 1 where reading ended early, and 2 where there is no answer."""
     options = _parser().parse_args(arguments)
     try:
-        answer = source(options.file, full=options.full, many=options.many)
+        answer = source(options.file, full=options.full, many=options.many, unframed=options.unframed)
         print_text(answer.text)
     except (OSError, PicklestepError) as error:
         print(f'picklestep: {reason(error)}', file=sys.stderr)

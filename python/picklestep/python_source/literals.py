@@ -4,11 +4,12 @@ from __future__ import annotations
 
 import math
 import struct
+from typing import List, Sequence
 
 from ..texts import unquoted
 from ..values import PlainValue, Unreadable, read_form, unescaped
 
-__all__ = ['MOST_DECIMAL_BITS', 'literal', 'of_bytes', 'of_float', 'of_integer', 'of_line', 'of_text']
+__all__ = ['MOST_DECIMAL_BITS', 'literal', 'of_bytes', 'of_float', 'of_floats', 'of_integer', 'of_line', 'of_text']
 
 # Python shows integers up to this many bits in decimal digits (it has a limit of 4,300 digits). Larger ones are hexadecimal.
 MOST_DECIMAL_BITS = 14000
@@ -37,6 +38,12 @@ def of_float(text: str) -> str:
     value: float = struct.unpack('>d', bytes.fromhex(text[3:]))[0]
     shown = repr(value)
     return shown if shown[-1] not in 'fn' else literal(value)
+
+
+def of_floats(lines: Sequence[str]) -> List[str]:
+    """Floats in lines that end in them, as the program shows them."""
+    values = struct.unpack(f'>{len(lines)}d', bytes.fromhex(''.join([line[-16:] for line in lines])))
+    return list(map(repr if all(map(math.isfinite, values)) else literal, values))
 
 
 def of_text(quoted: str) -> str:

@@ -3,9 +3,11 @@
 from __future__ import annotations
 
 from dataclasses import dataclass
-from typing import List, Optional, Sequence, Union
+from typing import Dict, List, Optional, Sequence, Tuple, Union
 
-__all__ = ['Arguments', 'Called', 'Entry', 'Event', 'Filled', 'Node', 'Paired', 'Statement', 'is_pure']
+from .shapes import Part, Shape
+
+__all__ = ['Arguments', 'Called', 'Entry', 'Event', 'Filled', 'Formed', 'Insides', 'Node', 'Paired', 'Statement', 'is_pure']
 
 
 class Node:
@@ -15,25 +17,78 @@ class Node:
     (what comes from elsewhere or from a call, which has its name from the start). `items` are what it was made of; in a dictionary keys and
     values take turns. `inner` are the nodes among them. `uses` counts where it is needed, and `is_taken` says that it was needed once: from
     then on a change of it is a statement. `text` is how it appears in other source, and `depth` how many brackets that has inside one
-    another.
+    another. `is_pure` says that as a key or a member it asks nothing of anybody.
     """
 
-    __slots__ = ('kind', 'number', 'items', 'inner', 'uses', 'is_taken', 'is_pure', 'is_opaque', 'is_named', 'text', 'depth')
+    __slots__ = ('kind', 'number', 'items', 'inner', 'uses', 'depth', 'text', 'is_pure', 'is_taken', 'is_named', 'is_opaque')
 
-    def __init__(self, kind: str, number: int, items: 'List[Entry]', text: str = '', is_pure: bool = False) -> None:
+    def __init__(self, kind: str, number: int, items: 'List[Entry]') -> None:
         self.kind = kind
         self.number = number
         self.items = items
-        self.inner: List[Node] = []
-        self.text = text
-        self.uses = 0
-        self.depth = 0
-        self.is_pure = is_pure  # (as a key or a member it asks nothing of anybody)
-        self.is_taken = self.is_named = kind == 'name'
-        self.is_opaque = self.is_named
+        self.inner: 'Sequence[Node]' = ()
+        self.uses = self.depth = 0
+        self.text = ''
+        self.is_pure = self.is_taken = self.is_named = self.is_opaque = False
+
+    @classmethod
+    def atom(cls, number: int, text: str, is_pure: bool = True) -> 'Node':
+        """A long plain value, or a byte array."""
+        node = cls('atom', number, [])
+        node.text, node.is_pure = text, is_pure
+        return node
+
+    @classmethod
+    def name(cls, number: int, text: str) -> 'Node':
+        """What has a name from the start."""
+        node = cls('name', number, [])
+        node.text, node.is_taken, node.is_named, node.is_opaque = text, True, True, True
+        return node
 
     def __str__(self) -> str:
         return self.text
+
+
+class Formed(Node):
+    """A container of plain values, as a shape and the source of its values. It is opened where more is needed of it than its source."""
+
+    __slots__ = ('shape', 'values', 'opened')
+
+    def __init__(self, shape: Shape, number: int, values: 'Tuple[str, ...]') -> None:
+        self.kind = shape.kind
+        self.number = number
+        self.shape = shape
+        self.values = values
+        self.inner = ()
+        self.uses = self.depth = 0
+        self.text = ''
+        self.is_pure = shape.is_pure
+        self.is_taken = self.is_named = self.is_opaque = False
+        self.opened: 'Optional[Dict[Part, Node]]' = None
+
+    def open(self) -> 'Dict[Part, Node]':
+        """Makes a node of each container in it, and answers them by the parts of the shape."""
+        if self.opened is None:
+            self.opened = {}
+            self._open(self.shape.part)
+            for part in self.shape.taken:
+                self.opened[part].is_taken, self.opened[part].uses = True, 1
+        return self.opened
+
+    def _open(self, part: Part) -> Node:
+        whole = self.shape.part
+        node = self if part is whole else Node(part.kind, self.number - whole.number + part.number, [])
+        assert self.opened is not None
+        self.opened[part] = node
+        node.items = [item if isinstance(item, str) else self._open(item) if isinstance(item, Part) else self.values[item] for item in part.items]
+        node.inner = [item for item in node.items if isinstance(item, Node)]
+        node.is_pure = part.is_pure
+        return node
+
+    @property
+    def insides(self) -> List[Node]:
+        """Where it was opened the containers in it, in the order in which they came to be."""
+        return [] if self.opened is None else [self.opened[part] for part in self.shape.taken]
 
 
 # What is on the stack: a short plain value as its source, or a node.
@@ -95,5 +150,12 @@ class Paired:
     offset: Optional[int]
 
 
+@dataclass(frozen=True)
+class Insides:
+    """The containers in some others come to be, as far as these were opened."""
+
+    nodes: Sequence[Formed]
+
+
 # What comes one after another: a node where it is first needed, and what happens.
-Event = Union[Node, Statement, Called, Filled, Paired]
+Event = Union[Node, Statement, Called, Filled, Paired, Insides]

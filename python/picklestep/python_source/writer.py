@@ -2,10 +2,11 @@
 
 from __future__ import annotations
 
-from typing import Callable, Dict, Iterable, List, Optional, Sequence, Tuple, Union
+from typing import Callable, Dict, Iterable, List, Optional, Sequence, Union
 
 from .names import is_identifier
-from .nodes import Arguments, Called, Entry, Event, Filled, Node, Paired, Statement
+from .nodes import Arguments, Called, Entry, Event, Filled, Formed, Insides, Node, Paired, Statement
+from .shapes import BRACKETS, Part
 
 __all__ = ['COLUMNS', 'MOST_DEPTH', 'MOST_ITEMS', 'MOST_LETTERS', 'Writer']
 
@@ -14,7 +15,6 @@ MOST_DEPTH = 6  # brackets in brackets; what has more gets a name of its own (Py
 MOST_ITEMS = 16
 MOST_LETTERS = 64
 
-_BRACKETS = {'list': ('[', ']'), 'tuple': ('(', ')'), 'set': ('{', '}'), 'dict': ('{', '}'), 'frozenset': ('frozenset({', '})')}
 _EMPTY = {'set': 'set()', 'frozenset': 'frozenset()'}
 
 
@@ -25,7 +25,8 @@ class Writer:
         self.lines: List[str] = []
         self._full = full
         self._writers: Dict[type, Callable[..., None]] = {
-            Node: self._place, Statement: self._statement, Called: self._called, Filled: self._filled, Paired: self._paired}
+            Node: self._place, Formed: self._formed, Insides: self._insides, Statement: self._statement, Called: self._called,
+            Filled: self._filled, Paired: self._paired}
 
     def write(self, events: Iterable[Event]) -> None:
         """Writes what happened, in its order."""
@@ -40,11 +41,38 @@ class Writer:
     # --- Objects ---
 
     def _place(self, node: Node) -> None:
-        """A node comes to be. It gets a statement where it is used more than once, or is deep."""
+        """A node comes to be."""
         if node.kind == 'atom':
-            text, depth = self._atom(node.text), 0
+            self._put(node, self._atom(node.text), 0)
         else:
-            text, depth = self._container(node)
+            depth = max([inner.depth for inner in node.inner]) if node.inner else 0
+            self._put(node, self._container(node.kind, node.items, not node.inner), depth + 1 if node.items else 0)
+
+    def _formed(self, node: Formed) -> None:
+        """A container of plain values comes to be."""
+        if node.opened is not None:
+            self._place(node)
+            return
+        shape = node.shape
+        text = shape.form % node.values
+        if len(text) - shape.closing >= COLUMNS or shape.width > MOST_ITEMS:
+            text = self._laid_out(shape.part, node.values)
+        self._put(node, text, shape.depth)
+
+    def _laid_out(self, part: Part, values: Sequence[str]) -> str:
+        """A container of plain values, which need not be short."""
+        items: List[Entry] = [
+            item if isinstance(item, str) else self._laid_out(item, values) if isinstance(item, Part) else values[item] for item in part.items]
+        return self._container(part.kind, items, True)
+
+    def _insides(self, insides: Insides) -> None:
+        for node in insides.nodes:
+            if node.opened is not None:
+                for inside in node.insides:
+                    self._place(inside)
+
+    def _put(self, node: Node, text: str, depth: int) -> None:
+        """A node has its source. It gets a statement where it is used more than once, or is deep."""
         if node.uses > 1 or depth > MOST_DEPTH:
             node.text, node.is_named = f'_{node.number}', True
             self.lines.append(f'{node.text} = {text}')
@@ -62,17 +90,18 @@ class Writer:
         more = len(value) - MOST_LETTERS
         return f'{value[:MOST_LETTERS]!r} + cut({more})' if more > 0 else text
 
-    def _container(self, node: Node) -> Tuple[str, int]:
-        """The literal of a container, and how deep it is."""
-        items = node.items
+    def _container(self, kind: str, items: Sequence[Entry], are_texts: bool) -> str:
+        """The literal of a container."""
         if not items:
-            return _EMPTY.get(node.kind) or ''.join(_BRACKETS[node.kind]), 0
-        shown = items if self._full or len(items) <= MOST_ITEMS else items[:MOST_ITEMS * (2 if node.kind == 'dict' else 1)]
-        texts = list(map('%s: %s'.__mod__, zip(shown[::2], shown[1::2]))) if node.kind == 'dict' else list(map(str, shown))
+            return _EMPTY.get(kind) or ''.join(BRACKETS[kind])
+        shown = items if self._full or len(items) <= MOST_ITEMS else items[:MOST_ITEMS * (2 if kind == 'dict' else 1)]
+        if kind == 'dict':
+            texts = list(map('%s: %s'.__mod__, zip(shown[::2], shown[1::2])))
+        else:
+            texts = list(shown) if are_texts else list(map(str, shown))  # type: ignore[arg-type]
         if len(shown) < len(items):
-            texts.append(f'**cut({(len(items) - len(shown)) // 2})' if node.kind == 'dict' else f'*cut({len(items) - len(shown)})')
-        depth = max([inner.depth for inner in node.inner]) if node.inner else 0
-        return _bracketed(*_BRACKETS[node.kind], texts, node.kind == 'tuple'), depth + 1
+            texts.append(f'**cut({(len(items) - len(shown)) // 2})' if kind == 'dict' else f'*cut({len(items) - len(shown)})')
+        return _bracketed(*BRACKETS[kind], texts, kind == 'tuple')
 
     # --- What happens ---
 
@@ -139,7 +168,8 @@ def _bracketed(start: str, end: str, texts: List[str], is_tuple: bool) -> str:
     longest = max(map(len, texts))
     if longest < COLUMNS // 4 and '\n' not in inner:
         count = COLUMNS // (longest + 2)
-        texts = [', '.join(texts[at:at + count]) for at in range(0, len(texts), count)]
+        rows = list(map(', '.join, zip(*[iter(texts)] * count)))
+        texts = rows + [', '.join(texts[len(rows) * count:])] * (len(texts) % count > 0)
     elif '\n' in inner:
         texts = [text.replace('\n', '\n    ') for text in texts]
     return f'{start}\n    ' + ',\n    '.join(texts) + f',\n{end}'

@@ -1,4 +1,4 @@
-"""What bytes are by how they begin: a container, perhaps a pickle, or neither."""
+"""What bytes are by how they begin: perhaps a pickle, or not; and what is read of names and of headers of tar archives."""
 
 from __future__ import annotations
 
@@ -8,38 +8,14 @@ from typing import Dict, Iterator, Optional, Tuple
 
 from .blobs import Blob, BytesBlob
 
-__all__ = ['HEAD', 'MAY_BE_KNOWN', 'is_dotted', 'is_pickle_name', 'is_storage_name', 'kind_of', 'may_be_container', 'may_be_pickle', 'tar_number',
-           'tar_sum_fits', 'unread_kind_of']
+__all__ = ['HEAD', 'is_dotted', 'is_pickle_name', 'is_storage_name', 'may_be_pickle', 'tar_number', 'tar_sum_fits']
 
 # The first bytes of a member, which show what it is.
 HEAD = 16_384
 
 _PICKLE_NAME = re.compile(r'.*\.(pkl|pickle|pck|pcl|pk|p|joblib|pt|pth|ckpt|dill)', re.IGNORECASE | re.DOTALL)
 _STORAGE_NAME = re.compile(r'(.*/)?(data|constants)/[0-9]+', re.DOTALL)
-_ZLIB_METHOD = 8
 
-# Containers that this package does not open, by where they tell so. They are reported, since a loader may open them.
-_UNREAD = {
-    b'\x28\xb5\x2f\xfd': 'zstd', b'\x04\x22\x4d\x18': 'lz4', b'\x02\x21\x4c\x18': 'lz4', b'7z\xbc\xaf\x27\x1c': '7z', b'Rar!\x1a\x07': 'rar',
-    b'LZIP': 'lzip', b'BLOSC': 'blosc', b'ARROW1': 'Arrow', b'PAR1': 'Parquet', b'PGDMP': 'pg_dump', b'TDB file\n': 'tdb',
-    b'\x61\x15\x06\0': 'dbm of BSD', b'\0\x06\x15\x61': 'dbm of BSD', b'\x37\x7f\x06\x82': 'write-ahead log of SQLite',
-    b'\x37\x7f\x06\x83': 'write-ahead log of SQLite', b'!<arch>\n': 'ar', b'070701': 'cpio', b'070702': 'cpio', b'070707': 'cpio',
-    b'MSCF\0\0\0\0': 'cab', b'\xff\x06\0\0sNaPpY': 'snappy', b'Obj\x01': 'Avro', b'*2\r\n$6\r\nSELECT': 'append-only file of Redis',
-}
-
-# The same for bytes that are not the first: where they are, and what they are.
-_UNREAD_AT = {
-    (16, b'\xde\xc0\xef\xbe'): 'LMDB', (12, b'\x62\x31\x05\0'): 'Berkeley DB of another kind',
-    (12, b'\0\x05\x31\x62'): 'Berkeley DB of another kind', (12, b'\x53\x22\x04\0'): 'Berkeley DB of another kind',
-    (12, b'\0\x04\x22\x53'): 'Berkeley DB of another kind',
-}
-_REDIS_DUMP = re.compile(rb'REDIS[0-9]{4}')
-# A first look at both: most bytes begin as none of them.
-_MAY_BE_UNREAD = re.compile(b'|'.join([rb'[\x50-\x5f]\x2a\x4d\x18|REDIS', *(re.escape(begin) for begin in _UNREAD),
-                                       *(b'.{%d}%b' % (at, re.escape(begin)) for at, begin in _UNREAD_AT)]), re.DOTALL)
-# The same for containers that are opened, in bytes that are too few for the sum in the header of a tar archive; and for all.
-_MAY_BE_OPENED = re.compile(rb'PK|\x93NUMPY|\x1f\x8b\x08|BZh|\xfd7zXZ\0|\x5d\0|ZF|[\x08\x18(8HXhx]|.{257}ustar', re.DOTALL)
-MAY_BE_KNOWN = re.compile(_MAY_BE_OPENED.pattern + b'|' + _MAY_BE_UNREAD.pattern, re.DOTALL)
 _BLOCK_OF_TAR = 512
 
 _SHAPES: Dict[int, 'pickletools.OpcodeInfo'] = {ord(each.code): each for each in pickletools.opcodes}
@@ -95,67 +71,6 @@ def tar_sum_fits(block: bytes) -> bool:
     counted = block[:148] + block[156:512]
     unsigned = 8 * 32 + sum(counted)
     return told in (unsigned, unsigned - 256 * len(counted.translate(None, _BELOW_128)))
-
-
-def _is_zlib(head: bytes) -> bool:
-    return (len(head) > 2 and head[0] & 15 == _ZLIB_METHOD and head[0] >> 4 <= 7 and not head[1] & 32
-            and (head[0] << 8 | head[1]) % 31 == 0)
-
-
-def _is_hexadecimal(text: bytes) -> bool:
-    """Whether `int` takes it for a number, as joblib does."""
-    try:
-        return int(text, 16) >= 0
-    except ValueError:
-        return False
-
-
-def may_be_container(head: bytes) -> bool:
-    """Whether `kind_of` or `unread_kind_of` may know what begins so: a quick test, which says yes too often and never no too often."""
-    return len(head) >= _BLOCK_OF_TAR or MAY_BE_KNOWN.match(head) is not None
-
-
-def kind_of(head: bytes) -> Optional[str]:
-    """The container that begins so.
-
-    >>> kind_of(b'PK\\x03\\x04'), kind_of(b'BZh9'), kind_of(b'N.')
-    ('zip', 'bz2', None)
-    """
-    if len(head) < _BLOCK_OF_TAR and _MAY_BE_OPENED.match(head) is None:
-        return None
-    if head[:4] in (b'PK\x03\x04', b'PK\x05\x06', b'PK\x06\x06', b'PK\x01\x02', b'PK\x07\x08'):
-        return 'zip'
-    if head[:6] == b'\x93NUMPY':
-        return 'npy'
-    if head[:3] == b'\x1f\x8b\x08':
-        return 'gzip'
-    if head[:3] == b'BZh' and head[3:4] in b'123456789':
-        return 'bz2'
-    if head[:6] == b'\xfd7zXZ\0':
-        return 'xz'
-    if head[:2] == b'\x5d\0':
-        return 'lzma'
-    if head[257:262] == b'ustar' or tar_sum_fits(head[:512]):
-        return 'tar'
-    if head[:2] == b'ZF' and _is_hexadecimal(head[2:21]):
-        return 'zfile'
-    return 'zlib' if _is_zlib(head) else None
-
-
-def unread_kind_of(head: bytes) -> Optional[str]:
-    """A container that begins so and is not opened.
-
-    >>> unread_kind_of(b'LZIP' + bytes(9)), unread_kind_of(b'\x50\x2a\x4d\x18')
-    ('lzip', 'zstd or lz4 (a frame that is skipped)')
-    """
-    if _MAY_BE_UNREAD.match(head) is None:
-        return None
-    if len(head) > 3 and 0x50 <= head[0] <= 0x5F and head[1:4] == b'\x2a\x4d\x18':
-        return 'zstd or lz4 (a frame that is skipped)'
-    if _REDIS_DUMP.match(head):
-        return 'dump of Redis'
-    known = next((kind for (at, begin), kind in _UNREAD_AT.items() if head.startswith(begin, at)), None)
-    return known or next((kind for begin, kind in _UNREAD.items() if head.startswith(begin)), None)
 
 
 def may_be_pickle(head: bytes, size: int) -> bool:

@@ -160,14 +160,39 @@ def _statm(process: int) -> int:
     return os.open(f'/proc/{process}/statm', os.O_RDONLY | os.O_CLOEXEC)
 
 
-def _processor_time() -> float:
-    """Seconds that this process and the programs that it waited for have taken."""
+# Seconds between two questions for the processor time.
+_WAIT = 0.01
+
+
+class _Clock:
+    """Seconds that this process and the programs that it waited for have taken.
+
+    The kernel is asked again only after a while: on a busy machine it takes the question as a place to run others, and a small file asks
+    several times.
+    """
+
+    def __init__(self) -> None:
+        self._next = -1.0
+        self._told = 0.0
+
+    def __call__(self) -> float:
+        now = time.monotonic()
+        if now >= self._next:
+            self._told = time.process_time() + _time_of_children()
+            self._next = now + _WAIT
+        return self._told
+
+
+_processor_time = _Clock()
+
+
+def _time_of_children() -> float:
     try:
         import resource
     except ImportError:  # (Windows has none)
-        return time.process_time()
+        return 0.0
     children = resource.getrusage(resource.RUSAGE_CHILDREN)
-    return time.process_time() + children.ru_utime + children.ru_stime
+    return children.ru_utime + children.ru_stime
 
 
 class Blob:
@@ -224,6 +249,10 @@ def _read_at(descriptor: int, count: int, offset: int) -> bytes:
         return os.read(descriptor, count)
 
 
+# The bytes of a file that is read once: who looks at a small one asks for its parts again and again, and all come from one moment.
+_KEPT = 1 << 16
+
+
 class FileBlob(Blob):
     """An open file that has a descriptor."""
 
@@ -232,10 +261,19 @@ class FileBlob(Blob):
         self.file = file
         self.size = size
         self.name = name
+        self._content: Optional[bytes] = None
 
     def read(self, offset: int, count: int) -> bytes:
+        if offset < 0 or count <= 0:
+            return b''
+        if self.size > _KEPT:
+            return self._read(offset, min(count, self.size - offset))
+        if self._content is None:
+            self._content = self._read(0, self.size)
+        return self._content[offset:offset + count]
+
+    def _read(self, offset: int, count: int) -> bytes:
         pieces = []
-        count = min(count, self.size - offset) if offset >= 0 else 0
         while count > 0:
             piece = _read_at(self.file.fileno(), count, offset)
             if not piece:

@@ -8,7 +8,8 @@ from typing import Iterable, List
 from ..errors import NotAllowed
 from ..sources import Readable, Source
 from .allow import read_lines
-from .begins import HEAD, is_pickle_name, kind_of
+from .begins import HEAD, is_pickle_name
+from .containers import kind_of
 from .looking import Options, look_at_bytes
 from .looks import Judge
 from .names import Names

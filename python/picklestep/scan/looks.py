@@ -2,13 +2,13 @@
 
 from __future__ import annotations
 
-import re
 from dataclasses import dataclass
 from typing import Dict, Iterator, List, Optional, Tuple
 
 from ..records import End
 from .known import known_names
 from .names import Names
+from .reading import is_worked_out
 from .results import Call, Import, Pickle, Place, Result
 from .wording import shown, times
 
@@ -25,9 +25,6 @@ RULES = {
     'not-looked-at': 'Something in it was not looked at.',
     'cannot-be-read': 'The file cannot be read.',
 }
-
-# A name of which the pickle makes a part, and a number of copyreg's.
-_WORKED_OUT = re.compile(r'^#| #[0-9]+$|^ext ')
 
 # Calls that show what was done with an object that a marked import led to.
 _OF_OBJECTS = ('call', 'new', 'inst')
@@ -117,7 +114,7 @@ class Judge:
             return 'not-allowed', f'not allowed{": " + known if known else ""}'
         if known is not None:
             return 'known', known
-        if self._with_known and _WORKED_OUT.search(name):
+        if self._with_known and is_worked_out(name):
             return 'worked-out', 'what it imports is worked out while loading'
         return None
 

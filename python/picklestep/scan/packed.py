@@ -6,11 +6,12 @@ import bz2
 import lzma
 import zlib
 from importlib import import_module
-from typing import Any, Callable, Dict, Iterator, Optional, Union
+from typing import Any, Callable, Iterator, Optional, Union
 
 from .blobs import Blob
 
-__all__ = ['METHODS', 'Unpacking', 'opens_zstd', 'raw_deflate', 'raw_lzma']
+__all__ = ['Decompressor', 'Unpacking', 'Zstd', 'inflate_gzip', 'inflate_zlib', 'opens_zstd', 'raw_deflate', 'raw_lzma', 'unpack_lzma',
+           'unpack_xz']
 
 # Unpacked bytes of a step: a bomb is noticed before it fills the memory.
 STEP = 1 << 18
@@ -66,7 +67,7 @@ def opens_zstd() -> bool:
     return _zstd_module() is not None
 
 
-class _Zstd:
+class Zstd:
     """The decompressor of either module with the calls that those of bz2 and lzma have."""
 
     def __init__(self) -> None:
@@ -108,7 +109,7 @@ class _Zstd:
         return bytes(self._inner.unused_data) + (b'' if self._is_own else self._held[self._at:])
 
 
-Decompressor = Union[_Inflate, _Zstd, bz2.BZ2Decompressor, lzma.LZMADecompressor]
+Decompressor = Union[_Inflate, Zstd, bz2.BZ2Decompressor, lzma.LZMADecompressor]
 
 
 def raw_deflate() -> Decompressor:
@@ -125,12 +126,24 @@ def raw_lzma(properties: bytes) -> Decompressor:
     return lzma.LZMADecompressor(lzma.FORMAT_RAW, filters=chain)
 
 
-# What unpacks each kind of file.
-METHODS: Dict[str, Callable[[], Decompressor]] = {
-    'gzip': lambda: _Inflate(31), 'zlib': lambda: _Inflate(15), 'bz2': bz2.BZ2Decompressor,
-    'xz': lambda: lzma.LZMADecompressor(lzma.FORMAT_XZ, LZMA_MEMORY),
-    'lzma': lambda: lzma.LZMADecompressor(lzma.FORMAT_ALONE, LZMA_MEMORY), 'zstd': _Zstd,
-}
+def inflate_gzip() -> Decompressor:
+    """What unpacks a gzip file."""
+    return _Inflate(31)
+
+
+def inflate_zlib() -> Decompressor:
+    """What unpacks a zlib file."""
+    return _Inflate(15)
+
+
+def unpack_xz() -> Decompressor:
+    """What unpacks an xz file."""
+    return lzma.LZMADecompressor(lzma.FORMAT_XZ, LZMA_MEMORY)
+
+
+def unpack_lzma() -> Decompressor:
+    """What unpacks a file of the older form of lzma."""
+    return lzma.LZMADecompressor(lzma.FORMAT_ALONE, LZMA_MEMORY)
 
 
 class Unpacking:
@@ -162,9 +175,9 @@ class Unpacking:
                 return
 
     def _stream(self) -> Iterator[bytes]:
-        inner = self.start()
         taken = self.end
         try:
+            inner = self.start()  # (it reads the settings of some kinds, which may be none)
             for piece in self.packed.chunks(self.end):
                 taken += len(piece)
                 yield from self._step(inner, piece)

@@ -7,21 +7,21 @@ import signal
 from contextlib import closing
 from dataclasses import dataclass
 from functools import lru_cache
-from itertools import islice
 from typing import Callable, Dict, Iterable, List, Optional, Tuple
 
 from .. import library
 from ..answers import Reached
 from ..errors import OutOfMemory, PicklestepError, ProgramError, TimedOut
 from ..program import Process
+from ..reaches import LineKey, ReachedLine, given_in, headings_in, reach_of, reached_line_of, reached_lines, with_offset
 from ..records import End, Extension, Global, Name, Ref
 from ..session import Session
-from ..texts import GIVEN, HEADING, IN_HEADINGS, OFFSET_IN_BYTES, REACHED, reach_of, with_offset
+from ..texts import offset_of_item
 from .begins import is_dotted
 from .blobs import CHUNK, Blob, Budget, FileBlob, Spooled, spooled
 from .results import Call, Import, Pickle, Place
 
-__all__ = ['Asked', 'Enough', 'Summary', 'WAITING', 'calls_words', 'shown_name', 'why_unread']
+__all__ = ['Asked', 'Enough', 'Summary', 'WAITING', 'calls_words', 'is_plain_name', 'is_worked_out', 'shown_name', 'why_unread']
 
 # These lines are about an import.
 _IMPORTS = ('import', 'inst')
@@ -58,6 +58,10 @@ _LITTLE_TIME = 1
 _SHORT = 200
 _MOST_NAMES = 4096
 
+# Names as `shown_name` shows them.
+_PLAIN = re.compile(r"'?[^\W\d]\w*(\.[^\W\d]\w*)*('? #[0-9]+)?")
+_WORKED_OUT = re.compile(r'^#| #[0-9]+$|^ext ')
+
 _LEGACY_TORCH = b'\x80\x02\x8a\x0al\xfc\x9cF\xf9 j\xa8P\x19.'
 
 
@@ -81,7 +85,7 @@ class Summary:
         self._budget = budget
         self._offset_of = offset_of
         self._found: Dict[Tuple[str, str, str], _Found] = {}
-        self._again: Dict[Tuple[str, str], _Found] = {}
+        self._again: Dict[LineKey, _Found] = {}
         self._imported: Dict[str, str] = {}
         self._lines: Optional[List[str]] = [] if keep_lines else None
         self._count = 0
@@ -110,10 +114,10 @@ class Summary:
             text = b''.join([*rest, whole, newline]).decode('ascii')
             rest, self._begun = [begun], len(begun)
             at = 0
-            for heading in HEADING.finditer(text) if IN_HEADINGS in text else ():
-                tail = self._take_lines(text, at, heading.start(), tail)
-                self._begin_part(heading[1], tail)
-                at = heading.end()
+            for heading in headings_in(text):
+                tail = self._take_lines(text, at, heading.start, tail)
+                self._begin_part(heading.words, tail)
+                at = heading.end
             tail = self._take_lines(text, at, len(text), tail)
         if any(rest) or not tail:
             raise ProgramError('the program gave no whole answer')
@@ -123,14 +127,14 @@ class Summary:
     def _take_lines(self, text: str, start: int, end: int, tail: str) -> str:
         """Counts lines, and answers the last ones. A pickle may have a hundred thousand lines and few names."""
         again, budget = self._again, self._budget
-        for match in REACHED.finditer(text, start, end):
+        for key, match in reached_lines(text, start, end):
             self._count += 1
             budget.lines -= 1
             if budget.lines < 0:
                 raise Enough(f'the answers about the file have more than {budget.limits.lines:,} lines')
-            found = again.get((match[3], match[4]))
+            found = again.get(key)
             if found is None:
-                self._line(match)
+                self._line(reached_line_of(match))
             else:
                 found.count += 1
         return (tail + text[start:end])[-_CLOSING:]
@@ -151,14 +155,14 @@ class Summary:
         if self._offset_of is not None and self.end.offset is not None:
             self.end = with_offset(self.end, self._offset_of(self.end.offset))
 
-    def _line(self, match: 're.Match[str]') -> None:
+    def _line(self, reached: ReachedLine) -> None:
         """Counts a line that is not the same as one before, as far as it counts."""
-        offset, text, what, quoted = match.groups()
-        name = self._imported.get(_number_of(text), '') if what in _CHANGES else quoted or ''
+        whole, offset, text, what, quoted = reached
+        name = self._imported.get(given_in(text), '') if what in _CHANGES else quoted or ''
         has_other_name = quoted is None and what in _WITH_NAME  # one that is no text: a number, or an object of the pickle
         found = None if has_other_name else self._found.get((what, name, self._part))
         if found is None:
-            known = _name_in(match[0], quoted) if what in _WITH_NAME else _NO_NAME
+            known = _name_in(whole, quoted) if what in _WITH_NAME else _NO_NAME
             shown = name if what in _CHANGES else known.shown
             key = (what, name or shown, self._part)
             if key not in self._found:
@@ -168,11 +172,11 @@ class Summary:
             self.is_sure = self.is_sure or self._shows_pickle(what, known)
         found.count += 1
         if what == 'import':
-            self._imported[_number_of(text)] = found.name
+            self._imported[given_in(text)] = found.name
         elif quoted is not None and self._lines is None:
             self._again[what, quoted] = found
         if self._lines is not None:
-            line = match[0] if self._offset_of is None else f'{self._place(offset):>5}: {text}'
+            line = whole if self._offset_of is None else f'{self._place(offset):>5}: {text}'
             self._keep(line)
             self._lines.append(line)
 
@@ -230,12 +234,6 @@ class _Found:
     text: str
     part: str = ''
     count: int = 0
-
-
-def _number_of(text: str) -> str:
-    """The number of the object in which a line ends, as text."""
-    found = GIVEN.search(text)
-    return found[1] if found else ''
 
 
 @dataclass(frozen=True)
@@ -318,8 +316,7 @@ class Asked:
         """Where an opcode begins. `item` counts the opcodes before it. None where a limit is met first."""
         text = self._in_process(['list', '--many'], budget)
         if text is not None:
-            found = next(islice(OFFSET_IN_BYTES.finditer(text), item, None), None)
-            return None if found is None else int(found[1])
+            return offset_of_item(text, item)
         try:
             with Session(self._path(), window=1, many=True, timeout=max(1, budget.seconds), memory=budget.memory()) as session:
                 session.goto(item)
@@ -384,6 +381,24 @@ def shown_name(name: Optional[Name]) -> str:
         return f'{name.module.decode()}.{name.name.decode()}'
     module, attribute = (f'{"raw " if which in name.raw else ""}{_part(part)}' for which, part in (('module', name.module), ('name', name.name)))
     return f'{module} {attribute}'
+
+
+def is_plain_name(name: str) -> bool:
+    """Whether a name that is shown is a plain one, or one of which the pickle works out the second part.
+
+    >>> [is_plain_name(name) for name in ('os.system', "'os' #5", "'os ' 'x'")]
+    [True, True, False]
+    """
+    return _PLAIN.fullmatch(name) is not None
+
+
+def is_worked_out(name: str) -> bool:
+    """Whether a pickle makes a part of a name that is shown, or it is a number of copyreg's.
+
+    >>> [is_worked_out(name) for name in ('os.system', "'os' #5", 'ext 7')]
+    [False, True, True]
+    """
+    return _WORKED_OUT.search(name) is not None
 
 
 def why_unread(head: bytes, pickle: Pickle) -> Optional[str]:

@@ -103,7 +103,10 @@ def to_json(result: Result) -> Dict[str, Any]:
 
 def _told(each: Union[Import, Call]) -> Dict[str, Any]:
     """The object that stands for an import or a call: without a part where it stands before all headings."""
-    return {name: value for name, value in vars(each).items() if value or name != 'part'}
+    told = dict(vars(each))
+    if not each.part:
+        del told['part']
+    return told
 
 
 def _pickle_object(pickle: Pickle) -> Dict[str, Any]:

@@ -34,11 +34,11 @@ def _around(pickle: Opened, text: bytes, place: int, step: int) -> Iterator[int]
     """The places whose lines hold a text, from a place on, forwards or backwards."""
     lines = pickle.lines
     if step > 0:
-        at = lines.starts[min(place, len(lines))] - 1
+        at = lines.start(min(place, len(lines))) - 1
         while (at := lines.text.find(text, at + 1)) >= 0:
             yield lines.number_at(at)
     else:
-        at = lines.starts[max(0, place + 1)]
+        at = lines.start(max(0, place + 1))
         while (at := lines.text.rfind(text, 0, at)) >= 0:
             yield lines.number_at(at)
 

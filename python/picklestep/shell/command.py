@@ -4,10 +4,11 @@ from __future__ import annotations
 
 import argparse
 import sys
-from typing import Iterable, List
+from typing import Iterable, Iterator, List
 
 from ..errors import PicklestepError, reason
 from ..python_source.command import print_text
+from ..wording import shown
 from .complete import completions
 from .shell import Shell, WordError
 from .terminal import Terminal, is_terminal
@@ -19,7 +20,8 @@ def _parser() -> argparse.ArgumentParser:
     parser = argparse.ArgumentParser(prog='picklestep shell', description='Steps through a pickle, looks at it and edits it; nothing of it is run.')
     parser.add_argument('file', metavar='FILE', help='the pickle')
     parser.add_argument('--many', action='store_true', help='FILE holds several pickles one after another')
-    parser.add_argument('--batch', metavar='SCRIPT', help='obey the lines of a file, up to the first that cannot be obeyed')
+    parser.add_argument('--unframed', action='store_true', help='take FRAME for an opcode like others, as a pickle needs that was cut off')
+    parser.add_argument('--batch', metavar='SCRIPT', help='run the lines of a file, up to the first that is refused')
     return parser
 
 
@@ -27,19 +29,34 @@ def main(arguments: List[str]) -> int:
     """Obeys lines. The status is 1 where a line of a script could not be obeyed, and 2 where the pickle could not be opened."""
     options = _parser().parse_args(arguments)
     try:
-        with Shell(options.file, options.file, options.many) as shell:
+        with Shell(options.file, options.file, options.many, unframed=options.unframed) as shell:
             if options.batch is not None:
                 with open(options.batch, encoding='utf-8') as script:
-                    return _obey_all(shell, options.batch, script)
+                    return _obey_all(shell, options.batch, _lines(options.batch, script))
             if not is_terminal():
-                return _obey_all(shell, 'standard input', sys.stdin)
+                return _obey_all(shell, 'standard input', _lines('standard input', sys.stdin))
             return _converse(shell)
-    except (OSError, UnicodeDecodeError, PicklestepError) as error:
+    except (OSError, PicklestepError) as error:
         print(f'picklestep: {reason(error)}', file=sys.stderr)
         return 2
     except KeyboardInterrupt:
         print('picklestep: interrupted', file=sys.stderr)
         return 1
+
+
+def _lines(name: str, script: Iterable[str]) -> Iterator[str]:
+    """The lines of a script. What cannot be read of it is said with its name."""
+    lines = iter(script)
+    while True:
+        try:
+            line = next(lines, None)
+        except UnicodeDecodeError as error:
+            raise PicklestepError(f'cannot read {shown(name)}: it is not {error.encoding.upper()}') from error
+        except OSError as error:
+            raise PicklestepError(f'cannot read {shown(name)}: {error.strerror}') from error
+        if line is None:
+            return
+        yield line
 
 
 def _obey_all(shell: Shell, name: str, lines: Iterable[str]) -> int:
@@ -59,6 +76,14 @@ def _obey_all(shell: Shell, name: str, lines: Iterable[str]) -> int:
     return 0
 
 
+def _answer(shell: Shell, line: str) -> str:
+    """What is shown for a line that is typed."""
+    try:
+        return shell.obey(line)
+    except WordError as error:
+        return str(error)
+
+
 def _converse(shell: Shell) -> int:
     """Obeys lines that are typed."""
     terminal = Terminal(lambda before: completions(shell.pickle, before))
@@ -68,11 +93,11 @@ def _converse(shell: Shell) -> int:
         while not shell.is_over:
             for line in terminal.lines():
                 try:
-                    answer = shell.obey(line)
-                except WordError as error:
-                    answer = str(error)
-                if answer:
-                    terminal.show(answer)
+                    terminal.show(_answer(shell, line))
+                except KeyboardInterrupt:
+                    if not shell.is_open:
+                        raise
+                    terminal.show('^C')
                 if shell.is_over:
                     break
             else:

@@ -1,18 +1,18 @@
-"""Edits by values as Python has them: which opcode can hold a value, names over a whole pickle, and what an object is."""
+"""Edits by values as Python has them: which opcode can hold a value."""
 
 from __future__ import annotations
 
 import pickletools
+import re
 from ast import literal_eval
-from typing import Dict, Iterator, List, Sequence, Tuple
+from typing import Dict, Sequence
 
 from ..arguments import ArgumentValue, encoded
-from ..records import Global
 from ..tasks import listing
 from ..view.lines import lines_of
 from .opened import Edit, Opened
 
-__all__ = ['EditError', 'line_put', 'of_object', 'of_value', 'of_words', 'renaming']
+__all__ = ['EditError', 'line_put', 'of_object', 'of_value', 'of_words', 'unquoted']
 
 OPCODES: Dict[str, pickletools.OpcodeInfo] = {opcode.name: opcode for opcode in pickletools.opcodes}
 
@@ -21,6 +21,9 @@ _HOLDERS: Dict[type, Sequence[str]] = {
     bool: ('NEWTRUE', 'NEWFALSE', 'INT'), type(None): ('NONE',), float: ('BINFLOAT', 'FLOAT'), bytearray: ('BYTEARRAY8',),
     int: ('BININT1', 'BININT2', 'BININT', 'LONG1', 'LONG4', 'INT', 'LONG'), bytes: ('SHORT_BINBYTES', 'BINBYTES', 'BINBYTES8'),
     str: ('SHORT_BINUNICODE', 'BINUNICODE', 'BINUNICODE8', 'UNICODE')}
+_PLAIN = frozenset(name for name, info in OPCODES.items() if not info.stack_before and len(info.stack_after) == 1 and (
+    not name.endswith('GET') and not name.startswith('EXT') and name not in ('GLOBAL', 'INST', 'PERSID', 'MARK', 'PROTO', 'FRAME')))
+_MADE = re.compile(r'(bytearray|float)\((.*)\)|-?(?:inf|nan)')
 _LEGACY = ('STRING', 'BINSTRING', 'SHORT_BINSTRING')
 
 
@@ -44,11 +47,30 @@ def of_words(word: str, place: int, text: str) -> Edit:
 
 
 def _value(text: str) -> ArgumentValue:
+    """A value as Python shows it."""
+    text = text.strip()
+    made = _MADE.fullmatch(text)
     try:
-        value: ArgumentValue = literal_eval(text.strip())
-    except (ValueError, SyntaxError, MemoryError, RecursionError) as error:
-        raise EditError(f'{text.strip()[:60]!r} is no value of Python (a text has quotes), and no opcode') from error
-    return value
+        if made is None:
+            value: ArgumentValue = literal_eval(text)
+            return value
+        inner = literal_eval(made[2]) if made[1] else made[0]
+        return bytearray(memoryview(inner)) if made[1] == 'bytearray' else float(inner)  # (of a number it would make so many bytes)
+    except (ValueError, TypeError, SyntaxError, MemoryError, RecursionError) as error:
+        raise EditError(f'{text[:60]!r} is no value of Python (a text has quotes), and no opcode') from error
+
+
+def unquoted(text: str) -> str:
+    """A text that may be in quotes, as Python shows it.
+
+    >>> unquoted('"bob"'), unquoted('bob')
+    ('bob', 'bob')
+    """
+    try:
+        value = literal_eval(text) if text[:1] in ('"', "'") else text
+    except (ValueError, TypeError, SyntaxError, MemoryError, RecursionError):
+        return text
+    return value if isinstance(value, str) else text
 
 
 def of_value(pickle: Opened, edit: Edit, now: str) -> Edit:
@@ -56,6 +78,8 @@ def of_value(pickle: Opened, edit: Edit, now: str) -> Edit:
     if edit.name:
         return edit
     value = edit.values[0]
+    if edit.word == 'replace' and now and now not in _PLAIN:
+        return _of_other(edit, now, value)
     holders = _HOLDERS.get(type(value), ())
     protocol = max([OPCODES[name].proto for name in (now,) if name in OPCODES] + [_protocol(pickle)])
     known = [name for name in holders if OPCODES[name].proto <= protocol]
@@ -70,13 +94,21 @@ def of_value(pickle: Opened, edit: Edit, now: str) -> Edit:
     raise EditError(f'no opcode of protocol {protocol} holds {value!r:.60}')
 
 
+def _of_other(edit: Edit, now: str, value: ArgumentValue) -> Edit:
+    """The edit where no plain value is: of the argument that the opcode has."""
+    found = _fitting(edit, now, value) if OPCODES[now].arg is not None else None
+    if found is None:
+        raise EditError(f'{now} cannot hold {value!r:.60}; name the opcode that is to be there')
+    return found
+
+
 def _fitting(edit: Edit, name: str, value: ArgumentValue) -> 'Edit | None':
     """The edit with this opcode, if its argument can be the value."""
     if OPCODES[name].arg is None:
         return edit._replace(name=name, values=()) if name in ('NONE', 'NEWTRUE' if value is True else 'NEWFALSE') else None
     try:
         encoded(name, [value])
-    except (ValueError, OverflowError):
+    except (ValueError, TypeError, OverflowError):
         return None
     return edit._replace(name=name)
 
@@ -100,45 +132,3 @@ def of_object(pickle: Opened, number: int, text: str) -> Edit:
     if maker is None:
         raise EditError(f'there is no object #{number}')
     return of_words('replace', maker, text)
-
-
-def renaming(pickle: Opened, old: str, new: str) -> List[Edit]:
-    """The edits that rename a module, with what is in it, wherever the pickle imports from it. `module:name` renames one name alone."""
-    if pickle.reaches.is_part:
-        raise EditError(pickle.reaches.behind[0])
-    found: Dict[int, Edit] = {}
-    for number in range(len(pickle.reaches.offsets)):
-        if pickle.reaches.kinds[number] not in ('import', 'inst'):
-            continue
-        reach = pickle.reaches.answer[number]
-        if not isinstance(reach.name, Global) or not isinstance(reach.name.module, bytes) or not isinstance(reach.name.name, bytes):
-            continue
-        names = reach.name.module.decode('utf-8', 'surrogateescape'), reach.name.name.decode('utf-8', 'surrogateescape')
-        wanted = _renamed(names, old, new)
-        if wanted != names:
-            for edit in _edits_of_import(pickle, reach.offset, wanted, names):
-                found.setdefault(edit.place, edit)
-    return [found[place] for place in sorted(found)]
-
-
-def _renamed(names: Tuple[str, str], old: str, new: str) -> Tuple[str, str]:
-    module, name = names
-    if ':' in old:
-        return (new.partition(':')[0], new.partition(':')[2]) if f'{module}:{name}' == old else names
-    return (new + module[len(old):], name) if module == old or module.startswith(old + '.') else names
-
-
-def _edits_of_import(pickle: Opened, offset: int, wanted: Tuple[str, str], names: Tuple[str, str]) -> Iterator[Edit]:
-    """The edits for one import: of its own argument, or of the texts that it takes from the stack, wherever they were made."""
-    place = pickle.lines.place_of(offset)
-    opcode = pickle.lines.at(place).name
-    if opcode in ('GLOBAL', 'INST'):
-        yield Edit('replace', place, opcode, wanted)
-        return
-    number = pickle.makes(place)
-    made = pickle.final_object(number) if number is not None else None
-    for part, text, old in zip(made.parts if made is not None else (), wanted, names):
-        if text != old:
-            maker = pickle.maker(part)
-            assert maker is not None
-            yield of_value(pickle, Edit('replace', maker, values=(text,)), pickle.lines.at(maker).name)

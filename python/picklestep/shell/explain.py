@@ -2,9 +2,9 @@
 
 from __future__ import annotations
 
-from typing import Dict, Tuple
+from typing import Dict, List, Sequence, Tuple
 
-__all__ = ['EFFECTS', 'EXPLAINED']
+__all__ = ['EFFECTS', 'EXPLAINED', 'taken']
 
 EXPLAINED: Dict[str, str] = {
     'INT': 'Puts an integer from a line on the stack; the lines 00 and 01 are False and True.',
@@ -148,3 +148,30 @@ EFFECTS: Dict[str, Tuple[str, str]] = {
     'PERSID': ('', 'object from elsewhere'),
     'BINPERSID': ('name', 'object from elsewhere'),
 }
+
+
+def taken(name: str, stack: Sequence[str]) -> List[Tuple[str, Sequence[str]]]:
+    """What an opcode takes from a stack, whose entries are the words of `stack`: each by its word in EFFECTS. Nothing where it is refused.
+
+    >>> taken('APPENDS', ['#0', '(2', '#1', '#2'])
+    [('list', ['#0']), ('mark', ['(2']), ('items', ['#1', '#2'])]
+    >>> taken('TUPLE1', ['#0', '(2'])
+    []
+    """
+    words = EFFECTS[name][0].split(', ')
+    place = len(stack) - len(words)
+    if 'mark' in words:
+        place = next((at for at in range(len(stack) - 1, -1, -1) if stack[at][0] == '('), -1) - words.index('mark')
+    if place < 0:
+        return []
+    found: List[Tuple[str, Sequence[str]]] = []
+    for word in words:
+        end = len(stack) if word.endswith(_ANY_NUMBER) else place + 1
+        if word != 'object or mark' and any((entry[0] == '(') != (word == 'mark') for entry in stack[place:end]):
+            return []
+        found.append((word[:-len(_ANY_NUMBER)] if word.endswith(_ANY_NUMBER) else word, stack[place:end]))
+        place = end
+    return found
+
+
+_ANY_NUMBER = ' ..'

@@ -1,11 +1,13 @@
-"""Which opcodes changed an object, by the places of a listing."""
+"""Which opcodes changed an object or stored one in the memo, by the places of a listing."""
 
 from __future__ import annotations
 
 import pickletools
+import time
 from array import array
+from bisect import bisect_left
 from itertools import compress
-from typing import Dict, List
+from typing import Callable, Dict, List, Sequence, Tuple
 
 from ..view.lines import OpcodeLines
 
@@ -36,37 +38,58 @@ for _opcode in pickletools.opcodes:
     _TAKEN[ord(_opcode.code)] = _CHANGES.get(_opcode.name, len(_opcode.stack_before))
 
 
-class History:
-    """The places at which objects were changed. The listing says which opcodes there are; this follows what lies where."""
+# After so many opcodes it waits so many seconds, so that whoever answers is not kept waiting, and asks whether it is still wanted.
+_MOST_UNASKED = 1 << 11
+_PAUSE = 0.0001
 
-    def __init__(self, lines: OpcodeLines, until: int) -> None:
-        """Follows the opcodes before a place."""
+
+class History:
+    """The places at which objects were changed or stored. The listing says which opcodes there are; this follows what lies where."""
+
+    def __init__(self, lines: OpcodeLines, until: int, is_wanted: Callable[[], bool] = lambda: True) -> None:
+        """Follows the opcodes before a place, as long as that is wanted."""
         self._places = array('Q')
         self._targets = array('Q')
-        self._follow(lines, until)
+        self._stores = array('Q')
+        self._stored = array('Q')
+        self._follow(lines, until, is_wanted)
 
     def changers(self, number: int) -> List[int]:
         """The places of the opcodes that change an object."""
         return list(compress(self._places, map(number.__eq__, self._targets)))
 
-    def _follow(self, lines: OpcodeLines, until: int) -> None:
+    def changed(self, begin: int, end: int) -> Sequence[int]:
+        """The objects that were changed from a place on before another, each once, the latest change last."""
+        targets = self._targets[bisect_left(self._places, begin):bisect_left(self._places, end)]
+        return list(dict.fromkeys(reversed(targets)))[::-1]
+
+    def stored(self, begin: int, end: int) -> Tuple[Sequence[int], Sequence[int]]:
+        """The places from one on before another at which an object was stored, and these objects."""
+        first, last = bisect_left(self._stores, begin), bisect_left(self._stores, end)
+        return self._stores[first:last], self._stored[first:last]
+
+    def _follow(self, lines: OpcodeLines, until: int, is_wanted: Callable[[], bool]) -> None:
         """Goes over the opcodes. (One loop, since there may be millions of them.)"""
         stack: List[int] = []
         marks: List[int] = []
         memo: Dict[int, int] = {}
         made = 0
         deeds, taken, makers = _DEEDS, _TAKEN, lines.makers
-        for place, code in enumerate(makers.codes[:until]):
+        for place, code, line in zip(range(until), makers.codes, lines.all()):
+            if place % _MOST_UNASKED == 0:
+                time.sleep(_PAUSE)
+                if not is_wanted():
+                    return
             deed = deeds[code]
             if deed == _MAKE:
                 stack.append(made)
                 made += 1
-            elif deed == _MEMOIZE:
-                memo[len(memo)] = stack[-1]
+            elif deed in (_MEMOIZE, _PUT):
+                memo[len(memo) if deed == _MEMOIZE else int(line[line.rindex(b' ') + 1:])] = stack[-1]
+                self._stores.append(place)
+                self._stored.append(stack[-1])
             elif deed == _GET:
-                stack.append(memo[lines.number_of(place)])
-            elif deed == _PUT:
-                memo[lines.number_of(place)] = stack[-1]
+                stack.append(memo[int(line[line.rindex(b' ') + 1:])])
             elif deed == _MARK:
                 marks.append(len(stack))
             elif deed in (_CHANGE, _CHANGE_BY_CUT):

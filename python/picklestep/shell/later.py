@@ -30,6 +30,11 @@ class Later(Generic[Answer]):
         except BaseException as error:
             self._error = error
 
+    @property
+    def is_done(self) -> bool:
+        """Whether the work has ended."""
+        return not self._thread.is_alive()
+
     def wait(self) -> None:
         """Waits until the work has ended."""
         self._thread.join()

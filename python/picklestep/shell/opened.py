@@ -2,20 +2,24 @@
 
 from __future__ import annotations
 
+import contextlib
+import re
 from bisect import bisect_left
-from typing import Callable, Dict, List, NamedTuple, Optional, Sequence, Tuple
+from typing import Callable, Iterator, List, NamedTuple, Optional, Sequence, Set, Tuple
 
 from ..arguments import ArgumentValue
 from ..comparing import shown_value
 from ..errors import Refused
-from ..records import Global, Object
+from ..python_source.shapes import BRACKETS
+from ..records import Global, Object, Reach, Ref
 from ..texts import LinesError, object_of
 from ..values import PLAIN_KINDS, kind_value
 from ..view.document import Document, Done
+from ..view.lines import CODE_BY_NAME, Lines
 from .history import History
 from .later import Later
 
-__all__ = ['Edit', 'Opened']
+__all__ = ['SHIFTS', 'Edit', 'Opened']
 
 _MOST_ITEMS = 4
 
@@ -40,18 +44,28 @@ class Opened(Document):
     _reading: Optional[Later[None]] = None
     _here = 0  # where the cursor goes back to after an edit
     _history: Later[History]
+    _edition = 0
+    _edited_codes = bytearray()  # the codes of all opcodes, as they are after the edits
 
     # --- The pickle ---
 
     def _read(self) -> None:
         super()._read()
-        lines, until = self.lines, self.listed - any(line.startswith('refused') for line in self.lines.closing)
-        self._history = Later(lambda: History(lines, until))
+        if self._codes is not None and len(self.lines) != len(self._codes):
+            self._codes = None
+            super()._read()
+        self._follow()
+
+    def _follow(self) -> None:
+        """Finds out what the opcodes change, as long as nothing is edited."""
+        lines, until, edition = self.lines, self.listed - any(line.startswith('refused') for line in self.lines.closing), self._edition
+        self._history = Later(lambda: History(lines, until, lambda: self._edition == edition))
 
     def close(self) -> None:
         """Ends the session, which nobody uses any more then."""
         if self._reading is not None:
             self._reading.wait()
+        self._edition += 1
         super().close()
 
     def settle(self) -> None:
@@ -69,16 +83,33 @@ class Opened(Document):
 
     def _changed(self, edits: List[Done], undone: List[Done], back: Callable[[], object]) -> None:
         here = self._here
+        self._edition += 1
+        self._codes = bytes(self._edited_codes)
 
         def back_and_return() -> None:
             self.session.goto(0)
             back()
             self._return(here)
+            self._follow()
 
         def read() -> None:
             self._return(here)
             Document._changed(self, edits, undone, back_and_return)
         self._reading = Later(read)
+
+    @property
+    def final_text(self) -> bytearray:
+        """The lines of all objects, as they are at the end."""
+        return self._final.text
+
+    def left(self) -> Optional[Set[int]]:
+        """The results, and the objects on the stack where reading ends early. None where an opcode is refused, behind which there may be more."""
+        where = self.session.where()
+        here, why = where.place, self.session.run().why if where.place < where.places else 'end'
+        where = self.session.where()
+        stack = [] if where.end.is_stopped else [entry.number for entry in self.session.stack() if isinstance(entry, Ref)]
+        self.session.goto(here)
+        return {*where.results, *stack} if why == 'end' else None
 
     def maker(self, number: int) -> Optional[int]:
         """The place of the opcode that makes an object, if there is such an object."""
@@ -91,6 +122,24 @@ class Opened(Document):
             return []
         return self._history.result().changers(number)
 
+    @property
+    def is_followed(self) -> bool:
+        """Whether it is known what the opcodes change, for which a large pickle is not waited for."""
+        return self._history.is_done or len(self.lines) <= _MOST_WAITED
+
+    def changed(self, begin: int, end: int) -> Sequence[int]:
+        """The objects that the opcodes from a place on before another change, the latest last."""
+        return self._history.result().changed(begin, end)
+
+    def stored(self, begin: int, end: int, most: int) -> Tuple[int, List[Tuple[str, int]]]:
+        """How many objects these opcodes store in the memo, and the last of them, each with its key."""
+        places, objects = self._history.result().stored(begin, end)
+        return len(places), [(_KEY.findall(self.lines.raw(place))[-1], number) for place, number in zip(places[-most:], objects[-most:])]
+
+    def imports(self) -> Iterator[Reach]:
+        """What is imported, in its order."""
+        return (self.reaches.answer[at] for at, kind in enumerate(self.reaches.kinds) if kind in ('import', 'inst'))
+
     def reaches_at(self, offset: int) -> List[str]:
         """What `calls` says of the opcode at an offset."""
         at, found = bisect_left(self.reaches.offsets, offset), []
@@ -100,33 +149,55 @@ class Opened(Document):
         return found
 
     def edit_all(self, edits: Sequence[Edit]) -> List[int]:
-        """Makes edits, with the cursor before all of them, and goes back to the opcode where it was. Answers their places."""
+        """Makes edits, all or none, with the cursor before them, and goes back to the opcode where it was. Answers their places."""
         here = self._here = self.session.where().place
         done: List[Done] = []
 
         def back() -> None:
             for _ in done:
                 self.session.undo()
+        first = min((edit.place for edit in edits), default=here)
+        if first < here:
+            self.session.goto(first)
+        self._edited_codes = bytearray(self.lines.makers.codes)
         try:
-            first = min((edit.place for edit in edits), default=here)
-            if first < here:
-                self.session.goto(first)
             for edit in edits:
-                done.append(Done(edit.word, self._edit_one(edit), edit.name))
-                self._here += _SHIFTS.get(edit.word, 0) if edit.place < self._here else 0
-        finally:
-            if done:
-                self._changed([*self._edits, *done], [], back)
-            else:
-                self._return(here)
+                place = self._edit_one(edit)
+                done.append(Done(edit.word, place, edit.name, bool(done), self._put_code(edit.word, place, CODE_BY_NAME.get(edit.name, 0))))
+                self._here += SHIFTS.get(edit.word, 0) if edit.place < self._here else 0
+        except BaseException:
+            back()
+            self._return(here)
+            raise
+        self._changed([*self._edits, *done], [], back)
         return [edit.place for edit in done]
+
+    def _put_code(self, word: str, place: int, code: int) -> int:
+        """Edits the codes of all opcodes, and answers the code that was at the place."""
+        codes = self._edited_codes
+        if word in ('insert', 'frame'):
+            codes.insert(place, code or _FRAME)
+            return 0
+        was = codes[place]
+        codes[place:place + 1] = bytes([code]) if word == 'replace' else b''
+        return was
+
+    def _put_back(self, edit: Done) -> None:
+        """Takes an edit of the codes back."""
+        if edit.what in ('insert', 'frame'):
+            del self._edited_codes[edit.place]
+        elif edit.what == 'replace':
+            self._edited_codes[edit.place] = edit.was
+        else:
+            self._edited_codes.insert(edit.place, edit.was)
 
     def _return(self, here: int) -> None:
         """Goes back to a place, or as near to it as the pickle can be stepped."""
         reached = self.session.where().place
         if reached < here:
             here = min(here, self.session.where().places)
-            self.run_to(here)
+            with contextlib.suppress(Refused):  # (the next opcode is refused)
+                self.run_to(here)
 
     def run_to(self, place: int) -> str:
         """Steps to a place, or to the opcode before it that is refused. Answers why it is not at the place, or nothing."""
@@ -141,6 +212,23 @@ class Opened(Document):
             self.session.clear_break(place)
         return '' if ran.place == place else ran.text
 
+    @contextlib.contextmanager
+    def before(self, place: int) -> Iterator[bool]:
+        """For a while the cursor is at a place, and objects are as they are there. It is not where that is far, or behind a refused opcode."""
+        here = self.session.where().place
+        is_there = abs(place - here) <= _MOST_WALKED
+        if is_there and place != here:
+            try:
+                self.session.goto(place)
+            except Refused:
+                is_there = False
+        self.place, self._heap = self.session.where().place, None
+        try:
+            yield is_there
+        finally:
+            self.session.goto(here)
+            self.place, self._heap = here, None
+
     def _edit_one(self, edit: Edit) -> int:
         session = self.session
         if edit.word in ('replace', 'insert'):
@@ -152,16 +240,31 @@ class Opened(Document):
             place = session.delete(edit.place) if edit.word == 'delete' else session.unframe(edit.place)
         return place
 
-    def undo_back(self, is_redo: bool) -> str:
-        """Undoes or makes again an edit, from before its place where the cursor is behind it."""
+    def undo_back(self, is_redo: bool) -> List[Done]:
+        """Undoes what was edited last, or makes it again, from before its places where the cursor is behind them. Answers the edits."""
         self._here = self.session.where().place
-        done = self._undone if is_redo else self._edits
-        self.session.goto(min(self._here, done[-1].place if done else self._here))
+        step, back = (self.session.redo, self.session.undo) if is_redo else (self.session.undo, self.session.redo)
+        edits = _together(self._undone, is_redo) if is_redo else _together(self._edits, is_redo)
+        self.session.goto(min([self._here, *(edit.place for edit in edits)]))
         try:
-            return self.redo() if is_redo else self.undo()
+            for _ in range(len(edits) or 1):
+                step()
         except Refused:
             self._return(self._here)
             raise
+        self._edited_codes = bytearray(self.lines.makers.codes)
+        for edit in edits:
+            if is_redo:
+                self._put_code(edit.what, edit.place, CODE_BY_NAME.get(edit.name, 0))
+            else:
+                self._put_back(edit)
+            shift = SHIFTS.get(edit.what, 0) if edit.place < self._here else 0
+            self._here += shift if is_redo else -shift
+        count, turned = len(edits), list(edits)
+        left, more = (self._undone[:-count], self._edits) if is_redo else (self._edits[:-count], self._undone)
+        lists = ([*more, *turned], left) if is_redo else (left, [*more, *turned])
+        self._changed(*lists, lambda: [back() for _ in edits])
+        return edits
 
     @property
     def edits_made(self) -> Tuple[Done, ...]:
@@ -173,7 +276,7 @@ class Opened(Document):
     def object_at(self, number: int) -> Optional[Object]:
         """An object, unless its text is so long that it was not kept whole."""
         heap = self._objects()
-        if not 0 <= number < len(heap) or heap.starts[number + 1] - heap.starts[number] > _MOST_LINE:
+        if not 0 <= number < len(heap) or _size(heap, number) > _MOST_LINE:
             return None
         try:
             return object_of(heap.raw(number))
@@ -187,8 +290,7 @@ class Opened(Document):
 
     def final_object(self, number: int) -> Optional[Object]:
         """An object as it is at the end, unless its line is long."""
-        is_long = self._final.starts[number + 1] - self._final.starts[number] > _MOST_LINE
-        return None if is_long else object_of(self._final.raw(number))
+        return None if _size(self._final, number) > _MOST_LINE else object_of(self._final.raw(number))
 
     def described(self, number: int, depth: int = 1) -> str:
         """An object in a few words: its value, or what is called."""
@@ -199,8 +301,8 @@ class Opened(Document):
             return shown_value(kind_value(made.kind, made.text))
         if made.kind in ('global', 'stack-global', 'inst'):
             named = shown_value(self._named(made))
-            return named if made.kind != 'inst' else named + self._inside(made.parts, depth, '()')
-        if made.kind in _BRACKETS:
+            return named if made.kind != 'inst' else named + self._inside(made.parts, depth, _CALL)
+        if made.kind in BRACKETS:
             return self._container(made, depth)
         return self._called(made, depth)
 
@@ -214,18 +316,21 @@ class Opened(Document):
     def _container(self, made: Object, depth: int) -> str:
         pairs = [(change.key, change.value) for change in made.changes if change.key is not None]
         if made.kind != 'dict':
-            return self._inside([*made.parts, *(change.value for change in made.changes)], depth, _BRACKETS[made.kind], made.kind)
+            return self._inside([*made.parts, *(change.value for change in made.changes)], depth, BRACKETS[made.kind], made.kind)
         pairs = [*zip(made.parts[::2], made.parts[1::2]), *pairs]
         if pairs and depth <= 0:
             return f'dict of {len(pairs)}'
         shown = [f'{self.described(key, 0)}: {self.described(value, depth - 1)}' for key, value in pairs[:_MOST_ITEMS]]
         return '{' + ', '.join(shown + _more(len(pairs))) + '}'
 
-    def _inside(self, numbers: Sequence[int], depth: int, brackets: str, kind: str = '') -> str:
+    def _inside(self, numbers: Sequence[int], depth: int, brackets: Tuple[str, str], kind: str = '') -> str:
         if kind and numbers and depth <= 0:
             return f'{kind} of {len(numbers)}'
+        if kind == 'set' and not numbers:
+            return 'set()'
         shown = [self.described(number, depth - 1) for number in numbers[:_MOST_ITEMS]] if depth > 0 else ['..'] * bool(numbers)
-        return brackets[0] + ', '.join(shown + (_more(len(numbers)) if depth > 0 else [])) + brackets[1]
+        comma = ',' if kind == 'tuple' and len(numbers) == 1 else ''
+        return brackets[0] + ', '.join(shown + (_more(len(numbers)) if depth > 0 else [])) + comma + brackets[1]
 
     def _called(self, made: Object, depth: int) -> str:
         if made.kind in ('persistent', 'buffer', 'readonly', 'ext'):
@@ -234,13 +339,36 @@ class Opened(Document):
         name, *rest = made.parts
         arguments = self.object_at(rest[0]) if made.kind != 'obj' and rest else None
         numbers = rest if made.kind == 'obj' else arguments.parts if arguments is not None and arguments.kind == 'tuple' else rest
-        return self.described(name, 0) + ('.__new__' if made.kind.startswith('new') else '') + self._inside(numbers, depth, '()')
+        return self.described(name, 0) + ('.__new__' if made.kind.startswith('new') else '') + self._inside(numbers, depth, _CALL)
 
 
 _MOST_LINE = 400
-_SHIFTS = {'insert': 1, 'frame': 1, 'delete': -1, 'unframe': -1}
-_BRACKETS: Dict[str, str] = {'list': '[]', 'tuple': '()', 'set': '{}', 'frozenset': '{}', 'dict': '{}'}
+_CALL = '(', ')'
+_FRAME = CODE_BY_NAME['FRAME']
+_MOST_WAITED = 100_000
+_MOST_WALKED = 100_000
+_KEY = re.compile('[0-9]+')
+# How many opcodes more there are after an edit.
+SHIFTS = {'insert': 1, 'frame': 1, 'delete': -1, 'unframe': -1}
+
+
+def _size(lines: Lines, number: int) -> int:
+    """How many letters a line has."""
+    start, end = lines.span(number)
+    return end - start
 
 
 def _more(count: int) -> List[str]:
     return [f'.. {count - _MOST_ITEMS} more'] if count > _MOST_ITEMS else []
+
+
+def _together(edits: List[Done], is_redo: bool) -> List[Done]:
+    """The edits of one line, which are the last of these: the latest first, or where they are made again, the earliest."""
+    found: List[Done] = []
+    for edit in reversed(edits):
+        if is_redo and found and not edit.is_joined:
+            break
+        found.append(edit)
+        if not is_redo and not edit.is_joined:
+            break
+    return found

@@ -4,10 +4,12 @@ from __future__ import annotations
 
 import re
 import shlex
-from itertools import islice
-from typing import Callable, Dict, List, Optional, Tuple
+from bisect import bisect_right
+from itertools import accumulate, islice
+from typing import Callable, Dict, List, Optional, Sequence, Tuple
 
 from ..comparing import compare, shown_value
+from ..diff import of_reaches
 from ..errors import NoResult, PicklestepError, Refused
 from ..records import Ref
 from ..python_source import source
@@ -16,9 +18,10 @@ from ..texts import LinesError, opcode_of, stored_under
 from ..view.document import Done
 from ..view.lines import line_of
 from .breaks import BREAKS, Break, next_break
-from .edits import OPCODES, EditError, line_put, of_object, of_value, of_words, renaming
-from .explain import EXPLAINED
-from .opened import Edit, Opened
+from .edits import OPCODES, EditError, line_put, of_object, of_value, of_words, unquoted
+from .explain import EFFECTS, EXPLAINED, taken
+from .opened import SHIFTS, Edit, Opened
+from .renames import Renaming, names_of, renaming
 from .words import WORDS, help_page, help_pages, whole_word
 
 __all__ = ['Shell', 'WordError']
@@ -26,10 +29,12 @@ __all__ = ['Shell', 'WordError']
 _AROUND = 3
 _MOST_LINES = 20
 _MOST_STACK = 3
+_MOST_TAKEN = 4
 _MOST_BYTES = 256
+_TAKES = {'opcode': 'the name of one', 'import': 'a pattern, as os.*', 'call': 'a pattern, as os.*'}
+# Words that do nothing without what comes after them.
+_NEED = frozenset('goto until go clear off on find who show replace insert set rename frame'.split())
 _OF_FRAMES = ('F6', 'F7', 'F8')
-_FILLS = ('APPEND', 'APPENDS', 'SETITEM', 'SETITEMS', 'ADDITEMS', 'BUILD')
-_STORES = ('MEMOIZE', 'PUT', 'BINPUT', 'LONG_BINPUT')
 
 
 class WordError(ValueError):
@@ -47,9 +52,9 @@ class Shell:
     made:  #0 7
     """
 
-    def __init__(self, pickle: Source, path: str, many: bool = False, ask: Optional[Callable[[str], bool]] = None) -> None:
-        self.pickle = Opened(pickle, path, many)
-        self._many = many
+    def __init__(self, pickle: Source, path: str, many: bool = False, ask: Optional[Callable[[str], bool]] = None, unframed: bool = False) -> None:
+        self.pickle = Opened(pickle, path, many, unframed=unframed)
+        self._modes: Dict[str, bool] = {'many': many, 'unframed': unframed}
         self._path = path
         self.ask = ask
         self._original = self.pickle.content()
@@ -57,6 +62,9 @@ class Shell:
         self._saved_bytes = self._original
         self._breaks: List[Break] = []
         self._last = ''
+        self._found: Tuple[str, int, int] = '', -1, -1  # what was found last, from where, and the place
+        self._listed: Tuple[int, int] = -1, 0  # where the cursor was as opcodes were listed last, and the place behind them
+        self._unchecked: Optional[Tuple[Renaming, Tuple[Done, ...]]] = None  # a rename until its check, and the edits before it
         self._words: Dict[str, Callable[[str], str]] = {name: getattr(self, f'_do_{name}') for name in WORDS}
         self.is_over = False
 
@@ -65,6 +73,15 @@ class Shell:
 
     def __exit__(self, *error: object) -> None:
         self.pickle.close()
+
+    @property
+    def is_open(self) -> bool:
+        """Whether the session goes on: one that was interrupted within an answer of the program does not."""
+        try:
+            self.pickle.session.where()
+        except (ValueError, PicklestepError):
+            return False
+        return True
 
     @property
     def is_unsaved(self) -> bool:
@@ -82,9 +99,13 @@ class Shell:
         if name not in self._words:
             raise WordError(f'there is no word {word[:40]!r}; `help` shows them')
         self._last = line if WORDS[name].is_again else ''
+        text = f'{before} {rest}'.strip()
+        if not text and name in _NEED or text and WORDS[name].usage == name:
+            raise WordError(f'it is: {WORDS[name].usage}')
         try:
             self.pickle.settle()
-            return self._words[name](f'{before} {rest}'.strip())
+            self._check_names()  # (of a rename that was interrupted)
+            return self._words[name](text)
         except Refused as error:
             raise WordError(f'refused: {error.text}') from error
         except (EditError, ValueError, TypeError, OverflowError, OSError, PicklestepError) as error:
@@ -136,26 +157,25 @@ class Shell:
         if where.place == where.places:
             rows.append(f'>  {where.place:>6} {where.offset:>5}: the end: {where.end.text}')
             if where.end.code in _OF_FRAMES:
-                rows.append('(What is in that frame is not read: `picklestep mend FILE OUT` keeps it.)')
+                rows.append('(What is in that frame is not read: `picklestep shell --unframed FILE` does, `picklestep mend FILE OUT` keeps it.)')
         rows.append(f'stack: {self._top()}')
         made = self.pickle.made_before(where.place)[0]
-        if before is not None and made > before[1]:
-            shown = [f'#{number} {self.pickle.described(number)}' for number in range(max(before[1], made - 3), made)]
-            rows.append('made:  ' + ', '.join(([f'{made - before[1] - 3} more'] if made - before[1] > 3 else []) + shown))
         if before is not None and where.place > before[0]:
-            rows += self._changed(where.place - 1)
+            rows += self._changed(*before, where.place, made)
         if where.results:
             rows.append(f'result: {self.pickle.described(where.results[-1])}')
         return '\n'.join(([why] if why else []) + rows)
 
-    def _changed(self, place: int) -> List[str]:
-        """What the opcode that was just stepped over changed: an object, or the memo."""
-        name = self.pickle.lines.at(place).name
-        words = self.pickle.session.ask('stack').split()[1:] if name in _FILLS or name in _STORES else []
-        if not words:
-            return []
-        shown = f'{words[-1]} {self.pickle.described(int(words[-1][1:]))}'
-        return [f'changed: {shown}' if name in _FILLS else f'stored: {shown}']
+    def _changed(self, begin: int, known: int, end: int, made: int) -> List[str]:
+        """What the opcodes from a place on before another did: the objects that they made, changed and stored, the latest of each."""
+        named = [f'#{number} {self.pickle.described(number)}' for number in range(max(known, made - _MOST_STACK), made)]
+        rows = _latest('made:  ', made - known, named)
+        if not self.pickle.is_followed:
+            return [*rows, 'changed: (this is still being found out)']
+        changed = [number for number in self.pickle.changed(begin, end) if number < known]
+        rows += _latest('changed: ', len(changed), [f'#{number} {self.pickle.described(number)}' for number in changed[-_MOST_STACK:]])
+        count, stored = self.pickle.stored(begin, end, _MOST_STACK)
+        return rows + _latest('stored: ', count, [f'{key}: #{number} {self.pickle.described(number)}' for key, number in stored])
 
     def _top(self) -> str:
         """The top of the stack, the highest first."""
@@ -204,7 +224,7 @@ class Shell:
 
     def _do_run(self, text: str) -> str:
         if text not in ('', 'back'):
-            raise WordError('run, or run back')
+            raise WordError(f'it is: {WORDS["run"].usage}')
         before = self._now()
         found = next_break(self.pickle, self._breaks, before[0], -1 if text else 1)
         if text:
@@ -234,12 +254,16 @@ class Shell:
         rest = rest.strip()
         if what in ('depth', 'memo', 'at') and not rest.isdecimal():
             raise WordError(f'break {what} takes a number')
-        if what == 'opcode' and rest not in OPCODES:
+        if what == 'opcode':
+            rest = rest.upper()
+        if what == 'text':
+            rest = unquoted(rest)
+        if what == 'opcode' and rest and rest not in OPCODES:
             raise WordError(f'{rest[:40]!r} is no opcode')
         if what == 'at' and int(rest) >= len(self.pickle.lines):
             raise WordError(f'there is no opcode at {rest}')
         if not rest:
-            raise WordError(f'break {what} takes a text')
+            raise WordError(f'break {what} takes {_TAKES.get(what, "a text")}')
         self._breaks.append(Break(1 + max([point.number for point in self._breaks], default=0), what, rest))
         return str(self._breaks[-1])
 
@@ -273,8 +297,12 @@ class Shell:
     def _do_list(self, text: str) -> str:
         here = self._now()[0]
         words = text.split()
-        first = self._place(words[0]) if words else max(0, here - _MOST_LINES // 2)
+        goes_on = not words and self._listed[0] == here and self._listed[1] < len(self.pickle.lines)
+        first = self._place(words[0]) if words else self._listed[1] if goes_on else max(0, here - _MOST_LINES // 2)
         last = self._place(words[1]) + 1 if len(words) > 1 else first + _MOST_LINES
+        if len(words) > 2 or first >= len(self.pickle.lines):
+            raise WordError(f'it is: {WORDS["list"].usage}' if len(words) > 2 else f'there is no opcode at {first}')
+        self._listed = here, last
         return '\n'.join(self._rows(first, last, here))
 
     def _do_calls(self, text: str) -> str:
@@ -294,9 +322,10 @@ class Shell:
 
     def _do_find(self, text: str) -> str:
         here = self._now()[0]
-        found = self.pickle.find(text, here)
+        found = self.pickle.find(text, self._found[2] if self._found[:2] == (text, here) else here)
         if found is None:
             raise WordError(f'{text[:40]!r} is in no opcode')
+        self._found = text, here, found
         return '\n'.join(self._rows(found - 1, found + 2, here)) + f'\nat {found}'
 
     def _do_hex(self, text: str) -> str:
@@ -311,8 +340,8 @@ class Shell:
         return '\n'.join(rows + ([f'.. {end - start - len(shown)} bytes more'] if end - start > len(shown) else []))
 
     def _do_explain(self, text: str) -> str:
-        if text in EXPLAINED:
-            return f'{text}: {EXPLAINED[text]}'
+        if text.upper() in EXPLAINED:
+            return f'{text.upper()}: {EXPLAINED[text.upper()]}'
         place = self._place(text)
         if place >= len(self.pickle.lines):
             return f'the end: {self.pickle.session.where().end.text}'
@@ -321,13 +350,30 @@ class Shell:
         if place == self._now()[0]:
             rows.append(f'the stack before it: {self._top()}')
         number = self.pickle.makes(place)
-        if number is not None:
-            made = self.pickle.final_object(number)
-            parts = made.parts if made is not None else ()
-            takes = ', '.join(f'#{part} {self.pickle.described(part, 0)}' for part in parts[:4])
-            more = f', .. {len(parts) - 4} more' if len(parts) > 4 else ''
-            rows.append(f'it makes #{number}' + (f' of {takes}{more}' if takes else ''))
+        with self.pickle.before(place) as is_there:
+            if number is not None:
+                made = self.pickle.final_object(number)
+                takes = self._numbered([f'#{part}' for part in made.parts] if made is not None else [])
+                rows.append(f'it makes #{number}' + (f' of {takes}' if takes else ''))
+            elif EFFECTS[line.name][0]:
+                takes = self._taken(line.name) if is_there else EFFECTS[line.name][0]
+                rows.append(f'it takes {takes}' if takes else 'it is refused here')
         return '\n'.join(rows)
+
+    def _taken(self, name: str) -> str:
+        """What an opcode at the cursor takes from the stack."""
+        shown = []
+        for word, entries in taken(name, self.pickle.session.ask('stack').split()[1:]):
+            if entries and entries[0][0] == '(':
+                shown.append(f'the mark of {entries[0][1:]}')
+            elif entries:
+                shown.append(f'{word.partition(" or ")[0]} {self._numbered(entries)}')
+        return ', '.join(shown)
+
+    def _numbered(self, objects: Sequence[str]) -> str:
+        """Objects by their numbers, the first of them."""
+        more = [f'.. {len(objects) - _MOST_TAKEN} more'] if len(objects) > _MOST_TAKEN else []
+        return ', '.join([f'{each} {self.pickle.described(int(each[1:]), 0)}' for each in objects[:_MOST_TAKEN]] + more)
 
     def _do_who(self, text: str) -> str:
         maker = self._maker(text)
@@ -376,7 +422,9 @@ class Shell:
         return '\n'.join(f'#{number} {self.pickle.described(number)}' for number in range(first, min(made, first + _MOST_LINES))) or 'none'
 
     def _do_source(self, text: str) -> str:
-        return source(self.pickle.content(), full=text == 'full', many=self._many).text.rstrip('\n')
+        if text not in ('', 'full'):
+            raise WordError(f'it is: {WORDS["source"].usage}')
+        return source(self.pickle.content(), full=text == 'full', **self._modes).text.rstrip('\n')
 
     # --- Edits ---
 
@@ -392,8 +440,13 @@ class Shell:
             now = self.pickle.lines.at(edit.place).name if edit.place < len(self.pickle.lines) else ''
             known.append(of_value(self.pickle, edit, now) if edit.word in ('replace', 'insert') else edit)
         was = ['' if edit.word in ('insert', 'frame') else self._was(edit.place) for edit in known]
-        done = self.pickle.edit_all(known)
-        self._move_breaks(known)
+        moved = []
+        shift = 0
+        for edit in known:
+            moved.append(edit._replace(place=edit.place + shift))
+            shift += SHIFTS.get(edit.word, 0)
+        done = self.pickle.edit_all(moved)
+        self._move_breaks([(edit.place, SHIFTS.get(edit.word, 0)) for edit in moved])
         return '\n'.join(self._echo(edit, place, old) for edit, place, old in zip(known, done, was))
 
     def _echo(self, edit: Edit, place: int, old: str) -> str:
@@ -404,16 +457,15 @@ class Shell:
         now = self._was(place) if edit.word == 'frame' else edit.name if OPCODES[edit.name].arg is None else _shown(line_put(edit))
         return f'{place}: {now}' + (f' (was {old})' if old else ' is new')
 
-    def _move_breaks(self, edits: List[Edit]) -> None:
-        """Breaks on a place stay with their opcodes."""
-        for edit in edits:
-            for point in list(self._breaks):
-                if point.what == 'at' and edit.word in ('insert', 'frame', 'delete', 'unframe'):
-                    place = int(point.text)
-                    if edit.word in ('delete', 'unframe') and place == edit.place:
-                        self._breaks.remove(point)
-                    elif place >= edit.place:
-                        point.text = str(place + (1 if edit.word in ('insert', 'frame') else -1))
+    def _move_breaks(self, moves: Sequence[Tuple[int, int]]) -> None:
+        """Breaks on a place stay with their opcodes, where one comes (1) or goes (-1) at each of these places."""
+        for at, shift in moves:
+            for point in [point for point in self._breaks if point.what == 'at' and shift]:
+                place = int(point.text)
+                if shift < 0 and place == at:
+                    self._breaks.remove(point)
+                elif place >= at:
+                    point.text = str(place + shift)
 
     def _split(self, text: str) -> Tuple[int, str]:
         """A place, and what comes after it. Without a place it is the cursor."""
@@ -434,7 +486,7 @@ class Shell:
     def _do_frame(self, text: str) -> str:
         words = text.split()
         if len(words) != 2:
-            raise WordError('frame PLACE COUNT')
+            raise WordError(f'it is: {WORDS["frame"].usage}')
         return self._edited([Edit('frame', self._place(words[0]), members=self._count(words[1]))])
 
     def _do_unframe(self, text: str) -> str:
@@ -443,26 +495,52 @@ class Shell:
     def _do_set(self, text: str) -> str:
         match = re.fullmatch(r'#?([0-9]+) to (.+)', text)
         if match is None:
-            raise WordError('set OBJECT to VALUE')
+            raise WordError(f'it is: {WORDS["set"].usage}')
         return self._edited([of_object(self.pickle, int(match[1]), match[2])])
 
     def _do_rename(self, text: str) -> str:
         words = text.split()
         if len(words) != 2:
-            raise WordError('rename OLD NEW')
-        edits = renaming(self.pickle, *words)
-        if not edits:
-            raise WordError(f'nothing is imported from {words[0][:60]!r}')
-        said = self._edited(edits)
+            raise WordError(f'it is: {WORDS["rename"].usage}')
+        found = renaming(self.pickle, *words)
+        end = self.pickle.reaches.answer.end
+        if not found.edits:
+            raise WordError(f'nothing is imported from {words[0][:60]!r}' + ('' if end.is_stopped else f' before {end.text}'))
+        places = [edit.place for edit in found.edits]
+        shifts = [0, *accumulate(SHIFTS.get(edit.word, 0) for edit in found.edits)]
+        stays = [f'{place + shifts[bisect_right(places, place)]}: {self._was(place)} stays: it is data too' for place in found.stays]
+        self._unchecked = found, self.pickle.edits_made
+        rows = [self._edited(found.edits), *stays]
         self.pickle.settle()
-        left = renaming(self.pickle, *words)
-        return said + (f'\n{len(left)} names could not be changed alone' if left and not words[1].startswith(words[0]) else '')
+        self._check_names()
+        where = self.pickle.session.where()
+        if self.pickle.listed < where.places or not where.end.is_stopped or not end.is_stopped:
+            rows.append('(Reading ends early: what is imported behind that stays.)')
+        return '\n'.join(rows)
+
+    def _check_names(self) -> None:
+        """Takes a rename back after which there are other imports than it said."""
+        if self._unchecked is not None:
+            found, before = self._unchecked
+            is_made = self.pickle.edits_made != before
+            if is_made and [names_of(reach.said or reach.name) for reach in self.pickle.imports()] != found.names:
+                self._undo(is_redo=False)
+                self.pickle.settle()
+                self._unchecked = None
+                raise WordError('not renamed: the imports would not be these alone')
+            self._unchecked = None
 
     def _do_undo(self, text: str) -> str:
-        return self.pickle.undo_back(is_redo=False)
+        return self._undo(is_redo=False)
 
     def _do_redo(self, text: str) -> str:
-        return self.pickle.undo_back(is_redo=True)
+        return self._undo(is_redo=True)
+
+    def _undo(self, is_redo: bool) -> str:
+        edits = self.pickle.undo_back(is_redo)
+        self._move_breaks([(edit.place, SHIFTS.get(edit.what, 0) * (1 if is_redo else -1)) for edit in edits])
+        rows = [f'{"redone" if is_redo else "undone"} {edit.place}: {edit}' for edit in edits[:_MOST_LINES]]
+        return '\n'.join(rows + ([f'.. {len(edits) - _MOST_LINES} more'] if len(edits) > _MOST_LINES else []))
 
     # --- Files ---
 
@@ -472,15 +550,16 @@ class Shell:
         rows = [f'{len(self._original)} bytes -> {len(self.pickle.content())} bytes']
         rows += [self._row(place, -1) for place in sorted(self.pickle.edited)[:_MOST_LINES] if place < len(self.pickle.lines)]
         try:
-            differences = compare(self._original, self.pickle.content(), many=self._many)
+            differences = [*map(str, compare(self._original, self.pickle.content(), **self._modes))]
         except NoResult as error:
-            return '\n'.join([*rows, f'the results cannot be compared: {error}'])
-        return '\n'.join([*rows, *map(str, differences[:_MOST_LINES])] + ([f'.. {len(differences) - _MOST_LINES} more'] * (len(differences) > _MOST_LINES)))
+            rows.append(f'the results cannot be compared: {error}')
+            differences = list(of_reaches(self._original, self.pickle.content(), self._modes['unframed']))
+        return '\n'.join(rows + differences[:_MOST_LINES] + ([f'.. {len(differences) - _MOST_LINES} more'] * (len(differences) > _MOST_LINES)))
 
     def _do_save(self, text: str) -> str:
         path = shlex.split(text)[0] if text else self._path
         if not path:
-            raise WordError('save FILE')
+            raise WordError('it has no file: save FILE')
         self.pickle.save(path, True)
         self._saved, self._saved_bytes = self.pickle.edits_made, self.pickle.content()
         return f'saved {path}'
@@ -498,6 +577,12 @@ class Shell:
         if name not in WORDS:
             raise WordError(f'there is no word {text[:40]!r}; `help` shows them')
         return help_page(name)
+
+
+def _latest(word: str, count: int, shown: List[str]) -> List[str]:
+    """A line of the last of some things, and how many there are besides; none where there are none."""
+    more = [f'{count - len(shown)} more'] if count > len(shown) else []
+    return [word + ', '.join(more + shown)] if count else []
 
 
 def _shown(line: str) -> str:

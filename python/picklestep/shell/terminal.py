@@ -61,7 +61,9 @@ class Terminal:
             return True
 
     def show(self, answer: str) -> None:
-        """Shows an answer, with colours where there can be some."""
+        """Shows an answer, with colours where there can be some; nothing where it is empty."""
+        if not answer:
+            return
         if self._console is None:
             print(answer)
             return

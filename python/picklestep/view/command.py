@@ -14,7 +14,7 @@ import webbrowser
 from pathlib import Path
 from typing import IO, Iterator, List, Optional
 
-from ..errors import PicklestepError
+from ..errors import PicklestepError, reason
 from ..wording import shown
 from .document import Document
 from .export import MOST, write_report
@@ -132,7 +132,7 @@ def main(words: Optional[List[str]] = None) -> int:
     except KeyboardInterrupt:
         return 130
     except (OSError, PicklestepError) as error:
-        why = str(error)
+        why = reason(error) if isinstance(error, BrokenPipeError) else str(error)
         if isinstance(error, OSError) and error.filename == options.file:
             why = f'cannot read {shown(options.file)}: {error.strerror}'
         print(f'picklestep: {why}', file=sys.stderr)

@@ -3,7 +3,6 @@
 from __future__ import annotations
 
 import os
-import re
 from array import array
 from bisect import bisect_left, bisect_right
 from itertools import islice
@@ -13,9 +12,11 @@ from typing import Any, Callable, Dict, List, NamedTuple, Optional, Set, Tuple
 from ..answers import Calls
 from ..errors import Refused
 from ..python_source import source
+from ..reaches import made_by
 from ..session import Session
 from ..sources import Input, Source
-from ..texts import BROKEN, HELD, MADE, holding
+from ..tasks import modes
+from ..texts import as_made, broken_places, held_in, holding
 from .lines import Lines, add_items, cut_text, lines_of, read_all, silent
 
 __all__ = ['Document', 'Done', 'Fields']
@@ -58,9 +59,9 @@ class Reaches:
         self._makers = array('Q')
         self._places = array('Q')
         for match in answer.matches():
-            made = MADE.search(match[2])
+            made = made_by(match[2])
             if made is not None:
-                self._made.append(int(made[1]))
+                self._made.append(made)
                 self._makers.append(len(self.kinds))
             self.offsets.append(int(match[1]))
             self.kinds.append(match[3])
@@ -124,11 +125,14 @@ def _counted(kinds: List[str]) -> Tuple[int, int]:
 
 
 class Done(NamedTuple):
-    """An edit that was made: its word, its place, and the opcode that was put there."""
+    """An edit that was made: its word, its place, and the opcode that was put there. `is_joined` says that it belongs to the one before, `was` is
+    the code of the opcode that was there, where it is known."""
 
     what: str
     place: int
     name: str = ''
+    is_joined: bool = False
+    was: int = 0
 
     def __str__(self) -> str:
         return f'{self.what}{self.name and " " + self.name} at {self.place}'
@@ -137,12 +141,12 @@ class Done(NamedTuple):
 class Document:
     """A pickle that is looked at and edited; with `many`, several that follow one another."""
 
-    def __init__(self, source: Source, name: str, many: bool = False, told: Callable[[str], None] = silent) -> None:
+    def __init__(self, source: Source, name: str, many: bool = False, told: Callable[[str], None] = silent, unframed: bool = False) -> None:
         """Reads a pickle. While that goes on, `told` is given how far it is."""
         self.name = name
         self._told = told
-        self.session = Session(source, many=many)
-        self._options = ['--many'] if many else []
+        self.session = Session(source, many=many, unframed=unframed)
+        self._options = modes(many, unframed)
         self.breaks: Set[int] = set()
         self._has_breaks = False
         self._edits: List[Done] = []
@@ -150,6 +154,7 @@ class Document:
         self.version = 0
         self.place = 0
         self._content: Tuple[int, bytes] = (0, b'')
+        self._codes: Optional[bytes] = None  # of all opcodes, where they are known before the pickle is read
         try:
             self._read()
         except BaseException:
@@ -175,10 +180,10 @@ class Document:
         self._heap: Optional[Lines] = None
         self.edited = _edited(self._edits)
         if self._has_breaks:
-            self.breaks = {int(match[1]) for match in BROKEN.finditer(self.session.items().text)}
+            self.breaks = broken_places(self.session.items().text)
 
     def _read_from(self, given: Input) -> None:
-        self.lines, self._final, calls, is_part = read_all(given, self._options, self._told)
+        self.lines, self._final, calls, is_part = read_all(given, self._options, self._told, self._codes)
         self.listed = len(self.lines)
         if self.listed < self.session.where().places:
             add_items(self.lines, given, self._options)
@@ -272,10 +277,9 @@ class Document:
         heap = self._objects()
         if not 0 <= number < len(heap):
             return {'parts': [], 'more': 0}
-        start, end = heap.starts[number], heap.starts[number + 1] - 1
+        start, end = heap.span(number)
         after = max(heap.text.rfind(b"'", start, end), start)
-        held = islice(HELD.finditer(heap.text, after + 1, end), _MOST_PARTS)
-        shown = [[_HOW.get(match[1][-1:], ''), int(match[2]), *self.thing(int(match[2]))] for match in held]
+        shown = [[*held, *self.thing(held.number)] for held in islice(held_in(heap.text, after + 1, end), _MOST_PARTS)]
         return {'parts': shown, 'more': heap.text.count(b'#', after + 1, end) - len(shown)}
 
     def about(self, number: int) -> Fields:
@@ -307,9 +311,7 @@ class Document:
         """An object at the cursor, or the one that the opcode there makes, before anything is put into it."""
         if number < self._made() or number >= len(self._final):
             return self.thing(number)
-        text = self._final.brief(number).partition(' ')[2]
-        at = text.rfind("'") + 1
-        return text[:at] + _PUT_IN.sub('', text[at:]), self.reaches.text_of(number)
+        return as_made(self._final.brief(number).partition(' ')[2]), self.reaches.text_of(number)
 
     def _holders(self, number: int) -> List[int]:
         """The objects that hold an object, the first of them."""
@@ -317,7 +319,7 @@ class Document:
         found: List[int] = []
         for match in holding(number).finditer(heap.text):
             holder = heap.number_at(match.start())
-            is_in_text = heap.text.find(b"'", match.end(), heap.starts[holder + 1]) >= 0
+            is_in_text = heap.text.find(b"'", match.end(), heap.span(holder)[1]) >= 0
             if holder >= made or len(found) == _MOST_HOLDERS:
                 break
             if not is_in_text and holder not in found:
@@ -329,7 +331,7 @@ class Document:
         content = self.content()
         if len(self.lines) > _MOST_SOURCE or len(content) > _MOST_SOURCE_BYTES or self.reaches.is_part:
             return {'source': [], 'more': 0, 'isLong': True}
-        lines = list(source(content, full=False, many=bool(self._options)))
+        lines = list(source(content, full=False, many='--many' in self._options, unframed='--unframed' in self._options))
         return {'source': lines[:_MOST_SOURCE_LINES], 'more': max(0, len(lines) - _MOST_SOURCE_LINES), 'isLong': False}
 
     # --- For reports: the objects as they are at the end ---
@@ -483,14 +485,10 @@ def _last(answer: str) -> Fields:
     return {'words': shown, 'more': first.count(' ')}
 
 
-_PUT_IN = re.compile(r' (?:[+&!]#|\[#).*')  # what an object's line says of what was put into it
-_HOW = {b'+': 'append', b'&': 'add', b'!': 'state', b'[': 'key', b'=': 'value'}
-
-
 def _edited(edits: List[Done]) -> Set[int]:
     """The places that edits touched, each where it is after those that came later."""
     places: Set[int] = set()
-    for what, at, _ in edits:
+    for what, at, *_ in edits:
         shift = _PLACES[what]
         if shift > 0:
             places = {place + 1 if place >= at else place for place in places}

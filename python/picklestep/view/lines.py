@@ -6,8 +6,7 @@ import contextlib
 import os
 import pickletools
 from array import array
-from bisect import bisect_right
-from dataclasses import dataclass
+from bisect import bisect_left, bisect_right
 from itertools import accumulate, islice
 from typing import Callable, Dict, Iterator, List, Optional, Sequence, Tuple
 
@@ -15,13 +14,15 @@ from ..errors import ProgramError
 from ..listed import in_columns
 from ..program import Process
 from ..sources import Input
-from ..texts import ITEM, OFFSET, OPCODE, READONLY
+from ..tasks import left_out
+from ..texts import Line, begins_with_offset, frames_in, item_line_of, line_of, readonly_count
 
-__all__ = ['CUT', 'Line', 'Lines', 'OpcodeLines', 'add_items', 'cut_text', 'line_of', 'lines_of', 'read_all', 'shown_code', 'silent']
+__all__ = ['CODE_BY_NAME', 'CUT', 'Line', 'Lines', 'OpcodeLines', 'add_items', 'cut_text', 'line_of', 'lines_of', 'read_all', 'shown_code', 'silent']
 
 # The most bytes that are kept of a text.
 CUT = 500
 _BLOCK = 1 << 20
+_PIECE = 1 << 11
 # So many bytes has a line besides texts and the blanks for open marks, and so many all these blanks.
 _MOST_LINE = 100
 _MOST_DEEP = 1 << 28
@@ -31,80 +32,94 @@ _MOST_CALLS = 1 << 26
 _MOST_AT_ONCE = 1 << 26
 
 
-@dataclass(frozen=True)
-class Line:
-    """An opcode as the listing shows it. `marks` is how many marks are open before it."""
-
-    offset: int
-    code: str
-    name: str
-    argument: str
-    marks: int
-
-
-def line_of(line: str) -> Line:
-    """The opcode that a line of a listing shows.
-
-    >>> line_of("   11: c        GLOBAL     'os' 'getcwd'").marks
-    1
-    """
-    match = OPCODE.match(line)
-    assert match is not None
-    offset, code, name, number, argument = match.groups()
-    return Line(int(offset), code, name, number or argument or '', max(0, (match.start(3) - match.end(1) - 7) >> 2))
-
-
 class Lines:
-    """Lines by their numbers. `whole` is how many bytes they had before long texts were cut."""
+    """Lines by their numbers. `whole` is how many bytes they had before long texts were cut.
+
+    Of where lines begin only so much is kept that one of them is found in a piece of the text: of each piece how many lines end before it.
+    """
 
     def __init__(self) -> None:
         self.text = bytearray()
-        self.starts = array('Q', [0])  # (the last one is where the next line would begin)
         self.whole = 0
+        self._ended = array('Q', [0])
+        self._count = 0
 
     def __len__(self) -> int:
-        return len(self.starts) - 1
+        return self._count
 
-    def add(self, lines: List[bytes]) -> None:
+    def add(self, lines: bytes) -> None:
         """Adds lines, each with its newline."""
-        self.starts.extend(islice(accumulate(map(len, lines), initial=len(self.text)), 1, None))
-        self.text += b''.join(lines)
+        self.text += lines
+        text, known = self.text, len(self._ended) - 1
+        counts = (text.count(b'\n', at, at + _PIECE) for at in range(known * _PIECE, len(text) - _PIECE + 1, _PIECE))
+        self._ended.extend(islice(accumulate(counts, initial=self._ended[-1]), 1, None))
+        self._count += lines.count(b'\n')
 
     def drop_last(self) -> str:
         """Takes the last line out, and answers it."""
         line = self.raw(len(self) - 1)
-        self.starts.pop()
-        del self.text[self.starts[-1]:]
+        del self.text[self.start(len(self) - 1):]
+        del self._ended[len(self.text) // _PIECE + 1:]
+        self._count -= 1
         return line
+
+    def start(self, at: int) -> int:
+        """Where a line begins in the text; of the number of lines, where the next one would begin."""
+        if at == self._count:
+            return len(self.text)
+        piece = max(0, bisect_left(self._ended, at) - 1)
+        begin = piece * _PIECE
+        for _ in range(at - self._ended[piece]):
+            begin = self.text.index(b'\n', begin) + 1
+        return begin
 
     def raw(self, at: int) -> str:
         """A line."""
-        return self.text[self.starts[at]:self.starts[at + 1] - 1].decode('ascii')
+        start = self.start(at)
+        return self.text[start:self.text.index(b'\n', start)].decode('ascii')
+
+    def span(self, at: int) -> Tuple[int, int]:
+        """Where a line begins and ends in the text."""
+        start = self.start(at)
+        return start, self.text.index(b'\n', start)
 
     def brief(self, at: int) -> str:
         """A line, cut where it is long."""
-        start, end = self.starts[at], self.starts[at + 1] - 1
+        start, end = self.span(at)
         if end - start <= 2 * CUT:
             return self.raw(at)
         return f'{self.text[start:start + CUT].decode("ascii")} .. {end - start - CUT} bytes more'
 
     def number_at(self, position: int) -> int:
         """Which line holds a position of the text."""
-        return bisect_right(self.starts, position) - 1
+        piece = min(position // _PIECE, len(self._ended) - 1)
+        return self._ended[piece] + self.text.count(b'\n', piece * _PIECE, position)
+
+    def all(self) -> Iterator[bytes]:
+        """The lines, one after another."""
+        begin = 0
+        while begin < len(self.text):
+            end = self.text.find(b'\n', begin + _BLOCK) + 1 or len(self.text)
+            yield from bytes(self.text[begin:end - 1]).split(b'\n')
+            begin = end
 
 
 class OpcodeLines(Lines):
-    """The lines of opcodes, by their places. `closing` has the lines after them, and `makers` which opcodes make objects."""
+    """The lines of opcodes, by their places. `closing` has the lines after them, and `makers` which opcodes make objects. `finds_codes`: it
+    takes the codes from the lines."""
 
-    def __init__(self) -> None:
+    def __init__(self, codes: Optional[bytes] = None) -> None:
+        """Where the codes of all opcodes are known, they are not looked for in the lines."""
         super().__init__()
         self.closing: List[str] = []
-        self.makers = Makers()
+        self.finds_codes = codes is None
+        self.makers = Makers(codes or b'')
 
-    def add(self, lines: List[bytes]) -> None:
+    def add(self, lines: bytes) -> None:
         """Adds lines, each with its newline."""
         super().add(lines)
-        self.makers.take(lines)
+        if self.finds_codes and lines:
+            self.makers.take(lines[:-1].split(b'\n'))
 
     def at(self, place: int) -> Line:
         """The opcode at a place."""
@@ -112,13 +127,8 @@ class OpcodeLines(Lines):
 
     def offset(self, place: int) -> int:
         """The offset of the opcode at a place."""
-        start = self.starts[place]
+        start = self.start(place)
         return int(self.text[start:self.text.index(b':', start)])
-
-    def number_of(self, place: int) -> int:
-        """The number that is the argument of the opcode at a place."""
-        end = self.starts[place + 1] - 1
-        return int(self.text[self.text.rindex(b' ', self.starts[place], end) + 1:end])
 
     def place_of(self, offset: int) -> int:
         """The place of the opcode that holds an offset."""
@@ -130,7 +140,7 @@ class OpcodeLines(Lines):
 
     def find(self, text: bytes, after: int) -> Optional[int]:
         """The next place behind one whose line holds a text; where there is none up to the end, the first from the start."""
-        start = self.starts[min(after + 1, len(self))]
+        start = self.start(min(after + 1, len(self)))
         found = self.text.find(text, start)
         if found < 0:
             found = self.text.find(text, 0, start)
@@ -153,10 +163,12 @@ class _Cutter:
         if not newline:
             return
         end = others.rfind(b'\n') + 1
-        lines = others[:end].splitlines(keepends=True)
-        if max(map(len, lines), default=0) > CUT:
-            lines = [_cut(line[:-1]) + b'\n' for line in lines]
-        self._into.add([_cut(bytes(self._head), self._length - len(self._head)) + b'\n', *lines])
+        self._into.add(_cut(bytes(self._head), self._length - len(self._head)) + b'\n')
+        if end:
+            lines = others[:end]
+            if any(lines.find(b'\n', at, at + CUT // 2) < 0 for at in range(0, len(lines), CUT // 2)):  # (else no line is so long)
+                lines = b'\n'.join(map(_cut, lines.split(b'\n')))
+            self._into.add(lines)
         self._head, self._length = bytearray(), 0
         self._grow(others[end:])
 
@@ -203,39 +215,42 @@ def _read(into: Lines, process: Process, told: Callable[[str], None] = silent, w
         told(f'{word}: {len(into):,} lines')
 
 
-def read_all(given: Input, options: Sequence[str] = (), told: Callable[[str], None] = silent) -> 'Tuple[OpcodeLines, Lines, str, bool]':
+def read_all(given: Input, options: Sequence[str] = (), told: Callable[[str], None] = silent,
+             codes: Optional[bytes] = None) -> 'Tuple[OpcodeLines, Lines, str, bool]':
     """The lines of `list`, those of `objects` without its closing lines, the text of `calls`, and whether this is only its first lines. The
-    program works on all of them at once where the input is not large."""
-    tasks = [['list', *options], ['objects', *options], ['calls', *([] if options else ['--first'])]]
+    program works on all of them at once where the input is not large. Of a pickle that is read unframed, `calls` comes after `list`, which says
+    where the FRAMEs are that it leaves out. `codes` are those of all opcodes, where they are known."""
+    tasks = [['list', *options], ['objects', *options]]
+    of_calls = ['calls', *([] if '--many' in options else ['--first'])]
+    is_framed = '--unframed' not in options
     with contextlib.ExitStack() as running:
         def start(words: List[str]) -> Process:
             process = Process([*words, given.path], given.files)
             running.callback(process.close)
             return process
-        started = map(start, tasks)  # (it starts each where it is asked for)
+        started = map(start, [*tasks, of_calls] if is_framed else tasks)  # (it starts each where it is asked for)
         processes = iter(list(started)) if os.stat(given.path).st_size <= _MOST_AT_ONCE else started
-        listing = _read_listing(next(processes), told, os.stat(given.path).st_size)
+        listing = _read_listing(next(processes), OpcodeLines(codes), told, os.stat(given.path).st_size)
         objects = _read_objects(next(processes), told)
         told('calls ..')
-        calls, is_part = _read_calls(next(processes))
+        holes = running.enter_context(left_out(() if is_framed else frames_in(listing.text)))
+        calls, is_part = _read_calls(next(processes) if is_framed else start([*of_calls, *holes]))
     return listing, objects, calls, is_part
 
 
-def _read_listing(process: Process, told: Callable[[str], None], size: int) -> OpcodeLines:
-    listing = OpcodeLines()
-
+def _read_listing(process: Process, listing: OpcodeLines, told: Callable[[str], None], size: int) -> OpcodeLines:
     def check(text: str) -> None:
         if listing.whole > 4 * size + _MOST_LINE * len(listing) + _MOST_DEEP:  # (a byte of a text has up to four letters)
             raise ProgramError('too many marks are open at once to be shown')
         told(text)
     _read(listing, process, check, 'list')
-    while len(listing) and not OFFSET.match(listing.raw(len(listing) - 1)):
+    while len(listing) and not begins_with_offset(listing.raw(len(listing) - 1)):
         listing.closing.insert(0, listing.drop_last())
     if not listing.closing:
         raise ProgramError('the program gave no whole listing')
     if b'\nleft: ' in listing.text:  # (what a STOP left comes after it, also where another pickle follows)
-        whole = OpcodeLines()
-        whole.add([line for line in bytes(listing.text).splitlines(keepends=True) if not line.startswith(b'left: ')])
+        whole = OpcodeLines(None if listing.finds_codes else bytes(listing.makers.codes))
+        whole.add(b''.join(line for line in bytes(listing.text).splitlines(keepends=True) if not line.startswith(b'left: ')))
         whole.whole, whole.closing = listing.whole, listing.closing
         return whole
     return listing
@@ -258,17 +273,18 @@ def add_items(listing: OpcodeLines, given: Input, options: Sequence[str] = ()) -
         os.write(process.stdin, b'items\nquit\n')
         _read(items, process)
     added = []
-    for place in range(len(listing), len(items)):
-        match = ITEM.match(items.raw(place))
-        if match is not None:
-            added.append(f'{match[4]:>5}: {_CODES[match[5]]:4} {match[5]}{" " + match[6] if match[6] else ""}\n'.encode('ascii'))
-    listing.add(added)
+    for item in islice(items.all(), len(listing), None):
+        line = item_line_of(item.decode('ascii'))
+        if line is not None:
+            added.append(f'{line.offset:>5}: {_CODES[line.name]:4} {line.name}{line.argument and " " + line.argument}\n'.encode('ascii'))
+    if added:
+        listing.add(b''.join(added))
 
 
 def _read_objects(process: Process, told: Callable[[str], None]) -> Lines:
     objects = Lines()
     _read(objects, process, told, 'objects')
-    while len(objects) and objects.text[objects.starts[-2]] != ord('#'):
+    while len(objects) and objects.text[objects.start(len(objects) - 1)] != ord('#'):
         objects.drop_last()
     return objects
 
@@ -293,6 +309,7 @@ MAKE_NONE = frozenset(
     'PROTO FRAME STOP MARK POP POP_MARK DUP PUT BINPUT LONG_BINPUT MEMOIZE GET BINGET LONG_BINGET APPEND APPENDS SETITEM SETITEMS '
     'ADDITEMS BUILD'.split())
 
+CODE_BY_NAME: Dict[str, int] = {opcode.name: ord(opcode.code) for opcode in pickletools.opcodes}
 # The codes of opcodes, as they stand in a line with the blanks behind them.
 _CODE_OF: Dict[bytes, int] = {f'{shown_code(opcode.code):4}'.encode('ascii'): ord(opcode.code) for opcode in pickletools.opcodes}
 # What an opcode makes, by its code: none, an object, or perhaps one.
@@ -307,8 +324,8 @@ class Makers:
     """Which opcodes make objects, of a listing whose lines come in batches. The objects have their numbers in the order of these. `codes` has
     the codes of all opcodes."""
 
-    def __init__(self) -> None:
-        self.codes = bytearray()
+    def __init__(self, codes: bytes = b'') -> None:
+        self.codes = bytearray(codes)
         self._makes = bytearray()  # by the places
         self._sums: List[int] = []
 
@@ -327,7 +344,7 @@ class Makers:
         """
         self._makes = self.codes.translate(_MAKES)
         count = self._makes.count(_PERHAPS)
-        are_all = bool(count) and count == len(READONLY.findall(objects.text))
+        are_all = bool(count) and count == readonly_count(objects.text)
         number = begin = 0
         for place in _found(self._makes, _PERHAPS):
             number += self._makes.count(_ONE, begin, place)

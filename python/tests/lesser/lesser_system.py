@@ -104,7 +104,8 @@ class _Popen(subprocess.Popen):  # type: ignore[type-arg]
         if not isinstance(command, str) and str(command[0]).startswith(('/bin/', '/usr/bin/env')):
             raise FileNotFoundError(2, 'hidden', command[0])
         handles = startupinfo.lpAttributeList.get('handle_list', []) if startupinfo is not None else []
-        super().__init__(command, *words, pass_fds=handles, **named)
+        # (A group of its own gets no Ctrl-C; here that is one without a terminal.)
+        super().__init__(command, *words, pass_fds=handles, start_new_session=bool(creationflags & _WINDOWS['CREATE_NEW_PROCESS_GROUP']), **named)
 
 
 _WINDOWS: Dict[str, Any] = {'STARTUPINFO': _Startup, 'Popen': _Popen, 'CREATE_NEW_PROCESS_GROUP': 512}

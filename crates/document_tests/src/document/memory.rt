@@ -2,7 +2,8 @@
 
 use crate::document::shown::{Spelled, Wrong, make, open};
 use pickle_doc::{DocFault, Document, Edit, EditFault};
-use pickle_ops::{Opcode, ToWrite};
+use pickle_io::ToWrite;
+use pickle_ops::Opcode;
 use std::alloc::Global;
 use std::io::Cursor;
 

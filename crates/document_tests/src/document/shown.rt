@@ -4,43 +4,50 @@ ghost use Rattle.std.specs.Prelude.{◌≡◌, ◌+◌, ◌≤◌, length, IfOk,
 ghost use Rattle.pickle_doc.specs.Document.{Contents, items_of};
 ghost use Rattle.pickle_doc.specs.Swap.{EditLeads};
 
-use pickle_doc::{DocFault, Document, Edit, EditFault, EditRecord, End};
-use pickle_ops::{Failed, Op, OpFault, Opcode, ToWrite, op_of};
+use pickle_doc::{DocFault, Document, Edit, EditFault, EditRecord, End, TailFault};
+use pickle_io::{Failed, Page, ToWrite, write_all, write_decimal};
+use pickle_ops::{FrontFault, Op, OpFault, Opcode, op_of};
 use std::alloc::Global;
+use test_equipment::{paper, taken};
 
-/// An item: where it begins, its name, the place of the FRAME whose member it is, and its identity.
-pub type Want = (u64, &'static str, Option<usize>, u32);
-
-/// What a document shows.
-pub struct Shown {
-    pub bytes: &'static [u8],
-    pub items: &'static [Want],
-    pub tail: &'static [u8],
-    pub end: End,
-}
+/// Bytes, and what they read as: of each item the offset, the name, the identity, and the place of the FRAME whose member it is; then the
+/// offset of the tail and how reading ended.
+pub type Shown = (&'static [u8], &'static str);
 
 /// An edit as a table has it: its opcode, and the bytes of the argument.
 pub type Spelled = Edit<(Opcode, &'static [u8])>;
 
-/// A document, an edit that is accepted, and the document after it.
-pub struct Row {
-    pub before: Shown,
-    pub edit: Spelled,
-    pub after: Shown,
-}
+/// Bytes and what they read as, an edit that is accepted, and the same after it.
+pub type Row = (
+    &'static [u8],
+    &'static str,
+    Spelled,
+    &'static [u8],
+    &'static str,
+);
+
+/// Bytes, and edits of them that are refused, and why.
+pub type Refused = (&'static [u8], &'static [(Spelled, EditFault)]);
+
+/// Opcodes of edits.
+pub const NONE: (Opcode, &[u8]) = (Opcode::None, b"");
+
+pub const STOP: (Opcode, &[u8]) = (Opcode::Stop, b"");
+
+pub const FRAME: (Opcode, &[u8]) = (Opcode::Frame, b"\0\0\0\0\0\0\0\0");
 
 /// What was seen that should not be.
 #[derive(Clone, Copy, Debug, PartialEq, Eq)]
 pub enum Wrong {
     /// A test's own memory was refused.
     Memory,
-    /// There are other items, from this place on.
-    Items(usize),
+    /// Other items, another tail or another end are shown.
+    Items,
     /// The identities are others.
     Ids,
     /// An offset has another place.
     Offsets,
-    /// The tail, the end or the total is another.
+    /// The tail or the total is another.
     Tail,
     /// Other bytes are written.
     Bytes,
@@ -125,13 +132,68 @@ pub fn have_same_ids(left: &Document, right: &Document) -> bool {
     true
 }
 
-/// Whether item k of a document is this one.
-fn is_item(document: &Document, k: usize, want: &Want) -> bool {
-    let (offset, name, frame, id) = want;
-    document.item(k).map(|op| op.opcode().name()) == Some(*name)
-        && document.offset(k) == Some(*offset)
-        && document.frame_of(k) == *frame
-        && document.id(k) == Some(*id)
+/// The code of a fault of the tail, as the listing has it.
+fn code_of(fault: TailFault) -> &'static str {
+    match fault {
+        TailFault::Front(FrontFault::Ended) => "F1",
+        TailFault::Front(FrontFault::UnknownOpcode(_)) => "F2",
+        TailFault::Front(FrontFault::Truncated) => "F3",
+        TailFault::Front(FrontFault::NegativeLength) => "F4",
+        TailFault::Front(FrontFault::BadArgument) => "F5",
+        TailFault::FrameInFrame => "F6",
+        TailFault::FramePastEnd => "F7",
+        TailFault::FrameCrossed => "F8",
+    }
+}
+
+/// Writes how reading ended.
+fn write_end<S: Page>(end: End, sink: &mut S) -> Result<(), Failed> {
+    let End::Fault(fault, offset) = end else {
+        return write_all(sink, b"stopped");
+    };
+    write_all(sink, code_of(fault).as_bytes())?;
+    if let TailFault::Front(FrontFault::UnknownOpcode(byte)) = fault {
+        write_all(sink, b" of ")?;
+        write_decimal(u64::from(byte), sink)?;
+    }
+    write_all(sink, b" at ")?;
+    write_decimal(offset, sink)
+}
+
+/// Writes item k, which is there, and signs after it.
+fn write_item<S: Page>(document: &Document, k: usize, sink: &mut S) -> Result<(), Failed> {
+    write_decimal(document.offset(k).unwrap_or(u64::MAX), sink)?;
+    write_all(sink, b" ")?;
+    let name = document.item(k).map_or("", |op| op.opcode().name());
+    write_all(sink, name.as_bytes())?;
+    write_all(sink, b" #")?;
+    write_decimal(u64::from(document.id(k).unwrap_or(u32::MAX)), sink)?;
+    if let Some(frame) = document.frame_of(k) {
+        write_all(sink, b" in ")?;
+        write_decimal(frame as u64, sink)?;
+    }
+    write_all(sink, b"; ")
+}
+
+/// What a document shows, as a table has it.
+fn text_of(alloc: Global, document: &Document) -> Result<Vec<u8>, Wrong> {
+    let Ok(mut sink) = paper(alloc) else {
+        return Err(Wrong::Memory);
+    };
+    for k in 0..document.len() {
+        write_item(document, k, &mut sink)?;
+    }
+    let start = document.offset(document.len()).unwrap_or(u64::MAX);
+    write_decimal(start, &mut sink)?;
+    write_all(&mut sink, b" ")?;
+    write_end(document.end(), &mut sink)?;
+    Ok(taken(sink)?)
+}
+
+/// Whether bytes that read as one pickle go on after its STOP.
+pub fn has_bytes_left(alloc: Global, bytes: &[u8]) -> Result<bool, DocFault> {
+    let document = Document::read(alloc, bytes)?;
+    Ok(document.end() == End::Stopped && !document.tail().is_empty())
 }
 
 /// Whether there is no item after the last one.
@@ -159,28 +221,23 @@ fn has_places(document: &Document, start: u64) -> bool {
 }
 
 /// Whether a document shows this, and its bytes read as it.
-pub fn shows(alloc: Global, document: &Document, want: &Shown) -> Result<(), Wrong> {
-    for (k, item) in want.items.iter().enumerate() {
-        if !is_item(document, k, item) {
-            return Err(Wrong::Items(k));
-        }
+pub fn shows(alloc: Global, document: &Document, want: Shown) -> Result<(), Wrong> {
+    let (bytes, text) = want;
+    if text_of(alloc, document)?.as_slice() != text.as_bytes() || !has_no_more(document) {
+        return Err(Wrong::Items);
     }
-    let len = document.len();
-    let start = want.bytes.len().saturating_sub(want.tail.len()) as u64;
-    if len != want.items.len() || document.offset(len) != Some(start) || !has_no_more(document) {
-        return Err(Wrong::Items(len));
-    }
+    let start = document.offset(document.len()).unwrap_or(u64::MAX);
     if !has_places(document, start) {
         return Err(Wrong::Offsets);
     }
-    let total = want.bytes.len() as u64;
-    if document.tail() != want.tail || document.end() != want.end || document.total() != total {
+    let tail = bytes.get(start as usize..);
+    if Some(document.tail()) != tail || document.total() != bytes.len() as u64 {
         return Err(Wrong::Tail);
     }
-    if written(alloc, document)?.as_slice() != want.bytes {
+    if written(alloc, document)?.as_slice() != bytes {
         return Err(Wrong::Bytes);
     }
-    let again = open(alloc, document.is_many(), want.bytes)?;
+    let again = open(alloc, document.is_many(), bytes)?;
     are_alike(document, &again)
 }
 
@@ -189,7 +246,7 @@ pub fn swap_to(
     alloc: Global,
     document: &mut Document,
     record: &mut EditRecord,
-    want: &Shown,
+    want: Shown,
 ) -> Result<(), Wrong>
     requires leads { (e : Contents) × EditLeads record.old document.old.contents e × (length (items_of e) ≤ length (items_of document.old.contents) + document.old.room) }
     ensures back { (e : Contents) × EditLeads record.new document.new.contents e × (length (items_of e) ≤ length (items_of document.new.contents) + document.new.room) }

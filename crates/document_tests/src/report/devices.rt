@@ -1,14 +1,14 @@
 //! Texts that go to sinks which fail at each of their calls in turn.
 
 use crate::report::opened;
+use pickle_io::{Failed, Page};
 use pickle_machine::Machine;
-use pickle_ops::{Failed, Page};
 use pickle_show::{
     TextStop, write_document_report, write_memo, write_object, write_objects, write_show,
     write_stack,
 };
 use std::alloc::Global;
-use test_equipment::{Sip, page_over, written_out};
+use test_equipment::{Sip, page_over, paper, taken, written_out};
 
 /// A text of a machine, or of some bytes.
 #[derive(Clone, Copy)]
@@ -61,6 +61,13 @@ fn write_text<S: Page>(
     Ok(())
 }
 
+/// A text with a good sink and ample memory.
+pub fn text_of(alloc: Global, machine: &Machine, text: Text<'_>) -> Result<Vec<u8>, TextStop> {
+    let mut sink = paper(alloc)?;
+    write_text(alloc, machine, text, &mut sink)?;
+    Ok(taken(sink)?)
+}
+
 /// What a sink is left with that takes at most this many bytes a call and fails after this many calls: whether it has all of the
 /// text, or nothing where it has no beginning of it, was called again after its failure, or failed and this was not reported.
 fn is_whole(
@@ -94,22 +101,23 @@ fn is_whole(
 
 /// How many sinks took a beginning of the text and failed, and were not called again; 0 where one was left otherwise. There is
 /// one that fails at each call, of those that take 1, 2 and 7 bytes a call, and then one that takes all.
-pub fn every_break(alloc: Global, machine: &Machine, text: Text<'_>, wanted: &[u8]) -> usize {
+pub fn every_break(alloc: Global, machine: &Machine, text: Text<'_>) -> Result<usize, TextStop> {
+    let wanted = text_of(alloc, machine, text)?;
     let mut broken = 0usize;
     for most in [1, 2, 7] {
         let mut is_done = false;
         for calls in 0..=wanted.len() as u64 {
             if !is_done {
-                match is_whole(alloc, machine, text, wanted, most, calls) {
+                match is_whole(alloc, machine, text, &wanted, most, calls) {
                     Some(found) => is_done = found,
-                    None => return 0,
+                    None => return Ok(0),
                 }
                 broken = broken.saturating_add(1);
             }
         }
         if !is_done {
-            return 0;
+            return Ok(0);
         }
     }
-    broken
+    Ok(broken)
 }

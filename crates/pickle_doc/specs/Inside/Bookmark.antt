@@ -34,6 +34,6 @@ pub record IsBookmark (m : Bookmark) (items : List Item) : Type 0 where
   pub small : sizes items ≤ size_limit
 
 -- what a document keeps, with a bookmark in its items
-pub record IsBookmarked (many : Bool) (items : List Item) (tail : List ℕ) (e : Option TailFault) (next start : ℕ) (m : Bookmark) : Type 0 where
-  pub kept : IsKept many items tail e next start
+pub record IsBookmarked (many loose : Bool) (items : List Item) (tail : List ℕ) (e : Option TailFault) (next start : ℕ) (m : Bookmark) : Type 0 where
+  pub kept : IsKept many loose items tail e next start
   pub bookmark : IsBookmark m items

@@ -7,15 +7,15 @@ use Rattle.pickle_doc.specs.Document.{AreCounted, HaveOwnIds, size_limit}
 use Rattle.pickle_doc.specs.Fitting.{FitsFrom}
 
 -- items, the tail after them and its fault that the bytes read as, in a mode
-pub record AreParts (many : Bool) (bytes : List ℕ) (items : List Item) (tail : List ℕ) (e : Option TailFault) : Type 0 where
-  pub fit : FitsFrom many 0 (operations items) tail e
+pub record AreParts (many loose : Bool) (bytes : List ℕ) (items : List Item) (tail : List ℕ) (e : Option TailFault) : Type 0 where
+  pub fit : FitsFrom many loose 0 (operations items) tail e
   pub whole : bytes_of (operations items) ++ tail ≡ bytes
   pub ids : AreCounted 0 items
 
--- what a document keeps: its mode, the items, the tail, the fault at which reading ended, the next identity, and the offset of
+-- what a document keeps: its modes, the items, the tail, the fault at which reading ended, the next identity, and the offset of
 -- the tail
-pub record IsKept (many : Bool) (items : List Item) (tail : List ℕ) (e : Option TailFault) (next start : ℕ) : Type 0 where
-  pub fit : FitsFrom many 0 (operations items) tail e
+pub record IsKept (many loose : Bool) (items : List Item) (tail : List ℕ) (e : Option TailFault) (next start : ℕ) : Type 0 where
+  pub fit : FitsFrom many loose 0 (operations items) tail e
   pub ids : HaveOwnIds items next
   pub few : next ≤ 2 ^ 32
   pub offset : start ≡ sizes items

@@ -34,7 +34,7 @@ undo_number (Some f) items = number_at f.place (slice_get items f.place)
 
 -- the document on the other side
 abbrev pub other_side : EditRecord → Contents → Contents
-other_side r d = contents_of d.many (swapped_items r (items_of d)) d.tail d.next
+other_side r d = contents_of d.many d.loose (swapped_items r (items_of d)) d.tail d.next
 
 -- the record that leads back
 abbrev pub swap_back : EditRecord → List Item → EditRecord

@@ -4,8 +4,9 @@ ghost use Rattle.std.specs.Prelude.{◌≡◌, IfOk, OnOk, OnErr};
 ghost use Rattle.pickle_machine.specs.Held.{KeepsRooms, Fits};
 ghost use Rattle.pickle_machine.specs.Back.{Leads};
 
+use pickle_io::Failed;
 use pickle_machine::{Machine, Refusal, StepRecord};
-use pickle_ops::{Failed, Op, OpFault, Opcode, read_op};
+use pickle_ops::{Op, OpFault, Opcode, read_op};
 use std::alloc::{AllocError, AllocFailed, Global};
 use test_equipment::{paper, shows_state, taken, write_state};
 

@@ -7,12 +7,10 @@ from typing import Dict, NoReturn, Optional, Tuple
 
 __all__ = ['Form', 'Member', 'NotCanonical', 'WRITERS', 'require', 'wrong']
 
-# Who writes each form, as a line names it.
+# Who writes the forms of pickles, as a line names it. (`containers` has those of containers.)
 WRITERS: Dict[str, str] = {
-    'zip': 'torch, zipfile, Info-ZIP and 7-Zip write', 'tar': 'tarfile, GNU tar and bsdtar write', 'npy': 'numpy.save writes',
-    'gzip': 'gzip and Python write', 'bz2': 'bzip2 and Python write', 'xz': 'xz and Python write', 'lzma': 'xz and Python write',
-    'zlib': 'zlib.compress writes', 'zstd': 'zstd and pandas write', 'zfile': 'joblib before 0.10 writes', 'pickle': 'picklers write', 'torch': 'torch.save writes',
-    'torch-legacy': 'torch.save before 1.6 writes', 'torch-tar': 'torch.save before 0.1.12 writes',
+    'pickle': 'picklers write', 'torch': 'torch.save writes', 'torch-legacy': 'torch.save before 1.6 writes',
+    'torch-tar': 'torch.save before 0.1.12 writes',
 }
 
 
@@ -58,7 +56,8 @@ class Member:
 
 @dataclass(frozen=True)
 class Form:
-    """A container in its strict form: its members in order. All other bytes of it are accounted for."""
+    """A container in its strict form: its members in order, and whether it is laid out as torch.save does. All other bytes of it are
+    accounted for."""
 
-    kind: str
     members: Tuple[Member, ...]
+    is_torch: bool = False

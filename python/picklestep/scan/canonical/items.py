@@ -9,17 +9,22 @@ import re
 from typing import Any, Tuple
 
 from .forms import require, wrong
-from .pickles import Global, Made, PDict
+from .pickles import Global, Made, OldText, PDict
 
 __all__ = ['Item', 'count_of_shape', 'item_of_description', 'item_of_pickled']
 
+_WRONG_FLAGS = 'flags of a numpy.dtype that do not fit its fields'
 # Bytes of an item, and whether it holds objects.
 Item = Tuple[int, bool]
 
 _CODE = re.compile(r'([<>|=]?)([biufcSUVmMO])([0-9]*)(\[[0-9]*[A-Za-z]+(?:/[0-9]+)?\])?')
 _SIZES = {'b': (1,), 'i': (1, 2, 4, 8), 'u': (1, 2, 4, 8), 'f': (2, 4, 8, 12, 16), 'c': (8, 16, 24, 32), 'm': (8,), 'M': (8,)}
 _LARGEST = 2 ** 63
+# The flags of numpy.dtype: of texts, of objects, and those that fields can hand on, with that of an aligned item.
 _HAS_OBJECT = 1
+_OF_TEXTS, _OF_OBJECTS, _OF_FIELDS = 8, 63, 0x1B | 0x80
+# The versions of its state, each with its length. Of older ones numpy works the flags out again, and differently.
+_STATES = ((3, 8), (4, 9))
 
 
 def item_of_description(description: Any) -> Item:
@@ -78,9 +83,21 @@ def count_of_shape(shape: Any) -> int:
 def item_of_pickled(value: Any, depth: int = 0) -> Item:
     """The items that a pickled numpy.dtype describes: a call of numpy.dtype with a code, given the state of dtype.__reduce__."""
     item = _of_state(value, depth)
-    flags = value.state[7]  # (joblib asks them, and not the fields, whether a pickle follows)
-    require(type(flags) is int and bool(flags & _HAS_OBJECT) == item[1], 'flags of a numpy.dtype that do not fit its fields')
+    kind, (_, _, subarray, names, *_), flags = _as_text(value.arguments[0])[:1], value.state[:6], value.state[7]
+    require(type(flags) is int and -128 <= flags < 256, _WRONG_FLAGS)
+    flags &= 0xFF
+    # (joblib asks them, and not the fields, whether a pickle follows)
+    require(bool(flags & _HAS_OBJECT) == item[1], _WRONG_FLAGS)
+    if kind == 'V' and subarray is None and names is not None:
+        require(not flags & ~_OF_FIELDS, _WRONG_FLAGS)
+    elif kind != 'V' or subarray is None:
+        require(flags == {'O': _OF_OBJECTS, 'U': _OF_TEXTS}.get(kind, 0), _WRONG_FLAGS)
     return item
+
+
+def _as_text(value: Any) -> str:
+    """A text, also one that Python 2 wrote. Anything else is as an empty one."""
+    return value if isinstance(value, str) else value.decode('latin-1') if isinstance(value, OldText) else ''
 
 
 def _of_state(value: Any, depth: int) -> Item:
@@ -88,13 +105,13 @@ def _of_state(value: Any, depth: int) -> Item:
     if not isinstance(value, Made) or value.function != Global('numpy', 'dtype') or not isinstance(value.arguments, tuple):
         wrong('items that are no numpy.dtype')
     code = value.arguments[0] if value.arguments else None
-    found = re.fullmatch(r'([biufcSUVmMO])([0-9]{1,9})', code if isinstance(code, str) else
-                         code.decode('latin-1') if isinstance(code, bytes) else '')
+    found = re.fullmatch(r'([biufcSUVmMO])([0-9]{1,9})', _as_text(code))
     require(found is not None, 'items of an unknown kind')
     assert found is not None
     kind, number, state = found[1], int(found[2]), value.state
     if not isinstance(state, tuple) or len(state) not in (8, 9):
         wrong('a numpy.dtype with another state')
+    require(type(state[0]) is int and (state[0], len(state)) in _STATES, 'a numpy.dtype whose state has another version')
     _, _, subarray, names, fields, size = state[:6]
     if kind == 'O':
         return 8, True
@@ -129,7 +146,7 @@ def _have_objects(names: Any, fields: Any, size: int, depth: int) -> bool:
     described = fields.by_text()
     has_objects = False
     for name in names:
-        field = described.get(name.decode('latin-1') if isinstance(name, bytes) else name)
+        field = described.get(_as_text(name))
         if not isinstance(field, tuple) or len(field) not in (2, 3) or type(field[1]) is not int:
             wrong('fields of an odd form')
         length, has = item_of_pickled(field[0], depth + 1)

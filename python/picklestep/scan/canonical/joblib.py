@@ -13,8 +13,10 @@ from .forms import NotCanonical
 from .items import count_of_shape, item_of_pickled
 from .pickles import Global, Made, PDict, Reader, read_pickle
 
-__all__ = ['on_build']
+__all__ = ['SIGN', 'on_build']
 
+# Where these bytes are not, nothing is one of joblib's classes of arrays: a name of an import stands in a pickle as it is.
+SIGN = b'ArrayWrapper'
 _WRAPPER = Global('joblib.numpy_pickle', 'NumpyArrayWrapper')
 _DTYPE = Global('numpy', 'dtype')
 _KEYS = {'subclass', 'shape', 'order', 'dtype', 'allow_mmap'}

@@ -5,62 +5,66 @@ from __future__ import annotations
 import re
 from typing import List, Optional
 
-from ..begins import HEAD, kind_of, unread_kind_of
+from ..begins import HEAD
 from ..blobs import Blob
-from ..packed import opens_zstd
-from ..tars import BLOCK
-from .streams import also_unpacks
-from .tars import looks_like_header
+from ..containers import CONTAINERS, PACKED, Container, kind_of, named, store_of
+from ..unread import kind_of_file, kind_of_short
 
-__all__ = ['UNREAD', 'asked_form', 'begun_form', 'kinds_of', 'without_ending']
-
-# Before the name of a container that is known and not opened.
-UNREAD = 'unread '
+__all__ = ['asked_form', 'begun_form', 'kinds_of', 'without_ending']
 
 # Loaders (pandas, numpy, tarfile) choose what they read by these endings: another form under them is told.
-_ASKED = {'gz': 'gzip', 'gzip': 'gzip', 'tgz': 'gzip', 'bz2': 'bz2', 'tbz2': 'bz2', 'xz': 'xz', 'txz': 'xz', 'lzma': 'lzma', 'zip': 'zip',
-          'npz': 'zip', 'whl': 'zip', 'keras': 'zip', 'tar': 'tar', 'npy': 'npy'}
+_ASKED = {ending: each for each in CONTAINERS for ending in (*each.endings, each.tar_ending) if ending}
 # People name what torch.save writes so.
 _NOT_TAR = re.compile(r'.*\.(pth|pt|ckpt|bin)\.tar', re.IGNORECASE | re.DOTALL)
-_PACKED_ENDING = re.compile(r'\.(gz|gzip|bz2|xz|lzma|z|zlib|zst|tgz|tbz2|txz)$', re.IGNORECASE)
+_PACKED_TARS = frozenset(each.tar_ending for each in PACKED if each.tar_ending)
+_PACKED_ENDINGS = [*_PACKED_TARS, *(ending for each in PACKED for ending in (*each.endings, *each.other_endings))]
+_PACKED_ENDING = re.compile(rf'\.({"|".join(_PACKED_ENDINGS)})$', re.IGNORECASE)
+_BY_MORE = tuple(each for each in CONTAINERS if each.takes is not None)
 
 
-def kinds_of(blob: Blob, head: bytes, tries: bool = True) -> List[str]:
-    """All kinds of containers that some reader may take these bytes for. One that is not opened begins with `UNREAD`.
+def kinds_of(blob: Blob, head: bytes, tries: bool = True) -> List[Container]:
+    """All kinds of containers, and of stores that are files, that some reader may take these bytes for. Of streams it is one at most.
 
     Without `tries` those are left out that only unpacking shows.
     """
-    kinds: List[str] = []
     known = kind_of(head)
-    if known in ('zip', 'npy') or known == 'zfile' and tries:
-        kinds.append(known)
-    if head[257:262] == b'ustar' or looks_like_header(head[:BLOCK]):
-        kinds.append('tar')
-    unread = unread_kind_of(head)
-    if unread == 'zstd' and opens_zstd():
-        kinds.append('zstd')
-    elif unread is not None:
-        kinds.append(UNREAD + unread)
-    stream = also_unpacks(blob, head[:HEAD], tries)
-    if stream is not None:
-        kinds.append(stream)
-    return kinds
+    kinds = [known] if known is not None and _is_by_sign(known) and (tries or not _is_weak(known)) else []
+    kinds += [each for each in _BY_MORE if each.takes is not None and each.takes(head)]
+    unread = kind_of_file(blob, head) if tries else kind_of_short(head)
+    if unread is not None:
+        kinds.append(named(unread))
+    start = head[:HEAD]
+    for each in PACKED:
+        if each.stream is not None and each.stream.takes is not None and (tries or not each.stream.is_weak) and each.stream.takes(blob, start):
+            kinds.append(each)
+            break
+    store = store_of(head)
+    return kinds if store is None else [*kinds, store]
 
 
-def begun_form(head: bytes) -> Optional[str]:
-    """The form that bytes which are of no kind only begin like: no reader goes on from there, and the program names it all the same.
+def _is_by_sign(kind: Container) -> bool:
+    """Whether readers take for a kind what begins so, and nothing else."""
+    return kind.takes is None and (kind.stream is None or kind.stream.takes is None)
 
-    >>> begun_form(b'\\x1f\\x8b\\0'), begun_form(b'BZh\\0'), begun_form(b'PK')
-    ('gzip', 'bz2', None)
+
+def _is_weak(kind: Container) -> bool:
+    return kind.stream is not None and kind.stream.is_weak
+
+
+def begun_form(head: bytes) -> Optional[Container]:
+    """The kind that bytes which are of no kind only begin like: no reader goes on from there, and the program names it all the same.
+
+    >>> [str(begun_form(head)) for head in (b'\\x1f\\x8b\\0', b'BZh\\0', b'PK')]
+    ['gzip', 'bz2', 'None']
     """
-    return next((form for begin, form in ((b'\x1f\x8b', 'gzip'), (b'BZh', 'bz2')) if head.startswith(begin)), None)
+    return next((each for each in CONTAINERS if each.begun and head.startswith(each.begun)), None)
 
 
-def asked_form(name: str) -> Optional[str]:
-    """The form that the ending of a name asks for.
+def asked_form(name: str) -> Optional[Container]:
+    """The kind that the ending of a name asks for.
 
-    >>> asked_form('data.pkl.gz'), asked_form('model.pth.tar'), asked_form('weights.bin')
-    ('gzip', None, None)
+    >>> [str(asked_form(name)) for name in ('data.pkl.gz', 'model.pth.tar', 'weights.bin')]
+    ['gzip', 'None', 'None']
     """
     if _NOT_TAR.fullmatch(name):
         return None
@@ -73,4 +77,4 @@ def without_ending(name: str) -> str:
     >>> without_ending('data.pkl.gz'), without_ending('models.tgz')
     ('data.pkl', 'models.tar')
     """
-    return _PACKED_ENDING.sub(lambda found: '.tar' if found[1][0] in 'tT' else '', name)
+    return _PACKED_ENDING.sub(lambda found: '.tar' if found[1].lower() in _PACKED_TARS else '', name)

@@ -5,13 +5,15 @@ What is left when the raw numbers are cut out are pickles that the program reads
 
 from __future__ import annotations
 
+import re
 import sys
 from dataclasses import dataclass, field
-from typing import List, Optional, Set, Tuple
+from typing import Iterator, List, Optional, Set, Tuple
 
 from ..blobs import Blob, Budget
 from . import joblib, torch
-from .forms import require
+from .formed import BEHIND, require_form
+from .forms import NotCanonical, require
 from .pickles import Pickle, read_pickle
 from .wide import imports_of
 
@@ -19,7 +21,10 @@ __all__ = ['Layout', 'alone', 'another_import', 'layout_of', 'of_torch_tar']
 
 # Modules that run what they are given, of Python 2 and of libraries that load pickles.
 _OTHER_MODULES = {'__builtin__', 'commands', 'popen2', 'numpy', 'torch', 'pandas', 'joblib', 'dill', 'cloudpickle', 'scipy', 'sklearn',
-                  'setuptools', 'pip', 'pkg_resources'}
+                  'setuptools', 'pip', 'pkg_resources', 'six', 'future', 'past', 'ruamel', 'yaml', 'jinja2', 'sympy'}
+
+# A package, and a name within it.
+_WORDS = re.compile(r'[A-Za-z_][A-Za-z0-9_]{1,39}(\.[A-Za-z_][A-Za-z0-9_]{1,39})*')
 
 # The magic number of torch's layout before 1.6 stands within so many bytes.
 _BEGIN = 32
@@ -30,7 +35,8 @@ class Layout:
     """Pickles in a row.
 
     `raw` are the ranges that are no opcodes of them, as offset and end, and `inner` those of these that are pickles with a memo of their own.
-    `counts` is set where a pickle after the first takes things from the memo by the order in which they came.
+    `counts` is set where a pickle after the first takes things from the memo by the order in which they came; `first_end` is the end of the
+    first.
     """
 
     imports: Set[Tuple[str, str]] = field(default_factory=set)
@@ -38,11 +44,13 @@ class Layout:
     inner: List[Tuple[int, int]] = field(default_factory=list)
     counts: bool = False
     pickles: int = 0
+    first_end: int = 0
 
     def add(self, pickle: Pickle) -> None:
         """Adds the pickle that comes next."""
         self.counts = self.counts or pickle.counts and self.pickles > 0 or any(inner.counts for inner in pickle.inner)
         self.pickles += 1
+        self.first_end = self.first_end or pickle.end
         self.raw += pickle.raw
         self.inner += [(inner.offset, inner.end) for inner in pickle.inner]
         self.imports.update(pickle.imports, *(inner.imports for inner in pickle.inner))
@@ -52,6 +60,8 @@ def layout_of(blob: Blob, budget: Optional[Budget] = None) -> Layout:
     """The pickles of a file, to its end."""
     if torch.MAGIC in blob.read(0, _BEGIN):
         return _of_torch(torch.legacy(blob, budget))
+    if blob.find(joblib.SIGN) < 0 and _is_one(blob, budget):
+        return Layout(pickles=1)
     layout = Layout()
     at = 0
     while at < blob.size or not at:
@@ -61,9 +71,21 @@ def layout_of(blob: Blob, budget: Optional[Budget] = None) -> Layout:
     return layout
 
 
+def _is_one(blob: Blob, budget: Optional[Budget]) -> bool:
+    """Whether the bytes are one pickle, and not a pickle with something behind it."""
+    try:
+        require_form(blob, budget)
+    except NotCanonical as other:
+        if other.reason != BEHIND:
+            raise
+        return False
+    return True
+
+
 def alone(blob: Blob, budget: Optional[Budget] = None) -> Layout:
     """The one pickle that all of these bytes are, for a loader that knows no raw arrays (numpy, torch)."""
-    return of_one(read_pickle(blob, 0, None, budget), blob)
+    require_form(blob, budget)
+    return Layout(pickles=1)
 
 
 def of_one(pickle: Pickle, blob: Blob, budget: Optional[Budget] = None) -> Layout:
@@ -94,11 +116,32 @@ def another_import(layout: Layout, blob: Blob, budget: Optional[Budget] = None) 
     """
     has_raw = bool(layout.raw)
     known = {module.partition('.')[0] for module, _ in layout.imports}
-    for keeps in (False,) * has_raw + (True,) * (has_raw or layout.counts):
-        for module, name in sorted(imports_of(blob, keeps, budget) - layout.imports):
-            if not keeps or _may_be_there(module, known):
+    names = {name for _, name in layout.imports}
+    for part, keeps, begin in _readings(layout, blob):
+        found = imports_of(part, keeps, budget, begin)
+        for module, name in sorted(found.names - layout.imports):
+            if not keeps or _may_be_there(module, known) or name not in names and _are_words(module, name):
                 return f'{module!a} {name!a}'
+        if found.limit is not None:
+            return f'what stands behind more opcodes than are gone over, at {found.limit}'
     return None
+
+
+def _readings(layout: Layout, blob: Blob) -> Iterator[Tuple[Blob, bool, int]]:
+    """What is read, whether with a memo that is kept, and up to where it is known: all, and each raw range by itself, as a pickle is."""
+    if layout.raw:
+        begin = min(start for start, _ in layout.raw)
+        yield blob, False, begin
+        yield blob, True, begin
+        for start, end in layout.raw:
+            yield blob.part(start, end - start), False, 0
+    elif layout.counts:
+        yield blob, True, layout.first_end
+
+
+def _are_words(module: str, name: str) -> bool:
+    """Whether both look as names of a package and of what is in it."""
+    return all(_WORDS.fullmatch(each) is not None for each in (module, name))
 
 
 def _may_be_there(module: str, known: Set[str]) -> bool:

@@ -26,9 +26,9 @@ def verify(blob: Blob, budget: Optional[Budget] = None) -> Form:
     start, (size, has_objects), count = _header(blob)
     if has_objects:
         require(start < blob.size, 'the pickle of an array of objects is missing')
-        return Form('npy', (Member('(objects)', start, blob.size - start, 'pickle'),))
+        return Form((Member('(objects)', start, blob.size - start, 'pickle'),))
     require(blob.size - start == size * count, f'the header says {size * count:,} bytes, and {blob.size - start:,} are there', start)
-    return Form('npy', (Member('(numbers)', start, blob.size - start, 'numbers'),))
+    return Form((Member('(numbers)', start, blob.size - start, 'numbers'),))
 
 
 def _header(blob: Blob) -> Tuple[int, Item, int]:

@@ -1,28 +1,25 @@
-"""Pickles in the form that picklers write.
+"""What pickles come to, as far as the form of what follows depends on it: joblib's arrays, torch's numbers, further pickles.
 
-Every loader that is known (C, Python, PyPy, joblib, torch) reads such a pickle in one way: no opcode that its protocol does not have,
-frames that end where an opcode ends and hold one another never, numbers, texts and memo keys as picklers spell them, nothing dropped or
-doubled, nothing done to what is imported but calls.
+A reader of values. Whether the opcodes are those of a pickler the program is asked (`formed`), so nothing of that is looked at here: where they
+are, this reads what every loader reads.
 
-This module stands for an answer that the program is to give, proved: nothing else of the package knows its rules.
-
-Sources: Lib/pickle.py and Modules/_pickle.c (3.6 to 3.13), Modules/cPickle.c (2.7), torch/csrc/jit/serialization/pickler.cpp,
-joblib/numpy_pickle.py, cloudpickle and dill.
+Sources: Lib/pickle.py and Modules/_pickle.c (3.6 to 3.13), torch/csrc/jit/serialization/pickler.cpp, joblib/numpy_pickle.py.
 """
 
 from __future__ import annotations
 
 import codecs
-import pickletools
 import re
 import struct
+from pickletools import opcodes
 from dataclasses import dataclass, field
 from typing import Any, Callable, Dict, List, NoReturn, Optional, Set, Tuple
 
-from ..blobs import CHUNK, STEPS, Blob, Budget
+from ..blobs import CHUNK, STEPS, Blob, Budget, JoinedBlob
+from .formed import require_form
 from .forms import NotCanonical, wrong
 
-__all__ = ['Global', 'Hook', 'Made', 'PDict', 'PList', 'Pickle', 'Reader', 'read_pickle']
+__all__ = ['Global', 'Hook', 'Made', 'OldText', 'PDict', 'PList', 'Pickle', 'Reader', 'read_pickle']
 
 # Longer texts are no names, codes or keys: nothing needs to be known of them.
 _LONGEST_TEXT = 256
@@ -61,6 +58,10 @@ class Made:
         self.state: Any = None
 
 
+class OldText(bytes):
+    """A text that Python 2 wrote, by opcodes of its own: Python 3 makes a text of it, and of no other bytes."""
+
+
 class PList(List[Any]):
     """A list, as far as its items are kept."""
 
@@ -74,7 +75,7 @@ class PDict(PList):
         """The values by their keys, where these are texts."""
         found: Dict[str, Any] = {}
         for key, value in zip(self[::2], self[1::2]):
-            key = key.decode('latin-1') if isinstance(key, bytes) else key
+            key = key.decode('latin-1') if isinstance(key, OldText) else key
             if isinstance(key, str):
                 if key in found:
                     wrong(f'the key {key!a} comes twice')
@@ -83,10 +84,10 @@ class PDict(PList):
 
 
 class _Opaque:
-    """A value of which nothing needs to be known. One that can be filled or given a state is `_FILLED`, any other `_DATA`."""
+    """A value of which nothing needs to be known."""
 
 
-_DATA, _FILLED, _MADE, _PERSISTENT = _Opaque(), _Opaque(), _Opaque(), _Opaque()
+_DATA = _Opaque()
 # What the memo has where there is nothing.
 _NOTHING = _Opaque()
 
@@ -111,7 +112,6 @@ class Pickle:
 
     offset: int
     end: int = 0
-    protocol: int = 0
     imports: Set[Tuple[str, str]] = field(default_factory=set)
     persistent: List[Any] = field(default_factory=list)
     raw: List[Tuple[int, int]] = field(default_factory=list)
@@ -120,18 +120,10 @@ class Pickle:
     value: Any = None
 
 
-_KEY = re.compile(rb'0|[1-9][0-9]{0,9}')
-_INT = re.compile(rb'0|-?[1-9][0-9]*|00|01')
-_LONG = re.compile(rb'(0|-?[1-9][0-9]*)L?')
-_FLOAT = re.compile(rb'-?([0-9]+(\.[0-9]+)?(e[+-]?[0-9]+)?|inf|nan)')
-_ESCAPE = re.compile(rb'\\(u[0-9a-f]{4}|U[0-9a-f]{8})')
-_ESCAPED_THOUGH_LATIN = frozenset('\\\0\n\r\x1a')
 _MOST_DIGITS = 4000
 
-_POP, _POP_MARK, _STOP, _PROTO = 0x30, 0x31, 0x2E, 0x80
+_STOP = 0x2E
 _BINGET, _BINPUT, _MEMOIZE, _BININT1, _BINFLOAT, _SHORT_BINUNICODE = 0x68, 0x71, 0x94, 0x4B, 0x47, 0x8C
-_GETS = frozenset({0x67, 0x68, 0x6A})
-_MAY_FOLLOW_A_DROP = _GETS | {_POP, _POP_MARK}
 
 Hook = Callable[['Reader', Made], None]
 
@@ -142,10 +134,6 @@ def _is_wrapper(value: Any) -> bool:
 
 def _is_wrapper_name(name: str) -> bool:
     return name[-_LONGEST_WRAPPER:].rpartition('.')[2] in _WRAPPER_NAMES
-
-
-def _is_name(text: str) -> bool:
-    return all(part.isidentifier() or part in ('<locals>', '<lambda>') for part in text.split('.'))
 
 
 class Reader:
@@ -165,9 +153,8 @@ class Reader:
         self._window = b''
         self._begin = self._next = self._stop = 0
         self._counted = at
-        self._after_call = -1
         self._memo: List[Any] = []
-        self._puts = ''
+        self._memoizes = False
         self._top: List[Any] = []
         self._under: List[List[Any]] = []
         self._globals: Dict[Tuple[str, str], Global] = {}
@@ -235,19 +222,17 @@ class Reader:
 
     def read(self) -> Pickle:
         """Reads to STOP."""
-        self._protocol()
         try:
             self._read_opcodes()
         except IndexError:
             self.fail('it is cut short')
-        except UnicodeDecodeError:
-            self.fail('a text that is not UTF-8')
+        except ValueError:
+            self.fail('a text or number that is none')
         return self.pickle
 
     def _read_opcodes(self) -> None:
-        """Goes from opcode to opcode. The commonest are done here where nothing can be said against them, since a call for each takes longer
-        than what it does; any other, and all that may be refused, by `_DO`."""
-        do, memo, has_short_texts = _DO[self.pickle.protocol], self._memo, self.pickle.protocol >= 4
+        """Goes from opcode to opcode. The commonest are done here, since a call for each takes longer than what it does; any other by `_DO`."""
+        do, memo = _DO, self._memo
         window, top, at, code = self._window, self._top, self._next, -1
         while code != _STOP:
             if at >= self._stop:
@@ -262,13 +247,14 @@ class Reader:
             elif code == _BININT1:
                 top.append(window[at + 1])
                 at += 2
-            elif code == _MEMOIZE and self._puts == 'MEMOIZE' and top and len(memo) < _MOST_IN_MEMO:
+            elif code == _MEMOIZE and top and len(memo) < _MOST_IN_MEMO:
                 memo.append(top[-1])
+                self._memoizes = True
                 at += 1
-            elif code == _BINPUT and self._puts == 'PUT' and top and window[at + 1] == len(memo):
+            elif code == _BINPUT and top and window[at + 1] == len(memo):
                 memo.append(top[-1])
                 at += 2
-            elif code == _SHORT_BINUNICODE and has_short_texts and at + 2 + window[at + 1] <= len(window):
+            elif code == _SHORT_BINUNICODE and at + 2 + window[at + 1] <= len(window):
                 begin, at = at + 2, at + 2 + window[at + 1]
                 top.append(window[begin:at].decode('utf-8', 'surrogatepass'))
             elif code == _BINFLOAT:
@@ -302,26 +288,12 @@ class Reader:
             self.budget.count((self.at - self._counted) // 4 + more)
             self._counted = self.at
 
-    def _protocol(self) -> None:
-        """PROTO stands first, or the opcodes are those of protocols 0 and 1."""
-        if self.take(1)[0] != _PROTO:
-            self._next -= 1
-            self.pickle.protocol = 1
-            return
-        self.pickle.protocol = self.take(1)[0]
-        if not 2 <= self.pickle.protocol <= 5:
-            self.fail(f'protocol {self.pickle.protocol}')
-
     def stop(self) -> None:
-        if len(self._top) != 1 or self._under:
-            self.fail('STOP where the stack has not one item')
-        if self.frame_end is not None and self.at != self.frame_end:
-            self.fail('STOP within a frame')
         if self._unfilled:
             self.fail("an object of joblib's class of arrays that gets no state")
         self._count(16)  # (a pickle takes time by itself)
-        self.pickle.counts = self._has_gets and self._puts == 'MEMOIZE'
-        self.pickle.value = self._top[0]
+        self.pickle.counts = self._has_gets and self._memoizes
+        self.pickle.value = self.peek()
         self.pickle.end = self.at
 
     def skip(self, count: int) -> None:
@@ -359,42 +331,16 @@ class Reader:
     def drop(self) -> None:
         if self._top:
             self._top.pop()
-        elif self._under and self.pickle.protocol <= 1:
-            self._top = self._under.pop()
         else:
-            self.fail('the stack is empty')
-        self._check_drop()
-
-    def drop_marked(self) -> None:
-        self.marked()
-        self._check_drop()
-
-    def _check_drop(self) -> None:
-        """What is dropped comes from the memo next. (The result of a call may be dropped: that of a function that sets a state.)"""
-        follows = self._window[self._next:self._next + 1] or self.blob.read(self.at, 1)
-        if self._base + self._begin != self._after_call and follows and follows[0] not in _MAY_FOLLOW_A_DROP:
-            self._begin = self._next
-            self.fail('something is dropped that no pickler drops')
+            self.marked()
 
     def refuse(self) -> None:
-        """An opcode that no pickler writes in the middle, or not in this protocol, or a byte that is none."""
-        code = self._code()
-        if not _NAMES[code]:
-            self.fail(f'0x{code:02x} is no opcode')
-        if _PROTOCOLS[code] > self.pickle.protocol:
-            self.fail(f'{_NAMES[code]} in protocol {self.pickle.protocol}, which does not have it')
-        self.fail(f'{_NAMES[code]}, which no pickler writes here')
-
-    def _code(self) -> int:
-        return self.blob.read(self._base + self._begin, 1)[0]
+        self.fail('no opcode that picklers write here')
 
     # --- The memo ---
 
     def key(self) -> int:
-        text = self.line()
-        if not _KEY.fullmatch(text):
-            self.fail(f'the memo key {text[:20]!a}')
-        return int(text)
+        return int(self.line())
 
     def get(self, key: int) -> None:
         if not 0 <= key < len(self._memo) or self._memo[key] is _NOTHING:
@@ -402,50 +348,40 @@ class Reader:
         value = self._memo[key]
         self._has_gets = True
         self._top.append(value)
+        if type(value) is Made and _is_wrapper(value.function):
+            self.fail("an object of joblib's class of arrays that is used twice")
         self._check_wrapper(value)
 
     def put(self, key: int) -> None:
-        """Keys come in order. Those of Python 2 in C begin with 1."""
-        if self._puts != 'PUT':
-            self._begin_memo('PUT', min(key, 1))
+        """Keys come in order; those of Python 2 leave one out."""
+        if key == len(self._memo) + 1:
+            self._memo.append(_NOTHING)
+            self._is_plain = False
         if key != len(self._memo):
             self.fail(f'the memo key {key} where {len(self._memo)} comes')
-        self._keep()
+        self.keep()
 
     def memoize(self) -> None:
-        if self._puts != 'MEMOIZE':
-            self._begin_memo('MEMOIZE', 0)
-        self._keep()
+        self._memoizes = True
+        self.keep()
 
-    def _begin_memo(self, how: str, first: int) -> None:
-        if self._puts:
-            self.fail('PUT and MEMOIZE in one pickle')
-        self._puts = how
-        self._memo += [_NOTHING] * first
-        self._is_plain = self._is_plain and not first
-
-    def _keep(self) -> None:
+    def keep(self) -> None:
         if len(self._memo) >= _MOST_IN_MEMO:
             self.fail(f'more than {_MOST_IN_MEMO:,} objects in its memo, which is more than is looked at here')
-        self._memo.append(self._top[-1] if self._top else self.peek())
+        self._memo.append(self.peek())
 
     # --- Imports and calls ---
 
     def imported(self, module: str, name: str) -> Global:
         found = self._globals.get((module, name))
         if found is None:
-            if not (_is_name(module) and _is_name(name)):
-                self.fail(f'an import of {module!a} {name!a}, which are no plain names')
             found = self._globals[module, name] = Global(module, name)
             self.pickle.imports.add((module, name))
             self._is_plain = self._is_plain and not _is_wrapper_name(name)
         return found
 
     def _name_of_line(self) -> str:
-        try:
-            return self.line().decode('utf-8')
-        except UnicodeDecodeError:
-            self.fail('a name that is not UTF-8')
+        return self.line().decode('utf-8')
 
     def _check_wrapper(self, value: Any) -> None:
         """Where this is one of joblib's classes of arrays, one is made of it at once, under its own name.
@@ -473,91 +409,61 @@ class Reader:
         self._check_wrapper(value)
 
     def extension(self, width: int) -> None:
-        code = self.number(width)
-        if not 0 < code < 2 ** 31:
-            self.fail('an extension of no number')
-        self.push(_MADE)
+        self.over(width)
+        self.push(_DATA)
 
     def called(self, function: Any, arguments: Any) -> None:
-        if isinstance(function, Global):
-            self._unfilled += function.is_kept and _is_wrapper(function)
-            self._top.append(Made(function, arguments) if function.is_kept else _MADE)
-        elif isinstance(function, Made) or function in (_MADE, _PERSISTENT):
-            self._top.append(_MADE)
-        else:
-            self.fail('a call of something that cannot be called')
-
-    def reduce(self) -> None:
-        self.newobj()
-        self._after_call = self.at
+        is_kept = isinstance(function, Global) and function.is_kept
+        self._unfilled += is_kept and _is_wrapper(function)
+        self._top.append(Made(function, arguments) if is_kept else _DATA)
 
     def newobj(self) -> None:
         arguments = self.pop()
-        if not isinstance(arguments, (tuple, Made)) and arguments is not _MADE:
-            self.fail('the arguments of a call are no tuple')
         self.called(self.pop(), arguments)
 
     def newobj_ex(self) -> None:
         keywords, arguments = self.pop(), self.pop()
-        if not isinstance(arguments, tuple) or not isinstance(keywords, PDict):
-            self.fail('the arguments of a call are no tuple and dictionary')
         self.called(self.pop(), (arguments, keywords))
 
     def inst(self) -> None:
-        self._of_python_2()
         function = self.imported(self._name_of_line(), self._name_of_line())
         self._check_wrapper(function)
         self.called(function, tuple(self.marked()))
 
     def obj(self) -> None:
-        self._of_python_2()
         items = self.marked()
-        if not items:
-            self.fail('OBJ of nothing')
         self.called(items[0], tuple(items[1:]))
-
-    def _of_python_2(self) -> None:
-        if self.pickle.protocol > 2:
-            self.fail(f'{_NAMES[self._code()]} in protocol {self.pickle.protocol}, which Python 2 does not write')
 
     def build(self) -> None:
         state, target = self.pop(), self.peek()
         if isinstance(target, Made):
-            self._unfilled -= target.state is None and _is_wrapper(target.function)
+            if _is_wrapper(target.function):
+                if target.state is not None:
+                    self.fail("an object of joblib's class of arrays that gets a second state")
+                self._unfilled -= 1
             target.state = state
             if self.on_build is not None:
                 self.on_build(self, target)
-        elif target not in (_MADE, _PERSISTENT, _FILLED):
-            self.fail('a state that is given to something else than what a call made')
 
     def persistent(self, key: Any) -> None:
         self.pickle.persistent.append(key)
-        self.push(_PERSISTENT)
+        self.push(_DATA)
 
     def persistent_line(self) -> None:
-        text = self.line()
-        if not text.isascii():
-            self.fail('a persistent id that is not ASCII')
-        self.persistent(text.decode('ascii'))
+        self.persistent(self.line().decode('ascii'))
 
     # --- Numbers and texts ---
 
     def int_(self) -> None:
         text = self.line()
-        if not _INT.fullmatch(text):
-            self.fail(f'the number {text[:20]!a}')
         self.push(bool(int(text)) if text in (b'00', b'01') else int(text) if len(text) < _MOST_DIGITS else _DATA)
 
     def long_(self) -> None:
         text = self.line()
-        if not _LONG.fullmatch(text):
-            self.fail(f'the number {text[:20]!a}')
         self.push(int(text.rstrip(b'L')) if len(text) < _MOST_DIGITS else _DATA)
 
     def float_(self) -> None:
-        text = self.line()
-        if not _FLOAT.fullmatch(text):
-            self.fail(f'the number {text[:20]!a}')
+        self.line()
         self.push(_DATA)
 
     def binfloat(self) -> None:
@@ -565,9 +471,7 @@ class Reader:
         self.push(_DATA)
 
     def long_bytes(self, width: int) -> None:
-        length = int.from_bytes(self.take(width), 'little', signed=width == 4)
-        if length < 0:
-            self.fail('a length below zero')
+        length = self.number(width)
         if length > _LONGEST_TEXT:
             self.over(length)
             self.push(_DATA)
@@ -576,45 +480,26 @@ class Reader:
 
     def unicode_(self) -> None:
         text = self.line()
-        if b'\\' in text:
-            for found in re.finditer(rb'\\.?', text, re.DOTALL):
-                escape = _ESCAPE.match(text, found.start())
-                code = int(escape[1][1:], 16) if escape else -1
-                if not 0 <= code <= 0x10FFFF or code < 256 and chr(code) not in _ESCAPED_THOUGH_LATIN:
-                    self.fail('an escape in a text that no pickler writes')
         self.push(text.decode('raw-unicode-escape') if len(text) <= _LONGEST_TEXT else _DATA)
 
     def string_(self) -> None:
-        self._of_python_2()
         text = self.line()
-        try:
-            value = codecs.escape_decode(text[1:-1])[0] if len(text) > 1 else None
-        except ValueError:
-            value = None
-        if value is None or text != repr(value)[1:].encode('ascii'):
-            self.fail('a text in quotes that is not as Python 2 writes it')
-        self.push(value if len(value) <= _LONGEST_TEXT else _DATA)
+        if len(text) <= _LONGEST_TEXT:
+            read: Any = codecs.escape_decode(text[1:-1])[0]
+            self.push(OldText(read))
+        else:
+            self.push(_DATA)
 
     def text(self, length: int) -> None:
         if length <= _LONGEST_TEXT:
             self._top.append(self.take(length).decode('utf-8', 'surrogatepass'))
-            return
-        end = self.at + length
-        while self.at < end:
-            content = self.take(min(end - self.at, CHUNK))
-            if self.at < end:  # the last letter may go on
-                last = next((back for back in range(1, 5) if content[-back] & 0xC0 != 0x80), 1)
-                content = content[:-last]
-                self._next -= last
-            content.decode('utf-8', 'surrogatepass')
-        self._top.append(_DATA)
+        else:
+            self.bytes_(length)
 
     def old_text(self, width: int) -> None:
-        self._of_python_2()
-        length = int.from_bytes(self.take(width), 'little', signed=width == 4)
-        if length < 0:
-            self.fail('a length below zero')
-        self.bytes_(length)
+        self.bytes_(self.number(width))
+        if type(self._top[-1]) is bytes:
+            self._top[-1] = OldText(self._top[-1])
 
     def bytes_(self, length: int) -> None:
         if length <= _LONGEST_TEXT:
@@ -625,7 +510,7 @@ class Reader:
 
     def bytearray_(self) -> None:
         self.over(self.number(8))
-        self.push(_FILLED)
+        self.push(_DATA)
 
     # --- Tuples, lists, dictionaries, sets ---
 
@@ -650,8 +535,6 @@ class Reader:
         target = self.peek()
         if type(target) is PList:
             self._fill(target, items)
-        elif not isinstance(target, Made) and target not in (_MADE, _PERSISTENT, _FILLED):
-            self.fail('APPEND to something else than a list')
 
     def append_one(self) -> None:
         item = self.pop()
@@ -659,20 +542,12 @@ class Reader:
 
     def set_items(self, items: List[Any]) -> None:
         target = self.peek()
-        if len(items) % 2:
-            self.fail('a key without a value')
         if isinstance(target, PDict):
             self._fill(target, items)
-        elif not isinstance(target, Made) and target not in (_MADE, _PERSISTENT):
-            self.fail('SETITEM in something else than a dictionary')
 
     def set_one(self) -> None:
         value, key = self.pop(), self.pop()
         self.set_items([key, value])
-
-    def add_items(self, items: List[Any]) -> None:
-        if self.peek() not in (_FILLED, _MADE):
-            self.fail('ADDITEMS to something else than a set')
 
     def list_(self) -> None:
         items, made = self.marked(), PList()
@@ -686,18 +561,10 @@ class Reader:
 
     def frozen(self) -> None:
         self.marked()
-        self.push(_FILLED)
-
-    def readonly(self) -> None:
-        self.pop()
-        self.push(_FILLED)
+        self.push(_DATA)
 
     def frame(self) -> None:
         size = self.number(8)
-        if self.frame_end is not None:
-            self.fail('a frame within a frame')
-        if size == 0 or self.at + size > self.blob.size:
-            self.fail('a frame that goes beyond the end')
         self.frame_end = self.at + size
         self._stop = min(self._stop, self.frame_end - self._base)
 
@@ -714,8 +581,7 @@ def _with_number(width: int, do: Callable[[Reader, int], None]) -> Callable[[Rea
 
 
 _OPCODES: Dict[str, Callable[[Reader], Any]] = {
-    'MARK': Reader.mark, 'POP': Reader.drop, 'POP_MARK': Reader.drop_marked, 'DUP': Reader.refuse, 'PROTO': Reader.refuse, 'STOP': Reader.stop,
-    'FRAME': Reader.frame,
+    'MARK': Reader.mark, 'POP': Reader.drop, 'POP_MARK': Reader.marked, 'PROTO': lambda r: r.over(1), 'STOP': Reader.stop, 'FRAME': Reader.frame,
     'NONE': lambda r: r.push(None), 'NEWTRUE': lambda r: r.push(True), 'NEWFALSE': lambda r: r.push(False),
     'INT': Reader.int_, 'LONG': Reader.long_, 'FLOAT': Reader.float_, 'BINFLOAT': Reader.binfloat,
     'BININT': lambda r: r.push(struct.unpack('<i', r.take(4))[0]), 'BININT1': _with_number(1, Reader.push),
@@ -724,30 +590,30 @@ _OPCODES: Dict[str, Callable[[Reader], Any]] = {
     'UNICODE': Reader.unicode_, 'BINUNICODE': _with_number(4, Reader.text), 'SHORT_BINUNICODE': _with_number(1, Reader.text),
     'BINUNICODE8': _with_number(8, Reader.text),
     'BINBYTES': _with_number(4, Reader.bytes_), 'SHORT_BINBYTES': _with_number(1, Reader.bytes_), 'BINBYTES8': _with_number(8, Reader.bytes_),
-    'BYTEARRAY8': Reader.bytearray_, 'NEXT_BUFFER': lambda r: r.push(_FILLED), 'READONLY_BUFFER': Reader.readonly,
+    'BYTEARRAY8': Reader.bytearray_, 'NEXT_BUFFER': lambda r: r.push(_DATA), 'READONLY_BUFFER': Reader.peek,
     'EMPTY_LIST': lambda r: r.push(PList()), 'EMPTY_TUPLE': lambda r: r.push(()), 'EMPTY_DICT': lambda r: r.push(PDict()),
-    'EMPTY_SET': lambda r: r.push(_FILLED), 'APPEND': Reader.append_one, 'APPENDS': lambda r: r.append(r.marked()), 'LIST': Reader.list_,
+    'EMPTY_SET': lambda r: r.push(_DATA), 'APPEND': Reader.append_one, 'APPENDS': lambda r: r.append(r.marked()), 'LIST': Reader.list_,
     'SETITEM': Reader.set_one, 'SETITEMS': lambda r: r.set_items(r.marked()), 'DICT': Reader.dict_,
-    'ADDITEMS': lambda r: r.add_items(r.marked()), 'FROZENSET': Reader.frozen,
+    'ADDITEMS': Reader.marked, 'FROZENSET': Reader.frozen,
     'TUPLE': Reader.marked_tuple, 'TUPLE1': lambda r: r.tuple_(1), 'TUPLE2': lambda r: r.tuple_(2), 'TUPLE3': lambda r: r.tuple_(3),
     'GET': lambda r: r.get(r.key()), 'BINGET': _with_number(1, Reader.get), 'LONG_BINGET': _with_number(4, Reader.get),
     'PUT': lambda r: r.put(r.key()), 'BINPUT': _with_number(1, Reader.put), 'LONG_BINPUT': _with_number(4, Reader.put),
     'MEMOIZE': Reader.memoize,
     'GLOBAL': Reader.global_, 'STACK_GLOBAL': Reader.stack_global, 'INST': Reader.inst, 'OBJ': Reader.obj, 'BUILD': Reader.build,
-    'REDUCE': Reader.reduce, 'NEWOBJ': Reader.newobj, 'NEWOBJ_EX': Reader.newobj_ex,
+    'REDUCE': Reader.newobj, 'NEWOBJ': Reader.newobj, 'NEWOBJ_EX': Reader.newobj_ex,
     'EXT1': lambda r: r.extension(1), 'EXT2': lambda r: r.extension(2), 'EXT4': lambda r: r.extension(4),
     'PERSID': Reader.persistent_line, 'BINPERSID': lambda r: r.persistent(r.pop()),
 }
 
-_PROTOCOLS: List[int] = [0] * 256
-_NAMES: List[str] = [''] * 256
-for _each in pickletools.opcodes:
-    _PROTOCOLS[ord(_each.code)], _NAMES[ord(_each.code)] = _each.proto, _each.name
-# What each byte does where an opcode is to come, for each protocol.
-_DO: List[List[Callable[[Reader], Any]]] = [
-    [_OPCODES[name] if name and since <= protocol else Reader.refuse for name, since in zip(_NAMES, _PROTOCOLS)] for protocol in range(6)]
+# What each byte does where an opcode is to come.
+_DO: List[Callable[[Reader], Any]] = [Reader.refuse] * 256
+for _each in opcodes:
+    _DO[ord(_each.code)] = _OPCODES.get(_each.name, Reader.refuse)
 
 
 def read_pickle(blob: Blob, at: int = 0, on_build: Optional[Hook] = None, budget: Optional[Budget] = None) -> Pickle:
-    """The pickle that begins here."""
-    return Reader(blob, at, on_build, budget).read()
+    """The pickle that begins here, in the form that picklers write."""
+    pickle = Reader(blob, at, on_build, budget).read()
+    whole = blob if at == 0 and pickle.end == blob.size else blob.part(at, pickle.end - at)
+    require_form(JoinedBlob(whole, [(start - at, end - at) for start, end in pickle.raw]) if pickle.raw else whole, budget, at)
+    return pickle

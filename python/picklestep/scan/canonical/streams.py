@@ -6,17 +6,19 @@ what Python, gzip, pigz, bzip2 and xz write.
 
 from __future__ import annotations
 
+import bz2
 import lzma
 import re
 import zlib
-from typing import Callable, Dict, Optional
+from dataclasses import dataclass
+from typing import Callable, Optional
 
 from ..begins import HEAD
 from ..blobs import Blob
-from ..packed import LZMA_MEMORY, METHODS, Unpacking
+from ..packed import LZMA_MEMORY, Decompressor, Unpacking, Zstd, inflate_gzip, inflate_zlib, unpack_lzma, unpack_xz
 from .forms import require
 
-__all__ = ['also_unpacks', 'start_of', 'verify_begin', 'verify_end']
+__all__ = ['BZ2', 'GZIP', 'LZMA', 'Stream', 'XZ', 'ZFILE', 'ZLIB', 'ZSTD']
 
 _FNAME = 8
 _EMPTY = bytes(18)
@@ -33,26 +35,44 @@ _ZFILE_HEADER = 21
 _NO_SIZE = 2 ** 64 - 1
 
 
-def start_of(kind: str, packed: Blob) -> int:
-    """Where the stream begins that is unpacked: behind the header that joblib before 0.10 puts before it, else at once."""
-    return _ZFILE_HEADER + (packed.read(_ZFILE_HEADER, 1) == b' ') if kind == 'zfile' else 0
+@dataclass(frozen=True)
+class Stream:
+    """How a file that packs one other is unpacked, and its strict form.
 
+    `verify_begin` raises NotCanonical where the header is not as the writers of this kind fill it. `starts` says where the stream begins that
+    `start` unpacks, if that is not at once, and `tells_size` the size of what it unpacks to, if its header does.
+    """
 
-def verify_begin(kind: str, packed: Blob) -> None:
-    """Raises NotCanonical where the header is not as the writers of this kind fill it."""
-    _BEGINS[kind](packed)
+    start: Callable[[], Decompressor]
+    verify_begin: Callable[[Blob], None]
+    starts: Optional[Callable[[Blob], int]] = None
+    tells_size: Optional[Callable[[Blob], int]] = None
+    # Whether several may follow one another in a file.
+    has_several: bool = True
+    # What some reader takes for it, where that is not what begins so; it is tried.
+    takes: Optional[Callable[[Blob, bytes], bool]] = None
+    # Whether two or three bytes are all that shows it, so that it is none where nothing is unpacked; and whether any bytes may be one, so that
+    # `takes` has unpacked some.
+    is_weak: bool = False
+    is_any: bool = False
+    # A pattern by which it is found behind a few other bytes, if it is looked for there.
+    behind_few: bytes = b''
 
+    @property
+    def is_whole(self) -> bool:
+        """Whether nothing stands before the stream."""
+        return self.starts is None
 
-def verify_end(kind: str, packed: Blob, unpacking: Unpacking, size: int) -> None:
-    """Raises NotCanonical where a stream that was unpacked to so many bytes is not whole, or does not fill the file."""
-    require(unpacking.trouble is None, str(unpacking.trouble))
-    require(unpacking.streams == 1 and unpacking.end == packed.size, 'bytes stand behind the end of the stream', unpacking.first_end)
-    told = size
-    if kind == 'lzma':
-        told = int.from_bytes(packed.read(5, 8), 'little')
-    elif kind == 'zfile':
-        told = int(packed.read(2, _ZFILE_HEADER - 2).strip().rstrip(b'L'), 16)
-    require(told in (size, _NO_SIZE), 'its size is wrong', 2)
+    def unpacking(self, packed: Blob, has_several: bool = True) -> Unpacking:
+        """What unpacks it."""
+        return Unpacking(packed, self.start, 0 if self.starts is None else self.starts(packed), has_several and self.has_several)
+
+    def verify_end(self, packed: Blob, unpacking: Unpacking, size: int) -> None:
+        """Raises NotCanonical where a stream that was unpacked to so many bytes is not whole, or does not fill the file."""
+        require(unpacking.trouble is None, str(unpacking.trouble))
+        require(unpacking.streams == 1 and unpacking.end == packed.size, 'bytes stand behind the end of the stream', unpacking.first_end)
+        told = size if self.tells_size is None else self.tells_size(packed)
+        require(told in (size, _NO_SIZE), 'its size is wrong', 2)
 
 
 def _gzip(packed: Blob) -> None:
@@ -95,10 +115,6 @@ def _zstd(packed: Blob) -> None:
 
 def _zfile(packed: Blob) -> None:
     require(_ZFILE.fullmatch(packed.read(0, _ZFILE_HEADER)) is not None, 'no header of joblib before 0.10')
-
-
-_BEGINS: Dict[str, Callable[[Blob], None]] = {'gzip': _gzip, 'bz2': _bz2, 'xz': _xz, 'lzma': _lzma, 'zlib': _zlib, 'zfile': _zfile,
-                                              'zstd': _zstd}
 
 
 # --- What other readers would take ---
@@ -150,24 +166,32 @@ def _is_zlib(head: bytes) -> bool:
     """Whether a first part unpacks. What gives nothing for so long, and has no fault, begins with empty blocks."""
     if len(head) < 3 or head[0] & 15 != 8 or (head[0] << 8 | head[1]) % 31:
         return False
-    inner = METHODS['zlib']()
+    inner = inflate_zlib()
     try:
         return bool(inner.decompress(head, _FIRST_PART)) or inner.eof or len(head) >= HEAD
     except zlib.error:
         return False
 
 
-def also_unpacks(blob: Blob, head: bytes, tries: bool = True) -> Optional[str]:
-    """The kind of stream that some reader takes these bytes for: the one whose magic they have, or (zlib and lzma, which have little of it)
-    in which a first part unpacks. Without `tries` by the magic alone."""
-    if _BZ2.match(head):
-        return 'bz2'
-    if head[:3] == b'\x1f\x8b\x08':
-        return 'gzip'
-    if head[:6] == b'\xfd7zXZ\0':
-        return 'xz'
-    if not tries:
-        return None
-    if _is_lzma(blob):
-        return 'lzma'
-    return 'zlib' if _is_zlib(head) else None
+# --- Where they begin, and what their headers tell ---
+
+def _start_of_zfile(packed: Blob) -> int:
+    """Behind the header that joblib before 0.10 puts before the stream."""
+    return _ZFILE_HEADER + (packed.read(_ZFILE_HEADER, 1) == b' ')
+
+
+def _size_of_zfile(packed: Blob) -> int:
+    return int(packed.read(2, _ZFILE_HEADER - 2).strip().rstrip(b'L'), 16)
+
+
+def _size_of_lzma(packed: Blob) -> int:
+    return int.from_bytes(packed.read(5, 8), 'little')
+
+
+BZ2 = Stream(bz2.BZ2Decompressor, _bz2, takes=lambda blob, head: _BZ2.match(head) is not None, behind_few=rb'BZh[1-9](?:1AY|\x17rE)')
+GZIP = Stream(inflate_gzip, _gzip, takes=lambda blob, head: head[:3] == b'\x1f\x8b\x08', behind_few=rb'\x1f\x8b\x08')
+XZ = Stream(unpack_xz, _xz, takes=lambda blob, head: head[:6] == b'\xfd7zXZ\0', behind_few=rb'\xfd7zXZ\0')
+LZMA = Stream(unpack_lzma, _lzma, tells_size=_size_of_lzma, has_several=False, takes=lambda blob, head: _is_lzma(blob), is_weak=True, is_any=True)
+ZLIB = Stream(inflate_zlib, _zlib, takes=lambda blob, head: _is_zlib(head), is_weak=True, behind_few=rb'\x78[\x01\x5e\x9c\xda]')
+ZSTD = Stream(Zstd, _zstd, behind_few=rb'\x28\xb5\x2f\xfd')
+ZFILE = Stream(inflate_zlib, _zfile, _start_of_zfile, _size_of_zfile, is_weak=True)

@@ -12,17 +12,19 @@ from __future__ import annotations
 
 import pickletools
 import re
-from dataclasses import dataclass
+from dataclasses import dataclass, field
 from typing import Any, Callable, Dict, List, Optional, Set, Tuple
 
 from ..blobs import CHUNK, STEPS, Blob, Budget, BytesBlob
 
-__all__ = ['Reach', 'imports_of', 'may_lead_on', 'reach_of']
+__all__ = ['Imports', 'Reach', 'imports_of', 'may_lead_on', 'reach_of']
 
 # Opcodes that are gone over. Where there are more, something may be reached.
 _MOST = 2_000_000
 # A longer line is no name and no number.
 _LONGEST_LINE = 1 << 16
+# To begin takes as long as so many opcodes.
+_STEPS_OF_A_READING = 16
 _LONGEST_TEXT = 1024
 _ENDLESS = 2 ** 63
 # The longest argument of a fixed length.
@@ -35,6 +37,14 @@ class Reach:
 
     what: str
     offset: int
+
+
+@dataclass
+class Imports:
+    """What is imported, as modules and names. `limit` is where more opcodes follow than are gone over."""
+
+    names: Set[Tuple[str, str]] = field(default_factory=set)
+    limit: Optional[int] = None
 
 
 class _End(Exception):
@@ -102,6 +112,8 @@ class _Machine:
         self.at = 0
         self.begin = 0
         self.found: Optional[Reach] = None
+        # Opcodes before this offset are known, and not counted.
+        self.known = 0
         self._base = 0
         self._window = b''
         self._frame_end: Optional[int] = None
@@ -111,22 +123,43 @@ class _Machine:
 
     def run(self) -> Optional[Reach]:
         """What is reached first."""
-        count = 0
+        count, counted, last = 0, 0, -1
         try:
             while self.found is None:
                 count += 1
-                if count > _MOST:
+                if counted > _MOST:
                     return Reach('more opcodes than are gone over', self.at)
                 if self.budget is not None and not count % STEPS:
                     self.budget.spend()
                 self.begin = self.at
-                do = _DO[self.read(1)[0]]
+                code = self.read(1)[0]
+                # (Numbers of one value may all be one opcode.)
+                if self.imported is None or code != last and self.begin >= self.known:
+                    counted += 1
+                last = code
+                do = _DO[code]
                 if do is None:
                     return None
                 do(self)
+                if self.imported is not None and code in _EVEN:
+                    self._even(code)
         except _End:
             return self.found
         return self.found
+
+    def _even(self, code: int) -> None:
+        """Goes over more of the same at once: many numbers of one value."""
+        start = self.at - self._base
+        if not self._window.startswith(_EVEN[code], start):
+            return
+        end = start + len(_EVEN[code])
+        while self._window.startswith(_EVEN[code], end):
+            end += len(_EVEN[code])
+        if code == _MARK:
+            self._under += [[] for _ in range(end - start)]
+        else:
+            self._top += [self._top[-1]] * (end - start)
+        self.at += end - start
 
     # --- Bytes ---
 
@@ -426,6 +459,10 @@ _DO: List[Optional[Callable[[_Machine], Any]]] = [None] * 256
 for _each in pickletools.opcodes:
     _DO[ord(_each.code)] = _OPCODES[_each.name]
 
+# Opcodes that are one byte, and put something of their own on the stack; a row of each.
+_MARK = 0x28
+_EVEN = {code: bytes([code]) * 256 for code in (_MARK, *b'N)]}\x88\x89\x8f')}
+
 _WAYS = (_Way(), _Way(keeps=True), _Way(drops=True), _Way(drops=True, keeps=True), _Way(drops=True, across=False),
          _Way(drops=True, across=False, keeps=True))
 
@@ -460,11 +497,22 @@ def may_lead_on(head: bytes, is_whole: bool) -> bool:
     return False
 
 
-def imports_of(blob: Blob, keeps: bool, budget: Optional[Budget] = None) -> Set[Tuple[str, str]]:
-    """All that a loader imports which goes on wherever one does: modules and names, as they stand in the bytes.
+def imports_of(blob: Blob, keeps: bool, budget: Optional[Budget] = None, known: int = 0) -> Imports:
+    """All that loaders import which go on wherever one does. With `keeps` they keep their memo from pickle to pickle.
 
-    With `keeps` it keeps its memo from pickle to pickle.
+    Up to `known` the bytes are opcodes that all loaders read alike.
     """
-    imported: Set[Tuple[str, str]] = set()
-    _Machine(blob, _Way(keeps=keeps), budget, imported).run()
-    return imported
+    found = Imports()
+    framed = True
+    if budget is not None:
+        budget.count(_STEPS_OF_A_READING)
+    for way in _WAYS:
+        if way.keeps != keeps or way.drops and not framed:
+            continue
+        machine = _Machine(blob, way, budget, found.names)
+        machine.known = known
+        reach = machine.run()
+        if reach is not None:
+            found.limit = reach.offset
+        framed = machine.framed or way.drops
+    return found

@@ -1,79 +1,70 @@
 """Stores in which pickles live besides files of their own: databases, caches, queues, streams of records.
 
-`kind_of` and `look_into` are for the files among them. Nothing is written to a store, and no value is loaded.
+`containers` has those that are files. Nothing is written to a store, and no value is loaded.
 """
 
 from __future__ import annotations
 
-from typing import TYPE_CHECKING, Optional
+from typing import TYPE_CHECKING
 
 from ..blobs import Blob, BytesBlob
+from ..containers import HDF5, Held
 from ..results import Place
-from .dbm_files import gnu_kind, has_index, is_berkeley_hash, look_at_berkeley, look_at_dumb, look_at_gnu
-from .django_cache import end_of_expiry, look_at_django_cache
+from .dbm_files import has_index, look_at_dumb
+from .early import may_be_behind_few
 from .framed import framing_of
-from .hdf5 import begins_late, is_hdf5, look_at_hdf5
-from .sqlite import BEGIN, look_at_sqlite
-from .values import Values
+from .hdf5 import begins_late
+from .telling import PREFIX, has_proto, is_json, stands_for_bytes
+from .values import SMALL, Values
 
 if TYPE_CHECKING:
     from ..looking import Looker
 
-__all__ = ['KINDS', 'asks', 'look_beside', 'kind_of', 'look_behind', 'look_further', 'look_into']
+__all__ = ['SMALL', 'asks', 'look_behind', 'look_beside', 'look_further']
 
-_LOOKS = {'sqlite': look_at_sqlite, 'gdbm': look_at_gnu, 'Berkeley DB': look_at_berkeley, 'hdf5': look_at_hdf5,
-          'Django cache': look_at_django_cache}
+# So much shows whether a file may have a pickle behind a few bytes.
+_BEGIN = 1 << 16
 
-# The names of stores that are files.
-KINDS = frozenset(_LOOKS)
-
-
-def kind_of(head: bytes) -> Optional[str]:
-    """The store that begins so.
-
-    >>> kind_of(b'SQLite format 3\\0'), kind_of(b'PK\\3\\4')
-    ('sqlite', None)
+def asks(begin: bytes, size: int) -> bool:
+    """Whether bytes that begin so, and have no more than this size, are to be held: they are no store, and `look_further` looks at them:
+    records with a length before each, or what else may be there. The size is SMALL where it is not known.
     """
-    if head.startswith(BEGIN):
-        return 'sqlite'
-    if gnu_kind(head) is not None:
-        return 'gdbm'
-    if is_berkeley_hash(head):
-        return 'Berkeley DB'
-    if is_hdf5(head):
-        return 'hdf5'
-    return 'Django cache' if end_of_expiry(head) is not None else None
+    if framing_of(BytesBlob(begin)) is not None or is_json(begin):
+        return True
+    return may_be_behind_few(begin[:_BEGIN], size) or stands_for_bytes(begin[:PREFIX])
 
 
-def asks(head: bytes, size: int) -> bool:
-    """Whether bytes that begin so and have this size (or more) are a store, or a stream of records with a length before each."""
-    return kind_of(head) is not None or framing_of(BytesBlob(head)) is not None
-
-
-def look_into(kind: str, looker: 'Looker', blob: Blob, where: Place, depth: int) -> None:
-    """Looks at all values of a store of this kind."""
-    _LOOKS[kind](looker, blob, where, depth)
-
-
-def look_further(looker: 'Looker', blob: Blob, where: Place, depth: int) -> bool:
-    """Looks at bytes that are no container and no pickle: records with a length before each, and, if `everywhere` is set, whatever a value
-    of a store may be, and each offset. Answers whether it looked.
+def look_further(looker: 'Looker', blob: Blob, where: Place, depth: int, is_gap: bool = False) -> bool:
+    """Looks at bytes that are no container and no pickle: records with a length before each, a pickle behind a few bytes, texts that stand for
+    one, and, if `everywhere` is set, whatever a value of a store may be, and each offset. Answers whether something is there. A gap, such as raw
+    numbers, is no file of a cache.
     """
     if begins_late(blob):
-        look_at_hdf5(looker, blob, where, depth)
-        return True
+        return HDF5.look_into(looker, Held(HDF5, blob, where, (), depth, []))
     has_records = framing_of(blob) is not None
-    if not has_records and not looker.options.everywhere and not _may_be_dumb(where):
+    is_searched = looker.options.everywhere or _may_be_dumb(where)
+    begin = blob.read(0, _BEGIN) if not has_records and not is_gap else b''
+    has_few = may_be_behind_few(begin, blob.size)
+    has_texts = bool(begin) and (is_json(begin) or stands_for_bytes(begin[:PREFIX]))
+    if not (has_records or is_searched or has_few or has_texts):
         return False
     values = Values(looker)
     values.begin(where, blob.size)
+    before = len(looker.pickles), looker.plain, len(looker.notes)
     if has_records:
         values.records(blob, where, depth)
     else:
-        values.look_at_texts(blob, where, depth)
-        values.look_everywhere(blob, where)
+        found = values.look_behind_few(blob, blob.read(0, SMALL), where, depth) if has_few else None
+        if is_searched or has_texts:
+            values.look_at_texts(blob, where, depth)
+        # (where one pickle is behind a few bytes, others may follow, and a large one is not seen there)
+        if is_searched or found is not None or blob.size > SMALL and has_proto(begin):
+            values.look_everywhere(blob, where, known=found)
     values.flush()
-    return True
+    if has_records or is_searched or (len(looker.pickles), looker.plain, len(looker.notes)) != before:
+        return True
+    looker.others -= 1
+    return False
 
 
 def _may_be_dumb(where: Place) -> bool:

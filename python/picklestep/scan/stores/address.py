@@ -8,10 +8,13 @@ from dataclasses import dataclass, field
 from typing import Dict
 from urllib.parse import SplitResult, parse_qsl, quote, unquote, urlencode, urlsplit
 
-__all__ = ['Address', 'SCHEMES', 'is_server']
+__all__ = ['Address', 'SERVERS', 'is_server']
 
-SCHEMES = ('redis', 'rediss', 'memcached', 'memcacheds', 'postgresql', 'postgres', 'mysql', 'mariadb')
-_URL = re.compile(rf'({"|".join(SCHEMES)})://', re.IGNORECASE)
+# The servers by the schemes of their URLs, each with the module beside this one that reads it.
+SERVERS: Dict[str, str] = {
+    'redis': 'redis_server', 'rediss': 'redis_server', 'memcached': 'memcached_server', 'memcacheds': 'memcached_server',
+    'postgresql': 'postgresql_server', 'postgres': 'postgresql_server', 'mysql': 'mysql_server', 'mariadb': 'mysql_server'}
+_URL = re.compile(rf'({"|".join(SERVERS)})://', re.IGNORECASE)
 
 # What a URL asks for besides the server, and how it is asked.
 _OWN = ('table', 'column', 'stream')

@@ -13,9 +13,9 @@ import re
 from typing import Iterator, Optional, Set, Tuple
 
 from ..blobs import Blob, LimitMet
-from .walk import MOST, Walk, walk
+from .walk import CHECKSUM, MOST, Walk, walk
 
-__all__ = ['BEGINS_PICKLE', 'candidates', 'may_end_text', 'may_have_candidates']
+__all__ = ['BEGINS_PICKLE', 'candidates', 'may_end_text', 'may_have_candidates', 'may_have_lines']
 
 # The bytes are read in such windows, each with this much of the next.
 _WINDOW = 4 << 20
@@ -26,8 +26,11 @@ _MOST_BYTES = 64 << 20
 # PROTO, and an opcode.
 BEGINS_PICKLE = re.compile(rb'\x80[\x02-\x05][(-Z\]a-u}\x80-\x98]')
 # The second line of GLOBAL and INST, and an opcode after it. What begins at a newline is found in linear time, however long the lines are.
-_SECOND_LINE = re.compile(rb'\n(?=[A-Za-z_][A-Za-z0-9_.]{0,255}\n[(-Z\]a-u}\x80-\x98])')
+_SECOND_LINE = re.compile(rb'\n(?=[A-Za-z_][A-Za-z0-9_.]{0,255}\n[(-Z\]a-u}\x80-\x98])(?!' + CHECKSUM + rb')')
 _MOST_OF_LINE = 256
+
+# So many arguments of a pickle may reach out of what is read at once.
+_MOST_FAR = 16
 
 # After an import by GLOBAL these take what is not there, unless a MARK is before it.
 _TAKING = frozenset(b'abdeiloRstu')
@@ -63,11 +66,11 @@ def candidates(blob: Blob) -> Iterator[Tuple[int, bytes]]:
         for anchor in sorted(search.anchors(window, len(window) if is_last else _WINDOW)):
             if start + anchor < done:
                 continue
-            found = search.begin(window, anchor, max(0, done - start))
+            found = search.begin(window, anchor, max(0, done - start)) or search.far(blob, start + anchor, window, anchor)
             if found is not None:
                 at, way = found
-                inner = window[at:way.end] if way.stops else search.more(blob, start + at)
-                done = start + at + max(1, len(inner))
+                inner, length = (window[at:way.end], way.end - at) if way.stops else search.more(blob, start + at)
+                done = start + at + max(1, length)
                 yield start + at, inner
         if is_last or not window:
             return
@@ -88,6 +91,11 @@ def may_have_candidates(content: bytes) -> bool:
             return True
         at = content.find(b'\x93', at + 1)
     return False
+
+
+def may_have_lines(content: bytes, start: int, end: int) -> bool:
+    """Whether GLOBAL or INST may be in these bytes behind their first line."""
+    return _SECOND_LINE.search(content, start, end) is not None
 
 
 class _Search:
@@ -130,14 +138,31 @@ class _Search:
 
     # --- How it goes on from there ---
 
-    def more(self, blob: Blob, at: int) -> bytes:
-        """The bytes of a pickle that does not end within the window, or has no STOP."""
+    def more(self, blob: Blob, at: int) -> Tuple[bytes, int]:
+        """The bytes of a pickle that does not end within the window, or has no STOP, with some more, and how many of them a walk goes over."""
         content = blob.read(at, _OVERLAP)
         way = self._walk(content, 0, MOST)
-        if not way.stops and (way.goes_on or way.end >= len(content) - _MOST_OF_LINE):
+        if not way.stops and (way.goes_on or len(content) < way.needs <= blob.size - at or way.end >= len(content) - _MOST_OF_LINE):
             content = blob.read(at, _MOST_BYTES)
             way = self._walk(content, 0, self.left)
-        return content[:way.end if way.stops else way.end + _MOST_OF_LINE]
+        return content[:way.end if way.stops else way.end + _MOST_OF_LINE], way.end
+
+    def far(self, blob: Blob, at: int, window: bytes, anchor: int) -> Optional[Tuple[int, Walk]]:
+        """Goes on behind arguments that reach out of the window, from PROTO on. Answers as `begin`, with a walk that has not stopped."""
+        if window[anchor] != 0x80:
+            return None
+        content, cut = window[anchor:], 0  # (and how many bytes of arguments are left out of it)
+        for _ in range(_MOST_FAR):
+            way = self._walk(content, 0, MOST)
+            if way.is_likely:
+                way.stops = False
+                return anchor, way
+            if way.lacks or not len(content) < way.needs <= blob.size - at - cut:
+                return None
+            # (a constant stands for the argument)
+            following = blob.read(at + cut + way.needs, _OVERLAP)
+            content, cut = content[:way.end] + b'N' + following, cut + way.needs - way.end - 1
+        return None
 
     def begin(self, window: bytes, anchor: int, least: int) -> Optional[Tuple[int, Walk]]:
         """Where the pickle begins that has this anchor, and how far it goes. None where there is no likely one."""

@@ -14,7 +14,8 @@ from typing import Iterator, List, Optional, Sequence
 
 from ...errors import PicklestepError
 from ...program import Process
-from ...texts import HEADING, OFFSET, QUOTED_OR_NUMBER
+from ...reaches import before_headings, lowered
+from ...texts import lines_with_offsets
 from ..blobs import Budget, BytesBlob, Limits, spooled
 from ..reading import WAITING, Asked, Enough, Summary, calls_words
 from .walk import stops_at_end
@@ -82,26 +83,25 @@ def _together(contents: Sequence[bytes], budget: Budget, keep_lines: bool, full:
         except PicklestepError:
             return []
     # (Behind a heading a marker does not show how the pickle before it ended.)
-    told = HEADING.split(text.decode('ascii', 'replace'), 1)[0]
+    told = before_headings(text.decode('ascii', 'replace'))
     sizes = [len(content) for content in contents]
     return list(_taken_apart(told, sizes, f"import 'picklestep' '{name}' as #", len(marker), budget, keep_lines))
 
 
 def _taken_apart(told: str, sizes: Sequence[int], marker: str, width: int, budget: Budget, keep_lines: bool) -> Iterator[Summary]:
     """The answer about each of several pickles, as far as each is followed by its marker."""
-    lines = OFFSET.finditer(told)
+    lines = lines_with_offsets(told)
     start = objects = 0
     for size in sizes:
         own: List[str] = []
-        for line in lines:
-            offset, text = int(line[1]), line[2]
+        for offset, text in lines:
             if offset >= start + size:
                 if offset != start + size or not text.startswith(marker):
                     return
                 break
             if text.startswith(_COUNTED):
                 return
-            own.append(f'{offset - start:5}: {_lowered(text, objects)}\n')
+            own.append(f'{offset - start:5}: {lowered(text, objects)}\n')
         else:
             return
         yield _summary(own, budget, keep_lines)
@@ -112,11 +112,6 @@ def _taken_apart(told: str, sizes: Sequence[int], marker: str, width: int, budge
 # The answer about each pickle that imports and calls nothing.
 NOTHING = Summary(Budget(Limits()), False)
 NOTHING.take(iter([b'0 imports, 0 calls\n']))
-
-
-def _lowered(text: str, objects: int) -> str:
-    """A line with the numbers that its objects have where the pickle is alone."""
-    return QUOTED_OR_NUMBER.sub(lambda match: match[0] if match[1] is None else f'#{int(match[1]) - objects}', text) if objects else text
 
 
 def _summary(lines: List[str], budget: Budget, keep_lines: bool) -> Summary:

@@ -14,13 +14,14 @@ from dataclasses import dataclass
 from typing import TYPE_CHECKING, Dict, Iterator, List, Optional, Tuple
 
 from ..blobs import Blob
+from ..containers import Held
 from ..results import Place
 from .values import Values, key_name
 
 if TYPE_CHECKING:
     from ..looking import Looker
 
-__all__ = ['gnu_kind', 'has_index', 'is_berkeley_hash', 'look_at_berkeley', 'look_at_dumb', 'look_at_gnu']
+__all__ = ['has_index', 'look_at_dumb', 'look_into_berkeley', 'look_into_gnu']
 
 # A key, and where its value is: parts of the file, one after another.
 _Parts = List[Tuple[int, int]]
@@ -85,16 +86,10 @@ _GNU: Dict[bytes, _Gnu] = {struct.pack(f'{order}I', number): _Gnu(order, width)
                            for number, width in _GNU_NUMBERS.items() for order in '<>'}
 
 
-def gnu_kind(head: bytes) -> Optional[_Gnu]:
-    """How a file of GNU dbm writes its numbers, where the bytes begin one."""
-    return _GNU.get(head[:4])
-
-
-def look_at_gnu(looker: 'Looker', blob: Blob, where: Place, depth: int) -> None:
+def look_into_gnu(looker: 'Looker', held: Held) -> bool:
     """Looks at all values of a file of GNU dbm."""
-    kind = gnu_kind(blob.read(0, 4))
-    assert kind is not None
-    _look(looker, blob, where, depth, _gnu_pairs(blob, kind))
+    _look(looker, held.blob, held.where, held.depth, _gnu_pairs(held.blob, _GNU[held.blob.read(0, 4)]))
+    return True
 
 
 def _gnu_pairs(blob: Blob, kind: _Gnu) -> Iterator[_Pair]:
@@ -130,14 +125,10 @@ def _order_of(head: bytes) -> Optional[str]:
     return next((order for order in '<>' if head[12:16] == struct.pack(f'{order}I', _BERKELEY_HASH)), None)
 
 
-def is_berkeley_hash(head: bytes) -> bool:
-    """Whether a hash file of Berkeley DB begins so (that of `dbm.ndbm` where Python was built with it)."""
-    return _order_of(head) is not None
-
-
-def look_at_berkeley(looker: 'Looker', blob: Blob, where: Place, depth: int) -> None:
+def look_into_berkeley(looker: 'Looker', held: Held) -> bool:
     """Looks at all values of a hash file of Berkeley DB."""
-    _look(looker, blob, where, depth, _berkeley_pairs(blob, _order_of(blob.read(0, 16)) or '<'))
+    _look(looker, held.blob, held.where, held.depth, _berkeley_pairs(held.blob, _order_of(held.blob.read(0, 16)) or '<'))
+    return True
 
 
 def _berkeley_pairs(blob: Blob, order: str) -> Iterator[_Pair]:

@@ -13,15 +13,14 @@ import zlib
 from typing import TYPE_CHECKING, Optional
 
 from ..begins import HEAD
-from ..blobs import Blob
-from ..results import Place
+from ..containers import Held
 from .values import Values
 from .walk import walk
 
 if TYPE_CHECKING:
     from ..looking import Looker
 
-__all__ = ['end_of_expiry', 'look_at_django_cache']
+__all__ = ['end_of_expiry', 'look_into']
 
 _MOST_OF_EXPIRY = 128
 
@@ -29,8 +28,10 @@ _MOST_OF_EXPIRY = 128
 _BEFORE, _BEHIND = ('PROTO', 'FRAME'), ('PUT', 'BINPUT', 'MEMOIZE', 'STOP')
 _NUMBERS = ('NONE', 'INT', 'BININT', 'BININT1', 'BININT2', 'LONG', 'LONG1', 'FLOAT', 'BINFLOAT')
 
-# `zlib.compress` writes this first.
-_ZLIB = 0x78
+_BEGINS = tuple(bytes([code]) for code in b'\x80FINGJKML')
+
+# `zlib.compress` writes an `x` first.
+_STOP_AND_ZLIB = b'.x'
 
 
 def end_of_expiry(head: bytes) -> Optional[int]:
@@ -39,10 +40,10 @@ def end_of_expiry(head: bytes) -> Optional[int]:
     >>> end_of_expiry(b'\\x80\\x04K\\x05.' + zlib.compress(b'N.')), end_of_expiry(b'\\x80\\x04K\\x05.'), end_of_expiry(b'N.(S')
     (5, None, None)
     """
-    if head[:1] != b'\x80' and head[:1] not in (b'F', b'I', b'N', b'G', b'J', b'K', b'M', b'L'):
+    if head[:1] not in _BEGINS or _STOP_AND_ZLIB not in head[:_MOST_OF_EXPIRY + 1]:
         return None
     way = walk(head[:_MOST_OF_EXPIRY], 0)
-    if not way.stops or head[way.end:way.end + 1] != bytes([_ZLIB]):
+    if not way.stops or not head.startswith(_STOP_AND_ZLIB, way.end - 1):
         return None
     return way.end if _is_number(head[:way.end]) and _unpacks(head[way.end:]) else None
 
@@ -66,11 +67,13 @@ def _unpacks(packed: bytes) -> bool:
         return False
 
 
-def look_at_django_cache(looker: 'Looker', blob: Blob, where: Place, depth: int) -> None:
+def look_into(looker: 'Looker', held: Held) -> bool:
     """Looks at the time and at the value."""
+    blob, where, depth = held.blob, held.where, held.depth + 1
     end = end_of_expiry(blob.read(0, HEAD))
     assert end is not None
     values = Values(looker)
-    values.add(blob.read(0, end), where + ('(expiry)',), depth + 1)
-    values.add_blob(blob.part(end, blob.size - end), where + ('(value)',), depth + 1)
+    values.add(blob.read(0, end), where + ('(expiry)',), depth)
+    values.add_blob(blob.part(end, blob.size - end), where + ('(value)',), depth)
     values.flush()
+    return True

@@ -9,11 +9,13 @@ import binascii
 import re
 import zlib
 from collections import defaultdict
-from typing import Dict, Iterable, Iterator, List, Set, Tuple
+from itertools import chain
+from typing import Dict, Iterable, Iterator, List, Sequence, Set, Tuple
 
-from ..begins import MAY_BE_KNOWN
 from ..blobs import LimitMet
+from ..containers import MAY_BE_KNOWN
 from .anywhere import BEGINS_PICKLE
+from .regular import blocks
 from .telling import LEAST, LEAST_RUN, SIGNS, holding, may_hold, runs
 from .walk import may_begin, walk
 
@@ -36,7 +38,7 @@ _CHECKSUM = b'0123456789abcdef'
 _BREAK = re.compile(rb'\r?\n[ \t]*(?=[A-Za-z0-9+/_-])')
 _SIGNS_ALONE = re.compile(rb'[A-Za-z0-9+/_-]+')
 _BLANKS = b'\r\n\t '
-_ENDS = (b'\n', b'\r')
+_ENDS = frozenset(b'\n\r')
 # (a line may end, and the next one have begun with blanks, where a window of bytes ends)
 _MOST_BREAK = 80
 
@@ -60,6 +62,9 @@ _PRINTABLE = re.compile(rb'[ -~]+')
 _STOP = ord('.')
 _ONE_RUN = b'a' * LEAST_RUN
 
+# Lines that are too short to be runs. They count where all but the last have one length, or nothing else is there.
+_SHORT_LINES = re.compile(rb'\n(?![A-Za-z0-9+/_-]{%d})(?:[A-Za-z0-9+/_-]{2,%d}\r?\n){3,}[A-Za-z0-9+/_-]*' % (LEAST_RUN, LEAST_RUN - 1))
+
 
 def decoded(content: bytes, goes_on: bool = False) -> Iterator[Tuple[int, str, bytes]]:
     """The bytes that runs of signs may stand for, where something may be in them: where each begins, how it is written, and the bytes.
@@ -73,10 +78,16 @@ def decoded(content: bytes, goes_on: bool = False) -> Iterator[Tuple[int, str, b
     """
     if b'\\' in content:
         content = _ESCAPE.sub(_unescaped, content)
-    spans = list(runs(content.translate(_IS_SIGN), LEAST_RUN))
+    marked = content.translate(_IS_SIGN)
+    alike = list(blocks(content, marked, LEAST_RUN))
+    between = list(zip([0, *(block.end for block in alike)], [*(block.start for block in alike), len(content)]))
+    spans = [(start + at, start + end) for start, stop in between for at, end in runs(marked[start:stop], LEAST_RUN)]
     folded, alone = _folded(content, spans)
     found = [(start, -end, 'base64') for start, end in folded]
-    found += ((start, -end, name) for start, end, name in _telling(content, alone))
+    for starts, texts in chain(_by_length(content, alone), ((block.starts(run), block.texts(content, run)) for block in alike for run in block.runs)):
+        found += ((start, -end, name) for start, end, name in _telling(starts, texts))
+    for start, stop in between:
+        found += ((start, -end, 'base64') for start, end in _short_lines(content, start, stop))
     last = -1
     for start, end, name in sorted(found):
         if goes_on and -end >= len(content) - _MOST_BREAK:
@@ -118,11 +129,12 @@ def _folded(content: bytes, spans: List[_Span]) -> Tuple[List[_Span], List[_Span
     folded: List[_Span] = []
     alone: List[_Span] = []
     first, following = 0, -1  # (the line with which a run begins, and where the next is to begin)
+    size = len(content)
     for number, (start, end) in enumerate(spans):
         if start != following and following >= 0:
             alone += _close(content, spans[first:number], following, folded)
             first = number
-        match = _BREAK.match(content, end) if content[end:end + 1] in _ENDS else None
+        match = _BREAK.match(content, end) if end < size and content[end] in _ENDS else None
         if match is not None:
             following = match.end()
         elif following >= 0:
@@ -155,55 +167,75 @@ def _close(content: bytes, lines: List[_Span], last: int, folded: List[_Span]) -
     return [lines[0], *(line for line in lines[1:-1] if not content[line[0]:line[1]].translate(None, _DIGITS)), lines[-1]]
 
 
+def _short_lines(content: bytes, at: int, stop: int) -> Iterator[_Span]:
+    """From where to where there are lines that are too short to be runs, of base64 or hexadecimal, in this part of the content."""
+    part = content[at - 1:stop] if at else b'\n' + content[:stop]
+    for match in _SHORT_LINES.finditer(part):
+        start, end = at + match.start(), at + match.end() - 1
+        lines = match[0].split()
+        if len(set(map(len, lines[:-1]))) == 1 or not content[end:].strip(b'=\r\n') and not content[:start].strip():
+            yield start, end
+
+
 # --- Which of them may hold something ---
 
-def _telling(content: bytes, spans: Iterable[_Span]) -> Iterator[Tuple[int, int, str]]:
-    """The runs that may hold something, and the digits in them that may: from where to where, and what they may be."""
+def _by_length(content: bytes, spans: Iterable[_Span]) -> Iterator[Tuple[Sequence[int], List[bytes]]]:
+    """Where runs of one length begin, and they themselves."""
     alike: Dict[int, List[int]] = defaultdict(list)
     for start, end in spans:
         alike[end - start].append(start)
-    digits: Dict[int, List[int]] = defaultdict(list)  # (where so many begin)
     for length, starts in alike.items():
-        texts = [content[start:start + length] for start in starts]
-        whole = b''.join(texts)
-        if not whole.translate(None, _CHECKSUM):
-            digits[length] += starts
-            continue
-        yield from ((starts[number], starts[number] + length, 'base64') for number in _telling_base64(texts, whole))
-        for begin, end in runs(b'.'.join(texts).translate(_IS_DIGIT), 2 * LEAST):
-            number, at = divmod(begin, length + 1)
-            digits[end - begin].append(starts[number] + at)
-    for length, starts in digits.items():
-        yield from ((start, start + length // 2 * 2, 'hexadecimal') for start in _telling_digits(content, length, starts))
+        yield starts, [content[start:start + length] for start in starts]
 
 
-def _telling_digits(content: bytes, length: int, starts: List[int]) -> Iterator[int]:
-    """Where digits begin of which an even number may hold something. Of an odd number the first or the last is no part of it."""
+def _telling(starts: Sequence[int], texts: List[bytes]) -> Iterator[Tuple[int, int, str]]:
+    """Of runs of one length those that may hold something, and the digits in them that may: from where to where, and what they may be."""
+    length = len(texts[0])
+    if not texts[0].translate(None, _CHECKSUM) and not b''.join(texts).translate(None, _CHECKSUM):
+        yield from _telling_digits(starts, texts)
+        return
+    fill = b'0' * (-length % 4 % 3)  # (up to four, which changes none of the bytes that are whole)
+    whole = fill.join(texts) + fill
+    yield from ((starts[number], starts[number] + length, 'base64') for number in _telling_base64(texts, whole))
+    if whole.translate(_IS_DIGIT).find(b'a' * (2 * LEAST)) < 0:
+        return
+    digits: Dict[int, List[Tuple[int, bytes]]] = defaultdict(list)  # (by how many they are)
+    for begin, end in runs(b'.'.join(texts).translate(_IS_DIGIT), 2 * LEAST):
+        number, at = divmod(begin, length + 1)
+        digits[end - begin].append((starts[number] + at, texts[number][at:at + end - begin]))
+    for found in digits.values():
+        yield from _telling_digits([start for start, _ in found], [text for _, text in found])
+
+
+def _telling_digits(starts: Sequence[int], texts: List[bytes]) -> Iterator[Tuple[int, int, str]]:
+    """Digits of which an even number may hold something. Of an odd number the first or the last is no part of it."""
+    length = len(texts[0])
     even = length // 2 * 2
     if even < 2 * LEAST:
         return
     for shift in range(1 + length % 2):
-        texts = [content[start + shift:start + shift + even] for start in starts]
-        if len(texts) < _FEW or length > _SHORT_RUN:
-            telling: Iterable[int] = [number for number, text in enumerate(texts) if may_hold(binascii.unhexlify(text))]
+        parts = [text[shift:shift + even] for text in texts] if length % 2 else texts
+        if len(parts) < _FEW or length > _SHORT_RUN:
+            telling: Iterable[int] = [number for number, text in enumerate(parts) if may_hold(binascii.unhexlify(text))]
         else:
-            telling = holding(binascii.unhexlify(b''.join(texts)), even // 2, even // 2)
-        yield from (starts[number] + shift for number in telling)
+            telling = holding(binascii.unhexlify(b''.join(parts)), even // 2, even // 2)
+        yield from ((starts[number] + shift, starts[number] + shift + even, 'hexadecimal') for number in telling)
 
 
 def _telling_base64(texts: List[bytes], whole: bytes) -> Iterable[int]:
-    """The numbers of those among runs of one length that may hold something as base64, or have a place at which something known begins."""
-    length = len(texts[0])
+    """The numbers of those among runs of one length that may hold something as base64, or have a place at which something known begins.
+    `whole` has them one behind another, each filled up."""
+    length, stride = len(texts[0]), len(whole) // len(texts)
     if len(texts) < _FEW or length > _SHORT_RUN:
         return [number for number, text in enumerate(texts) if text.translate(None, _CHECKSUM)]
     # (what begins at the end of one and goes on in the next is looked at for nothing)
-    found: Set[int] = {match.start() // length for begin in _INSIDE for match in begin.finditer(whole)}
+    found: Set[int] = {match.start() // stride for begin in _INSIDE for match in begin.finditer(whole)}
     used = length - (length % 4 == 1)
-    fill = b'A' * (-used % 4)
-    if length % 4:
-        whole = b''.join([text[:used] + fill for text in texts])
-    size = (used + len(fill)) // 4 * 3
-    return found | holding(binascii.a2b_base64(whole.translate(_STANDARD)), size, used * 3 // 4)
+    if used < length:
+        whole, stride = b''.join([text[:used] for text in texts]), used
+    if b'-' in whole or b'_' in whole:
+        whole = whole.translate(_STANDARD)
+    return found | holding(binascii.a2b_base64(whole), stride // 4 * 3, used * 3 // 4)
 
 
 # --- What they stand for ---

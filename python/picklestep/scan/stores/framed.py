@@ -8,8 +8,8 @@ from __future__ import annotations
 from dataclasses import dataclass
 from typing import Iterator, Optional, Tuple
 
-from ..begins import kind_of
 from ..blobs import Blob
+from ..containers import kind_of
 from .walk import stops_at_end
 
 __all__ = ['Framing', 'framing_of', 'may_be_framed']
@@ -19,7 +19,6 @@ _TRIED = 16
 
 _IS_LONG = 0xffff_ffff
 _LARGE = 1 << 24
-_PACKED = ('zlib', 'gzip', 'bz2', 'xz')
 
 
 @dataclass(frozen=True)
@@ -86,7 +85,8 @@ def _has_pickle(framing: Framing, blob: Blob) -> bool:
         begin = blob.read(start, min(length, 2))
         if length > 2 and begin[0] == 0x80 and begin[1] <= 5 and blob.read(start + length - 1, 1) == b'.':
             return True
-        if length > 2 and kind_of(blob.read(start, min(length, 8))) in _PACKED:
+        kind = kind_of(blob.read(start, min(length, 8))) if length > 2 else None
+        if kind is not None and kind.stream is not None and kind.stream.is_whole and not kind.stream.is_any:
             return True
         if 1 < length < 65_536 and stops_at_end(blob.read(start, length)):
             return True

@@ -11,18 +11,17 @@ from importlib import import_module
 from typing import TYPE_CHECKING, Any, Iterator, List, Set, Tuple
 
 from ..blobs import Blob
+from ..containers import HDF5, Held
 from ..results import Place
 from .values import Values
 
 if TYPE_CHECKING:
     from ..looking import Looker
 
-__all__ = ['begins_late', 'is_hdf5', 'look_at_hdf5']
+__all__ = ['begins_late', 'look_into']
 
-_BEGIN = b'\x89HDF\r\n\x1a\n'
-
-# What the author put before the file may have such a size.
-_BEFORE = (0, 512, 1024, 2048, 4096, 8192)
+# So far on a file is found by how it begins.
+_LAST_BEGIN = 8192
 
 # What the library raises where a file is damaged, or asks for too much.
 _TROUBLE = (OSError, RuntimeError, KeyError, ValueError, TypeError, MemoryError)
@@ -32,23 +31,23 @@ _ITEMS = 4_096
 _MOST_BYTES = 8 << 20
 
 
-def is_hdf5(head: bytes) -> bool:
-    """Whether bytes begin an HDF5 file, perhaps behind a block of its author."""
-    return any(head.startswith(_BEGIN, at) for at in _BEFORE)
-
-
 def begins_late(blob: Blob) -> bool:
     """Whether an HDF5 file begins behind the first bytes of these. A reader tries 512, 1024, and so on, each twice as far as the one before."""
-    at = 2 * _BEFORE[-1]
+    at = 2 * _LAST_BEGIN
     while at < blob.size:
-        if blob.read(at, len(_BEGIN)) == _BEGIN:
+        if blob.read(at, len(HDF5.magic)) == HDF5.magic:
             return True
         at *= 2
     return False
 
 
-def look_at_hdf5(looker: 'Looker', blob: Blob, where: Place, depth: int) -> None:
+def look_into(looker: 'Looker', held: Held) -> bool:
     """Looks at all attributes and all datasets of bytes."""
+    _look(looker, held.blob, held.where, held.depth)
+    return True
+
+
+def _look(looker: 'Looker', blob: Blob, where: Place, depth: int) -> None:
     try:
         h5py = import_module('h5py')
     except ImportError:

@@ -1,4 +1,7 @@
-"""memcached: all items, through pymemcache. The keys come from the crawler (`lru_crawler metadump`), which stops nobody."""
+"""memcached: all items, through pymemcache. The keys come from the crawler (`lru_crawler metadump`), which stops nobody.
+
+Passwords are not supported: pymemcache has none, and a server with SASL speaks the binary protocol alone, in which the crawler is not asked.
+"""
 
 from __future__ import annotations
 
@@ -21,6 +24,8 @@ _TOGETHER = 100
 _CONNECT_SECONDS = 10
 _ANSWER_SECONDS = 60
 _BUSY_TRIES = 20
+
+_NO_PASSWORDS = 'memcached with a password (SASL, -Y) is not supported'
 _MOST_OF_LINE = 8_192
 
 _ITEM = re.compile(rb'key=(\S+) .*?\bsize=([0-9]+)')
@@ -38,6 +43,8 @@ class MemcachedServer(Server):
 
     def __init__(self, address: Address) -> None:
         super().__init__(address)
+        if address.password or address.split.username:
+            raise NoServer(f'a password is given, and {_NO_PASSWORDS}')
         self.place = (address.split.hostname or '127.0.0.1', address.split.port or _PORT)
         self.tls: Optional[ssl.SSLContext] = ssl.create_default_context() if address.split.scheme.lower() == 'memcacheds' else None
         self.library = library('pymemcache.client.base')
@@ -116,6 +123,10 @@ def _lines(first: bytes, lines: Any) -> Iterator[bytes]:
     """The lines up to END. Raises NoServer where they end otherwise."""
     line = first
     while line.rstrip() != b'END':
+        if line.startswith(b'CLIENT_ERROR unauthenticated'):
+            raise NoServer(f'it wants a password, and {_NO_PASSWORDS}')
+        if not line and line is first:
+            raise NoServer(f'it closed the connection. (If it wants a password: {_NO_PASSWORDS})')
         if not line.endswith(b'\n') or line.startswith((b'ERROR', b'CLIENT_ERROR', b'SERVER_ERROR')):
             raise NoServer(f'its crawler does not list the keys: {line.decode("latin-1").strip() or "it closed the connection"}')
         yield line

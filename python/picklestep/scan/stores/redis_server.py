@@ -40,6 +40,9 @@ class RedisServer(Server):
     def __init__(self, address: Address) -> None:
         super().__init__(address)
         self.redis = library('redis')
+        number = address.split.path.strip('/')
+        if number and not number.isdecimal():
+            raise ValueError(f'{number!a} is no number of a database')
         words: Dict[str, Any] = {} if address.password else {'password': os.environ.get('REDISCLI_AUTH') or None}
         if address.split.scheme.lower() == 'rediss':
             words['ssl_check_hostname'] = True  # (older versions of redis-py take any name where nobody says so)

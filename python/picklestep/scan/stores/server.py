@@ -12,16 +12,13 @@ from typing import TYPE_CHECKING, Any, Callable, Dict, Iterator, Optional, Tuple
 
 from ..blobs import LimitMet
 from ..results import Result
-from .address import Address
+from .address import SERVERS, Address
 from .values import Values
 
 if TYPE_CHECKING:
     from ..looking import Options
 
 __all__ = ['IsSilent', 'NoServer', 'Server', 'Task', 'Wanted', 'ask_again', 'server_of', 'tasks', 'total_of', 'work_on']
-
-_MODULES = {'redis': 'redis_server', 'rediss': 'redis_server', 'memcached': 'memcached_server', 'memcacheds': 'memcached_server',
-            'postgresql': 'postgresql_server', 'postgres': 'postgresql_server', 'mysql': 'mysql_server', 'mariadb': 'mysql_server'}
 
 
 class NoServer(Exception):
@@ -135,7 +132,7 @@ def server_of(address: Address) -> Server:
     if address.url in _silent():
         raise NoServer(_silent()[address.url])
     if address.url not in servers:
-        module = import_module(f'{__package__}.{_MODULES[address.split.scheme.lower()]}')
+        module = import_module(f'{__package__}.{SERVERS[address.split.scheme.lower()]}')
         kind: Type[Server] = module.SERVER
         try:
             servers[address.url] = kind(address)

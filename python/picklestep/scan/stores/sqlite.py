@@ -17,15 +17,14 @@ from contextlib import closing, contextmanager, suppress
 from typing import TYPE_CHECKING, Any, Dict, Iterator, List, Optional, Tuple
 
 from ..blobs import Blob, FileBlob
+from ..containers import Held
 from ..results import Place
 from .values import SMALL, Values, key_name
 
 if TYPE_CHECKING:
     from ..looking import Looker
 
-__all__ = ['BEGIN', 'look_at_sqlite']
-
-BEGIN = b'SQLite format 3\0'
+__all__ = ['look_into']
 
 # How a rollback journal begins that has not been put back or ended.
 _JOURNAL = b'\xd9\xd5\x05\xf9\x20\xa1\x63\xd7'
@@ -43,8 +42,13 @@ _BUSY_SECONDS = 1.0
 _COMPUTED = (2, 3)
 
 
-def look_at_sqlite(looker: 'Looker', blob: Blob, where: Place, depth: int) -> None:
+def look_into(looker: 'Looker', held: Held) -> bool:
     """Looks at all values. Where the file is damaged, its bytes are searched too."""
+    _look(looker, held.blob, held.where, held.depth)
+    return True
+
+
+def _look(looker: 'Looker', blob: Blob, where: Place, depth: int) -> None:
     values = Values(looker)
     trouble: List[str] = []
     try:

@@ -5,21 +5,24 @@ Most values are small and there are many, so those that read as pickles wait, an
 
 from __future__ import annotations
 
-import re
 from concurrent.futures import Future, ThreadPoolExecutor
-from typing import TYPE_CHECKING, Callable, List, NamedTuple, Optional, Set, Tuple
+from typing import TYPE_CHECKING, Callable, Iterator, List, NamedTuple, Optional, Set, Tuple
 
-from ..begins import HEAD, kind_of, may_be_pickle, unread_kind_of
+from ..begins import HEAD, may_be_pickle
 from ..blobs import STEPS, Blob, BytesBlob, LimitMet
-from ..packed import METHODS, Unpacking
-from ..reading import Summary
+from ..canonical.streams import Stream
+from ..canonical.wide import may_lead_on
+from ..containers import MAY_BE_STORE, Container, kind_of, store_of
+from ..reading import Summary, is_plain_name
 from ..results import Place
+from ..unread import kind_of_long, kind_of_short
 from . import anywhere
 from .asking import MOST_BYTES, MOST_PICKLES, NOTHING, answers
+from .early import CUT, Early, EarlySearch, may_be_behind_few
 from .encodings import UNFINISHED, decoded, is_word
 from .framed import framing_of
 from .long_texts import LongText
-from .telling import prefixes
+from .telling import PREFIX, is_json, packed_places, prefixes, stands_for_bytes
 from .walk import is_opcode, stops_at_end, walk
 
 if TYPE_CHECKING:
@@ -46,11 +49,22 @@ _QUICK_ONES = 4096
 _SHORT = 64
 _MOST_SHORT = 10_000
 
+# A value of this size may be any container.
+_LEAST_LONG = 128
+
+# So many bytes has a database or a file of dbm at least.
+_LEAST_STORE = 512
+
+# From where to where a pickle is.
+_Span = Tuple[int, int]
+
+# So much of what was packed shows whether it may be a pickle.
+_FIRST_PART = 4096
+
 # No other container begins with this byte than a tar archive, whose sign is here.
 _PROTO, _TAR = 0x80, 257
 _STOP = ord('.')
 
-_PACKED = ('zlib', 'gzip', 'bz2', 'xz', 'lzma')
 _MOST_OF_KEY = 200
 
 
@@ -64,14 +78,10 @@ def key_name(key: bytes) -> str:
     return text if len(key) <= _MOST_OF_KEY else f'{text[:_MOST_OF_KEY]}.. ({len(key)} bytes)'
 
 
-# Names as the report shows them: plain ones, and those of which the pickle works out the second part.
-_PLAIN = re.compile(r"'?[^\W\d]\w*(\.[^\W\d]\w*)*('? #[0-9]+)?")
-
-
 def _names_something(answer: Summary) -> bool:
     """Whether an answer imports something by a plain name, or says nothing. Raw numbers that are taken for a pickle do not."""
     imports = answer.pickle((), 0).imports
-    return answer.is_empty or any(_PLAIN.fullmatch(found.name) for found in imports)
+    return answer.is_empty or any(is_plain_name(found.name) for found in imports)
 
 
 def _with_others(limit: LimitMet, count: int) -> str:
@@ -79,11 +89,22 @@ def _with_others(limit: LimitMet, count: int) -> str:
     return f'{limit} (this value, and {count} behind it)'
 
 
+def _is_store(head: bytes) -> bool:
+    """Whether a store that is a file begins so, which is not looked at as pickles."""
+    found = store_of(head) if MAY_BE_STORE.match(head) is not None else None
+    return found is not None and not found.is_pickles
+
+
+def _stream_of(kind: Optional[Container]) -> Optional[Stream]:
+    """How bytes of a kind are unpacked, where all of them are packed ones."""
+    return kind.stream if kind is not None and kind.stream is not None and kind.stream.is_whole else None
+
+
 class _Waiting(NamedTuple):
     """Bytes that end with an opcode STOP, and of which value they are.
 
     `guessed`: nothing but these bytes says that they are a pickle. `depth` is set where they only begin and end as one, and may be
-    something else: how deep they are in others.
+    something else: how deep they are in others. `further` is that depth where something may be behind their first bytes, if they are none.
     """
 
     content: bytes
@@ -91,6 +112,7 @@ class _Waiting(NamedTuple):
     value: int
     guessed: bool
     depth: Optional[int] = None
+    further: Optional[int] = None
 
 
 class Values:
@@ -215,7 +237,10 @@ class Values:
             count, self.count = self.count, each.value
             budget = self.looker.budget = self._outer.of_value(len(each.content))
             try:
-                self._look(each.content, each.where, each.depth or 0, each.guessed)
+                if each.further is None:
+                    self._look(each.content, each.where, each.depth or 0, each.guessed)
+                elif self._look_further(each.content, each.where, each.further):
+                    self._found.add(each.value)
             except LimitMet as limit:
                 is_last = self._outer.seconds <= 0
                 self.looker.note(each.where, _with_others(limit, len(again) - number - 1) if is_last else str(limit), missed=True)
@@ -250,7 +275,7 @@ class Values:
         head = content[:HEAD]
         found = self._look_into(head, content, where, depth, guessed)
         if stops_at_end(content):
-            return self._wait(_Waiting(content, where, self.count, guessed)) or found
+            return self._wait(_Waiting(content, where, self.count, guessed, further=depth)) or found
         if found:
             return True
         if self._may_begin(head, content, guessed):
@@ -274,7 +299,7 @@ class Values:
         self.looker.is_read(BytesBlob(content), content[:HEAD], where, ())
         if len(self.looker.pickles) == before:
             return False
-        if guessed and not any(_PLAIN.fullmatch(found.name) for found in self.looker.pickles[-1].imports):
+        if guessed and not any(is_plain_name(found.name) for found in self.looker.pickles[-1].imports):
             self.looker.pickles.pop()
             del self.looker.notes[notes:]
             return False
@@ -286,10 +311,10 @@ class Values:
     def _look_into(self, head: bytes, content: bytes, where: Place, depth: int, guessed: bool) -> bool:
         """Looks into a container. False where it is none, or nothing is in it."""
         kind = kind_of(head)
-        if kind in _PACKED:
+        if kind is not None and _stream_of(kind) is not None:
             return self._unpack(kind, content, where, depth, guessed)
-        unread = unread_kind_of(head)
-        if kind is None and unread is None:
+        unread = kind_of_short(head) if guessed or len(content) < _LEAST_LONG else kind_of_long(head)
+        if kind is None and unread is None and (len(content) < _LEAST_STORE or not _is_store(head)):
             return False
         found, others = len(self.looker.pickles), self.looker.others
         self.looker.look_at(BytesBlob(content), where, (), depth)
@@ -298,12 +323,13 @@ class Values:
             self._found.add(self.count)
         return True
 
-    def _unpack(self, kind: str, content: bytes, where: Place, depth: int, guessed: bool) -> bool:
-        limits = self.looker.options.limits
+    def _unpack(self, kind: Container, content: bytes, where: Place, depth: int, guessed: bool) -> bool:
+        limits, stream = self.looker.options.limits, kind.stream
+        assert stream is not None
         if depth >= limits.depth:
             self.looker.note(where, f'{kind}: containers are opened to a depth of {limits.depth}: this one is not', missed=True)
             return True
-        unpacking = Unpacking(BytesBlob(content), METHODS[kind], 0, kind != 'lzma')
+        unpacking = stream.unpacking(BytesBlob(content))
         inner, size = [], 0
         for piece in unpacking.pieces():
             self.looker.budget.unpack(len(piece))
@@ -312,7 +338,7 @@ class Values:
             if size > SMALL:
                 return self._look_large(content, where, depth)
         if unpacking.trouble is not None:
-            if kind in ('zlib', 'lzma') and not size:
+            if stream.is_weak and not size:
                 return False  # two bytes that happen to be these
         found = self._look(b''.join(inner), where + (f'({kind})',), depth + 1, guessed and unpacking.trouble is not None)
         if unpacking.trouble is not None and (found or not guessed):  # (a checksum that happens to begin so leaves no note)
@@ -339,9 +365,11 @@ class Values:
         framing = framing_of(blob)
         if framing is not None:
             return self.records(blob, where, depth)
-        for offset in prefixes(content):
-            if self._look_at_guess(content, offset, where):
-                return True
+        few = self.look_behind_few(blob, content, where, depth)
+        if few is not None:
+            if few[-1][1] < len(content):  # (others may follow, as in a queue)
+                self.look_everywhere(blob, where, known=few)
+            return True
         found = False
         for offset, name, inner in decoded(content):
             found = self._look(inner, where + (f'({name} at {offset})',), depth + 1, guessed=True) or found
@@ -364,6 +392,78 @@ class Values:
             self.looker.note(where, f'records with a length: that at {end} is cut short', missed=True)
             self.look_everywhere(blob.part(end, blob.size - end), where, end)
         return True
+
+    def look_behind_few(self, blob: Blob, content: bytes, where: Place, depth: int) -> Optional[List[_Span]]:
+        """Looks behind a few bytes, such as a sign of a library, a time or a checksum: at a pickle, or at packed bytes that may be one. Answers
+        from where to where each is that is there. Of a large blob `content` is the beginning.
+        """
+        found = [(offset, walk(content, offset).end) for offset in prefixes(content) if self._look_at_guess(content, offset, where)]
+        found = found or self._look_at_early(blob, content, where)
+        if found:
+            return found
+        for offset in packed_places(content):
+            if self._may_unpack(content[offset:]) and self._look(content[offset:], where + (f'(at {offset})',), depth + 1, guessed=True):
+                return [(offset, len(content))]
+        return None
+
+    def _look_at_early(self, blob: Blob, content: bytes, where: Place) -> List[_Span]:
+        """Asks at once about all places where nothing but opcodes says that a pickle begins, and answers where there is one. What begins within
+        another is asked about only where that is not a whole pickle.
+        """
+        search = EarlySearch(blob, content)
+        places = search.places()
+        found, whole = self._ask_early(blob, content, [each for each in places if not each.within], where)
+        inside = [each for each in places if each.within and whole.isdisjoint(each.within) and search.is_called(each)]
+        more, _ = self._ask_early(blob, content, inside, where)
+        if search.is_cut:
+            self.looker.note(where, CUT, missed=True)
+        return sorted(found + more)
+
+    def _ask_early(self, blob: Blob, content: bytes, places: List[Early], where: Place) -> Tuple[List[_Span], Set[int]]:
+        """Asks about places, and answers at which there is a pickle, and at which of them it is whole."""
+        found: List[_Span] = []
+        whole: Set[int] = set()
+        ends = {each.offset: each.end for each in places}
+        at = 0
+        while at < len(places):
+            asked, size = at, 0
+            while at < len(places) and (at == asked or size < MOST_BYTES):
+                size += (places[at].end or len(content)) - places[at].offset
+                at += 1
+            for offset, is_whole in self._asked_early(blob, content, places[asked:at], where):
+                found.append((offset, ends[offset] or walk(content, offset).end))
+                whole.update([offset] if is_whole else [])
+        return found, whole
+
+    def _asked_early(self, blob: Blob, content: bytes, places: List[Early], where: Place) -> Iterator[Tuple[int, bool]]:
+        inner = [content[each.offset:each.end or None] for each in places]
+        options = self.looker.options
+        for each, piece, answer in zip(places, inner, answers(inner, [True] * len(inner), self._outer, options.lines, options.full)):
+            before = len(self.looker.pickles)
+            place = where + (f'(at {each.offset})',)
+            if not each.end and blob.size > len(content):
+                part = blob.part(each.offset, blob.size - each.offset)
+                self.looker.is_read(part, part.read(0, HEAD), place, ())
+            elif answer is not None and not answer.is_empty:
+                self._keep(_Waiting(piece, place, self.count, True), answer)
+            if len(self.looker.pickles) > before:
+                self._found.add(self.count)
+                yield each.offset, bool(each.end) and self.looker.pickles[-1].end.is_stopped
+
+    @staticmethod
+    def _may_unpack(packed: bytes) -> bool:
+        """Whether these may be packed bytes of a pickle. (Images and fonts have packed bytes near their beginning.)"""
+        stream = _stream_of(kind_of(packed[:HEAD]))
+        if stream is None:
+            return kind_of_short(packed[:HEAD]) is not None
+        unpacking = stream.unpacking(BytesBlob(packed), has_several=False)
+        begin = next(unpacking.pieces(), b'')[:_FIRST_PART]
+        if not begin:
+            return False
+        is_whole = len(begin) < _FIRST_PART
+        if may_lead_on(begin, is_whole) or kind_of(begin) is not None or framing_of(BytesBlob(begin)) is not None or is_json(begin):
+            return True
+        return may_be_behind_few(begin, len(begin) if is_whole else SMALL) or stands_for_bytes(begin[:PREFIX])
 
     def _look_at_guess(self, content: bytes, offset: int, where: Place) -> bool:
         """Looks at a place where a pickle may begin."""
@@ -400,11 +500,13 @@ class Values:
             self.looker.others = before[1]
         return text.end
 
-    def look_everywhere(self, blob: Blob, where: Place, shift: int = 0) -> bool:
-        """Looks at each offset at which a pickle may begin."""
+    def look_everywhere(self, blob: Blob, where: Place, shift: int = 0, known: Optional[List[_Span]] = None) -> bool:
+        """Looks at each offset at which a pickle may begin, but at those of what is known."""
         found = False
         try:
             for offset, inner in anywhere.candidates(blob):
+                if known is not None and any(start <= offset < end for start, end in known):
+                    continue
                 place = where + (f'(at {offset + shift})',)
                 found = self._take(inner, place) or found
         except LimitMet as limit:
@@ -467,12 +569,14 @@ class Values:
         elif answer.is_sure or answer.end.is_stopped or answer.trouble is not None:
             pickle = answer.pickle(each.where, len(each.content))
             # (Names that are no plain ones are no picklers': whether the rest has their form is told, as of a file.)
-            if each.guessed or all(_PLAIN.fullmatch(found.name) for found in pickle.imports) or not self._is_kept(each):
+            if each.guessed or all(is_plain_name(found.name) for found in pickle.imports) or not self._is_kept(each):
                 self.looker.pickles.append(pickle)
             self._found.add(each.value)
         elif (not each.guessed or walk(each.content, 0).is_called) and self._is_kept(each):
             # The program refused it before an import. What a loader makes of it is asked as it is for a file.
             self._found.add(each.value)
+        elif each.further is not None:
+            self._again.append(each)
 
     def _is_kept(self, each: _Waiting) -> bool:
         """Asks about a value alone, as about a file. Answers whether it is a pickle."""

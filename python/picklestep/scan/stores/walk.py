@@ -10,17 +10,20 @@ import pickletools
 import re
 from typing import List, Optional, Set, Tuple
 
-__all__ = ['MOST', 'Walk', 'is_opcode', 'may_begin', 'stops_at_end', 'walk']
+__all__ = ['CHECKSUM', 'MOST', 'Walk', 'is_opcode', 'may_begin', 'stops_at_end', 'walk']
 
 _PAIR, _LINE, _ONE, _FOUR, _EIGHT, _UNKNOWN = -1, -2, -3, -4, -5, -6
 
 # Opcodes that call something, and those that end a walk.
 _CALLS = frozenset({'REDUCE', 'NEWOBJ', 'NEWOBJ_EX', 'OBJ', 'INST', 'BUILD'})
 _IMPORTS = frozenset({'GLOBAL', 'INST', 'STACK_GLOBAL'})
+_NUMBERS = frozenset({'INT', 'LONG', 'GET', 'PUT'})
 _STOP, _FRAME, _POP = ord('.'), 0x95, ord('0')
 
-# The module of GLOBAL and INST, where it can be one.
-_MODULE = re.compile(rb'[A-Za-z_\x80-\xff][A-Za-z0-9_.\x80-\xff]*\n')
+# A line of a checksum in hexadecimal, or of base64: nothing that is imported has such a name.
+CHECKSUM = rb'(?:[0-9a-f]{16,}|[0-9A-F]{16,}|(?=[A-Za-z]*[0-9]+[A-Za-z]+[0-9])(?=[a-z0-9]*[A-Z])(?=[A-Z0-9]*[a-z])[A-Za-z0-9]{20,})\r?\n'
+# The lines of GLOBAL and INST, where the first can be a module.
+_MODULE = re.compile(rb'[A-Za-z_\x80-\xff][A-Za-z0-9_.\x80-\xff]*\n(?!%b)' % CHECKSUM)
 
 # So many opcodes are gone over at a place that was only guessed.
 MOST = 20_000
@@ -52,13 +55,16 @@ for _each in pickletools.opcodes:
     _STEPS[ord(_each.code)] = _step_of(_each)
     _NEEDS[ord(_each.code)] = _needs_of(_each)
     _WHAT[ord(_each.code)] = (_each.name in _IMPORTS) + 2 * (_each.name in _CALLS)
+_TAKES_NUMBER = frozenset(ord(each.code) for each in pickletools.opcodes if each.name in _NUMBERS)
 _MARK = next(ord(each.code) for each in pickletools.opcodes if each.name == 'MARK')
 _STACK_GLOBAL = next(ord(each.code) for each in pickletools.opcodes if each.name == 'STACK_GLOBAL')
 
 
 def _variable(content: bytes, at: int, step: int) -> int:
-    """The length of an opcode whose argument has none of its own; 0 where it has no end."""
+    """The length of an opcode whose argument has none of its own; 0 where it has no end, -1 where no loader takes a word for its number."""
     if step in (_PAIR, _LINE):
+        if content[at] in _TAKES_NUMBER and content[at + 1:at + 2].isalpha():
+            return -1
         end = content.find(b'\n', at + 1)
         if step == _PAIR and end >= 0:
             end = content.find(b'\n', end + 1)
@@ -104,7 +110,7 @@ def stops_at_end(content: bytes) -> bool:
             step = 2 + content[at + 1]
         elif step < 0:
             step = _variable(content, at, step)
-            if not step:
+            if step <= 0:
                 return False
         elif code == _FRAME and at + 9 + int.from_bytes(content[at + 1:at + 9], 'little') > size:
             return False  # (a frame that reaches out of these bytes would take in what comes after them)
@@ -117,24 +123,27 @@ class Walk:
 
     `end` is where it ends: behind a STOP if `stops`. `imports` and `calls` say what it comes to. `lacks` says that an opcode takes more
     from the stack than the walk has put there, so that the pickle, if it is one, begins before; `goes_on`, that it met its limit. `needs` is
-    how many bytes there must be for the opcode whose argument reaches out of them, or 0.
+    how many bytes there must be for the opcode whose argument reaches out of them, or 0. `passed` are the offsets of its opcodes.
     """
 
+    # (most walks are short: what they do not come to is not set for each)
+    end = 0
+    stops = False
+    imports = False
+    calls = False
+    is_called = False
+    lacks = False
+    goes_on = False
+    needs = 0
+    opcodes = 0
+
     def __init__(self) -> None:
-        self.end = 0
-        self.stops = False
-        self.imports = False
-        self.calls = False
-        self.is_called = False
-        self.lacks = False
-        self.goes_on = False
-        self.needs = 0
-        self.opcodes = 0
+        self.passed: List[int] = []
 
     @property
     def is_likely(self) -> bool:
-        """Whether it is worth a question: it imports and then calls, or it is whole and more than a constant."""
-        return not self.lacks and (self.is_called or self.goes_on or self.stops and self.opcodes > 3)
+        """Whether it is worth a question: it imports and then calls (with all that the call takes), or it is whole and more than a constant."""
+        return self.is_called or not self.lacks and (self.goes_on or self.stops and self.opcodes > 3)
 
 
 def _depth_after(code: int, depth: int, marks: List[int]) -> int:
@@ -153,16 +162,17 @@ def _depth_after(code: int, depth: int, marks: List[int]) -> int:
     return depth + leaves - needs if depth - needs >= (marks[-1] if marks else 0) else -1
 
 
-def walk(content: bytes, at: int, until: Optional[int] = None, most: int = MOST, dead: Optional[Set[int]] = None) -> Walk:
+def walk(content: bytes, at: int, until: Optional[int] = None, most: int = MOST, dead: Optional[Set[int]] = None,
+         learns: bool = True) -> Walk:
     """Goes over opcodes from a place on, and counts what they put on the stack, as far as some loader could go on (or up to `until`, or
     `most` opcodes). From the offsets in `dead` no way leads to a call or a STOP, with what an earlier walk had on the stack; those of
-    this walk are added if it is such a one.
+    this walk are added if it is such a one and `learns`.
     """
     found = Walk()
     size = len(content)
     depth = 0
     marks: List[int] = []
-    passed: List[int] = []
+    passed = found.passed
     while at < size and at != until and not (dead and at in dead):
         if found.opcodes >= most:
             found.goes_on = True
@@ -173,7 +183,7 @@ def walk(content: bytes, at: int, until: Optional[int] = None, most: int = MOST,
         if step < 0:
             step = _variable(content, at, step)
         if step <= 0 or at + step > size:
-            found.needs = at + step if step > 0 else size + 1 if _STEPS[code] in (_PAIR, _LINE) else 0
+            found.needs = at + step if step > 0 else size + 1 if not step and _STEPS[code] in (_PAIR, _LINE) else 0
             break
         depth = _depth_after(code, depth, marks)
         if depth < 0:
@@ -190,6 +200,6 @@ def walk(content: bytes, at: int, until: Optional[int] = None, most: int = MOST,
             found.stops = True
             break
     found.end = at
-    if dead is not None and not (found.stops or found.calls or found.goes_on):
+    if dead is not None and learns and not (found.stops or found.calls or found.goes_on):
         dead.update(passed)
     return found

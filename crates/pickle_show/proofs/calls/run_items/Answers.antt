@@ -1,129 +1,15 @@
-use Rattle.std.proofs.Common.{◌≡◌, drop, length, true, false, sym, ap, ◌∙◌, arith, rules}
-use Rattle.pickle_ops.specs.Spelling.{size_of}
-use Rattle.pickle_doc.specs.Tail.{HasTailFault}
-use Rattle.pickle_doc.specs.Fitting.{left_behind}
-use Rattle.pickle_doc.specs.DocUnit.{is_stop, ends_reading}
-use Rattle.pickle_doc.specs.Unread.{IsNextItem, Unread}
-use Rattle.pickle_show.proofs.Walking.{walked_none, refused_runs, tail_runs, line_breaks, memory_stops, moved, goes_on, stop_runs, unsure_runs, cut_failed, bounds}
-use Rattle.std.specs.Prelude.{◌&&◌, nat_lt}
-use Rattle.std.proofs.Common.{refl}
-use Rattle.pickle_show.proofs.Moves.{move_heap}
+use Rattle.pickle_show.proofs.Walking.{walked_none}
+use Rattle.pickle_show.proofs.Parts.{passed_on}
 use Rattle.pickle_show.proofs.calls.run_items.Goals as goal
 
-pub items-init : goal.items-init
-items-init g c = rw (c.requires.source.first, c.requires.fresh, c.new-course.ensures) (walked_none _ _ _ _ c.requires.source.document c.requires.source.small)
+pub parts-init : goal.parts-init
+parts-init g c = rw (c.requires.source.first, c.requires.fresh, c.new.ensures) (c.requires.framed, walked_none _ _ _ _ (rw c.requires.framed at c.requires.source.document) c.requires.source.small, c.requires.source.small)
 
-pub returns-in-Tail-clause-ok : goal.returns-in-Tail-clause-ok
-returns-in-Tail-clause-ok g c =
-    let f : HasTailFault (g.I.ItemSource.unread c.items.reader).left (g.I.ItemSource.unread c.items.reader).rest c.in-Tail.fault × (g.I.ItemSource.unread c.next.new.self ≡ g.I.ItemSource.unread c.items.reader) = rw c.in-Tail.is at c.next.ensures in
-    let left : c.unread_len.result ≡ length (g.I.ItemSource.unread c.items.reader).rest = c.unread_len.ensures ∙ ap (λ (u : Unread). length u.rest) f.1 in
-    tail_runs _ _ _ _ _ _ _ _ _ c.in-Tail.fault _ _ c.items.invariant f.0 left c.closing_at-closing.ensures
+pub returns-in_err-next-clause-err : goal.returns-in_err-next-clause-err
+returns-in_err-next-clause-err g c = passed_on _ _ _ c.from_residual.ensures.1 (c.in_err-next.ensures.err (record { detail = c.args.detail; rest = (g.I.ItemSource.unread c.args.source).rest; told = g.S.Sink.told c.args.sink.now }) c.parts.invariant)
 
-pub of-before-requires : goal.of-before-requires
-of-before-requires g c =
-    let n : IsNextItem (g.I.ItemSource.unread c.items.reader).left (g.I.ItemSource.unread c.items.reader).rest c.in-Item.op (size_of c.in-Item.op)
-    × (g.I.ItemSource.unread c.next.new.self ≡ record { rest = drop (size_of c.in-Item.op) (g.I.ItemSource.unread c.items.reader).rest; left = left_behind (g.I.ItemSource.unread c.items.reader).left c.in-Item.op }) = rw c.in-Item.is at c.next.ensures in
-    let b = bounds _ _ _ _ _ _ _ c.in-Item.op _ _ c.items.invariant n.0 in
-    omega (arith, b.heap, b.place, c.requires.source.small)
+pub parts-preserved : goal.parts-preserved
+parts-preserved g c = rw c.in-More.is at (c.in_ok-next.ensures.ok (record { detail = c.args.detail; rest = (g.I.ItemSource.unread c.args.source).rest; told = g.S.Sink.told c.args.sink.now }) c.parts.invariant)
 
-pub step_over-requires-clause-heap : goal.step_over-requires-clause-heap
-step_over-requires-clause-heap g c =
-    let n : IsNextItem (g.I.ItemSource.unread c.items.reader).left (g.I.ItemSource.unread c.items.reader).rest c.in-Item.op (size_of c.in-Item.op)
-    × (g.I.ItemSource.unread c.next.new.self ≡ record { rest = drop (size_of c.in-Item.op) (g.I.ItemSource.unread c.items.reader).rest; left = left_behind (g.I.ItemSource.unread c.items.reader).left c.in-Item.op }) = rw c.in-Item.is at c.next.ensures in
-    let b = bounds _ _ _ _ _ _ _ c.in-Item.op _ _ c.items.invariant n.0 in
-    omega (arith, b.heap, b.place, c.requires.source.small)
-
-pub returns-then-eq-clause-err : goal.returns-then-eq-clause-err
-returns-then-eq-clause-err g c =
-    let n : IsNextItem (g.I.ItemSource.unread c.items.reader).left (g.I.ItemSource.unread c.items.reader).rest c.in-Item.op (size_of c.in-Item.op)
-    × (g.I.ItemSource.unread c.next.new.self ≡ record { rest = drop (size_of c.in-Item.op) (g.I.ItemSource.unread c.items.reader).rest; left = left_behind (g.I.ItemSource.unread c.items.reader).left c.in-Item.op }) = rw c.in-Item.is at c.next.ensures in
-    memory_stops _ _ _ _ _ _ _ c.in-Item.op _ _ c.items.invariant n.0
-
-pub returns-in-Err-clause-ok : goal.returns-in-Err-clause-ok
-returns-in-Err-clause-ok g c =
-    let n : IsNextItem (g.I.ItemSource.unread c.items.reader).left (g.I.ItemSource.unread c.items.reader).rest c.in-Item.op (size_of c.in-Item.op)
-    × (g.I.ItemSource.unread c.next.new.self ≡ record { rest = drop (size_of c.in-Item.op) (g.I.ItemSource.unread c.items.reader).rest; left = left_behind (g.I.ItemSource.unread c.items.reader).left c.in-Item.op }) = rw c.in-Item.is at c.next.ensures in
-    rw c.in-Err.ensures.err (refused_runs _ _ _ _ _ _ _ c.in-Item.op _ _ c.in-Err.refusal c.items.invariant n.0 (c.in-Err.ensures.refused (search rules)))
-
-pub returns-in_err-write_line-in-Item-clause-err : goal.returns-in_err-write_line-in-Item-clause-err
-returns-in_err-write_line-in-Item-clause-err g c =
-    let n : IsNextItem (g.I.ItemSource.unread c.items.reader).left (g.I.ItemSource.unread c.items.reader).rest c.in-Item.op (size_of c.in-Item.op)
-    × (g.I.ItemSource.unread c.next.new.self ≡ record { rest = drop (size_of c.in-Item.op) (g.I.ItemSource.unread c.items.reader).rest; left = left_behind (g.I.ItemSource.unread c.items.reader).left c.in-Item.op }) = rw c.in-Item.is at c.next.ensures in
-    let line = rw (c.heap.ensures, c.event_of-event.ensures, c.of_ref-row.ensures, c.of-before.ensures) at c.in_err-write_line-in-Item.ensures in
-    cut_failed _ _ _ _ _ c.from_residual.ensures.1 (line_breaks _ _ _ _ _ _ _ _ c.in-Item.op _ _ _ c.items.invariant n.0 c.in_default.ensures.ok line)
-
-pub over-course-requires-clause-imports : goal.over-course-requires-clause-imports
-over-course-requires-clause-imports g c =
-    let n : IsNextItem (g.I.ItemSource.unread c.items.reader).left (g.I.ItemSource.unread c.items.reader).rest c.in-Item.op (size_of c.in-Item.op)
-    × (g.I.ItemSource.unread c.next.new.self ≡ record { rest = drop (size_of c.in-Item.op) (g.I.ItemSource.unread c.items.reader).rest; left = left_behind (g.I.ItemSource.unread c.items.reader).left c.in-Item.op }) = rw c.in-Item.is at c.next.ensures in
-    let b = bounds _ _ _ _ _ _ _ c.in-Item.op _ _ c.items.invariant n.0 in
-    omega (arith, b.imports, b.place, c.requires.source.small)
-
-pub over-course-requires-clause-calls : goal.over-course-requires-clause-calls
-over-course-requires-clause-calls g c =
-    let n : IsNextItem (g.I.ItemSource.unread c.items.reader).left (g.I.ItemSource.unread c.items.reader).rest c.in-Item.op (size_of c.in-Item.op)
-    × (g.I.ItemSource.unread c.next.new.self ≡ record { rest = drop (size_of c.in-Item.op) (g.I.ItemSource.unread c.items.reader).rest; left = left_behind (g.I.ItemSource.unread c.items.reader).left c.in-Item.op }) = rw c.in-Item.is at c.next.ensures in
-    let b = bounds _ _ _ _ _ _ _ c.in-Item.op _ _ c.items.invariant n.0 in
-    omega (arith, b.calls, b.place, c.requires.source.small)
-
-pub overflow_add-offset : goal.overflow_add-offset
-overflow_add-offset g c =
-    let n : IsNextItem (g.I.ItemSource.unread c.items.reader).left (g.I.ItemSource.unread c.items.reader).rest c.in-Item.op (size_of c.in-Item.op)
-    × (g.I.ItemSource.unread c.next.new.self ≡ record { rest = drop (size_of c.in-Item.op) (g.I.ItemSource.unread c.items.reader).rest; left = left_behind (g.I.ItemSource.unread c.items.reader).left c.in-Item.op }) = rw c.in-Item.is at c.next.ensures in
-    let b = bounds _ _ _ _ _ _ _ c.in-Item.op _ _ c.items.invariant n.0 in
-    omega (arith, b.behind, c.size.ensures, c.requires.source.small)
-
-pub overflow_add-place : goal.overflow_add-place
-overflow_add-place g c =
-    let n : IsNextItem (g.I.ItemSource.unread c.items.reader).left (g.I.ItemSource.unread c.items.reader).rest c.in-Item.op (size_of c.in-Item.op)
-    × (g.I.ItemSource.unread c.next.new.self ≡ record { rest = drop (size_of c.in-Item.op) (g.I.ItemSource.unread c.items.reader).rest; left = left_behind (g.I.ItemSource.unread c.items.reader).left c.in-Item.op }) = rw c.in-Item.is at c.next.ensures in
-    let b = bounds _ _ _ _ _ _ _ c.in-Item.op _ _ c.items.invariant n.0 in
-    omega (arith, b.place, c.requires.source.small)
-
-pub returns-then-ends_reading-clause-ok : goal.returns-then-ends_reading-clause-ok
-returns-then-ends_reading-clause-ok g c =
-    let n : IsNextItem (g.I.ItemSource.unread c.items.reader).left (g.I.ItemSource.unread c.items.reader).rest c.in-Item.op (size_of c.in-Item.op)
-    × (g.I.ItemSource.unread c.next.new.self ≡ record { rest = drop (size_of c.in-Item.op) (g.I.ItemSource.unread c.items.reader).rest; left = left_behind (g.I.ItemSource.unread c.items.reader).left c.in-Item.op }) = rw c.in-Item.is at c.next.ensures in
-    let line = rw (c.heap.ensures, c.event_of-event.ensures, c.of_ref-row.ensures, c.of-before.ensures) at c.in_ok-write_line-in-Item.ensures in
-    let imports = rw (c.heap-in-Item.ensures, c.event_of-event.ensures, c.of_ref-row.ensures, c.of-before.ensures) at c.over-course.ensures.imports in
-    let calls = rw (c.heap-in-Item.ensures, c.event_of-event.ensures, c.of_ref-row.ensures, c.of-before.ensures) at c.over-course.ensures.calls in
-    let naming = rw (c.heap-in-Item.ensures, c.of_ref-row.ensures) at c.over-course.ensures.naming in
-    let m = moved _ _ _ _ _ _ _ _ c.in-Item.op _ _ _ c.over-course.result c.items.invariant n.0 c.in_default.ensures.ok line imports calls naming c.over-course.ensures.left in
-    let hit : ends_reading c.args.many c.in-Item.op.opcode ≡ true = sym (rw c.opcode.ensures at c.ends_reading.ensures) ∙ c.if-ends_reading.true in
-    let rest : c.unread_len-then-ends_reading.result ≡ length (drop (size_of c.in-Item.op) (g.I.ItemSource.unread c.items.reader).rest) = c.unread_len-then-ends_reading.ensures ∙ ap (λ (u : Unread). length u.rest) n.1 in
-    rw c.size.ensures (stop_runs _ _ _ _ _ _ _ c.in-Item.op _ _ _ m hit rest)
-
-pub over-course-requires-clause-objects : goal.over-course-requires-clause-objects
-over-course-requires-clause-objects g c =
-    let n : IsNextItem (g.I.ItemSource.unread c.items.reader).left (g.I.ItemSource.unread c.items.reader).rest c.in-Item.op (size_of c.in-Item.op)
-    × (g.I.ItemSource.unread c.next.new.self ≡ record { rest = drop (size_of c.in-Item.op) (g.I.ItemSource.unread c.items.reader).rest; left = left_behind (g.I.ItemSource.unread c.items.reader).left c.in-Item.op }) = rw c.in-Item.is at c.next.ensures in
-    let b = bounds _ _ _ _ _ _ _ c.in-Item.op _ _ c.items.invariant n.0 in
-    let more = move_heap c.in-Item.op c.items.place c.items.machine.state c.step_over.new.machine.state c.in_default.ensures.ok in
-    rw c.heap-in-Item.ensures (omega (arith, b.heap, b.place, c.requires.source.small, more))
-
-pub returns-then-leaves_frame-clause-ok : goal.returns-then-leaves_frame-clause-ok
-returns-then-leaves_frame-clause-ok g c =
-    let n : IsNextItem (g.I.ItemSource.unread c.items.reader).left (g.I.ItemSource.unread c.items.reader).rest c.in-Item.op (size_of c.in-Item.op)
-    × (g.I.ItemSource.unread c.next.new.self ≡ record { rest = drop (size_of c.in-Item.op) (g.I.ItemSource.unread c.items.reader).rest; left = left_behind (g.I.ItemSource.unread c.items.reader).left c.in-Item.op }) = rw c.in-Item.is at c.next.ensures in
-    let line = rw (c.heap.ensures, c.event_of-event.ensures, c.of_ref-row.ensures, c.of-before.ensures) at c.in_ok-write_line-in-Item.ensures in
-    let imports = rw (c.heap-in-Item.ensures, c.event_of-event.ensures, c.of_ref-row.ensures, c.of-before.ensures) at c.over-course.ensures.imports in
-    let calls = rw (c.heap-in-Item.ensures, c.event_of-event.ensures, c.of_ref-row.ensures, c.of-before.ensures) at c.over-course.ensures.calls in
-    let naming = rw (c.heap-in-Item.ensures, c.of_ref-row.ensures) at c.over-course.ensures.naming in
-    let m = moved _ _ _ _ _ _ _ _ c.in-Item.op _ _ _ c.over-course.result c.items.invariant n.0 c.in_default.ensures.ok line imports calls naming c.over-course.ensures.left in
-    let miss : ends_reading c.args.many c.in-Item.op.opcode ≡ false = sym (rw c.opcode.ensures at c.ends_reading.ensures) ∙ c.if-ends_reading.false in
-    let out : (is_stop c.in-Item.op.opcode && nat_lt 0 c.over-course.result.left) ≡ true = sym (rw c.opcode-in-Item.ensures at c.leaves_frame.ensures) ∙ c.if-leaves_frame.true in
-    rw c.size.ensures (unsure_runs _ _ _ _ _ _ _ c.in-Item.op _ _ c.items.offset m miss out refl)
-
-pub items-preserved : goal.items-preserved
-items-preserved g c =
-    let n : IsNextItem (g.I.ItemSource.unread c.items.reader).left (g.I.ItemSource.unread c.items.reader).rest c.in-Item.op (size_of c.in-Item.op)
-    × (g.I.ItemSource.unread c.next.new.self ≡ record { rest = drop (size_of c.in-Item.op) (g.I.ItemSource.unread c.items.reader).rest; left = left_behind (g.I.ItemSource.unread c.items.reader).left c.in-Item.op }) = rw c.in-Item.is at c.next.ensures in
-    let line = rw (c.heap.ensures, c.event_of-event.ensures, c.of_ref-row.ensures, c.of-before.ensures) at c.in_ok-write_line-in-Item.ensures in
-    let imports = rw (c.heap-in-Item.ensures, c.event_of-event.ensures, c.of_ref-row.ensures, c.of-before.ensures) at c.over-course.ensures.imports in
-    let calls = rw (c.heap-in-Item.ensures, c.event_of-event.ensures, c.of_ref-row.ensures, c.of-before.ensures) at c.over-course.ensures.calls in
-    let naming = rw (c.heap-in-Item.ensures, c.of_ref-row.ensures) at c.over-course.ensures.naming in
-    let m = moved _ _ _ _ _ _ _ _ c.in-Item.op _ _ _ c.over-course.result c.items.invariant n.0 c.in_default.ensures.ok line imports calls naming c.over-course.ensures.left in
-    let miss : ends_reading c.args.many c.in-Item.op.opcode ≡ false = sym (rw c.opcode.ensures at c.ends_reading.ensures) ∙ c.if-ends_reading.false in
-    let out : (is_stop c.in-Item.op.opcode && nat_lt 0 c.over-course.result.left) ≡ false = sym (rw c.opcode-in-Item.ensures at c.leaves_frame.ensures) ∙ c.if-leaves_frame.false in
-    let stop : c.is_stop-stop.result ≡ is_stop c.in-Item.op.opcode = c.is_stop-stop.ensures ∙ ap is_stop c.opcode-in-Item-2.ensures in
-    rw (n.1, c.size.ensures, stop) (goes_on _ _ _ _ _ _ _ c.in-Item.op _ _ m miss out)
+pub returns-in-End-clause-ok : goal.returns-in-End-clause-ok
+returns-in-End-clause-ok g c = rw c.in-End.is at (c.in_ok-next.ensures.ok (record { detail = c.args.detail; rest = (g.I.ItemSource.unread c.args.source).rest; told = g.S.Sink.told c.args.sink.now }) c.parts.invariant)

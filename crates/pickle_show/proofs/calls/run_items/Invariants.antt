@@ -1,10 +1,9 @@
 use Rattle.std.proofs.Common.{length}
-use Rattle.pickle_show.specs.Manner.{manner}
-use Rattle.pickle_show.proofs.Walking.{Walked}
+use Rattle.pickle_show.specs.Inside.Walked.{HasWalked}
 use Rattle.pickle_show.proofs.calls.run_items.Given as goal
 
-abbrev pub invariant-items : goal.invariant-items
-invariant-items g l = Walked (manner l.fn.detail l.fn.holes) l.fn.many (g.I.ItemSource.unread l.fn.source).rest (g.S.Sink.told l.initial.sink) (g.S.Sink.told l.sink) (g.I.ItemSource.unread l.reader).rest (g.I.ItemSource.unread l.reader).left l.place l.offset l.machine.state l.course l.stop
+abbrev pub invariant-parts : goal.invariant-parts
+invariant-parts g l = HasWalked l.holes l.many (record { detail = l.fn.detail; rest = (g.I.ItemSource.unread l.fn.source).rest; told = g.S.Sink.told l.initial.sink }) g.I.ItemSource.unread (g.S.Sink.told l.sink) l.machine.state l.far
 
-abbrev pub decreases-items : goal.decreases-items
-decreases-items g l = length (g.I.ItemSource.unread l.reader).rest
+abbrev pub decreases-parts : goal.decreases-parts
+decreases-parts g l = length (g.I.ItemSource.unread l.far.reader).rest

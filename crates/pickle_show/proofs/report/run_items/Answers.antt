@@ -1,59 +1,6 @@
--- One item more, or an end.
-use Rattle.std.proofs.Common.{◌≡◌, drop, length, true, false, sym, ap, ◌∙◌, arith, rules}
-use Rattle.pickle_ops.specs.Spelling.{size_of}
-use Rattle.pickle_doc.specs.DocUnit.{is_stop, ends_reading}
-use Rattle.pickle_doc.specs.Tail.{HasTailFault}
-use Rattle.pickle_doc.specs.Fitting.{left_behind}
-use Rattle.pickle_doc.specs.Unread.{IsNextItem, Unread}
-use Rattle.pickle_show.proofs.Stepping.{walked_none, place_within, refused_ends, tail_ends, tail_within, moved, goes_on, stop_ends}
+use Rattle.std.proofs.Common.{refl}
+use Rattle.pickle_show.proofs.Stepping.{stepped_none}
 use Rattle.pickle_show.proofs.report.run_items.Goals as goal
 
-pub items-init : goal.items-init
-items-init g c = rw (c.requires.document.first, c.requires.start) (walked_none _ _ c.requires.document.document c.requires.document.small)
-
-pub overflow_sub-total : goal.overflow_sub-total
-overflow_sub-total g c =
-    let f : HasTailFault (g.I.ItemSource.unread c.items.reader).left (g.I.ItemSource.unread c.items.reader).rest c.in-Tail.fault × (g.I.ItemSource.unread c.next.new.self ≡ g.I.ItemSource.unread c.items.reader) = rw c.in-Tail.is at c.next.ensures in
-    let left : c.unread_len-left.result ≡ length (g.I.ItemSource.unread c.items.reader).rest = c.unread_len-left.ensures ∙ ap (λ (u : Unread). length u.rest) f.1 in
-    omega (arith, left, c.unread_len-total.ensures, tail_within _ _ _ _ _ _ _ c.in-Tail.fault c.items.invariant f.0)
-
-pub returns-in-Tail-clause-closes : goal.returns-in-Tail-clause-closes
-returns-in-Tail-clause-closes g c =
-    let f : HasTailFault (g.I.ItemSource.unread c.items.reader).left (g.I.ItemSource.unread c.items.reader).rest c.in-Tail.fault × (g.I.ItemSource.unread c.next.new.self ≡ g.I.ItemSource.unread c.items.reader) = rw c.in-Tail.is at c.next.ensures in
-    let left : c.unread_len-left.result ≡ length (g.I.ItemSource.unread c.items.reader).rest = c.unread_len-left.ensures ∙ ap (λ (u : Unread). length u.rest) f.1 in
-    rw (c.closing_at.ensures, left, c.unread_len-total.ensures) (tail_ends _ _ _ _ _ _ _ c.in-Tail.fault c.items.invariant f.0)
-
-pub step_over-requires-clause-heap : goal.step_over-requires-clause-heap
-step_over-requires-clause-heap g c =
-    let n : IsNextItem (g.I.ItemSource.unread c.items.reader).left (g.I.ItemSource.unread c.items.reader).rest c.in-Item.op (size_of c.in-Item.op)
-    × (g.I.ItemSource.unread c.next.new.self ≡ record { rest = drop (size_of c.in-Item.op) (g.I.ItemSource.unread c.items.reader).rest; left = left_behind (g.I.ItemSource.unread c.items.reader).left c.in-Item.op }) = rw c.in-Item.is at c.next.ensures in
-    omega (arith, c.items.invariant.heap, place_within _ _ _ _ _ c.in-Item.op _ _ c.items.invariant n.0, c.requires.document.small)
-
-pub returns-in-Err-clause-closes : goal.returns-in-Err-clause-closes
-returns-in-Err-clause-closes g c =
-    let n : IsNextItem (g.I.ItemSource.unread c.items.reader).left (g.I.ItemSource.unread c.items.reader).rest c.in-Item.op (size_of c.in-Item.op)
-    × (g.I.ItemSource.unread c.next.new.self ≡ record { rest = drop (size_of c.in-Item.op) (g.I.ItemSource.unread c.items.reader).rest; left = left_behind (g.I.ItemSource.unread c.items.reader).left c.in-Item.op }) = rw c.in-Item.is at c.next.ensures in
-    rw c.in-Err.ensures.err (refused_ends _ _ _ _ _ c.in-Item.op _ _ c.in-Err.refusal c.items.invariant n.0 (c.in-Err.ensures.refused (search rules)))
-
-pub overflow_add-place : goal.overflow_add-place
-overflow_add-place g c =
-    let n : IsNextItem (g.I.ItemSource.unread c.items.reader).left (g.I.ItemSource.unread c.items.reader).rest c.in-Item.op (size_of c.in-Item.op)
-    × (g.I.ItemSource.unread c.next.new.self ≡ record { rest = drop (size_of c.in-Item.op) (g.I.ItemSource.unread c.items.reader).rest; left = left_behind (g.I.ItemSource.unread c.items.reader).left c.in-Item.op }) = rw c.in-Item.is at c.next.ensures in
-    omega (arith, place_within _ _ _ _ _ c.in-Item.op _ _ c.items.invariant n.0, c.requires.document.small)
-
-pub returns-then-ends_reading-clause-closes : goal.returns-then-ends_reading-clause-closes
-returns-then-ends_reading-clause-closes g c =
-    let n : IsNextItem (g.I.ItemSource.unread c.items.reader).left (g.I.ItemSource.unread c.items.reader).rest c.in-Item.op (size_of c.in-Item.op)
-    × (g.I.ItemSource.unread c.next.new.self ≡ record { rest = drop (size_of c.in-Item.op) (g.I.ItemSource.unread c.items.reader).rest; left = left_behind (g.I.ItemSource.unread c.items.reader).left c.in-Item.op }) = rw c.in-Item.is at c.next.ensures in
-    let m = moved _ _ _ _ _ c.in-Item.op _ _ _ c.items.invariant n.0 c.in_default.ensures.ok c.in_default.ensures.objects in
-    let hit : ends_reading c.args.many c.in-Item.op.opcode ≡ true = sym (rw c.opcode.ensures at c.ends_reading.ensures) ∙ c.if-ends_reading.true in
-    stop_ends _ _ _ _ _ c.in-Item.op _ m hit
-
-pub items-preserved : goal.items-preserved
-items-preserved g c =
-    let n : IsNextItem (g.I.ItemSource.unread c.items.reader).left (g.I.ItemSource.unread c.items.reader).rest c.in-Item.op (size_of c.in-Item.op)
-    × (g.I.ItemSource.unread c.next.new.self ≡ record { rest = drop (size_of c.in-Item.op) (g.I.ItemSource.unread c.items.reader).rest; left = left_behind (g.I.ItemSource.unread c.items.reader).left c.in-Item.op }) = rw c.in-Item.is at c.next.ensures in
-    let m = moved _ _ _ _ _ c.in-Item.op _ _ _ c.items.invariant n.0 c.in_default.ensures.ok c.in_default.ensures.objects in
-    let stop : c.is_stop-stop.result ≡ is_stop c.in-Item.op.opcode = c.is_stop-stop.ensures ∙ ap is_stop c.opcode-in-Item.ensures in
-    let miss : ends_reading c.args.many c.in-Item.op.opcode ≡ false = sym (rw c.opcode.ensures at c.ends_reading.ensures) ∙ c.if-ends_reading.false in
-    rw (n.1, stop) (goes_on _ _ _ _ _ c.in-Item.op _ m miss)
+pub parts-init : goal.parts-init
+parts-init g c = rw (c.requires.document.first, c.requires.start) (refl, stepped_none _ _ c.requires.document.document c.requires.document.small, c.requires.document.small, c.unread_len-total.ensures)

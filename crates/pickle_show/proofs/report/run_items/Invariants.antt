@@ -1,10 +1,9 @@
--- What the loop over the items keeps.
 use Rattle.std.proofs.Common.{length}
-use Rattle.pickle_show.proofs.Stepping.{Walked}
+use Rattle.pickle_show.specs.Inside.Stepped.{HasStepped}
 use Rattle.pickle_show.proofs.report.run_items.Given as goal
 
-abbrev pub invariant-items : goal.invariant-items
-invariant-items g l = Walked l.fn.many (g.I.ItemSource.unread l.fn.source).rest (g.I.ItemSource.unread l.reader).rest (g.I.ItemSource.unread l.reader).left l.place l.machine.state l.stop
+abbrev pub invariant-parts : goal.invariant-parts
+invariant-parts g l = HasStepped l.many (g.I.ItemSource.unread l.fn.source) l.total g.I.ItemSource.unread l.machine.state l.far
 
-abbrev pub decreases-items : goal.decreases-items
-decreases-items g l = length (g.I.ItemSource.unread l.reader).rest
+abbrev pub decreases-parts : goal.decreases-parts
+decreases-parts g l = length (g.I.ItemSource.unread l.far.reader).rest

@@ -5,5 +5,5 @@ use Rattle.picklestep.proofs.answers.answer_text.Goals as goal
 pub returns-clause-answers : goal.returns-clause-answers
 returns-clause-answers g c =
     let h = c.write_out.ensures in
-    answers_text _ _ _ _ _ _ _ _ _ _ _ _ _ _ _ _ c.in_ok-bytes.ensures.whole c.as_slice.ensures.value c.write_text-written.ensures
+    answers_text _ _ _ _ _ _ _ _ _ _ _ _ _ _ _ _ _ c.in_ok-bytes.ensures.whole (c.in_ok-bytes.ensures.calm (λ e. absurd cc)) c.as_slice.ensures.value c.write_text-written.ensures
     h.passed h.calm h.untouched h.failed refl refl c.requires.handed h.handed

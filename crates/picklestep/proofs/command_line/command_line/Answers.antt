@@ -1,14 +1,14 @@
 use Rattle.std.proofs.Common.{◌≡◌, ◌∙◌, ap, ap₂, rules, codes}
 use Rattle.std.proofs.lemmas.Result.{IfOk-weaker}
 use Rattle.clap.specs.Words.{App, app_of, new_app, with_subcommand}
-use Rattle.picklestep.specs.CommandLine.{on_file, calls_app, debug_app, wants_subcommand}
+use Rattle.picklestep.specs.CommandLine.{on_file, frames_app, calls_app, debug_app, wants_subcommand}
 use Rattle.picklestep.proofs.Plain.{third}
 use Rattle.picklestep.proofs.command_line.command_line.Goals as goal
 
 pub returns : goal.returns
 returns c =
-    let listing : app_of c.in_ok-listing.listing ≡ on_file (codes "list") = c.in_ok-listing.ensures in
-    let reporting : app_of c.in_ok-reporting.reporting ≡ on_file (codes "objects") = c.in_ok-reporting.ensures in
+    let listing : app_of c.in_ok-listing.listing ≡ frames_app (codes "list") = c.in_ok-listing.ensures in
+    let reporting : app_of c.in_ok-reporting.reporting ≡ frames_app (codes "objects") = c.in_ok-reporting.ensures in
     let calling : app_of c.in_ok-calling.calling ≡ calls_app = c.in_ok-calling.ensures in
     let debugging : app_of c.in_ok-debugging.debugging ≡ debug_app = c.in_ok-debugging.ensures in
     let forming : app_of c.in_ok-forming.forming ≡ on_file (codes "form") = c.in_ok-forming.ensures in

@@ -7,4 +7,4 @@ pub returns-in_err-status-clause-unsaved : goal.returns-in_err-status-clause-uns
 returns-in_err-status-clause-unsaved g c =
     let h = c.in_err-status.ensures in
     unsaved_so _ _ _ c.from_residual.ensures.1
-    (inl (refl, cuts_below _ _ _ _ _ _ _ _ _ _ refl c.requires.handed h.handed h.reading h.writing (search rules) h.no_other))
+    (inl (refl, cuts_below _ _ _ _ _ _ _ _ _ _ refl c.requires.handed h.handed h.reading h.read h.calm h.writing (search rules) h.no_other))

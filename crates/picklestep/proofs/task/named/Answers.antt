@@ -17,6 +17,8 @@ returns-in_ok-file-clause-some c =
       file_is = sym (first_value-rows (found_of c.in-Some.found.now) (codes "FILE")) ∙ sym c.in-Some-get_str.ensures ∙ ap Some (sym c.in_ok-file.ensures.ok);
       many_is = c.is_given-many.ensures.yes;
       one_is = c.is_given-many.ensures.no;
+      unframed_is = c.is_given-unframed.ensures.yes;
+      framed_is = c.is_given-unframed.ensures.no;
     }
 
 pub returns-in_ok-file-2-clause-some : goal.returns-in_ok-file-2-clause-some
@@ -28,6 +30,8 @@ returns-in_ok-file-2-clause-some c =
       file_is = sym (first_value-rows (found_of c.in-Some.found.now) (codes "FILE")) ∙ sym c.in-Some-get_str.ensures ∙ ap Some (sym c.in_ok-file-2.ensures.ok);
       many_is = c.is_given-many.ensures.yes;
       one_is = c.is_given-many.ensures.no;
+      unframed_is = c.is_given-unframed.ensures.yes;
+      framed_is = c.is_given-unframed.ensures.no;
     }
 
 pub returns-in_default-2-clause-none : goal.returns-in_default-2-clause-none
@@ -45,6 +49,8 @@ returns-in_ok-file-3-clause-some c =
         file_is = sym (first_value-rows (found_of c.in-Some.found.now) (codes "FILE")) ∙ sym c.in-Some-get_str.ensures ∙ ap Some (sym c.in_ok-file-3.ensures.ok);
         many_is = c.is_given-many.ensures.yes;
         one_is = c.is_given-many.ensures.no;
+        unframed_is = c.is_given-unframed.ensures.yes;
+        framed_is = c.is_given-unframed.ensures.no;
       },
       search rules,
     )
@@ -58,6 +64,8 @@ returns-in_ok-file-4-clause-some c =
         file_is = sym (first_value-rows (found_of c.in-Some.found.now) (codes "FILE")) ∙ sym c.in-Some-get_str.ensures ∙ ap Some (sym c.in_ok-file-4.ensures.ok);
         many_is = c.is_given-many.ensures.yes;
         one_is = c.is_given-many.ensures.no;
+        unframed_is = c.is_given-unframed.ensures.yes;
+        framed_is = c.is_given-unframed.ensures.no;
       },
       search rules,
     )
@@ -71,4 +79,6 @@ returns-in_ok-file-5-clause-some c =
       file_is = sym (first_value-rows (found_of c.in-Some.found.now) (codes "FILE")) ∙ sym c.in-Some-get_str.ensures ∙ ap Some (sym c.in_ok-file-5.ensures.ok);
       many_is = c.is_given-many.ensures.yes;
       one_is = c.is_given-many.ensures.no;
+      unframed_is = c.is_given-unframed.ensures.yes;
+      framed_is = c.is_given-unframed.ensures.no;
     }

@@ -1,0 +1,5 @@
+use Rattle.pickle_loader.proofs.ByFrames.{nothing_else_by_frames as law}
+use Rattle.pickle_loader.proofs.laws.nothing_else_by_frames.Goals as goal
+
+pub returns : goal.returns
+returns c = law

@@ -1,0 +1,89 @@
+"""What a function of the library is asked: the words of the program as its name, its options and its inputs."""
+
+from __future__ import annotations
+
+import re
+import struct
+from dataclasses import dataclass
+from typing import List, Optional, Sequence, Tuple
+
+__all__ = ['FUNCTIONS', 'Question', 'question', 'question_of_edits']
+
+_TASKS = ('list', 'objects', 'calls')
+# How many options and inputs come before the room for the text. (Holes are an input of `calls`.)
+FUNCTIONS = {
+    'picklestep_form': (0, 1),
+    **{f'picklestep_{task}_with': (1, 2 if task == 'calls' else 1) for task in _TASKS},
+    **{f'picklestep_edited_{task}_with': (1, 2) for task in _TASKS},
+}
+_MANY, _UNFRAMED = 1, 2
+_OPTIONS = {'--many': _MANY, '--unframed': _UNFRAMED, '--first': 4, '--memo': 8, '--full': 16}
+_HOLE = re.compile(r'(\d+):(\d+)', re.ASCII)
+_BYTE, _SIZE_OF_HOLE = 1, 16
+
+
+@dataclass(frozen=True)
+class Question:
+    """A function, its options if it takes any, and its inputs: each with the size of what its length counts."""
+
+    function: str
+    options: Tuple[int, ...]
+    inputs: Tuple[Tuple[bytes, int], ...]
+
+
+def question(words: Sequence[str], content: bytes) -> Optional[Question]:
+    """What is asked of these bytes with words of the program. None where the library has no function for that.
+
+    >>> question(['calls', '--full', '--skip', '3:2'], b'N.').options
+    (16,)
+    >>> question(['scan'], b'N.') is None
+    True
+    """
+    task, *rest = words
+    if task == 'form' and not rest:
+        return Question('picklestep_form', (), ((content, _BYTE),))
+    options = _options(rest)
+    if task not in _TASKS or options is None or (options.holes and task != 'calls'):
+        return None
+    holes = [(options.holes, _SIZE_OF_HOLE)] if task == 'calls' else []
+    return Question(f'picklestep_{task}_with', (options.number,), (*holes, (content, _BYTE)))
+
+
+def question_of_edits(words: Sequence[str], many: bool, unframed: bool, content: bytes, script: bytes) -> Optional[Question]:
+    """What is asked of the bytes that the lines of a script leave of these, in a conversation that reads them so."""
+    task, *rest = words
+    options = _options(rest)
+    if task not in _TASKS or options is None or options.holes:
+        return None
+    modes = _MANY * many | _UNFRAMED * unframed
+    if task != 'calls' and options.number != modes:  # (a listing is read as the conversation is)
+        return None
+    return Question(f'picklestep_edited_{task}_with', (options.number | modes,), ((content, _BYTE), (script, _BYTE)))
+
+
+@dataclass(frozen=True)
+class _Options:
+    """The sum of the options, and the holes as the library takes them."""
+
+    number: int
+    holes: bytes
+
+
+def _options(words: Sequence[str]) -> Optional[_Options]:
+    """What these words ask for, if the library knows them all. (The program says what is wrong with others.)"""
+    number, left = 0, iter(words)
+    holes: List[int] = []
+    for word in left:
+        if word == '--skip':
+            hole = _HOLE.fullmatch(next(left, ''))
+            if hole is None:
+                return None
+            holes += map(int, hole.groups())
+        elif word not in _OPTIONS or (word == '--memo' and next(left, '') != 'kept'):
+            return None
+        else:
+            number |= _OPTIONS[word]
+    try:
+        return _Options(number, struct.pack(f'<{len(holes)}Q', *holes))
+    except struct.error:
+        return None

@@ -1,0 +1,335 @@
+"""The program's lines of `calls`, read: what is imported and called, the values in a line, headings and counts."""
+
+from __future__ import annotations
+
+import re
+from dataclasses import replace
+from typing import Callable, Dict, Iterator, List, NamedTuple, Optional, Tuple, Union
+
+from .records import Brief, Briefs, End, Extension, Global, Name, Reach, Ref, Value
+from .texts import NUMBER, QUOTED, LineReader, LinesError, number_of, unquoted
+
+__all__ = ['Heading', 'LineKey', 'REACHES', 'ReachedLine', 'before_headings', 'counts_in', 'given_in', 'headings_in', 'lowered', 'made_by',
+           'reach_of', 'reached_line_of', 'reached_lines', 'unnumbered', 'with_offset']
+
+# What is under these headings the strict reading does not reach. Each has the words of the second, and hardly any other line.
+_HEADING = re.compile(r'^(a loader(?: that buffers frames| that keeps its buffer)? may go on):$', re.MULTILINE)
+_IN_HEADINGS = ' may go on:\n'
+_COUNTS = re.compile(r'^([0-9]+) imports, ([0-9]+) calls$', re.MULTILINE)
+# A line of `calls`: its offset, its text and first word, and the name in it where the module is in quotes.
+_REACHED = re.compile(rf"^ *([0-9]+): ((\w+)(?: ((?:raw )?{QUOTED} (?:(?:raw )?{QUOTED}|#[0-9]+)))?.*)$", re.MULTILINE)
+# What may be the number of an object, beside texts.
+_QUOTED_OR_NUMBER = re.compile(rf'{QUOTED}|#([0-9]+)')
+# A text in quotes, a number that was given to an object, or the place of a fault.
+_NUMBERED = re.compile(rf'({QUOTED})| as #\d+|(#)\d+| at \d+')
+# The object that a line makes, and the one that it makes or that is given something.
+_MADE = re.compile(' as #([0-9]+)$')
+_GIVEN = re.compile(r' (?:as|to|in) #([0-9]+)$')
+
+
+class _Units:
+    """Reads what is in a line of `calls`: units with blanks between them, up to the word that ends them."""
+
+    _token = re.compile(rf"[ ,]*({QUOTED}|#[0-9]+|[()]|\+[0-9]+|{NUMBER}|[a-z-]+)")
+
+    def __init__(self, text: str, at: int) -> None:
+        self.text = text
+        self.at = at
+
+    def peek(self) -> str:
+        """The next word, sign or quoted text; an empty one at the end."""
+        match = self._token.match(self.text, self.at)
+        return match[1] if match else ''
+
+    def take(self) -> str:
+        """The next word, sign or quoted text, which is gone over."""
+        match = self._token.match(self.text, self.at)
+        if match is None:
+            raise LinesError(self.text)
+        self.at = match.end()
+        return match[1]
+
+    def until(self, *words: str) -> List[Value]:
+        """The units up to one of these words, or up to the end."""
+        units: List[Value] = []
+        while self.peek() not in words and self.peek():
+            units.append(self.unit())
+        return units
+
+    def unit(self) -> Value:
+        """One unit: the items of a tuple, or a value."""
+        if self.peek() != '(':
+            return self.brief()
+        self.take()
+        items: List[Brief] = []
+        while self.peek()[:1] not in (')', '+'):
+            items.append(self.brief())
+        more = self._number_after(_MORE)
+        if self.take() != ')':
+            raise LinesError(self.text)
+        return Briefs(tuple(items), more)
+
+    def brief(self) -> Brief:
+        """One value."""
+        word = self.take()
+        if word[0] == "'":
+            return Brief('text', unquoted(word), self.more())
+        if word == 'raw':
+            return Brief('raw', unquoted(self.take()), self.more())
+        if word[0] == '#':
+            return Brief('object', Ref(int(word[1:])))
+        if word in _CONSTANTS:
+            return Brief(word, _CONSTANTS[word])
+        if word == 'global':
+            return Brief(word, self.named())
+        if word == 'ext':
+            return Brief(word, Extension(int(self.take())))
+        return self.payload(word)
+
+    def named(self) -> Union[Global, Ref]:
+        """What an object imports that is an argument; its number where its names are not known."""
+        module = self.brief()
+        if isinstance(module.value, Ref) and not _TEXT_NEXT.match(self.text, self.at):
+            return module.value
+        return _global(module, self.brief())
+
+    def payload(self, kind: str) -> Brief:
+        """The value after the word for its kind. Of a number that was cut the first bytes are shown."""
+        text = self.take()
+        if text == 'raw':
+            kind, text = f'raw {kind}', self.take()
+        more = self.more()
+        if text[0] == "'":
+            return Brief(kind, unquoted(text), more)
+        return Brief(kind, bytes.fromhex(text[3:]) if more else number_of(text), more)
+
+    def more(self) -> int:
+        """How many bytes were cut off a value: right behind it, as behind a comma are those of the list."""
+        return self._number_after(_CUT)
+
+    def _number_after(self, sign: 're.Pattern[str]') -> int:
+        match = sign.match(self.text, self.at)
+        if match is None:
+            return 0
+        self.at = match.end()
+        return int(match[1])
+
+
+_TEXT_NEXT = re.compile(" (?:raw )?'")
+# What was cut off: bytes of a value, values of a list.
+_CUT = re.compile(r'\+([0-9]+)')
+_MORE = re.compile(r', \+([0-9]+)')
+_CONSTANTS: Dict[str, Optional[bool]] = {'none': None, 'true': True, 'false': False}
+
+
+def _part(brief: Brief) -> Union[bytes, Ref]:
+    """A part of a name: a text, or the object that it comes from."""
+    if isinstance(brief.value, (bytes, Ref)):
+        return brief.value
+    raise LinesError(str(brief))
+
+
+def _global(module: Brief, name: Brief) -> Global:
+    """What two parts name."""
+    raw = tuple(part for part, brief in (('module', module), ('name', name)) if brief.kind == 'raw')
+    return Global(_part(module), _part(name), raw)
+
+
+def _brief(value: Value) -> Brief:
+    if isinstance(value, Brief):
+        return value
+    raise LinesError(str(value))
+
+
+def _name(what: str, units: List[Value]) -> Tuple[Name, List[Value]]:
+    """The name in front of units, and what comes after it. Only an import shows an object as a module: what is called is shown by its
+    own number where its names are no texts."""
+    first = _brief(units[0])
+    if isinstance(first.value, Extension):
+        return first.value, units[1:]
+    if isinstance(first.value, bytes) or what == 'import':
+        return _global(first, _brief(units[1])), units[2:]
+    if isinstance(first.value, Ref):
+        return first.value, units[1:]
+    raise LinesError(str(first))
+
+
+def _said(what: str, units: '_Units') -> Tuple[Optional[Global], List[Value]]:
+    """The names of Python 2 behind `for`, and what comes after them."""
+    units.take()
+    said, values = _name(what, units.until('as'))
+    if not isinstance(said, Global):
+        raise LinesError(str(said))
+    return said, values
+
+
+def reach_of(line: str) -> Reach:
+    """What a line of `calls` says.
+
+    >>> reach_of("   23: call 'posix' 'system' ('id') as #3").name
+    Global(module=b'posix', name=b'system')
+    >>> reach_of("    0: import 'builtins' 'eval' for '__builtin__' 'eval' as #0").said
+    Global(module=b'__builtin__', name=b'eval')
+    """
+    match = _REACH.match(line)
+    if match is None:
+        raise LinesError(line)
+    what, text = match[2], line[match.start(2):]
+    return _REACHES[what](int(match[1]), what, text, _Units(line, match.end()))
+
+
+def _named(offset: int, what: str, text: str, units: _Units) -> Reach:
+    """Lines that name what is imported or called, and end in the object that is made."""
+    name, values = _name(what, units.until('as', 'for'))
+    said = None
+    if units.peek() == 'for':
+        said, values = _said(what, units)
+    number = _last_number(units)
+    return Reach(offset, what, text, name=name, value=values[0] if values else None,
+                 keywords=values[1] if len(values) > 1 else None, number=number, said=said)
+
+
+def _last_number(units: _Units) -> int:
+    """The object that a line ends in, after the word before it."""
+    units.take()
+    return int(units.take()[1:])
+
+
+def _state(offset: int, what: str, text: str, units: _Units) -> Reach:
+    value, = units.until('to')
+    return Reach(offset, what, text, value=value, target=_last_number(units))
+
+
+def _filled(offset: int, what: str, text: str, units: _Units) -> Reach:
+    count = int(units.take())
+    return Reach(offset, what, text, count=count, target=_last_number(units))
+
+
+def _persistent(offset: int, what: str, text: str, units: _Units) -> Reach:
+    value, = units.until('as')
+    return Reach(offset, what, text, value=value, number=_last_number(units))
+
+
+def _buffer(offset: int, what: str, text: str, units: _Units) -> Reach:
+    count = int(units.take())
+    return Reach(offset, what, text, count=count, number=_last_number(units))
+
+
+def _readonly(offset: int, what: str, text: str, units: _Units) -> Reach:
+    target = int(units.take()[1:])
+    return Reach(offset, what, text, target=target, number=_last_number(units))
+
+
+_REACH = re.compile(r' *([0-9]+): ([a-z]+)')
+_REACHES: Dict[str, Callable[[int, str, str, _Units], Reach]] = {
+    'import': _named, 'inst': _named, 'call': _named, 'new': _named, 'state': _state, 'append': _filled, 'set': _filled, 'add': _filled,
+    'persistent': _persistent, 'buffer': _buffer, 'readonly': _readonly}
+
+
+REACHES = LineReader(_REACHED, lambda match: reach_of(match[0]))
+
+
+# --- What stands in a text ---
+
+class Heading(NamedTuple):
+    """A heading of `calls`: its words, and where its line begins and ends in the text."""
+
+    words: str
+    start: int
+    end: int
+
+
+def headings_in(text: str) -> List[Heading]:
+    """The headings in a text.
+
+    >>> headings_in('0 imports, 0 calls\\na loader may go on:\\n')
+    [Heading(words='a loader may go on', start=19, end=38)]
+    """
+    return [Heading(match[1], match.start(), match.end()) for match in _HEADING.finditer(text)] if _IN_HEADINGS in text else []
+
+
+def before_headings(text: str) -> str:
+    """The lines before the first heading."""
+    return _HEADING.split(text, 1)[0]
+
+
+def counts_in(text: str, start: int, end: int) -> Tuple[int, int]:
+    """How many imports and calls a part of a text counts. Raises LinesError where it does not say so.
+
+    >>> counts_in('3 imports, 1 calls\\n', 0, 19)
+    (3, 1)
+    """
+    match = _COUNTS.search(text, start, end)
+    if match is None:
+        raise LinesError(text[start:end])
+    return int(match[1]), int(match[2])
+
+
+# --- One line, as far as it is asked for ---
+
+class ReachedLine(NamedTuple):
+    """A line: the whole of it, its offset, its text, the first word of that, and the name in it where the module is in quotes."""
+
+    whole: str
+    offset: str
+    text: str
+    what: str
+    quoted: Optional[str]
+
+
+# The first word of a line and the name whose module is in quotes: lines that have the same say the same, but for numbers and arguments.
+LineKey = Tuple[str, Optional[str]]
+
+
+def reached_lines(text: str, start: int, end: int) -> 'Iterator[Tuple[LineKey, re.Match[str]]]':
+    """The lines in a part of a text, each with its key, as they matched: a pickle may have a hundred thousand lines and few names."""
+    for match in _REACHED.finditer(text, start, end):
+        yield (match[3], match[4]), match
+
+
+def reached_line_of(match: 're.Match[str]') -> ReachedLine:
+    """What a line that matched says."""
+    return ReachedLine(match[0], match[1], match[2], match[3], match[4])
+
+
+def made_by(text: str) -> Optional[int]:
+    """The object that a line of `calls` makes.
+
+    >>> made_by("import 'os' 'getcwd' as #0"), made_by('state #1 to #0')
+    (0, None)
+    """
+    found = _MADE.search(text)
+    return None if found is None else int(found[1])
+
+
+def given_in(text: str) -> str:
+    """The number of the object in which a line of `calls` ends, as text.
+
+    >>> given_in('state #1 to #0')
+    '0'
+    """
+    found = _GIVEN.search(text)
+    return found[1] if found else ''
+
+
+def unnumbered(text: str) -> str:
+    """A line of `calls` without the numbers of objects, which every edit before it moves.
+
+    >>> unnumbered("call 'os' 'system' ('#1') as #3"), unnumbered('state #1 to #0')
+    ("call 'os' 'system' ('#1')", 'state # to #')
+    """
+    return _NUMBERED.sub(lambda found: found[1] or found[2] or '', text)
+
+
+def lowered(text: str, count: int) -> str:
+    """A line of `calls` with the numbers that its objects have where so many were not made before it.
+
+    >>> lowered("call 'os' '#9' (#9) as #12", 9)
+    "call 'os' '#9' (#0) as #3"
+    """
+    return _QUOTED_OR_NUMBER.sub(lambda match: match[0] if match[1] is None else f'#{int(match[1]) - count}', text) if count else text
+
+
+def with_offset(end: End, offset: int) -> End:
+    """An end of reading with another offset, also in its text."""
+    return replace(end, offset=offset, text=re.sub(rf'(?<= at ){end.offset}$', str(offset), end.text))

@@ -1,0 +1,63 @@
+"""Whether bytes are one pickle in the form that picklers write: what the program answers, proved. A few bytes are asked about in this process.
+
+Every loader that is known (C, Python, PyPy, joblib, torch) reads such a pickle in one way.
+"""
+
+from __future__ import annotations
+
+from typing import Optional
+
+from ... import library
+from ...errors import OutOfMemory, PicklestepError, TimedOut
+from ...program import run_program
+from ...texts import LinesError, other_form
+from ..blobs import Blob, Budget, FileBlob, JoinedBlob, PartMet, spooled
+from .forms import NotCanonical
+
+__all__ = ['BEHIND', 'require_form']
+
+_WORDS = ('form',)
+# The reason of a pickle that is in the form, with something behind it.
+BEHIND = 'bytes behind STOP'
+# The program takes at most so many bytes of memory for each byte: a small input needs no limit.
+_MEMORY_OF_A_BYTE = 32
+# The clock may run so many times as long as the processor, where other processes have it.
+_WAITING = 5
+
+
+def require_form(blob: Blob, budget: Optional[Budget] = None, begin: int = 0) -> None:
+    """Raises NotCanonical unless the bytes are one pickle in the form. Its place counts from where `begin` bytes more are in front."""
+    content = blob.read(0, blob.size) if blob.size <= library.MOST_BYTES else None
+    answer = None if content is None else library.answer(_WORDS, content)
+    if answer is None:
+        answer = _answer_of_program(blob, budget)
+    try:
+        other = other_form(answer.decode('ascii'))
+    except (LinesError, UnicodeDecodeError) as error:
+        raise NotCanonical('the program does not say whether it is') from error
+    if other is not None:
+        offset = blob.offset_of(other.offset) if isinstance(blob, JoinedBlob) else other.offset
+        raise NotCanonical(other.reason, begin + offset)
+
+
+def _answer_of_program(blob: Blob, budget: Optional[Budget]) -> bytes:
+    path = blob.path() if isinstance(blob, FileBlob) else None
+    if path is not None:
+        return _run(path, blob.size, budget)
+    copy = spooled(blob.chunks())
+    with copy.file:
+        return _run(copy.path(), copy.size, budget)
+
+
+def _run(path: str, size: int, budget: Optional[Budget]) -> bytes:
+    """What the program says of a file, within the time and the memory that are left."""
+    memory = timeout = None
+    if budget is not None:
+        memory = budget.memory() if size * _MEMORY_OF_A_BYTE > budget.memory() else None
+        timeout = max(0.5, budget.seconds) * _WAITING
+    try:
+        return run_program([*_WORDS, path], memory=memory, timeout=timeout)
+    except (OutOfMemory, TimedOut) as error:
+        raise PartMet('reading it strictly would take more time or memory than there is') from error
+    except PicklestepError as error:
+        raise NotCanonical(f'the program does not say whether it is: {error}') from error

@@ -1,0 +1,255 @@
+"""The table of containers: for each kind its name, how it is known, how it is unpacked, who writes its strict form, and what opens it.
+
+Whoever asks for a kind asks here, and compares rows and not names: a new kind is a row of `CONTAINERS` or `STORES`. What opens a kind is
+imported when there is something to open, since it uses the rest of this package, which asks here.
+"""
+
+from __future__ import annotations
+
+import re
+from dataclasses import dataclass
+from enum import Enum
+from functools import cached_property, lru_cache
+from importlib import import_module
+from typing import TYPE_CHECKING, Any, Callable, List, NamedTuple, Optional, Tuple
+
+from .begins import tar_sum_fits
+from .blobs import Blob
+from .canonical import streams
+from .canonical.streams import Stream
+from .canonical.tars import looks_like_header
+from .packed import opens_zstd
+from .results import Place
+from .tars import BLOCK
+from .unread import SURE
+
+if TYPE_CHECKING:
+    from .looking import Looker
+
+__all__ = ['AsPickle', 'CONTAINERS', 'Container', 'HDF5', 'Held', 'MAY_BE_KNOWN', 'MAY_BE_PACKED', 'MAY_BE_STORE', 'PACKED', 'STORES', 'ZIP',
+           'ZLIB', 'kind_of', 'named', 'store_of']
+
+
+class AsPickle(Enum):
+    """When the bytes of a kind are asked about as a pickle, too."""
+
+    BY_OPCODES = 'where its opcodes may lead somewhere'
+    BY_REACH = 'where a loader gets somewhere'  # (a zip archive begins with a persistent id, so it is not read whole without need)
+    BY_NAME = 'where its name says that it is one'  # (such a kind begins as a pickle does, or may)
+    NEVER = 'never'
+
+
+@dataclass(frozen=True, eq=False)
+class Container:
+    """A kind of container, or of store that is a file.
+
+    `name` is how lines name it, and `opener` the function that opens it, as an entry point names it: none does where the kind is only told.
+    A kind begins with `magic`, or else as the pattern `sign` says; where that does not settle it, `known_by` does. `writers` says who writes
+    the strict form. `endings` are those of names by which loaders choose it, `tar_ending` that of a tar archive which is packed so, and
+    `other_endings` those by which none chooses. A kind that packs one file has a `stream`.
+    """
+
+    name: str
+    opener: str = ''
+    writers: str = ''
+    magic: bytes = b''
+    sign: bytes = b''
+    known_by: Optional[Callable[[bytes], bool]] = None
+    endings: Tuple[str, ...] = ()
+    tar_ending: str = ''
+    other_endings: Tuple[str, ...] = ()
+    stream: Optional[Stream] = None
+    as_pickle: AsPickle = AsPickle.BY_OPCODES
+    # Whether it may begin otherwise than its sign says. (Then so many bytes are asked for as show it.)
+    may_have_no_sign: bool = False
+    # What readers take for it, where that is not what begins so; and what is an empty one.
+    takes: Optional[Callable[[bytes], bool]] = None
+    is_empty: Optional[Callable[[Blob], bool]] = None
+    # The program says of what begins so that it begins like this kind, also where it is of none.
+    begun: bytes = b''
+    # What looks for it at the end of something else, where readers do.
+    opener_at_end: str = ''
+    # Whether its values are looked at as pickles where it is a value itself: a loader of pickles reads it.
+    is_pickles: bool = False
+    # Whether what unpacks it is there: else it is one of those that are told.
+    is_installed: Optional[Callable[[], bool]] = None
+
+    def __str__(self) -> str:
+        return self.name if self.opener else f'unread {self.name}'
+
+    @property
+    def pattern(self) -> bytes:
+        """What may be one begins so."""
+        return self.sign or re.escape(self.magic)
+
+    @cached_property
+    def _begins(self) -> 're.Pattern[bytes]':
+        return re.compile(self.pattern, re.DOTALL)
+
+    def begins(self, head: bytes) -> bool:
+        """Whether bytes begin so."""
+        return self._begins.match(head) is not None if self.known_by is None else self.known_by(head)
+
+    def look_into(self, looker: 'Looker', held: 'Held') -> bool:
+        """Looks into bytes of this kind. False where they only begin like it."""
+        is_one: bool = _function(self.opener)(looker, held)
+        return is_one
+
+    def look_at_end(self, looker: 'Looker', held: 'Held', head: bytes) -> bool:
+        """Looks for one at the end of bytes that are something else. False where there is none."""
+        is_there: bool = _function(self.opener_at_end)(looker, held, head)
+        return is_there
+
+
+class Held(NamedTuple):
+    """Bytes that are opened as a kind: where they are, the names that they go by, and how deep they are in others.
+
+    `spans` gets the ranges in which a member is stored that may be a zip archive.
+    """
+
+    kind: Container
+    blob: Blob
+    where: Place
+    names: Tuple[str, ...]
+    depth: int
+    spans: List[Tuple[int, int]]
+
+
+@lru_cache(maxsize=None)
+def _function(entry: str) -> Any:
+    module, _, name = entry.partition(':')
+    return getattr(import_module(f'{__package__}.{module}'), name)
+
+
+# --- How kinds are known whose signs do not settle it ---
+
+_ZLIB_METHOD = 8
+
+
+def _is_zip(head: bytes) -> bool:
+    return head[:4] in (b'PK\x03\x04', b'PK\x05\x06', b'PK\x06\x06', b'PK\x01\x02', b'PK\x07\x08')
+
+
+def _is_bz2(head: bytes) -> bool:
+    return head[:3] == b'BZh' and head[3:4] in b'123456789'
+
+
+def _is_tar(head: bytes) -> bool:
+    return head[257:262] == b'ustar' or tar_sum_fits(head[:BLOCK])
+
+
+def _may_be_tar(head: bytes) -> bool:
+    return head[257:262] == b'ustar' or looks_like_header(head[:BLOCK])
+
+
+def _is_empty_tar(blob: Blob) -> bool:
+    return blob.size >= 2 * BLOCK and blob.is_zeros(0, blob.size)
+
+
+def _is_zfile(head: bytes) -> bool:
+    """Whether `int` takes what stands behind the magic for a number, as joblib does."""
+    try:
+        return head[:2] == b'ZF' and int(head[2:21], 16) >= 0
+    except ValueError:
+        return False
+
+
+def _is_zlib(head: bytes) -> bool:
+    return (len(head) > 2 and head[0] & 15 == _ZLIB_METHOD and head[0] >> 4 <= 7 and not head[1] & 32
+            and (head[0] << 8 | head[1]) % 31 == 0)
+
+
+def _is_django_cache(head: bytes) -> bool:
+    return _function('stores.django_cache:end_of_expiry')(head) is not None
+
+
+# --- The table ---
+
+ZIP = Container(
+    'zip', 'opening.zips:look_into', 'torch, zipfile, Info-ZIP and 7-Zip write', b'PK', known_by=_is_zip, endings=('zip', 'npz', 'whl', 'keras'),
+    as_pickle=AsPickle.BY_REACH, opener_at_end='opening.zips:look_at_end')
+ZLIB = Container('zlib', 'opening.packed:look_into', 'zlib.compress writes', sign=rb'[\x08\x18(8HXhx]', known_by=_is_zlib,
+                 other_endings=('z', 'zlib'), stream=streams.ZLIB)
+HDF5 = Container('hdf5', 'stores.hdf5:look_into', magic=b'\x89HDF\r\n\x1a\n', sign=rb'(?:.{512}|.{1024}|.{2048}|.{4096}|.{8192})?\x89HDF\r\n\x1a\n')
+
+# In the order in which they are asked for.
+CONTAINERS: Tuple[Container, ...] = (
+    ZIP,
+    Container('npy', 'opening.arrays:look_into', 'numpy.save writes', b'\x93NUMPY', endings=('npy',), as_pickle=AsPickle.NEVER),
+    Container('gzip', 'opening.packed:look_into', 'gzip and Python write', b'\x1f\x8b\x08', endings=('gz', 'gzip'), tar_ending='tgz',
+              stream=streams.GZIP, begun=b'\x1f\x8b'),
+    Container('bz2', 'opening.packed:look_into', 'bzip2 and Python write', b'BZh', known_by=_is_bz2, endings=('bz2',), tar_ending='tbz2',
+              stream=streams.BZ2, begun=b'BZh'),
+    Container('xz', 'opening.packed:look_into', 'xz and Python write', b'\xfd7zXZ\0', endings=('xz',), tar_ending='txz', stream=streams.XZ),
+    Container('lzma', 'opening.packed:look_into', 'xz and Python write', b'\x5d\0', endings=('lzma',), stream=streams.LZMA),
+    Container('tar', 'opening.tars:look_into', 'tarfile, GNU tar and bsdtar write', sign=rb'.{257}ustar', known_by=_is_tar, may_have_no_sign=True,
+              endings=('tar',), takes=_may_be_tar, is_empty=_is_empty_tar),
+    Container('zfile', 'opening.packed:look_into', 'joblib before 0.10 writes', b'ZF', known_by=_is_zfile, stream=streams.ZFILE),
+    ZLIB,
+    # (it begins as `unread` has it)
+    Container('zstd', 'opening.packed:look_into', 'zstd and pandas write', other_endings=('zst',), stream=streams.ZSTD, is_installed=opens_zstd),
+)
+
+# Stores that are files.
+STORES: Tuple[Container, ...] = (
+    Container('sqlite', 'stores.sqlite:look_into', magic=b'SQLite format 3\0', as_pickle=AsPickle.BY_NAME),
+    Container('gdbm', 'stores.dbm_files:look_into_gnu', sign=rb'\x13\x57\x9a[\xcd-\xd1]|[\xcd-\xd1]\x9a\x57\x13'),
+    Container('Berkeley DB', 'stores.dbm_files:look_into_berkeley', sign=rb'.{12}(?:\x61\x15\x06\0|\0\x06\x15\x61)'),
+    HDF5,
+    Container('Django cache', 'stores.django_cache:look_into', sign=rb'[\x80FINGJKML].{0,126}?\.x', known_by=_is_django_cache,
+              as_pickle=AsPickle.BY_NAME, is_pickles=True),
+)
+
+# --- What is asked of all of them ---
+
+PACKED = tuple(each for each in CONTAINERS if each.stream is not None)
+_WITH_SIGN = tuple(each for each in CONTAINERS if each.pattern)
+_WITHOUT_SIGN = tuple(each for each in _WITH_SIGN if each.may_have_no_sign)
+# Containers that are opened, in bytes that are too few for the sum in the header of a tar archive; and with those that are not.
+_MAY_BE_OPENED = re.compile(b'|'.join(each.pattern for each in _WITH_SIGN), re.DOTALL)
+MAY_BE_KNOWN = re.compile(_MAY_BE_OPENED.pattern + b'|' + SURE, re.DOTALL)
+# (all but zlib, which has two first bytes of which the sum is to fit)
+MAY_BE_PACKED = re.compile(b'|'.join(each.pattern for each in _WITH_SIGN if each is not ZLIB) + b'|' + SURE, re.DOTALL)
+MAY_BE_STORE = re.compile(b'|'.join(each.pattern for each in STORES if not each.is_pickles), re.DOTALL)
+_BEGINS_STORE = re.compile(b'|'.join(each.pattern for each in STORES), re.DOTALL)
+
+_BY_NAME = {each.name: each for each in (*CONTAINERS, *STORES)}
+
+
+def kind_of(head: bytes) -> Optional[Container]:
+    """The container that begins so.
+
+    >>> [str(kind_of(head)) for head in (b'PK\\x03\\x04', b'BZh9', b'N.')]
+    ['zip', 'bz2', 'None']
+    """
+    for each in _WITH_SIGN if _MAY_BE_OPENED.match(head) is not None else _WITHOUT_SIGN:
+        if each.begins(head):
+            return each
+    return None
+
+
+def store_of(head: bytes) -> Optional[Container]:
+    """The store that is a file and begins so.
+
+    >>> [str(store_of(head)) for head in (b'SQLite format 3\\0', b'PK\\3\\4')]
+    ['sqlite', 'None']
+    """
+    for each in STORES if _BEGINS_STORE.match(head) is not None else ():
+        if each.begins(head):
+            return each
+    return None
+
+
+def named(name: str) -> Container:
+    """The kind of a name. One that is not opened, or not here, has no more than its name.
+
+    >>> str(named('gzip')), str(named('lz4'))
+    ('gzip', 'unread lz4')
+    """
+    found = _BY_NAME.get(name)
+    return found if found is not None and (found.is_installed is None or found.is_installed()) else _unread(name)
+
+
+@lru_cache(maxsize=None)
+def _unread(name: str) -> Container:
+    return Container(name)

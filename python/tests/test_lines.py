@@ -1,0 +1,96 @@
+"""The readers of listings and reports, on every line of the rows and of the real pickles: what was read, written again as the line's definition
+says (crates/pickle_show/specs: Line, ObjectText), is the line. So nothing of a line is lost, and nothing is taken for something else."""
+
+from __future__ import annotations
+
+import re
+import struct
+import unittest
+from typing import Iterable, Iterator
+
+import picklestep
+from picklestep import Opcode
+from picklestep.records import Argument, Change, Object
+from picklestep.texts import object_of, opcode_of
+from pickles import ROOT, real_pickles
+from test_reaches import decimal, quoted
+
+# Lines of these two among others.
+_OPCODE = re.compile(r' *[0-9]+: (?:\\x[0-9a-f]{2}|.) +[A-Z][A-Z0-9_]*(?: .*)?')
+_OBJECT = re.compile(r'#[0-9]+ [a-z].*')
+_SIGNS = {'append': '+', 'add': '&', 'state': '!'}
+# In `conversations.txt` a line of an object may follow its depth, as `show` prints it.
+_ROWS = ('conversations.txt', 'calls.txt')
+
+
+def code_of(code: bytes) -> str:
+    """The column of an opcode's byte."""
+    return chr(code[0]) if 0x21 <= code[0] <= 0x7e else f'\\x{code[0]:02x}'
+
+
+def argument_of(value: Argument) -> str:
+    """The text of an argument that is there."""
+    if isinstance(value, tuple):
+        return ' '.join(map(quoted, value))
+    if isinstance(value, bytes):
+        return quoted(value)
+    if isinstance(value, float):
+        return 'f8:' + struct.pack('>d', value).hex()
+    return str(value)
+
+
+def line_of_opcode(opcode: Opcode) -> str:
+    """The line in a listing."""
+    behind = [argument_of(opcode.argument)] if opcode.argument is not None else []
+    behind += [f'({opcode.note})'] if opcode.note else []
+    name = f'{opcode.name:10}' if behind else opcode.name
+    return f'{opcode.offset:5}: {code_of(opcode.code):4} {"    " * opcode.marks}' + ' '.join([name, *behind])
+
+
+def change_of(change: Change) -> str:
+    """What was done to an object."""
+    return f'[#{change.key}]=#{change.value}' if change.how == 'set' else f'{_SIGNS[change.how]}#{change.value}'
+
+
+def line_of_object(made: Object) -> str:
+    """The line in a report."""
+    words = [f'#{made.number}', made.kind, *([argument_of(made.text)] if made.text is not None else [])]
+    words += ['(' + ' '.join(f'#{part}' for part in made.parts) + ')'] if made.parts else []
+    return ' '.join([*words, *map(change_of, made.changes)])
+
+
+def rows() -> Iterator[str]:
+    """The lines of the rows that are tried from outside."""
+    for name in _ROWS:
+        yield from (ROOT / 'equipment' / name).read_text('ascii').splitlines()
+
+
+class Lines(unittest.TestCase):
+    """What is read of a line is the line."""
+
+    def check(self, lines: Iterable[str]) -> int:
+        count = 0
+        for line in lines:
+            again = line_of_object(object_of(line)) if line.startswith('#') else line_of_opcode(opcode_of(line))
+            self.assertEqual(again, decimal(line))
+            count += 1
+        return count
+
+    def test_rows(self) -> None:
+        self.assertGreater(self.check(line for line in rows() if _OPCODE.fullmatch(line)), 30)
+        self.assertGreater(self.check(line for line in rows() if _OBJECT.fullmatch(line)), 20)
+
+    def test_listings_of_real_pickles(self) -> None:
+        for name, data in real_pickles().items():
+            for unframed in (False, True):
+                with self.subTest(name, unframed=unframed):
+                    self.check(match[0] for match in picklestep.listing(data, many=True, unframed=unframed).matches())
+
+    def test_reports_of_real_pickles(self) -> None:
+        for name, data in real_pickles().items():
+            with self.subTest(name):
+                self.check(match[0] for match in picklestep.objects(data, many=True).matches())
+
+
+if __name__ == '__main__':
+    unittest.main()
