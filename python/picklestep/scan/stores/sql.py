@@ -6,10 +6,11 @@ A kind of server says how it is asked. All is read in transactions that cannot w
 from __future__ import annotations
 
 import re
-from contextlib import closing, contextmanager, nullcontext
+from contextlib import closing, contextmanager, nullcontext, suppress
 from dataclasses import dataclass, replace
 from fnmatch import fnmatchcase
 from typing import Any, ContextManager, Iterator, List, Optional, Tuple, Type
+from weakref import finalize
 
 from ..blobs import Blob
 from .address import Address
@@ -70,6 +71,8 @@ class SqlServer(Server):
         self.seconds = address.seconds(ANSWER_SECONDS)
         with self.named():
             self.connection: Any = self.connect()
+        # (psycopg 3 complains of what is open when Python ends)
+        finalize(self, _close, self.connection)
 
     # --- Of each kind ---
 
@@ -173,6 +176,11 @@ class SqlServer(Server):
                 values.add(_bytes_of(value), where)
             elif length:
                 values.add_blob(_Value(self, self.part_query(table, column), place, int(length)), where)
+
+
+def _close(connection: Any) -> None:
+    with suppress(Exception):  # (it may be gone)
+        connection.close()
 
 
 def _bytes_of(value: Any) -> bytes:
