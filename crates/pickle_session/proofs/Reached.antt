@@ -11,7 +11,7 @@ use Rattle.pickle_session.specs.Session.{Snapshot, Session, Answer, Obeys, goes_
 use Rattle.pickle_session.specs.Allowed.{SessionState, Answers, goes_beyond, takes_memory}
 use Rattle.pickle_session.specs.Laws.{goes_back}
 use Rattle.std.specs.Prelude.{nat_lt, not}
-use Rattle.pickle_session.specs.Opening.{IsOpened}
+use Rattle.pickle_session.specs.Opening.{IsOpenedIn}
 use Rattle.pickle_session.specs.Undo.{oldest, undone, version_bytes}
 use Rattle.pickle_session.specs.Reaching.{Reaches, IsReached, undos, OpenedStays}
 use Rattle.pickle_session.proofs.Oldest.{allowed}
@@ -20,11 +20,11 @@ reaches_keep : (cs : List Command) (p q : SessionState) → Reaches cs p q → o
 reaches_keep [] p q h = ap (λ (x : SessionState). oldest x.session) h
 reaches_keep (c ∷ cs) p q (r, m, a, h) = reaches_keep cs m q h ∙ allowed c p r m.session a
 
-oldest_opened : (many : Bool) (bytes : List ℕ) (p : SessionState) → IsOpened many bytes p → version_bytes (oldest p.session) ≡ bytes
-oldest_opened many bytes p o = rw o.begun.past o.document.whole
+oldest_opened : (many loose : Bool) (bytes : List ℕ) (p : SessionState) → IsOpenedIn many loose bytes p → version_bytes (oldest p.session) ≡ bytes
+oldest_opened many loose bytes p o = rw o.begun.past o.document.whole
 
-kept : (many : Bool) (bytes : List ℕ) (cs : List Command) (q : SessionState) → IsReached many bytes cs q → version_bytes (oldest q.session) ≡ bytes
-kept many bytes cs q (p, o, h) = ap version_bytes (reaches_keep cs p q h) ∙ oldest_opened many bytes p o
+kept : (many loose : Bool) (bytes : List ℕ) (cs : List Command) (q : SessionState) → IsReached many loose bytes cs q → version_bytes (oldest q.session) ≡ bytes
+kept many loose bytes cs q (p, o, h) = ap version_bytes (reaches_keep cs p q h) ∙ oldest_opened many loose bytes p o
 
 not_refused : (f : Option Fault) (s : Session) (D : Type 0) (a : Answer) → f ≡ None → MatchOption f D (λ f. a ≡ refuses f s) → D
 not_refused None s D a e x = x
@@ -58,13 +58,13 @@ to_start q k t (inr m) = let f = m.reply in absurd cc
 pub oldest_left : (t : Session) → t.past ≡ [] → version_bytes (oldest t) ≡ document_bytes t.document
 oldest_left t e = rw e refl
 
-given : (many : Bool) (bytes : List ℕ) (cs : List Command) (q m t : SessionState) → IsReached many bytes cs q → Answers (command.Goto 0) q (reply.At 0) m.session
+given : (many loose : Bool) (bytes : List ℕ) (cs : List Command) (q m t : SessionState) → IsReached many loose bytes cs q → Answers (command.Goto 0) q (reply.At 0) m.session
     → Reaches (undos (length q.session.past)) m t → (document_bytes t.session.document ≡ bytes) × (t.session.past ≡ [])
-given many bytes cs q m t i a h =
+given many loose bytes cs q m t i a h =
     let went : m.session ≡ record q.session { cursor = 0 } = to_start q 0 m.session a in
     let none : t.session.past ≡ [] = undos_empty q.session.past m t (ap (λ (s : Session). s.past) went) (ap (λ (s : Session). s.cursor) went) h in
     let same : oldest t.session ≡ oldest q.session = reaches_keep (undos (length q.session.past)) m t h ∙ allowed (command.Goto 0) q (reply.At 0) m.session a in
-    (sym (oldest_left t.session none) ∙ ap version_bytes same ∙ kept many bytes cs q i, none)
+    (sym (oldest_left t.session none) ∙ ap version_bytes same ∙ kept many loose bytes cs q i, none)
 
 pub opened_stays : OpenedStays
 opened_stays = record { kept = kept; accepted = accepted; given = given }

@@ -9,7 +9,7 @@ use Rattle.pickle_session.specs.declared.reply.Reply.{Reply}
 use Rattle.pickle_session.specs.declared.reply.Reply.TheVariants as reply
 use Rattle.pickle_session.specs.Session.{Session, place_in}
 use Rattle.pickle_session.specs.Allowed.{SessionState, Answers}
-use Rattle.pickle_session.specs.Opening.{IsOpened}
+use Rattle.pickle_session.specs.Opening.{IsOpenedIn}
 use Rattle.pickle_session.specs.Undo.{oldest, undone, version_bytes}
 
 -- these commands, one after another, lead from the one to the other, each by an answer that is allowed
@@ -17,9 +17,9 @@ abbrev pub Reaches : List Command → SessionState → SessionState → Type 0
 Reaches [] p q = q ≡ p
 Reaches (c ∷ cs) p q = (r : Reply) × (m : SessionState) × Answers c p r m.session × Reaches cs m q
 
--- they lead there from the opening of these bytes, as several pickles or as one
-abbrev pub IsReached : Bool → List ℕ → List Command → SessionState → Type 0
-IsReached many bytes cs q = (p : SessionState) × IsOpened many bytes p × Reaches cs p q
+-- they lead there from the opening of these bytes, as several pickles or as one, and with all items loose or with their frames
+abbrev pub IsReached : Bool → Bool → List ℕ → List Command → SessionState → Type 0
+IsReached many loose bytes cs q = (p : SessionState) × IsOpenedIn many loose bytes p × Reaches cs p q
 
 -- this many undos
 abbrev pub undos : ℕ → List Command
@@ -29,10 +29,10 @@ undos (suc n) = command.Undo ∷ undos n
 -- what stays of the bytes that were opened, whatever the commands and the answers
 pub record OpenedStays : Type 0 where
   -- the oldest document has these bytes
-  pub kept : (many : Bool) (bytes : List ℕ) (cs : List Command) (q : SessionState) → IsReached many bytes cs q → version_bytes (oldest q.session) ≡ bytes
+  pub kept : (many loose : Bool) (bytes : List ℕ) (cs : List Command) (q : SessionState) → IsReached many loose bytes cs q → version_bytes (oldest q.session) ≡ bytes
   -- at the start an Undo is accepted wherever there is something to undo
   pub accepted : (p : SessionState) (r : Reply) (t : Session) → p.session.cursor ≡ 0 → 0 < length p.session.past → Answers command.Undo p r t
       → (r ≡ reply.Undone (place_in p.session.past)) × (t ≡ undone p.session)
   -- an accepted Goto to the start, and then as many undos as there are edits, give these bytes again; nothing is left to undo
-  pub given : (many : Bool) (bytes : List ℕ) (cs : List Command) (q m t : SessionState) → IsReached many bytes cs q → Answers (command.Goto 0) q (reply.At 0) m.session
+  pub given : (many loose : Bool) (bytes : List ℕ) (cs : List Command) (q m t : SessionState) → IsReached many loose bytes cs q → Answers (command.Goto 0) q (reply.At 0) m.session
       → Reaches (undos (length q.session.past)) m t → (document_bytes t.session.document ≡ bytes) × (t.session.past ≡ [])
