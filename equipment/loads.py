@@ -4,6 +4,8 @@ The unpicklers run in load_worker.py: in C from bytes, from BytesIO and from a b
 Each act of theirs has to have its line, in its order: among those of the strict reading and of the part behind its end, or among these and
 then those of the part for loaders that buffer frames. Lines that no unpickler gets to are no difference: loaders end at values that the
 program does not look into. The cases come from load_cases.py, and the seed is printed.
+
+    python3 -B loads.py PROGRAM SEED COUNT    other cases than the gate has: so many pickles, and as many rows for each way of loading
 """
 
 from __future__ import annotations
@@ -16,6 +18,7 @@ import re
 import struct
 import subprocess
 import sys
+import tempfile
 from collections.abc import Iterable, Iterator, Sequence
 from dataclasses import dataclass, field
 from typing import Any, Optional
@@ -302,8 +305,8 @@ def trials(loads: Loads, pickles: pathlib.Path) -> list[Trial]:
     return [*made, Trial("names of Python 2", _old_names)]
 
 
-def _tried(loads: Loads, kind: str, number: int, real: Sequence[bytes]) -> Noted:
-    seed = SEED * 1000 + number
+def _tried(loads: Loads, kind: str, number: int, real: Sequence[bytes], base: int = SEED) -> Noted:
+    seed = base * 1000 + number
     if kind == "singles":
         return loads.fault(f"{kind}{number}", list(load_cases.singles(seed, EACH, real)), ["--bytes"] if number % 4 == 3 else [])
     return loads.fault(f"{kind}{number}", list(load_cases.rows(seed, EACH)), ["--one"] if kind == "kept" else [])
@@ -314,3 +317,21 @@ def _old_names() -> Noted:
     done = subprocess.run(words, capture_output=True, text=True, check=False)
     said = (done.stdout or done.stderr).strip()
     return Noted("" if done.returncode == 0 else said or "it says nothing", f": {said}" if done.returncode == 0 else "")
+
+
+def main(program: str, seed: int, count: int) -> int:
+    """Tries other cases: the status is 1 where something is not told."""
+    pickles = [path.read_bytes() for path in sorted((ROOT / "crates/real_pickles/data").glob("*.pickle"))]
+    is_told = True
+    with tempfile.TemporaryDirectory() as folder:
+        loads = Loads(program, pathlib.Path(folder))
+        for number in range(-(-count // EACH)):
+            for kind in ("singles", "rows", "kept"):
+                noted = _tried(loads, kind, number, pickles, seed)
+                print(f"{kind} {number}{noted.note} {noted.why}", flush=True)
+                is_told = is_told and not noted.why
+    return 0 if is_told else 1
+
+
+if __name__ == "__main__":
+    sys.exit(main(sys.argv[1], int(sys.argv[2]), int(sys.argv[3])))
