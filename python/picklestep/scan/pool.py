@@ -138,10 +138,11 @@ class _Worker:
     def __init__(self, options: Options, others: Optional[Iterable[Connection]]) -> None:
         """A copy of this process where the other links are given, else a new one."""
         self.link, far = Pipe()
+        self.process: Union['subprocess.Popen[bytes]', _Fork]
         with far:
             self.process = _new_process(far.fileno()) if others is None else _Fork(far, [*others, self.link])
         self.tasks: List[_Task] = []
-        # How many it gets at once: one at first, and more as long as it answers all of them quickly.
+        # How many it gets at once: one at first, and more as long as it answers all of them in time.
         self.at_once = 1
         self._send(options)
 
@@ -159,7 +160,7 @@ class _Worker:
     def answered(self, results: List[Result]) -> List[_Task]:
         """Takes its results, and answers those of its tasks that are yet to be done."""
         left = self.tasks[len(results):]
-        self.at_once = 1 if left else min(2 * self.at_once, _MOST_AT_ONCE)
+        self.at_once = len(results) if left else min(2 * self.at_once, _MOST_AT_ONCE)
         return left
 
     def end(self) -> None:

@@ -10,7 +10,7 @@ from functools import lru_cache
 from typing import Callable, Dict, Iterable, List, Optional, Tuple
 
 from .. import library
-from ..answers import Reached
+from ..answers import closing_in
 from ..errors import OutOfMemory, PicklestepError, ProgramError, TimedOut
 from ..program import Process
 from ..reaches import LineKey, given_in, headings_in, line_of, reach_of, reached_line_of, reached_lines, with_offset
@@ -152,7 +152,7 @@ class Summary:
 
     def _take_end(self, tail: str) -> None:
         """Keeps how the strict reading ended."""
-        self.end = Reached(tail).end
+        self.end = closing_in(tail, 0, len(tail)).end(None)
         if self._offset_of is not None and self.end.offset is not None:
             self.end = with_offset(self.end, self._offset_of(self.end.offset))
 
