@@ -87,7 +87,7 @@ def _declared(library: ctypes.CDLL, name: str, options: int, inputs: int) -> Cal
 
 def _aligned(content: bytes, size: int) -> Any:
     """An input where the numbers in it may stand. (What is in bytes may stand anywhere.)"""
-    return content if size == 1 else ctypes.create_string_buffer(content)
+    return content if size == 1 or not content else ctypes.create_string_buffer(content)
 
 
 @lru_cache(maxsize=None)

@@ -270,16 +270,9 @@ def counts_in(text: str, start: int, end: int) -> Tuple[int, int]:
 
 # --- One line, as far as it is asked for ---
 
-class ReachedLine(NamedTuple):
-    """A line: its offset, its text, the first word of that, and the name in it where the module is in quotes."""
-
-    offset: str
-    text: str
-    what: str
-    quoted: Optional[str]
-
-
-# The first word of a line and the name whose module is in quotes: lines that have the same say the same, but for numbers and arguments.
+# A line: its offset, its text, the first word of that, and the name in it where the module is in quotes.
+ReachedLine = Tuple[str, str, str, Optional[str]]
+# The last two of these: lines that have the same say the same, but for numbers and arguments.
 LineKey = Tuple[str, Optional[str]]
 
 
@@ -297,7 +290,7 @@ def reached_lines(text: str, start: int, end: int, each: bool = False) -> 'Itera
 
 def reached_line_of(match: 're.Match[str]') -> ReachedLine:
     """What the first line that matched says."""
-    return ReachedLine(*match.group(1, 2, 3, 4))
+    return match[1], match[2], match[3], match[4]
 
 
 def line_of(match: 're.Match[str]') -> str:

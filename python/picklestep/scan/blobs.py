@@ -121,8 +121,7 @@ class Budget:
         return max(1 << 16, self.limits.memory // 4 - self.held)
 
     def memory(self) -> int:
-        """What is left of the memory for a program."""
-        _used.seconds()
+        """What is left of the memory for a program, by what was used when it was last asked for."""
         return max(16 << 20, self.limits.memory - self.held - max(_OWN_MEMORY, _used.memory))
 
     def unpack(self, count: int) -> None:
