@@ -63,7 +63,9 @@ class _Library:
     def ask(self, asked: Question, memory: int) -> Optional[bytes]:
         """The text, where it can be had in so much memory."""
         function = self._functions[asked.function]
-        given = (*asked.options, *(part for content, size in asked.inputs for part in (_aligned(content, size), len(content) // size)))
+        given: List[Any] = [*asked.options]
+        for content, size in asked.inputs:
+            given += _aligned(content, size), len(content) // size
         out: Any = _room.out
         written = _room.written
         self._limit(memory)
@@ -85,7 +87,7 @@ def _declared(library: ctypes.CDLL, name: str, options: int, inputs: int) -> Cal
 
 def _aligned(content: bytes, size: int) -> Any:
     """An input where the numbers in it may stand. (What is in bytes may stand anywhere.)"""
-    return content if size == 1 else ctypes.create_string_buffer(content)
+    return content if size == 1 or not content else ctypes.create_string_buffer(content)
 
 
 @lru_cache(maxsize=None)
