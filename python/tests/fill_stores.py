@@ -404,5 +404,22 @@ def mysql_server(path: str, count: str) -> None:
     connection.close()
 
 
+def mysql_schemas(path: str) -> None:
+    """Hostile values in databases of the server itself, too, which the user may read."""
+    import pymysql
+    connection = pymysql.connect(unix_socket=path, user='root')
+    cursor = connection.cursor()
+    for words in ('CREATE DATABASE stores', "CREATE USER tester@'%' IDENTIFIED BY 'a-secret'", "GRANT SELECT ON *.* TO tester@'%'"):
+        cursor.execute(words)
+    for place, more in (('stores.jobs', ''), ('stores.kept', 'WITH SYSTEM VERSIONING'), ('sys.evil', ''), ('mysql.evil', '')):
+        cursor.execute(f'CREATE TABLE {place} (id INT PRIMARY KEY, state LONGBLOB) {more}')
+        cursor.execute(f'INSERT INTO {place} VALUES (%s, %s)', (1, pickle.dumps(Hostile())))
+    cursor.execute('CREATE VIEW stores.seen AS SELECT state FROM stores.jobs')
+    cursor.execute('CREATE VIEW stores.numbers AS SELECT id FROM stores.jobs')
+    cursor.execute('CREATE SEQUENCE stores.counter')
+    connection.commit()
+    connection.close()
+
+
 if __name__ == '__main__':
     globals()[sys.argv[1]](*sys.argv[2:])
