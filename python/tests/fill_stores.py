@@ -214,6 +214,17 @@ def redis_server(port: str, password: str, count: str) -> None:
     client.setrange('large', (512 << 20 if int(count) > 10_000 else 16 << 20) - 1, b'x')
 
 
+def redis_names(url: str) -> None:
+    """Names that are hostile, in each place that has one, and harmless ones."""
+    import redis
+    client = redis.Redis.from_url(url)
+    evil, text = pickle.dumps(Hostile()), pickle.dumps(Hostile(), 0)
+    for number, name in enumerate((evil, text, b'harmless.', pickle.dumps(1))):
+        client.set(name, b'harmless')
+        client.hset('hash', name, b'harmless')
+        client.xadd('stream', {name: b'harmless'}, id=f'{number + 1}-1')
+
+
 def redis_values(url: str) -> None:
     """A thousand harmless values, one that is hostile, one that is large, and a list."""
     import redis
