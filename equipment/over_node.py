@@ -38,6 +38,7 @@ NOT_THERE = {
     "test_scan_runs.Runs.test_ctrl_c": BY_NAME,
     "test_stores_forms.Hdf5.test_memory_is_bounded": "Windows has no such limit",
     "test_stores_changes": "servers of Linux are started and stopped by signals",
+    "test_stores_columns": "servers of Linux are started",
     "test_stores_servers": "servers of Linux are started",
     "test_stores_tls": "servers of Linux are started",
     "test_stores_vanish": "servers of Linux are started",

@@ -214,6 +214,17 @@ def redis_server(port: str, password: str, count: str) -> None:
     client.setrange('large', (512 << 20 if int(count) > 10_000 else 16 << 20) - 1, b'x')
 
 
+def redis_names(url: str) -> None:
+    """Names that are hostile, in each place that has one, and harmless ones."""
+    import redis
+    client = redis.Redis.from_url(url)
+    evil, text = pickle.dumps(Hostile()), pickle.dumps(Hostile(), 0)
+    for number, name in enumerate((evil, text, b'harmless.', pickle.dumps(1))):
+        client.set(name, b'harmless')
+        client.hset('hash', name, b'harmless')
+        client.xadd('stream', {name: b'harmless'}, id=f'{number + 1}-1')
+
+
 def redis_values(url: str) -> None:
     """A thousand harmless values, one that is hostile, one that is large, and a list."""
     import redis
@@ -340,6 +351,50 @@ def postgresql_large(url: str) -> None:
     connection.close()
 
 
+# What holds a hostile value in each of its columns, `small` and `large` ones. The last ones are not looked at.
+POSTGRESQL_TYPES = """
+    CREATE DOMAIN blob AS bytea; CREATE DOMAIN inner_text AS text; CREATE DOMAIN outer_text AS inner_text CHECK (value <> '');
+    CREATE DOMAIN blobs AS blob[]; CREATE TYPE job AS (number int, state bytea); CREATE TYPE point_of AS (x int, y int);
+    CREATE TYPE texts AS RANGE (subtype = text);
+    CREATE TABLE domains (id int PRIMARY KEY, state blob, note outer_text);
+    CREATE TABLE arrays (id int PRIMARY KEY, states bytea[], notes varchar[], more blobs);
+    CREATE TABLE parts (id int, state bytea) PARTITION BY RANGE (id);
+    CREATE TABLE parts_low PARTITION OF parts FOR VALUES FROM (0) TO (100);
+    CREATE TABLE parts_high PARTITION OF parts FOR VALUES FROM (100) TO (200) PARTITION BY RANGE (id);
+    CREATE TABLE parts_top PARTITION OF parts_high FOR VALUES FROM (150) TO (200);
+    CREATE TABLE base (id int, state bytea); CREATE TABLE child (other int) INHERITS (base);
+    CREATE TABLE unread (id int PRIMARY KEY, state job, states job[], span texts, words tsvector, bits varbit, place point_of, years int4range);
+    CREATE VIEW seen AS SELECT state FROM domains; CREATE VIEW numbers AS SELECT id FROM domains;
+    CREATE FOREIGN DATA WRAPPER nothing; CREATE SERVER elsewhere FOREIGN DATA WRAPPER nothing;
+    CREATE FOREIGN TABLE far (state bytea) SERVER elsewhere;
+    CREATE USER reader PASSWORD 'a-secret'"""
+
+
+def postgresql_types(url: str) -> None:
+    """Hostile values in columns of many types."""
+    import psycopg2
+    evil, note = pickle.dumps(Hostile()), pickle.dumps(Hostile(), 0).decode()
+    large = pickle.dumps(['x' * (1 << 20), Hostile()])
+    with psycopg2.connect(url) as connection:
+        cursor = connection.cursor()
+        cursor.execute(POSTGRESQL_TYPES)
+        for words, rows in (('domains VALUES (%s, %s, %s)', [(1, evil, 'harmless'), (2, harmless(2), note), (3, large, None)]),
+                            ('arrays VALUES (%s, %s::bytea[], %s, %s::blob[])', [
+                                (1, [harmless(1), None, evil], ['harmless'], [evil]), (2, [], ['harmless', note], None), (3, [b'', large], [], [])]),
+                            ('parts VALUES (%s, %s)', [(1, evil), (160, evil), (161, harmless(1))]),
+                            ('base VALUES (%s, %s)', [(1, evil)]), ('child VALUES (%s, %s, 0)', [(1, evil)])):
+            for row in rows:
+                cursor.execute(f'INSERT INTO {words}', row)
+        for number in range(1_200):
+            connection.lobject(0, 'wb').write(harmless(number))
+        for value in (evil, large):
+            made = connection.lobject(0, 'wb')
+            made.write(value)
+            print(made.oid)
+        cursor.execute('GRANT SELECT ON ALL TABLES IN SCHEMA public TO reader; GRANT SELECT ON LARGE OBJECT %s TO reader', (made.oid,))
+    connection.close()
+
+
 def mysql_server(path: str, count: str) -> None:
     """Also makes a user who may read alone."""
     import pymysql
@@ -357,6 +412,23 @@ def mysql_server(path: str, count: str) -> None:
     cursor.executemany('INSERT INTO loose VALUES (%s, %s)', [(f'2026-01-{1 + number % 28:02} 10:00:00', each[2]) for number, each in enumerate(rows)])
     connection.commit()
     cursor.execute('ANALYZE TABLE jobs, pairs, loose')  # (by which the server reckons how large they are)
+    connection.close()
+
+
+def mysql_schemas(path: str) -> None:
+    """Hostile values in databases of the server itself, too, which the user may read."""
+    import pymysql
+    connection = pymysql.connect(unix_socket=path, user='root')
+    cursor = connection.cursor()
+    for words in ('CREATE DATABASE stores', "CREATE USER tester@'%' IDENTIFIED BY 'a-secret'", "GRANT SELECT ON *.* TO tester@'%'"):
+        cursor.execute(words)
+    for place, more in (('stores.jobs', ''), ('stores.kept', 'WITH SYSTEM VERSIONING'), ('sys.evil', ''), ('mysql.evil', '')):
+        cursor.execute(f'CREATE TABLE {place} (id INT PRIMARY KEY, state LONGBLOB) {more}')
+        cursor.execute(f'INSERT INTO {place} VALUES (%s, %s)', (1, pickle.dumps(Hostile())))
+    cursor.execute('CREATE VIEW stores.seen AS SELECT state FROM stores.jobs')
+    cursor.execute('CREATE VIEW stores.numbers AS SELECT id FROM stores.jobs')
+    cursor.execute('CREATE SEQUENCE stores.counter')
+    connection.commit()
     connection.close()
 
 

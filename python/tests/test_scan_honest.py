@@ -54,11 +54,11 @@ class Honest(ScanCase):
                 self.assertFalse(is_told(result), notes_of(result))
                 if not name.startswith(CODE):
                     self.assertEqual(list(sets.looks(result)), [])
-        # (what Python's own library and the usual commands write)
-        self.assertGreaterEqual(len(files), 100)
+        # (So many are there without torch, and the lesser number is what Python's own library and the usual commands write.)
+        others = [line for line in missing.splitlines() if not line.startswith('of_torch: ')]
+        self.assertGreaterEqual(len(files), 100 if others else 300)
         if missing:
-            self.skipTest(f'{len(files)} files, and not by all writers: {"; ".join(missing.split(chr(10))).strip("; ")}')
-        self.assertGreaterEqual(len(files), 300)
+            self.skipTest(f'{len(files)} files, and not by all writers: {"; ".join(missing.splitlines())}')
 
 
 class Anything:

@@ -61,6 +61,19 @@ class RedisServers(StoreCase):
         found = [line.partition(' > ')[2].partition(': import ')[0] for line in self.told(url, python=python) if EVIL in line]
         self.assertEqual([re.sub('session:.*', 'session', place) for place in sorted(found)], [':1:evil', 'apscheduler.jobs > evil', 'session'])
 
+    def test_names(self) -> None:
+        """Keys, fields of hashes and fields of streams that are pickles themselves."""
+        python = python_with('redis')
+        url = f'redis://:{SECRET}@127.0.0.1:{self.redis()}/0'
+        self.fill(python, 'redis_names', url)
+        found = [line.partition('/0 > ')[2].partition(': import ')[0] for line in self.told(url, python=python) if EVIL in line]
+        ends = [(place.partition(' > ')[0], place.rpartition(' > ')[2]) for place in found]
+        self.assertEqual([end for _, end in ends].count('(the name of the key)'), 2, found)
+        self.assertEqual(sorted(end for end in ends if end[0] in ('hash', 'stream')),
+                         [('hash', '(the name of the field)')] * 2 + [('stream', '(the name of the field)')] * 2)
+        self.assertEqual(len(found), 6)
+        self.assertTrue(any(place.startswith('stream > 2-1 > ') for place in found), found)
+
     def test_match_sample_and_json(self) -> None:
         python = python_with('redis')
         port = self.redis()

@@ -59,7 +59,7 @@ class Report:
     def _count(self, result: Result, looks: List[Look]) -> None:
         counts = self.counts
         counts['files'] += result.left is None and not result.keys
-        counts['keys'] += result.keys if result.error is None else 0
+        counts['keys'] += result.keys if result.error is None and result.left is None else 0
         if result.keys:
             self.servers[result.path] = self.servers.get(result.path, False) or bool(result.pickles or result.plain)
         counts['skipped'] += result.left is not None

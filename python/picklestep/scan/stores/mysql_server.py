@@ -1,4 +1,7 @@
-"""MySQL and MariaDB: all tables of a database, through PyMySQL. The password is that of the URL, or MYSQL_PWD; `?ssl=true` asks for TLS."""
+"""MySQL and MariaDB: all tables of a database, through PyMySQL. The password is that of the URL, or MYSQL_PWD; `?ssl=true` asks for TLS.
+
+What a view would run is not run: views are told, as are earlier rows, which some tables keep.
+"""
 
 from __future__ import annotations
 
@@ -27,11 +30,17 @@ _COLUMNS = """
     SELECT c.table_schema, c.table_name, c.column_name, c.data_type, c.column_key, t.data_length, t.table_rows,
            EXISTS (SELECT * FROM information_schema.statistics s WHERE s.table_schema = c.table_schema AND s.table_name = c.table_name
                    AND s.column_name = c.column_name AND s.seq_in_index = 1 AND s.sub_part IS NULL AND s.index_type = 'BTREE'
-                   AND c.is_nullable = 'NO')
+                   AND c.is_nullable = 'NO'), t.table_type
     FROM information_schema.columns c JOIN information_schema.tables t ON t.table_schema = c.table_schema AND t.table_name = c.table_name
-    WHERE t.table_type = 'BASE TABLE' AND c.table_schema = COALESCE(DATABASE(), c.table_schema)
-      AND c.table_schema NOT IN ('mysql', 'information_schema', 'performance_schema', 'sys')
+    WHERE c.table_schema = COALESCE(DATABASE(), c.table_schema)
+      AND (DATABASE() IS NOT NULL OR c.table_schema NOT IN ('information_schema', 'performance_schema')
+           AND (c.table_schema NOT IN ('mysql', 'sys') OR t.table_type = 'BASE TABLE'))
     ORDER BY 1, 2, c.ordinal_position"""
+
+# What has rows of its own. (A sequence has numbers alone.)
+_VERSIONED = 'SYSTEM VERSIONED'
+_TABLES = ('BASE TABLE', _VERSIONED)
+_UNREAD = {'VIEW': 'views', 'SYSTEM VIEW': 'views of the server'}
 
 
 @dataclass
@@ -40,12 +49,23 @@ class _Found:
 
     size: int
     rows: int
+    kind: str
     columns: List[Column] = field(default_factory=list)
     keys: List[str] = field(default_factory=list)
     orders: Dict[str, str] = field(default_factory=dict)  # (their types)
 
-    def table(self, schema: str, name: str) -> Table:
-        """The table of this name. Its own key is the best order: the rows lie so."""
+    def tables(self, schema: str, name: str) -> Iterator[Table]:
+        """The table of this name, if it is one, and what is not read of it."""
+        if not self.columns:
+            return
+        if self.kind in _TABLES:
+            yield self._table(schema, name)
+        if self.kind != 'BASE TABLE':
+            what = 'earlier rows of tables' if self.kind == _VERSIONED else _UNREAD.get(self.kind, 'tables of other kinds')
+            yield Table(schema, name, tuple(self.columns), (), 0, unread=what)
+
+    def _table(self, schema: str, name: str) -> Table:
+        """The table. Its own key is the best order: the rows lie so."""
         orders = sorted(self.orders, key=lambda each: each not in self.keys)
         tasks = min(_MOST_TASKS, 1 + self.size // _BYTES_OF_TASK)
         is_number = bool(orders) and self.keys == orders[:1] and self.orders[orders[0]] in _NUMBERS
@@ -56,7 +76,7 @@ class _Found:
 
 
 class MysqlServer(SqlServer):
-    """A database of MySQL, or all of its databases where the URL names none."""
+    """A database of MySQL, or all of its databases where the URL names none (but those whose tables the server makes up)."""
 
     def connect(self) -> Any:
         self.library = library('pymysql')
@@ -80,14 +100,14 @@ class MysqlServer(SqlServer):
         found: Dict[Tuple[str, str], _Found] = {}
         for row in self.all_of(_COLUMNS):
             schema, name, column, kind, key = (_text(each) for each in row[:5])
-            each = found.setdefault((schema, name), _Found(int(row[5] or 0), int(row[6] or 0)))
+            each = found.setdefault((schema, name), _Found(int(row[5] or 0), int(row[6] or 0), _text(row[8])))
             if kind in _BYTES + _TEXTS:
                 each.columns.append(Column(column, kind in _TEXTS))
             if key == 'PRI':
                 each.keys.append(column)
             if row[7] and kind in _NUMBERS + _OTHERS:
                 each.orders[column] = kind
-        return [each.table(*name) for name, each in found.items() if each.columns]
+        return [table for name, each in found.items() for table in each.tables(*name)]
 
     def rows_of(self, table: Table) -> Iterator[Rows]:
         """The rows in ranges of a column that has an index. A table without such a column is one task."""

@@ -82,6 +82,8 @@ class RedisServer(Server):
     def look(self, values: Values, keys: Tuple[Any, ...]) -> int:
         with self.named():
             others = []
+            for key in keys:
+                _look_at_name(values, key, (key_name(key),), 'key')
             for key, answer in zip(keys, self._all(keys, lambda pipe, key: pipe.getrange(key, 0, _FIRST - 1))):
                 if isinstance(answer, bytes):
                     self._look_at_string(values, key, answer)
@@ -129,8 +131,7 @@ class RedisServer(Server):
     def _look_at_hash(self, values: Values, key: bytes, where: Place) -> None:
         for field, value in self.client.hscan_iter(key, count=100):
             values.add(value, where + (key_name(field),))
-            if stops_at_end(field):
-                values.add(field, where + (key_name(field), '(the name of the field)'))
+            _look_at_name(values, field, where + (key_name(field),), 'field')
 
     def _look_at_set(self, values: Values, key: bytes, where: Place) -> None:
         for value in self.client.sscan_iter(key, count=100):
@@ -165,7 +166,15 @@ class RedisServer(Server):
         """Looks at entries of a stream: each has a name, and fields with values."""
         for name, parts in entries:
             for field, value in zip((parts or ())[::2], (parts or ())[1::2]):
-                values.add(value, where + (name.decode('ascii', 'backslashreplace'), key_name(field)))
+                place = where + (name.decode('ascii', 'backslashreplace'), key_name(field))
+                values.add(value, place)
+                _look_at_name(values, field, place, 'field')
+
+
+def _look_at_name(values: Values, name: bytes, where: Place, what: str) -> None:
+    """Looks at a name that ends as a pickle does, which most do not."""
+    if stops_at_end(name):
+        values.add(name, where + (f'(the name of the {what})',))
 
 
 def _following(count: int, size: int) -> int:

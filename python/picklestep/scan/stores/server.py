@@ -11,7 +11,7 @@ from importlib import import_module
 from typing import TYPE_CHECKING, Any, Callable, Dict, Iterator, Optional, Tuple, Type, Union
 
 from ..blobs import LimitMet
-from ..results import Result
+from ..results import Note, Result
 from .address import SERVERS, Address
 from .values import Values
 
@@ -142,12 +142,18 @@ def server_of(address: Address) -> Server:
 
 
 def tasks(address: Address, wanted: Wanted, failed: Callable[[Result], None]) -> Iterator[Task]:
-    """All tasks of a server. Where listing the keys fails, `failed` gets a result that says so."""
+    """All tasks of a server. Where listing the keys fails, or there are none, `failed` gets a result that says so."""
+    is_empty = True
     try:
         for keys in server_of(address).parts(wanted):
+            is_empty = False
             yield Task(address, keys)
     except NoServer as error:
         failed(Result(str(address), error=_given_up(address, error), keys=1))
+        return
+    if is_empty:
+        left = 'a server without keys' if wanted.match is None else 'a server without keys that match'
+        failed(Result(str(address), left=left, notes=(Note((), 'no key of it is looked at', missed=True),), keys=1))
 
 
 def total_of(address: Address, wanted: Wanted) -> int:

@@ -9,13 +9,13 @@ import re
 from contextlib import closing, contextmanager, nullcontext, suppress
 from dataclasses import dataclass, replace
 from fnmatch import fnmatchcase
-from typing import Any, ContextManager, Iterator, List, Optional, Tuple, Type
+from typing import Any, ContextManager, Dict, Iterator, List, Optional, Tuple, Type
 from weakref import finalize
 
 from ..blobs import Blob
 from .address import Address
 from .server import IsSilent, NoServer, Server, Wanted
-from .values import Values
+from .values import Values, not_looked_at
 
 __all__ = ['Column', 'Rows', 'SqlServer', 'Table']
 
@@ -32,17 +32,20 @@ _TIMED_OUT = re.compile(r'timed out|timeout expired')
 
 @dataclass(frozen=True)
 class Column:
-    """A column of bytes or text."""
+    """A column of bytes or text, or of arrays of these."""
 
     name: str
     is_text: bool
+    is_array: bool = False
 
 
 @dataclass(frozen=True)
 class Table:
     """A table with its columns of bytes or text, and those by which a row is named. `size` is in the server's own measure.
 
-    `order` is a column by whose values its rows can be handed out in parts, each with about so many `rows`, where there is one.
+    `order` is a column by whose values its rows can be handed out in parts, each with about so many `rows`, where there is one. `within` names
+    the tables of which this one is a part. `unread` says as what (in the plural) it, its columns or so many `rows` are counted where they are not
+    looked at.
     """
 
     schema: str
@@ -52,6 +55,13 @@ class Table:
     size: int
     order: Optional[Column] = None
     rows: int = 0
+    within: Tuple[str, ...] = ()
+    unread: str = ''
+
+    @property
+    def place(self) -> str:
+        """Its name, and that of its schema."""
+        return f'{self.schema}.{self.name}'
 
 
 @dataclass(frozen=True)
@@ -130,25 +140,35 @@ class SqlServer(Server):
             return found
 
     def parts(self, wanted: Wanted) -> Iterator[Tuple[Any, ...]]:
-        asked = self.address.asked
-        found = False
         with self.named():
-            tables = self.tables()
-        for table in tables:
-            columns = tuple(column for column in table.columns if asked.get('column') in (None, column.name))
-            if asked.get('table') not in (None, table.name, f'{table.schema}.{table.name}') or not columns:
-                continue
-            found = True
-            if wanted.match is None or fnmatchcase(table.name, wanted.match):
-                for rows in self.rows_of(replace(table, columns=columns)):
-                    yield (rows, wanted.sample)
-        if not found and asked:
+            found = self.tables()
+        asked = [table for table in map(self._asked, found) if table is not None]
+        if not asked and self.address.asked:
             raise NoServer('there is no such table with such a column of bytes or text')
+        matching = [table for table in asked if _matches(table, wanted.match)]
+        told = _left_out(matching)
+        for table in matching:
+            for rows in self.rows_of(table) if not table.unread else ():
+                yield rows, wanted.sample, told
+                told = ()
+        if told:
+            yield None, wanted.sample, told
+
+    def _asked(self, table: Table) -> Optional[Table]:
+        """What the URL asks for of a table. None where that is nothing."""
+        asked = self.address.asked
+        columns = tuple(column for column in table.columns if asked.get('column') in (None, column.name))
+        is_asked = asked.get('table') in (None, table.name, table.place, *table.within)
+        return replace(table, columns=columns) if is_asked and columns else None
 
     def look(self, values: Values, keys: Tuple[Any, ...]) -> int:
-        rows, most = keys
+        rows, most, told = keys
+        for text in told:
+            values.looker.note((), text, missed=True)
+        return self._look_at_rows(values, rows, most) if rows is not None else 0
+
+    def _look_at_rows(self, values: Values, rows: Rows, most: Optional[int]) -> int:
         count = 0
-        table: Table = rows.table
         with self.named(), closing(self.cursor()) as cursor:
             with self.waiting():
                 cursor.execute(*self.query(rows))
@@ -157,7 +177,7 @@ class SqlServer(Server):
                     fetched = cursor.fetchmany(ROWS)
                 for row in fetched[:None if most is None else most - count]:
                     count += 1
-                    self._look_at_row(values, table, row)
+                    self._look_at_row(values, rows.table, row)
                 if not fetched:
                     break
         self._end()
@@ -171,11 +191,26 @@ class SqlServer(Server):
     def _look_at_row(self, values: Values, table: Table, row: Tuple[Any, ...]) -> None:
         place, name = row[0], row[1]
         for column, value, length in zip(table.columns, row[2::2], row[3::2]):
-            where = (f'{table.schema}.{table.name}.{column.name}', f'row {_bytes_of(name).decode("utf-8", "backslashreplace")[:200]}')
+            where = (f'{table.place}.{column.name}', f'row {_bytes_of(name).decode("utf-8", "backslashreplace")[:200]}')
             if value is not None:
                 values.add(_bytes_of(value), where)
             elif length:
                 values.add_blob(_Value(self, self.part_query(table, column), place, int(length)), where)
+
+
+def _matches(table: Table, match: Optional[str]) -> bool:
+    """Whether a pattern takes a table, by its name or that of one of which it is a part."""
+    return match is None or any(fnmatchcase(name, match) for name in (table.name, *table.within))
+
+
+def _left_out(tables: List[Table]) -> Tuple[str, ...]:
+    """What is said of those that are not looked at."""
+    names: Dict[str, List[str]] = {}
+    for table in tables:
+        if table.unread:
+            columns = [f'{table.place}.{column.name}' for column in table.columns]
+            names.setdefault(table.unread, []).extend(columns if table.unread.startswith('columns') else [table.place] * max(1, table.rows))
+    return tuple(not_looked_at(what, each) for what, each in names.items())
 
 
 def _close(connection: Any) -> None:

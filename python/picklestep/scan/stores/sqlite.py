@@ -19,7 +19,7 @@ from typing import TYPE_CHECKING, Any, Dict, Iterator, List, Optional, Tuple
 from ..blobs import Blob, FileBlob
 from ..containers import Held
 from ..results import Place
-from .values import SMALL, Values, key_name
+from .values import SMALL, Values, not_looked_at
 
 if TYPE_CHECKING:
     from ..looking import Looker
@@ -77,7 +77,7 @@ def _look(looker: 'Looker', blob: Blob, where: Place, depth: int) -> None:
 def _tell_computed(looker: 'Looker', where: Place, what: str, names: List[str]) -> None:
     """Notes what is worked out as it is read."""
     if names:
-        looker.note(where, f'sqlite: {what} are not looked at ({len(names)}, such as {key_name(names[0].encode())})', missed=True)
+        looker.note(where, f'sqlite: {not_looked_at(what, names)}', missed=True)
 
 
 def _tell_journal(looker: 'Looker', where: Place, path: str) -> None:

@@ -6,7 +6,7 @@ Most values are small and there are many, so those that read as pickles wait, an
 from __future__ import annotations
 
 from concurrent.futures import Future, ThreadPoolExecutor
-from typing import TYPE_CHECKING, Callable, Iterator, List, NamedTuple, Optional, Set, Tuple
+from typing import TYPE_CHECKING, Callable, Iterator, List, NamedTuple, Optional, Sequence, Set, Tuple
 
 from ..begins import HEAD, may_be_pickle
 from ..blobs import STEPS, Blob, BytesBlob, LimitMet
@@ -28,7 +28,7 @@ from .walk import is_opcode, stops_at_end, walk
 if TYPE_CHECKING:
     from ..looking import Looker
 
-__all__ = ['SMALL', 'Values', 'key_name']
+__all__ = ['SMALL', 'Values', 'key_name', 'not_looked_at']
 
 # Values up to this size, packed or not, are looked at in memory; larger ones as files are.
 SMALL = 8 << 20
@@ -76,6 +76,15 @@ def key_name(key: bytes) -> str:
     """
     text = key[:4 * _MOST_OF_KEY].decode('utf-8', 'backslashreplace')
     return text if len(key) <= _MOST_OF_KEY else f'{text[:_MOST_OF_KEY]}.. ({len(key)} bytes)'
+
+
+def not_looked_at(what: str, names: Sequence[str]) -> str:
+    """What is said of some things of a store that are not looked at.
+
+    >>> not_looked_at('views', ['first', 'second'])
+    'views are not looked at (2, such as first)'
+    """
+    return f'{what} are not looked at ({len(names)}, such as {key_name(names[0].encode("utf-8", "surrogateescape"))})'
 
 
 def _names_something(answer: Summary) -> bool:
