@@ -4,6 +4,7 @@ from __future__ import annotations
 
 import collections
 import contextlib
+import io
 import os
 import pickle
 import pickletools
@@ -168,6 +169,25 @@ class Words(unittest.TestCase):
     def test_explained_are_the_opcodes(self) -> None:
         self.assertEqual(set(EXPLAINED), {opcode.name for opcode in pickletools.opcodes})
         self.assertEqual(len(set(EXPLAINED.values())), len(EXPLAINED))
+
+    def test_bytes_after_stop(self) -> None:
+        """They are named, in the program's words, wherever the shell shows all that there is."""
+        call = b'cold\nf\n)R.'
+        data = b'\x80\x02cold\ng\n.' + call
+        stream = io.BytesIO(data)
+        collections.deque(pickletools.genops(stream), 0)
+        said = f'kept: {len(data) - stream.tell()} bytes after STOP'
+        self.assertEqual(picklestep.listing(data).text.split('\n')[-3], said)
+        with self.subTest('one'), Shell(data, '') as shell:
+            for line in ('calls', 'run', 'where', 'explain', 'list', 'rename old new', 'diff'):
+                self.assertIn(f'{said} (try --many)', shell.obey(line).split('\n'), line)
+            with self.assertRaisesRegex(WordError, r"'other'; kept: .* \(try --many\)$"):
+                shell.obey('rename other new')
+            self.assertEqual(shell.pickle.content(), data.replace(b'old', b'new', 1))
+            self.assertNotIn('kept', shell.obey('goto 1') + shell.obey('list 0 1'))
+        with Shell(data, '', many=True) as shell:
+            self.assertNotIn('kept', ''.join(map(shell.obey, ('calls', 'run', 'list 0', 'rename old new', 'diff'))))
+            self.assertEqual(shell.pickle.content(), data.replace(b'old', b'new'))
 
     def test_what_opcodes_take_and_leave(self) -> None:
         """As much as `pickletools` says, which takes what is only looked at for nothing."""

@@ -111,6 +111,11 @@ class Opened(Document):
         self.session.goto(here)
         return {*where.results, *stack} if why == 'end' else None
 
+    @property
+    def kept(self) -> List[str]:
+        """A line of the bytes after STOP, where there are some: nothing of them is in the session."""
+        return [f'{line} (try --many)' for line in self.lines.closing if line.startswith('kept: ')]
+
     def maker(self, number: int) -> Optional[int]:
         """The place of the opcode that makes an object, if there is such an object."""
         return self._makers.place(number) if 0 <= number < len(self._final) else None
