@@ -105,7 +105,12 @@ class Opened(Document):
     def left(self) -> Optional[Set[int]]:
         """The results, and the objects on the stack where reading ends early. None where an opcode is refused, behind which there may be more."""
         where = self.session.where()
-        here, why = where.place, self.session.run().why if where.place < where.places else 'end'
+        here, why = where.place, 'end'
+        if here < where.places:
+            try:
+                why = self.session.run().why
+            except Refused:  # (the opcode at the cursor)
+                why = 'refused'
         where = self.session.where()
         stack = [] if where.end.is_stopped else [entry.number for entry in self.session.stack() if isinstance(entry, Ref)]
         self.session.goto(here)
