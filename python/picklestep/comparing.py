@@ -7,16 +7,16 @@ from dataclasses import dataclass
 from itertools import zip_longest
 from typing import Any, Dict, Iterator, List, Optional, Sequence, Set, Tuple, Union
 
+from .alike import CONTAINERS, Labels, inside, is_held, paired
 from .records import Extension, Global, Ref
 from .python_source.literals import literal
 from .sources import Source
-from .trees import Call, tree
+from .trees import Call, Values, values
 
 __all__ = ['Difference', 'compare', 'shown_value']
 
 _SLOTS: Dict[str, Any] = {'slots': True} if sys.version_info >= (3, 10) else {}
 _MOST_LETTERS = 64
-_CONTAINERS = (list, tuple, dict, set, frozenset, Call)
 _ABSENT = object()
 
 
@@ -52,30 +52,14 @@ def compare(old: Source, new: Source, *, many: bool = False, unframed: bool = Fa
     ['a'][1]: 2 -> 5
     ['a'][2]: added 6
     """
-    pair = [tree(pickle, many=many, unframed=unframed, timeout=timeout, memory=memory) for pickle in (old, new)]
-    return list(_differences(*pair))
-
-
-def _differences(old: Any, new: Any) -> Iterator[Difference]:
-    """Walks both at once. What was compared already is not compared again, so that this ends."""
-    left: List[Tuple[_Path, Any, Any]] = [(None, old, new)]
-    seen: Set[Tuple[int, int]] = set()
-    while left:
-        path, one, other = left.pop()
-        if one is _ABSENT or other is _ABSENT:
-            is_added = one is _ABSENT
-            yield Difference(_words(path), 'added' if is_added else 'removed', '' if is_added else shown_value(one), shown_value(other) if is_added else '')
-        elif type(one) is not type(other) or not isinstance(one, _CONTAINERS):
-            if type(one) is not type(other) or not _is_same(one, other):
-                yield Difference(_words(path), 'changed', *_shown_pair(one, other))
-        elif (id(one), id(other)) not in seen:
-            seen.add((id(one), id(other)))
-            left += [((path, step), first, second) for step, first, second in reversed(list(_inside(one, other)))]
+    pair = [values(pickle, many, unframed, timeout, memory) for pickle in (old, new)]
+    return list(_Comparison(pair[0][0], pair[1][0]).differences(pair[0][1], pair[1][1]))
 
 
 # A path: the path before it, and its last step. (A text for each place would cost as much as the place is deep.)
 _Path = Optional[Tuple[Any, str]]
 _Step = Tuple[str, Any, Any]
+_Pairs = Sequence[Tuple[Any, Any]]
 
 
 def _words(path: _Path) -> str:
@@ -90,55 +74,112 @@ def _is_same(one: Any, other: Any) -> bool:
     return literal(one) == literal(other) if isinstance(one, float) else bool(one == other)
 
 
-def _inside(one: Any, other: Any) -> Iterator[_Step]:
-    """What is in two containers of one type, by the step that leads there."""
-    if isinstance(one, Call):
-        yield from _in_calls(one, other)
-    elif isinstance(one, dict):
-        yield from _in_pairs(list(one.items()), list(other.items()))
-    elif isinstance(one, (set, frozenset)):
-        for _, first, second in _in_pairs([(key, key) for key in one], [(key, key) for key in other]):
-            if first is _ABSENT or second is _ABSENT or isinstance(first, Call):
-                yield f'{{{shown_value(second if first is _ABSENT else first)}}}', first, second
-    else:
-        yield from _in_order(one, other)
+class _Comparison:
+    """The values of two pickles."""
+
+    def __init__(self, old: Values, new: Values) -> None:
+        self._old, self._new = old, new
+        self._labels = Labels()
+
+    def differences(self, old: Any, new: Any) -> Iterator[Difference]:
+        """Walks both at once. What was compared already is not compared again, so that this ends."""
+        left: List[Tuple[_Path, Any, Any]] = [(None, old, new)]
+        seen: Set[Tuple[int, int]] = set()
+        while left:
+            path, one, other = left.pop()
+            one, other = self._old.of(one), self._new.of(other)
+            if one is _ABSENT or other is _ABSENT:
+                is_added = one is _ABSENT
+                shown = shown_value(other if is_added else one)
+                yield Difference(_words(path), 'added' if is_added else 'removed', '' if is_added else shown, shown if is_added else '')
+            elif type(one) is not type(other) or not (isinstance(one, CONTAINERS) or is_held(one) and is_held(other)):
+                if type(one) is not type(other) or not _is_same(one, other):
+                    yield Difference(_words(path), 'changed', *_shown_pair(one, other))
+            elif (id(one), id(other)) not in seen:
+                seen.add((id(one), id(other)))
+                left += [((path, step), first, second) for step, first, second in reversed(list(self._inside(one, other)))]
+
+    def _inside(self, one: Any, other: Any) -> Iterator[_Step]:
+        """What is in two containers of one type, by the step that leads there."""
+        if isinstance(one, Call):
+            yield from self._in_calls(one, other)
+        elif isinstance(one, Global):
+            yield from zip(('.module', '.name'), inside(one), inside(other))
+        elif isinstance(one, dict):
+            yield from self._in_pairs(list(one.items()), list(other.items()))
+        elif isinstance(one, (set, frozenset)):
+            yield from self._in_sets(self._old.members(one), self._new.members(other))
+        else:
+            yield from _in_order(one, other)
+
+    def _in_calls(self, one: Call, other: Call) -> Iterator[_Step]:
+        yield '.how', one.how, other.how
+        yield '.name', one.name, other.name
+        yield from _in_order(one.arguments, other.arguments, '.arguments')
+        yield from _in_order(one.items, other.items)
+        yield from self._in_pairs(one.pairs, other.pairs)
+        if len(one.states) == len(other.states) == 1:
+            yield '.state', one.states[0], other.states[0]
+        else:
+            yield from _in_order(one.states, other.states, '.states')
+
+    def _in_pairs(self, one: _Pairs, other: _Pairs) -> Iterator[_Step]:
+        """Pairs are compared by their keys: those whose keys are alike, then odd ones in their order."""
+        keys = [self._old_label(key) for key, _ in one], [self._new_label(key) for key, _ in other]
+        found, lefts, rights = self._paired(keys, one, other)
+        for at, to in sorted([*found, *((at, -1) for at in lefts)]):
+            if self._labels.is_plain(keys[0][at]):
+                yield f'[{self._shown(one[at][0])}]', one[at][1], other[to][1] if to >= 0 else _ABSENT
+        for to in rights:
+            if self._labels.is_plain(keys[1][to]):
+                yield f'[{self._shown(other[to][0], is_new=True)}]', _ABSENT, other[to][1]
+        for first, second in self._odd(keys, found, lefts, rights):
+            for step, part in (('keys', 0), ('values', 1)):
+                yield (f'.{step}[{second if first is None else first}]', _ABSENT if first is None else one[first][part],
+                       _ABSENT if second is None else other[second][part])
+
+    def _paired(self, keys: Tuple[List[int], List[int]], one: _Pairs, other: _Pairs) -> Tuple[List[Tuple[int, int]], List[int], List[int]]:
+        """The places of pairs with the same key, and those that are left. Where a key is there twice its values are the same, too, if that can be."""
+        if all(len(set(labels)) == len(labels) for labels in keys):
+            return paired(*keys)
+        found, lefts, rights = paired([(key, self._old_label(value)) for key, (_, value) in zip(keys[0], one)],
+                                      [(key, self._new_label(value)) for key, (_, value) in zip(keys[1], other)])
+        more, *left = paired([keys[0][at] for at in lefts], [keys[1][at] for at in rights])
+        return found + [(lefts[at], rights[to]) for at, to in more], [lefts[at] for at in left[0]], [rights[at] for at in left[1]]
+
+    def _in_sets(self, one: Sequence[Any], other: Sequence[Any]) -> Iterator[_Step]:
+        labels = [self._old_label(each) for each in one], [self._new_label(each) for each in other]
+        found, lefts, rights = paired(*labels)
+        for at in lefts:
+            if self._labels.is_plain(labels[0][at]):
+                yield f'{{{self._shown(one[at])}}}', one[at], _ABSENT
+        for to in rights:
+            if self._labels.is_plain(labels[1][to]):
+                yield f'{{{self._shown(other[to], is_new=True)}}}', _ABSENT, other[to]
+        for first, second in self._odd(labels, found, lefts, rights):
+            shown = self._shown(other[second or 0], is_new=True) if first is None else self._shown(one[first])
+            yield f'{{{shown}}}', _ABSENT if first is None else one[first], _ABSENT if second is None else other[second]
+
+    def _odd(self, labels: Tuple[List[int], List[int]], found: List[Tuple[int, int]], lefts: List[int],
+             rights: List[int]) -> Iterator[Tuple[Optional[int], Optional[int]]]:
+        """The places of keys or members that are more than plain values: those of two that are alike, then what is left, in its order."""
+        yield from ((at, to) for at, to in found if not self._labels.is_plain(labels[0][at]))
+        yield from zip_longest((at for at in lefts if not self._labels.is_plain(labels[0][at])),
+                               (to for to in rights if not self._labels.is_plain(labels[1][to])))
+
+    def _old_label(self, value: Any) -> int:
+        return self._labels.of(self._old, value)
+
+    def _new_label(self, value: Any) -> int:
+        return self._labels.of(self._new, value)
+
+    def _shown(self, value: Any, is_new: bool = False) -> str:
+        return shown_value((self._new if is_new else self._old).of(value))
 
 
 def _in_order(one: Sequence[Any], other: Sequence[Any], before: str = '') -> Iterator[_Step]:
     for place, (first, second) in enumerate(zip_longest(one, other, fillvalue=_ABSENT)):
         yield f'{before}[{place}]', first, second
-
-
-def _in_pairs(one: List[Tuple[Any, Any]], other: List[Tuple[Any, Any]]) -> Iterator[_Step]:
-    """Pairs are compared by their keys. Keys that are no plain values are taken in their order."""
-    rest = {key: value for key, value in other if _is_plain(key)}
-    for key, value in one:
-        if _is_plain(key):
-            yield f'[{shown_value(key)}]', value, rest.pop(key, _ABSENT)
-    for key, value in rest.items():
-        yield f'[{shown_value(key)}]', _ABSENT, value
-    odd = ([(key, value) for key, value in pairs if not _is_plain(key)] for pairs in (one, other))
-    for place, (first, second) in enumerate(zip_longest(*odd, fillvalue=(_ABSENT, _ABSENT))):
-        yield f'.keys[{place}]', first[0], second[0]
-        yield f'.values[{place}]', first[1], second[1]
-
-
-def _is_plain(key: Any) -> bool:
-    if isinstance(key, (tuple, frozenset)):  # (a key of more than 50 levels is a Ref)
-        return all(map(_is_plain, key))
-    return not isinstance(key, (*_CONTAINERS, Ref))
-
-
-def _in_calls(one: Call, other: Call) -> Iterator[_Step]:
-    yield '.how', one.how, other.how
-    yield '.name', one.name, other.name
-    yield from _in_order(one.arguments, other.arguments, '.arguments')
-    yield from _in_order(one.items, other.items)
-    yield from _in_pairs([pair for pair in one.pairs], [pair for pair in other.pairs])
-    if len(one.states) == len(other.states) == 1:
-        yield '.state', one.states[0], other.states[0]
-    else:
-        yield from _in_order(one.states, other.states, '.states')
 
 
 # --- Words for values ---
@@ -161,7 +202,7 @@ def shown_value(value: Any) -> str:
     if isinstance(value, (str, bytes, bytearray)):
         more = len(value) - _MOST_LETTERS
         return literal(value[:_MOST_LETTERS]) + (f'+{more}' if more > 0 else '')
-    if isinstance(value, tuple) and _is_plain(value) and len(value) <= 4 and not any(isinstance(part, tuple) for part in value):
+    if isinstance(value, tuple) and len(value) <= 4 and not any(isinstance(part, (*CONTAINERS, Ref)) for part in value):
         return f"({', '.join(map(shown_value, value))}{',' if len(value) == 1 else ''})"
     return f'{type(value).__name__} of {len(value)}' if isinstance(value, (list, tuple, dict, set, frozenset)) else literal(value)
 

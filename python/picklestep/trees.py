@@ -12,7 +12,7 @@ from .sources import Source
 from .tasks import objects
 from .values import PLAIN_KINDS, kind_value
 
-__all__ = ['Call', 'tree']
+__all__ = ['Call', 'Values', 'tree', 'values']
 
 _SLOTS: Dict[str, Any] = {'slots': True} if sys.version_info >= (3, 10) else {}
 
@@ -40,21 +40,35 @@ class Call:
     states: List[Any] = field(default_factory=list)
 
 
-class _Maker:
-    """Makes the values of objects, the parts of each before the object."""
+class Values:
+    """The values of objects, the parts of each before the object."""
 
     def __init__(self, heap: List[Object]) -> None:
         self._values: List[Any] = []
         self._depths: List[int] = []
+        self._sizes: List[int] = []
+        self._members: Dict[int, List[int]] = {}  # of sets, by their identity
         for made in heap:
-            self._depths.append(1 + max([self._depths[part] for part in made.parts], default=0) if made.kind in ('tuple', 'frozenset') else 0)
+            is_key = made.kind in ('tuple', 'frozenset')
+            self._depths.append(1 + max([self._depths[part] for part in made.parts], default=0) if is_key else 0)
+            self._sizes.append(min(_MOST_SIZE, sum([self._sizes[part] for part in made.parts])) + 1 if is_key else 1)
             self._values.append(self._made(made))
+            if made.kind in ('set', 'frozenset'):
+                self._members[id(self._values[-1])] = [*made.parts, *(change.value for change in made.changes if change.how == 'add')]
         for made in heap:
             self._change(self._values[made.number], made.changes)
 
     def at(self, number: int) -> Any:
         """The value of an object."""
         return self._values[number]
+
+    def of(self, value: Any) -> Any:
+        """A value; where it is a Ref, that of its object."""
+        return self._values[value.number] if isinstance(value, Ref) else value
+
+    def members(self, value: Any) -> List[Any]:
+        """The members of a set, in the order in which the pickle has them. (Python's order is another one in each run.)"""
+        return list(dict.fromkeys(map(self._key, self._members[id(value)])))
 
     def _made(self, made: Object) -> Any:
         """An object as it was made. What was done to it comes later."""
@@ -99,7 +113,7 @@ class _Maker:
     def _key(self, number: int) -> Any:
         """An object as a key or a member. Where Python could not hash it, it is its number."""
         value = self._values[number]
-        if self._depths[number] > _MOST_DEPTH:
+        if self._depths[number] > _MOST_DEPTH or self._sizes[number] > _MOST_SIZE:
             return Ref(number)
         try:
             hash(value)
@@ -128,8 +142,10 @@ class _Maker:
             value.pairs.append((self._values[change.key], other))
 
 
-# (Python's hash of a tuple asks its items, which ask theirs: too many of them would end the interpreter.)
+# (Python's hash of a tuple asks its items, which ask theirs, each time anew: too many levels would end the interpreter, and a tuple that has one
+# item twice, fifty levels deep, would never be done.)
 _MOST_DEPTH = 50
+_MOST_SIZE = 100_000
 
 
 def tree(pickle: Source, *, many: bool = False, unframed: bool = False, timeout: Optional[float] = None, memory: Optional[int] = None) -> Any:
@@ -144,10 +160,15 @@ def tree(pickle: Source, *, many: bool = False, unframed: bool = False, timeout:
     >>> tree(b'(X\x01\x00\x00\x00aG@\x04\x00\x00\x00\x00\x00\x00X\x01\x00\x00\x00bcos\ngetcwd\nd.')
     {'a': 2.5, 'b': Global(module=b'os', name=b'getcwd')}
     """
+    return values(pickle, many, unframed, timeout, memory)[1]
+
+
+def values(pickle: Source, many: bool, unframed: bool, timeout: Optional[float], memory: Optional[int]) -> Tuple[Values, Any]:
+    """The values of all objects, and what `tree` answers."""
     answer = objects(pickle, many=many, unframed=unframed, timeout=timeout, memory=memory)
     if not answer.end.is_stopped or not answer.results:
         is_frame = answer.end.code in ('F6', 'F7', 'F8')
         raise NoResult(answer.end.text + (' (unframed=True reads that frame)' if is_frame else ''))
-    maker = _Maker(list(answer))
-    results = [maker.at(number) for number in answer.results]
-    return results if many else results[0]
+    made = Values(list(answer))
+    results = [made.at(number) for number in answer.results]
+    return made, results if many else results[0]

@@ -9,8 +9,11 @@ import io
 import os
 import pickle
 import pickletools
+import random
 import tempfile
+import time
 import unittest
+from decimal import Decimal
 from typing import Any, List
 
 import picklestep
@@ -99,6 +102,22 @@ def crooked(value: Any, length: int) -> bytes:
     return data[:3] + length.to_bytes(8, 'little') + data[11:]
 
 
+_KEYS = [Decimal(1), Decimal(2), datetime.date(2020, 1, 1), datetime.date(2020, 1, 2), (Decimal(1), 'x'), (Decimal(2), 'x'), frozenset([Decimal(3)]),
+         frozenset([Decimal(3), datetime.timedelta(2)]), 'a', 'b', 7, (7, 'a'), frozenset(['a', 'b'])]
+
+
+def odd(chosen: random.Random) -> Any:
+    """A set or dictionary of few keys, some of which are made by calls."""
+    keys = chosen.sample(_KEYS, chosen.randrange(3, 6))
+    return {*keys} if chosen.random() < 0.5 else {key: chosen.choice([1, [Decimal(1)], {Decimal(2): {Decimal(3), Decimal(4)}}]) for key in keys}
+
+
+def again(chosen: random.Random, value: Any) -> Any:
+    """The same in another order."""
+    keys = chosen.sample(list(value), len(value))
+    return {*keys} if isinstance(value, set) else {key: value[key] for key in keys}
+
+
 class Compare(unittest.TestCase):
     """What two pickles differ in."""
 
@@ -147,6 +166,62 @@ class Compare(unittest.TestCase):
                     self.assertEqual(main([paths[place] for place in pair]), status)
                 self.assertEqual(out.getvalue(), said)
             self.assertIn('F3 truncated', errors.getvalue())
+
+    def test_keys_and_members_that_are_made_by_calls(self) -> None:
+        """There is a difference where Python's own comparison of the values finds one, in whatever order they were written."""
+        for seed in range(150):
+            chosen = random.Random(seed)
+            old, new = odd(chosen), odd(chosen)
+            for other in (old, again(chosen, old), new):
+                data = [pickle.dumps(value, 4 + seed % 2) for value in (old, other)]
+                with self.subTest(seed, old=old, other=other):
+                    self.assertEqual(bool(picklestep.compare(*data)), old != other)
+        self.assertEqual(_paths({Decimal(1): 'a', Decimal(2): 'b'}, {Decimal(2): 'b', Decimal(1): 'c'}), ["result.values[0]: 'a' -> 'c'"])
+        self.assertEqual(_paths({(1, Decimal(1))}, {(1, Decimal(2))}), ["{tuple of 2}[1].arguments[0]: '1' -> '2'"])
+        self.assertEqual(_paths({Plain(): 1, Plain(): 2}, {Plain(): 2, Plain(): 1}), [])
+
+    def test_keys_that_are_themselves_alone(self) -> None:
+        self.assertEqual(_paths({float('nan'): 1, (float('nan'), 2): 3}, {float('nan'): 1, (float('nan'), 2): 3}), [])
+        self.assertEqual(_paths({1: 'a'}, {True: 'a'}), ["[1]: removed 'a'", "[True]: added 'a'"])
+        made = b'cos\nm\n)R'
+        for key in (b'](K\x01K\x02e', b'\x96\x01\0\0\0\0\0\0\0x', b'N' + b'\x85' * 10_000, made):
+            twice = b'\x80\x05' + made + b'(' + 2 * (key + b'K\x01') + b'u.'
+            self.assertEqual(picklestep.compare(twice, twice), [], key[:20])
+
+    def test_keys_that_go_deep(self) -> None:
+        """Numbers of objects say nothing: each is moved by what was made before it."""
+        deep = b'K\x01' + b'\x85' * 60
+        for ways, is_other in ((b'}' + deep + b'Ns.', False), (b'}K\x02' + deep[2:] + b'Ns.', True), (b'K\x070}' + deep + b'Ns.', False),
+                               (b'K\x070}' + deep + b'\x85Ns.', True)):
+            with self.subTest(ways):
+                self.assertEqual(bool(picklestep.compare(b'}' + deep + b'Ns.', ways)), is_other)
+        for name in (b'str', b'repr'):  # (a name that a call gives)
+            new = b'\x80\x04N0\x8c\x02oscbuiltins\n' + name + b'\n)R\x93.'
+            self.assertEqual([str(each) for each in picklestep.compare(b'\x80\x04\x8c\x02oscbuiltins\nstr\n)R\x93.', new)],
+                             ['result.name.name: builtins.str -> builtins.repr'] * (name == b'repr'))
+
+    def test_keys_that_hold_themselves(self) -> None:
+        old, new = ({}, {})
+        for made, ages in ((old, range(30)), (new, reversed(range(30)))):
+            for age in ages:
+                key = Plain()
+                key.holder, key.age, key.next = made, age, Plain()
+                key.next.back = key
+                made[key] = age
+        self.assertEqual(_paths(old, new), [])
+        next(iter(new)).age = 7
+        self.assertTrue(_paths(old, new))
+
+    def test_many_and_deep_keys_in_linear_time(self) -> None:
+        for name, (old, new) in {
+                'many': [pickle.dumps({Decimal(number): number for number in numbers}) for numbers in (range(10_000), range(10_000, 0, -1))],
+                'deep': [b'\x80\x04\x8f(' + b'N' + b'\x85' * 50_000 + last + b'\x85\x90.' for last in (b'', b'K\x01\x86')],
+                'doubled': [b'}N' + b'2\x86' * 49 + last + b's.' for last in (b'K\x01', b'K\x02')],
+                'a deep value': [b'N.', b'N' + b'\x85' * 50_000 + b'.']}.items():
+            with self.subTest(name):
+                begun = time.process_time()
+                self.assertIn(len(picklestep.compare(old, new)), (1, 2))
+                self.assertLess(time.process_time() - begun, 20)
 
     def test_unframed(self) -> None:
         old, new = (crooked({'a': datetime.date(year, 1, 1)}, 1 << 40) for year in (2020, 2021))

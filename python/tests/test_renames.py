@@ -13,6 +13,7 @@ from typing import Any, Callable, List, Tuple
 from unittest import mock
 
 import harmless
+import picklestep
 from cut_pickles import Loader, fault_of, shape, whole_pickles
 from picklestep import Global
 from picklestep.shell import shell as shell_module
@@ -254,6 +255,22 @@ class Renames(unittest.TestCase):
                 self.assertEqual(b'coll\x94' in shell.pickle.content() or shell.pickle.content() != data, is_made)
                 self.assertEqual(shell.is_unsaved, is_made)
                 shell.obey('where')
+
+    def test_at_a_refused_opcode(self) -> None:
+        """A rename is the same wherever the cursor is, also where it can go no further."""
+        for data in (b'\x80\x04cold\nf\n)R00.', b'\x80\x04\x8c\x03old\x94\x8c\x01f\x93h\x000h\x07.'):
+            made = []
+            for lines in ((), ('run',), ('goto 2',)):
+                with Shell(data, '') as shell:
+                    for line in lines:
+                        shell.obey(line)
+                    place = shell.pickle.session.where().place
+                    self.assertIn('(Reading ends early', shell.obey('rename old new'))
+                    made.append(shell.pickle.content())
+                    self.assertLessEqual(place, shell.pickle.session.where().place)
+            with self.subTest(data):
+                self.assertEqual(made, made[:1] * 3)
+                self.assertEqual([reach.name for reach in picklestep.calls(made[0]) if reach.what == 'import'], [Global(b'new', b'f')])
 
     def test_cut_pickles_keep_their_data(self) -> None:
         """A text on the stack where the bytes end is data."""

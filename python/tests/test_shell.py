@@ -4,16 +4,19 @@ from __future__ import annotations
 
 import collections
 import contextlib
+import io
 import os
 import pickle
 import pickletools
 import random
+import re
 import subprocess
 import sys
 import tempfile
 import time
 import unittest
 from pathlib import Path
+from typing import List
 
 import picklestep
 from examples_of_using import stories
@@ -169,6 +172,25 @@ class Words(unittest.TestCase):
         self.assertEqual(set(EXPLAINED), {opcode.name for opcode in pickletools.opcodes})
         self.assertEqual(len(set(EXPLAINED.values())), len(EXPLAINED))
 
+    def test_bytes_after_stop(self) -> None:
+        """They are named, in the program's words, wherever the shell shows all that there is."""
+        call = b'cold\nf\n)R.'
+        data = b'\x80\x02cold\ng\n.' + call
+        stream = io.BytesIO(data)
+        collections.deque(pickletools.genops(stream), 0)
+        said = f'kept: {len(data) - stream.tell()} bytes after STOP'
+        self.assertEqual(picklestep.listing(data).text.split('\n')[-3], said)
+        with self.subTest('one'), Shell(data, '') as shell:
+            for line in ('calls', 'run', 'where', 'explain', 'list', 'rename old new', 'diff'):
+                self.assertIn(f'{said} (try --many)', shell.obey(line).split('\n'), line)
+            with self.assertRaisesRegex(WordError, r"'other'; kept: .* \(try --many\)$"):
+                shell.obey('rename other new')
+            self.assertEqual(shell.pickle.content(), data.replace(b'old', b'new', 1))
+            self.assertNotIn('kept', shell.obey('goto 1') + shell.obey('list 0 1'))
+        with Shell(data, '', many=True) as shell:
+            self.assertNotIn('kept', ''.join(map(shell.obey, ('calls', 'run', 'list 0', 'rename old new', 'diff'))))
+            self.assertEqual(shell.pickle.content(), data.replace(b'old', b'new'))
+
     def test_what_opcodes_take_and_leave(self) -> None:
         """As much as `pickletools` says, which takes what is only looked at for nothing."""
         for opcode in pickletools.opcodes:
@@ -200,6 +222,34 @@ class Words(unittest.TestCase):
                 shell.obey('run back')
                 self.assertEqual(self.place(shell), 0)
                 shell.obey(f'clear {shell.obey("break").partition(":")[0]}')
+
+    def test_breaks_on_names_that_are_no_texts(self) -> None:
+        """`*` stops at each line of `calls` that imports or calls. A pattern is compared with the name as that line has it."""
+        data = (b'\x80\x02(' + b'X\x02\0\0\0os' + b'c__builtin__\nstr\n)R' + b'\x93' + b')R' + b'\x82\x07)R' + b'cos\ngetcwd\n)R)R' + b'(ia\nB\n' + b't.')
+        calls = picklestep.calls(data)
+        shell = self.shell(data)
+        for word, kinds in (('import', ('import', 'inst')), ('call', ('inst', 'call', 'new'))):
+            reaches = [reach for reach in calls if reach.what in kinds]
+            self.assertEqual(self.stops(shell, f'break {word} *'), sorted({reach.offset for reach in reaches}))
+            for reach in reaches:
+                named = re.match(r"\w+ ('(\w+)' (?:'(\w+)'|(#\d+))|#\d+|ext \d+)", reach.text)
+                assert named is not None
+                pattern = f'{named[2]}.{named[3] or named[4]}' if named[2] else named[1]
+                self.assertIn(reach.offset, self.stops(shell, f'break {word} {pattern}'), pattern)
+        self.assertEqual(self.stops(shell, 'break import __builtin__.*'), [data.index(b'c__builtin__')])
+
+    def stops(self, shell: Shell, line: str) -> List[int]:
+        """The offsets at which a break stops, one after another, both ways."""
+        ways: List[List[int]] = []
+        shell.obey(line)
+        for start, word in (('goto 0', 'run'), (f'goto {len(shell.pickle.lines)}', 'run back')):
+            shell.obey(start)
+            ways.append([])
+            while shell.obey(word) and self.place(shell) not in (0, len(shell.pickle.lines)):
+                ways[-1].append(shell.pickle.session.where().offset)
+        self.assertEqual(ways[0], ways[1][::-1])
+        shell.obey(f'clear {shell.obey("break").partition(":")[0]}')
+        return ways[0]
 
     def test_depth(self) -> None:
         shell = self.shell(b'((N1N0N.')

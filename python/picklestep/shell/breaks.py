@@ -7,7 +7,7 @@ from dataclasses import dataclass
 from fnmatch import fnmatchcase
 from typing import Callable, Dict, Iterator, Optional
 
-from ..records import Global
+from ..records import Extension, Global, Name, Ref
 from ..view.lines import Line
 from .opened import Opened
 
@@ -81,17 +81,22 @@ def _reached(kinds: 'tuple[str, ...]') -> 'Callable[[Opened, str, int, int], Ite
         for number in numbers:
             where = pickle.lines.place_of(reaches.offsets[number])
             if reaches.kinds[number] in kinds and (where - place) * step >= 0:
-                name = reaches.answer[number].name
-                if isinstance(name, Global) and fnmatchcase(dotted(name), text):
+                reach = reaches.answer[number]
+                if any(fnmatchcase(dotted(name), text) for name in (reach.name, reach.said) if name is not None):
                     yield where
 
     return found
 
 
-def dotted(name: Global) -> str:
-    """A name as `module.name`."""
-    parts = (part if isinstance(part, bytes) else b'?' for part in (name.module, name.name))
-    return b'.'.join(parts).decode('utf-8', 'replace')
+def dotted(name: Name) -> str:
+    """A name as `module.name`. What comes from an object is its number, as in the lines of `calls`.
+
+    >>> dotted(Global(b'os', Ref(3))), dotted(Ref(4)), dotted(Extension(7))
+    ('os.#3', '#4', 'ext 7')
+    """
+    if isinstance(name, Global):
+        return b'.'.join(b'#%d' % part.number if isinstance(part, Ref) else part for part in (name.module, name.name)).decode('utf-8', 'replace')
+    return f'ext {name.code}' if isinstance(name, Extension) else f'#{name.number}'
 
 
 BREAKS: Dict[str, Callable[[Opened, str, int, int], Iterator[int]]] = {

@@ -47,6 +47,6 @@ def _names(pickle: Opened, is_module: bool) -> List[str]:
     found: Dict[str, None] = {}
     for number in range(min(len(pickle.reaches.offsets), _MOST_NAMES)):
         name = pickle.reaches.answer[number].name
-        if isinstance(name, Global):
+        if isinstance(name, Global) or name is not None and not is_module:
             found[dotted(name).rpartition('.')[0] if is_module else dotted(name)] = None
     return list(found)

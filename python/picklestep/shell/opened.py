@@ -105,11 +105,21 @@ class Opened(Document):
     def left(self) -> Optional[Set[int]]:
         """The results, and the objects on the stack where reading ends early. None where an opcode is refused, behind which there may be more."""
         where = self.session.where()
-        here, why = where.place, self.session.run().why if where.place < where.places else 'end'
+        here, why = where.place, 'end'
+        if here < where.places:
+            try:
+                why = self.session.run().why
+            except Refused:  # (the opcode at the cursor)
+                why = 'refused'
         where = self.session.where()
         stack = [] if where.end.is_stopped else [entry.number for entry in self.session.stack() if isinstance(entry, Ref)]
         self.session.goto(here)
         return {*where.results, *stack} if why == 'end' else None
+
+    @property
+    def kept(self) -> List[str]:
+        """A line of the bytes after STOP, where there are some: nothing of them is in the session."""
+        return [f'{line} (try --many)' for line in self.lines.closing if line.startswith('kept: ')]
 
     def maker(self, number: int) -> Optional[int]:
         """The place of the opcode that makes an object, if there is such an object."""

@@ -155,7 +155,7 @@ class Shell:
         self.pickle.place, self.pickle._heap = where.place, None
         rows = self._rows(where.place - _AROUND, where.place + _AROUND, where.place)
         if where.place == where.places:
-            rows.append(f'>  {where.place:>6} {where.offset:>5}: the end: {where.end.text}')
+            rows += [f'>  {where.place:>6} {where.offset:>5}: the end: {where.end.text}', *self.pickle.kept]
             if where.end.code in _OF_FRAMES:
                 rows.append('(What is in that frame is not read: `picklestep shell --unframed FILE` does, `picklestep mend FILE OUT` keeps it.)')
         rows.append(f'stack: {self._top()}')
@@ -303,7 +303,7 @@ class Shell:
         if len(words) > 2 or first >= len(self.pickle.lines):
             raise WordError(f'it is: {WORDS["list"].usage}' if len(words) > 2 else f'there is no opcode at {first}')
         self._listed = here, last
-        return '\n'.join(self._rows(first, last, here))
+        return '\n'.join([*self._rows(first, last, here), *(self.pickle.kept if last >= len(self.pickle.lines) else [])])
 
     def _do_calls(self, text: str) -> str:
         offsets, answer = self.pickle.reaches.offsets, self.pickle.reaches.answer
@@ -312,13 +312,13 @@ class Shell:
         if first + _MOST_LINES < len(offsets):
             rows.append(f'.. {len(offsets) - first - _MOST_LINES} more: calls {first + _MOST_LINES + 1}')
         if self.pickle.reaches.is_part:
-            return '\n'.join(rows + self.pickle.reaches.behind)
+            return '\n'.join([*rows, *self.pickle.reaches.behind, *self.pickle.kept])
         rows.append(f'{answer.imports} imports, {answer.calls} calls, {answer.end.text}')
         for part in answer.parts:
             rows.append(f'{part.heading}:')
             rows += [f'{reach.offset:>7}: {reach.text}' for reach in islice(part, _MOST_LINES)]
             rows.append(f'{part.imports} imports, {part.calls} calls, it ends: {part.end.text}')
-        return '\n'.join(rows)
+        return '\n'.join(rows + self.pickle.kept)
 
     def _do_find(self, text: str) -> str:
         here = self._now()[0]
@@ -344,7 +344,7 @@ class Shell:
             return f'{text.upper()}: {EXPLAINED[text.upper()]}'
         place = self._place(text)
         if place >= len(self.pickle.lines):
-            return f'the end: {self.pickle.session.where().end.text}'
+            return '\n'.join([f'the end: {self.pickle.session.where().end.text}', *self.pickle.kept])
         line = self.pickle.lines.at(place)
         rows = [f'{line.name}: {EXPLAINED[line.name]}', *(f'here: {reached}' for reached in self.pickle.reaches_at(line.offset))]
         if place == self._now()[0]:
@@ -505,7 +505,8 @@ class Shell:
         found = renaming(self.pickle, *words)
         end = self.pickle.reaches.answer.end
         if not found.edits:
-            raise WordError(f'nothing is imported from {words[0][:60]!r}' + ('' if end.is_stopped else f' before {end.text}'))
+            ended = '' if end.is_stopped else f' before {end.text}'
+            raise WordError('; '.join([f'nothing is imported from {words[0][:60]!r}{ended}', *self.pickle.kept]))
         places = [edit.place for edit in found.edits]
         shifts = [0, *accumulate(SHIFTS.get(edit.word, 0) for edit in found.edits)]
         stays = [f'{place + shifts[bisect_right(places, place)]}: {self._was(place)} stays: it is data too' for place in found.stays]
@@ -516,7 +517,7 @@ class Shell:
         where = self.pickle.session.where()
         if self.pickle.listed < where.places or not where.end.is_stopped or not end.is_stopped:
             rows.append('(Reading ends early: what is imported behind that stays.)')
-        return '\n'.join(rows)
+        return '\n'.join(rows + self.pickle.kept)
 
     def _check_names(self) -> None:
         """Takes a rename back after which there are other imports than it said."""
@@ -554,7 +555,8 @@ class Shell:
         except NoResult as error:
             rows.append(f'the results cannot be compared: {error}')
             differences = list(of_reaches(self._original, self.pickle.content(), self._modes['unframed']))
-        return '\n'.join(rows + differences[:_MOST_LINES] + ([f'.. {len(differences) - _MOST_LINES} more'] * (len(differences) > _MOST_LINES)))
+        more = [f'.. {len(differences) - _MOST_LINES} more'] if len(differences) > _MOST_LINES else []
+        return '\n'.join([*rows, *differences[:_MOST_LINES], *more, *self.pickle.kept])
 
     def _do_save(self, text: str) -> str:
         path = shlex.split(text)[0] if text else self._path

@@ -29,7 +29,7 @@ WORDS: Dict[str, Word] = {
                 ('break call *', 'run', 'run back'), True),
     'go': Word('go', 'go N', 'Goes to the opcode that makes object N.', ('go 3',)),
     'break': Word('break', 'break [PLACE | opcode NAME | import PATTERN | call PATTERN | text TEXT | memo KEY | depth N]',
-                  'Sets a break, or shows all. PATTERN is a module and a name, as os.*, and N a number of open marks.',
+                  'Sets a break, or shows all. PATTERN is a module and a name, as os.* (or #4), and N a number of open marks.',
                   ('break 8', 'break opcode REDUCE', 'break import oldapp.*', 'break')),
     'clear': Word('break', 'clear N', 'Takes break N away.', ('break 8', 'clear 1')),
     'off': Word('break', 'off N', 'Switches break N off.', ('break 8', 'off 1', 'run')),

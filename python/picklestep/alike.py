@@ -1,0 +1,156 @@
+"""Which values of two pickles are alike: the same, but for the numbers of their objects. Nothing here recurses, and each value is looked at once."""
+
+from __future__ import annotations
+
+from collections import deque
+from itertools import chain
+from typing import Any, Deque, Dict, Hashable, Iterator, List, Sequence, Set, Tuple
+
+from .python_source.literals import literal
+from .records import Global, Ref
+from .trees import Call, Values
+
+__all__ = ['CONTAINERS', 'Labels', 'inside', 'is_held', 'paired']
+
+CONTAINERS = (list, tuple, dict, set, frozenset, Call)
+# Values that hold themselves are told apart by what they hold up to so many levels.
+_LEVELS = 16
+
+
+def is_held(name: Any) -> bool:
+    """Whether what is imported is named by objects that are no texts."""
+    return isinstance(name, Global) and (isinstance(name.module, Ref) or isinstance(name.name, Ref))
+
+
+def inside(value: Any) -> List[Any]:
+    """All that a container holds, or objects that name what is imported."""
+    if isinstance(value, dict):
+        return list(chain.from_iterable(value.items()))
+    if isinstance(value, Call):
+        return [value.name, *value.arguments, *value.items, *value.states, *chain.from_iterable(value.pairs)]
+    return [value.module, value.name] if isinstance(value, Global) else list(value)
+
+
+class Labels:
+    """Labels of values: two values have the same one where they are alike. (Where they hold themselves, perhaps also where they differ deep inside.)
+
+    >>> from picklestep.trees import values
+    >>> labels, made = Labels(), values(b'}(K\\x01cos\\ngetcwd\\n)RI01\\ncos\\ngetcwd\\n)Ru.', False, False, None, None)
+    >>> keys = [labels.of(made[0], value) for value in inside(made[1])]
+    >>> keys[0] == keys[2], keys[1] == keys[3]
+    (False, True)
+    """
+
+    def __init__(self) -> None:
+        self._labels: Dict[Tuple[Any, ...], int] = {}  # by what makes them
+        self._known: Dict[int, int] = {}  # of containers, by their identity
+        self._plain: Set[int] = set()
+
+    def is_plain(self, label: int) -> bool:
+        """Whether values with a label are plain values, names, or tuples and frozen sets of them."""
+        return label in self._plain
+
+    def of(self, values: Values, value: Any) -> int:
+        """The label of a value; of a Ref that of its object."""
+        value = values.of(value)
+        if not _has_inside(value):
+            return self._of_plain(value)
+        if id(value) not in self._known:
+            self._follow(values, value)
+        return self._known[id(value)]
+
+    def _label(self, *parts: Any) -> int:
+        return self._labels.setdefault(parts, len(self._labels))
+
+    def _of_plain(self, value: Any) -> int:
+        kind = type(value)
+        label = self._label(kind, literal(value) if kind is float else bytes(value) if kind is bytearray else value)
+        self._plain.add(label)
+        return label
+
+    def _follow(self, values: Values, first: Any) -> None:
+        """Labels a container and all in it, those first that hold no others. (Tarjan's way to find which hold one another.)"""
+        order: Dict[int, int] = {}
+        lowest: Dict[int, int] = {}
+        waiting: List[Any] = []
+        path: List[Tuple[Any, Iterator[Any]]] = []
+
+        def enter(value: Any) -> None:
+            order[id(value)] = lowest[id(value)] = len(order)
+            waiting.append(value)
+            path.append((value, iter(inside(value))))
+        enter(first)
+        while path:
+            value, rest = path[-1]
+            for part in map(values.of, rest):
+                if not _has_inside(part) or id(part) in self._known:
+                    continue
+                if id(part) not in order:
+                    enter(part)
+                    break
+                lowest[id(value)] = min(lowest[id(value)], order[id(part)])
+            else:
+                path.pop()
+                if path:
+                    holder = id(path[-1][0])
+                    lowest[holder] = min(lowest[holder], lowest[id(value)])
+                if lowest[id(value)] == order[id(value)]:
+                    at = next(at for at in range(len(waiting) - 1, -1, -1) if waiting[at] is value)
+                    self._settle(values, waiting[at:])
+                    del waiting[at:]
+
+    def _settle(self, values: Values, together: List[Any]) -> None:
+        """Labels containers that hold one another, or one alone."""
+        if len(together) == 1 and all(values.of(part) is not together[0] for part in inside(together[0])):
+            self._known[id(together[0])] = self._of_container(values, together[0], {})
+            return
+        found = dict.fromkeys(map(id, together), self._label('holds itself'))
+        for _ in range(_LEVELS):
+            found = {id(value): self._of_container(values, value, found) for value in together}
+        self._known.update(found)
+
+    def _of_container(self, values: Values, value: Any, found: Dict[int, int]) -> int:
+        """The label of a container by those of what it holds, some of which are only found for now."""
+        parts = []
+        for part in map(values.of, inside(value)):
+            label = found.get(id(part)) if _has_inside(part) else self._of_plain(part)
+            parts.append(self._known[id(part)] if label is None else label)
+        kind = type(value)
+        if kind is Call:
+            at = len(parts) - 2 * len(value.pairs)
+            return self._label(kind, value.how, len(value.items), len(value.states), *parts[:at], *_in_pairs(parts[at:]))
+        if kind is dict:
+            return self._label(kind, *_in_pairs(parts))
+        label = self._label(kind, *(sorted(parts) if kind in (set, frozenset) else parts))
+        if kind in (tuple, frozenset) and self._plain.issuperset(parts):
+            self._plain.add(label)
+        return label
+
+
+def _has_inside(value: Any) -> bool:
+    return isinstance(value, CONTAINERS) or is_held(value)
+
+
+def _in_pairs(labels: List[int]) -> List[Tuple[int, int]]:
+    return sorted(zip(labels[::2], labels[1::2]))
+
+
+def paired(one: Sequence[Hashable], other: Sequence[Hashable]) -> Tuple[List[Tuple[int, int]], List[int], List[int]]:
+    """The places of those that are the same, by pairs, and the places that are left in both.
+
+    >>> paired('abca', 'caab')
+    ([(0, 1), (1, 3), (2, 0), (3, 2)], [], [])
+    >>> paired('ab', 'bcb')
+    ([(1, 0)], [0], [1, 2])
+    """
+    waiting: Dict[Hashable, Deque[int]] = {}
+    for place, each in enumerate(other):
+        waiting.setdefault(each, deque()).append(place)
+    pairs: List[Tuple[int, int]] = []
+    left: List[int] = []
+    for place, each in enumerate(one):
+        if waiting.get(each):
+            pairs.append((place, waiting[each].popleft()))
+        else:
+            left.append(place)
+    return pairs, left, sorted(chain.from_iterable(waiting.values()))
