@@ -137,8 +137,8 @@ class Looker:
 
     def _look_at_leaf(self, blob: Blob, head: bytes, where: Place, names: Tuple[str, ...], depth: int, is_gap: bool) -> None:
         """Looks at what is no container: a pickle by its name or its first bytes, or where a loader gets somewhere in it; or records."""
-        is_pickle = _begins_as_pickle(head, names) or self._leads_somewhere(blob)
-        if is_pickle and self.is_read(blob, head, where, names):
+        begins = _begins_as_pickle(head, names)
+        if (begins or self._leads_somewhere(blob)) and self.is_read(blob, head, where, names, is_sure=begins):
             stores.look_behind(self, blob, where, depth)
         elif not stores.look_further(self, blob, where, depth, is_gap):
             self._count_other(where)
