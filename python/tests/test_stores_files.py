@@ -89,6 +89,27 @@ class Libraries(StoreCase):
         run = subprocess.run([python, '-c', code], cwd=self.folder, env=environment(), capture_output=True, text=True, timeout=300)
         self.assertEqual(run.stdout, "(Note(where=(), text='hdf5: not opened, since h5py is not installed', missed=True),)\n", run.stderr)
 
+    def test_names_and_ends(self) -> None:
+        """A store that is named as a pickle, and bytes behind the end of one, are told. Zeros may be there."""
+        python = python_with('dbm.gnu', 'dbm.ndbm', 'h5py')
+        self.fill(python, 'named_as_stores', str(self.folder))
+        stores = sorted(path for path in self.folder.iterdir() if path.is_file())
+        self.assertEqual(len(stores), 11)
+        (self.folder / 'all').mkdir()
+        expected = []
+        for number, path in enumerate(stores):
+            content, kind = path.read_bytes(), path.name.partition(' ')[0].replace('Berkeley.db', 'Berkeley DB')
+            place, end = f'! all/{number}', len(content)
+            for ending, more in (('pkl', b''), ('pt', b''), ('', b''), ('zeros', bytes(4096)), ('more', HOSTILE)):
+                (self.folder / 'all' / f'{number}.{ending}').write_bytes(content + more)
+            expected += [f'{place}.pkl: its name says that it is a pickle, and it is {kind}',
+                         f'{place}.pt: its name says that it is a pickle, and it is {kind}',
+                         f'{place}.more > (bytes {end} to {end + len(HOSTILE)}): import posix.system',
+                         f'{place}.more: bytes stand behind the end of {kind}, at {end}: they are looked at']
+        # (What an SQLite file begins with is the opcode STRING, so by such a name it is read as a pickle, too.)
+        found = [line.partition(' once')[0] for line in self.told('all', python=python) if ' at 0' not in line.replace(' once, first at 0', '')]
+        self.assertEqual(sorted(found), sorted(expected))
+
     def test_joblib_memory(self) -> None:
         python = python_with('joblib')
         code = "import joblib\nimport fill_stores\n@joblib.Memory('memory', verbose=0).cache\ndef f(x): return [fill_stores.Hostile()]\nf(1)"
