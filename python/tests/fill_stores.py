@@ -157,6 +157,37 @@ def streams(folder: str) -> None:
         Path(folder, 'connection').write_bytes(received.read())
 
 
+def named_as_stores(folder: str) -> None:
+    """A store of each kind that is a file, after values have been taken out of it again; for HDF5 several."""
+    import dbm.gnu
+    import dbm.ndbm
+    import h5py
+    for name, module in (('gdbm', dbm.gnu), ('Berkeley', dbm.ndbm)):
+        with module.open(f'{folder}/{name}', 'n') as store:  # type: ignore[attr-defined]
+            for number in range(500):
+                store[f'key {number}'] = b'v' * (number * 7 % 3_000)
+            for number in range(0, 500, 3):
+                del store[f'key {number}']
+    for version in ('earliest', 'latest'):
+        for block in (0, 512, 2048):
+            with h5py.File(f'{folder}/hdf5 {version} {block}', 'w', libver=version, userblock_size=block) as file:
+                file['numbers'] = list(range(1_000))
+                file.attrs['name'] = b'value'
+                del file['numbers']
+    with h5py.File(f'{folder}/hdf5 of pages', 'w', fs_strategy='page', fs_page_size=4096) as file:
+        file['numbers'] = list(range(3_000))
+    for mode in ('delete', 'wal'):
+        connection = sqlite3.connect(f'{folder}/sqlite {mode}')
+        connection.execute(f'PRAGMA journal_mode={mode}')
+        connection.execute('CREATE TABLE t (value BLOB)')
+        connection.executemany('INSERT INTO t VALUES (?)', [(b'x' * 900,)] * 500)
+        connection.commit()
+        connection.execute('DELETE FROM t WHERE rowid > 20')
+        connection.commit()
+        connection.execute('VACUUM')
+        connection.close()
+
+
 def hdf5(path: str) -> None:
     import h5py
     import numpy

@@ -4,7 +4,10 @@ from __future__ import annotations
 
 import base64
 import bz2
+import contextlib
+import copyreg
 import gzip
+import io
 import itertools
 import json
 import os
@@ -88,6 +91,27 @@ class Libraries(StoreCase):
         code = "import sys; sys.modules['h5py'] = None; from picklestep.scan import look; print(look('a.h5').notes)"
         run = subprocess.run([python, '-c', code], cwd=self.folder, env=environment(), capture_output=True, text=True, timeout=300)
         self.assertEqual(run.stdout, "(Note(where=(), text='hdf5: not opened, since h5py is not installed', missed=True),)\n", run.stderr)
+
+    def test_names_and_ends(self) -> None:
+        """A store that is named as a pickle, and bytes behind the end of one, are told. Zeros may be there."""
+        python = python_with('dbm.gnu', 'dbm.ndbm', 'h5py')
+        self.fill(python, 'named_as_stores', str(self.folder))
+        stores = sorted(path for path in self.folder.iterdir() if path.is_file())
+        self.assertEqual(len(stores), 11)
+        (self.folder / 'all').mkdir()
+        expected = []
+        for number, path in enumerate(stores):
+            content, kind = path.read_bytes(), path.name.partition(' ')[0].replace('Berkeley.db', 'Berkeley DB')
+            place, end = f'! all/{number}', len(content)
+            for ending, more in (('pkl', b''), ('pt', b''), ('', b''), ('zeros', bytes(4096)), ('more', HOSTILE)):
+                (self.folder / 'all' / f'{number}.{ending}').write_bytes(content + more)
+            expected += [f'{place}.pkl: its name says that it is a pickle, and it is {kind}',
+                         f'{place}.pt: its name says that it is a pickle, and it is {kind}',
+                         f'{place}.more > (bytes {end} to {end + len(HOSTILE)}): import posix.system',
+                         f'{place}.more: bytes stand behind the end of {kind}, at {end}: they are looked at']
+        # (What an SQLite file begins with is the opcode STRING, so by such a name it is read as a pickle, too.)
+        found = [line.partition(' once')[0] for line in self.told('all', python=python) if ' at 0' not in line.replace(' once, first at 0', '')]
+        self.assertEqual(sorted(found), sorted(expected))
 
     def test_joblib_memory(self) -> None:
         python = python_with('joblib')
@@ -232,6 +256,32 @@ class SqliteFiles(ScanCase):
 
 # Without PROTO, which would be found inside.
 OLD = b'cposix\nsystem\n(X\x60\x00\x00\x00' + b'id; ' * 24 + b'tR.'
+
+
+class _Watched(pickle._Unpickler):  # type: ignore[name-defined,misc]
+    """A loader that only keeps which names are called."""
+
+    def __init__(self, content: bytes) -> None:
+        super().__init__(io.BytesIO(content))
+        self.called: List[str] = []
+
+    def find_class(self, module: str, name: str) -> object:
+        outer = self
+
+        class Named:
+            def __new__(cls, *words: object) -> Any:
+                outer.called.append(f'{module}.{name}')
+                return object.__new__(cls)
+        return Named
+
+
+def _called(content: bytes) -> List[str]:
+    """What Python's own loader calls."""
+    loader = _Watched(content)
+    copyreg.clear_extension_cache()
+    with contextlib.suppress(EOFError):
+        loader.load()
+    return loader.called
 
 
 class Bytes(ScanCase):
@@ -379,6 +429,36 @@ class Bytes(ScanCase):
                     self.assertIn(f'(at {len(around)})', places_of(result))
                     self.assertTrue({'posix.system', 'os.system'} & set(names_of(result)))
         self.assertEqual(self.look('b.bin', b'x' * 100 + HOSTILE).pickles, ())
+
+    def test_everywhere_without_signs(self) -> None:
+        """Names with escapes, out of the memo, with a length in eight bytes; a call by INST before the end; a number of copyreg. Python's own
+        loader comes to the call in each."""
+        eight = b''.join(b'\x8d' + struct.pack('<Q', len(name)) + name for name in (b'os', b'system'))
+        cases = [b"Vo\\u0073\nV\\u0073ystem\n\x93(S'id'\ntR.", b"S'\\157s'\nS's\\x79stem'\n\x93(S'id'\ntR.",
+                 b"S'os'\np0\n0S'system'\np1\n0g0\ng1\n\x93(S'id'\ntR.", b'\x8c\x02osq\0\x8c\x06systemq\x0100h\0h\x01\x93)R.',
+                 b'\x8c\x02os\x940\x8c\x06system\x940h\0j\x01\0\0\0\x93)R.', eight + b'\x93)R.', b"(S'id'\nios\nsystem\n",
+                 b'\x82\x05)R.', b'\x83\x05\0(\x8c\x02idtR.', b'\x84\x05\0\0\0\x8c\x02id\x85\x81.']
+        copyreg.add_extension('os', 'system', 5)
+        self.addCleanup(copyreg.remove_extension, 'os', 'system', 5)
+        noise = random.Random(7).randbytes(100_000)
+        for number, case in enumerate(cases):
+            expected = 'ext 5' if case[0] in b'\x82\x83\x84' else 'os.system'
+            with self.subTest(case=case):
+                self.assertEqual(_called(case), ['os.system'])
+                # (A window ends at a number of bytes that is a power of two.)
+                for before in (noise, (noise * 42)[-(4 << 20) + 5:]) if number % 3 == 0 else (noise,):
+                    for content in (before + case, before + case + noise):
+                        result = self.look('a.bin', content, EVERYWHERE)
+                        found = [each for each in result.pickles if each.where == (f'(at {len(before)})',)]
+                        self.assertEqual([(each.imports[0].name, each.calls[0].name) for each in found], [(expected, expected)])
+
+    def test_everywhere_finds_nothing_by_chance(self) -> None:
+        chosen = random.Random(11)
+        text = Path(__file__).read_bytes() * 40
+        data = json.dumps([{'id': number, 'sum': chosen.randbytes(20).hex(), 'key': base64.b64encode(chosen.randbytes(24)).decode()}
+                           for number in range(20_000)], indent=1).encode()
+        for content in (chosen.randbytes(16 << 20), text, data):
+            self.assertEqual(self.look('a.bin', content, EVERYWHERE).pickles, ())
 
     def test_everywhere_finds_nothing_in_text_and_models(self) -> None:
         for path in (MODELS.parent.parent / 'test_scan.py', MODELS / 'numpy_objects.npy'):

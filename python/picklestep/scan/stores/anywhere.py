@@ -1,8 +1,9 @@
 """Searches bytes for pickles at any offset.
 
-A pickle that does harm imports something and calls it, and most begin with PROTO. So the search looks for three things: PROTO, two lines
-that name something (GLOBAL, INST), and STACK_GLOBAL behind a text. From each a walk over the opcodes says whether a loader could go on to a
-call or to a STOP. Only then are the bytes handed out, and the program is asked about them.
+A pickle that does harm imports something and calls it, and most begin with PROTO. So the search looks for four things: PROTO, two lines
+that name something (GLOBAL, INST), STACK_GLOBAL behind a text, and a call at the end behind a number of copyreg (EXT1, EXT2, EXT4). From
+each a walk over the opcodes says whether a loader could go on to a call or to a STOP. Only then are the bytes handed out, and the program is
+asked about them.
 
 The time is linear. Ways that lead nowhere are not gone twice, and what is left has a limit.
 """
@@ -15,7 +16,7 @@ from typing import Iterator, Optional, Set, Tuple
 from ..blobs import Blob, LimitMet
 from .walk import CHECKSUM, MOST, Walk, walk
 
-__all__ = ['BEGINS_PICKLE', 'candidates', 'may_end_text', 'may_have_candidates', 'may_have_lines']
+__all__ = ['BEGINS_PICKLE', 'candidates', 'ends_in_call', 'may_end_text', 'may_have_candidates', 'may_have_lines']
 
 # The bytes are read in such windows, each with this much of the next.
 _WINDOW = 4 << 20
@@ -25,13 +26,15 @@ _MOST_BYTES = 64 << 20
 
 # PROTO, and an opcode.
 BEGINS_PICKLE = re.compile(rb'\x80[\x02-\x05][(-Z\]a-u}\x80-\x98]')
-# The second line of GLOBAL and INST, and an opcode after it. What begins at a newline is found in linear time, however long the lines are.
-_SECOND_LINE = re.compile(rb'\n(?=[A-Za-z_][A-Za-z0-9_.]{0,255}\n[(-Z\]a-u}\x80-\x98])(?!' + CHECKSUM + rb')')
+# The second line of GLOBAL and INST. What begins at a newline is found in linear time, however long the lines are.
+_SECOND_LINE = re.compile(rb'\n(?=[A-Za-z_][A-Za-z0-9_.]{0,255}\n)(?!' + CHECKSUM + rb')')
 _MOST_OF_LINE = 256
 
 # So many arguments of a pickle may reach out of what is read at once.
 _MOST_FAR = 16
 
+# An opcode is behind GLOBAL. (INST calls at once.)
+_OPCODE = re.compile(rb'[(-Z\]a-u}\x80-\x98]')
 # After an import by GLOBAL these take what is not there, unless a MARK is before it.
 _TAKING = frozenset(b'abdeiloRstu')
 _IN_NAME = frozenset(b'0123456789ABCDEFGHIJKLMNOPQRSTUVWXYZabcdefghijklmnopqrstuvwxyz_.')
@@ -40,6 +43,17 @@ _BEGINS_NAME = _IN_NAME - frozenset(b'0123456789.')
 # What may put a text on the stack: SHORT_BINUNICODE, BINUNICODE, SHORT_BINSTRING, BINSTRING, UNICODE, STRING, BINUNICODE8.
 _TEXTS = re.compile(rb'[\x8cXUTVS\x8d]')
 _BEFORE_STACK_GLOBAL = 600
+
+# Opcodes that take something out of the memo or put it there, each with the width of its number (0: a line).
+_GETS = {ord('g'): 0, ord('h'): 1, ord('j'): 4}
+_PUTS = {ord('p'): 0, ord('q'): 1, ord('r'): 4}
+_MEMOIZE = 0x94
+_MOST_OF_NUMBER = 20
+
+# EXT1, EXT2 and EXT4, and how a call of one ends a pickle: what makes a tuple, REDUCE or NEWOBJ, and STOP.
+_EXTENSIONS = re.compile(rb'[\x82-\x84]')
+_CALL_AND_STOP = (b'R.', b'\x81.')
+_MAKES_TUPLE = frozenset(b')t\x85\x86\x87')
 
 # A pickle whose walk lacks something on the stack may begin at a MARK so many bytes before.
 _BEFORE = 1_024
@@ -63,7 +77,8 @@ def candidates(blob: Blob) -> Iterator[Tuple[int, bytes]]:
     while start < blob.size:
         window = blob.read(start, _WINDOW + _OVERLAP)
         is_last = start + len(window) >= blob.size
-        for anchor in sorted(search.anchors(window, len(window) if is_last else _WINDOW)):
+        # (what shows a pickle may be a little behind its beginning)
+        for anchor in sorted(search.anchors(window, len(window) if is_last else _WINDOW + _BEFORE)):
             if start + anchor < done:
                 continue
             found = search.begin(window, anchor, max(0, done - start)) or search.far(blob, start + anchor, window, anchor)
@@ -78,19 +93,35 @@ def candidates(blob: Blob) -> Iterator[Tuple[int, bytes]]:
 
 
 def may_have_candidates(content: bytes) -> bool:
-    """Whether one of the three places may be in these bytes: a quick test of a few, which never says no too often.
+    """Whether one of the four places may be in these bytes: a quick test of a few, which never says no too often.
 
     >>> may_have_candidates(b'cos\\nsystem\\n)R.'), may_have_candidates(bytes(range(32, 64)))
     (True, False)
     """
     if BEGINS_PICKLE.search(content) or _SECOND_LINE.search(content):
         return True
-    at = content.find(b'\x93')
+    return any(may_end_text(content, at) for at in _places(content, b'\x93', len(content))) or any(_last_calls(content, len(content)))
+
+
+def ends_in_call(content: bytes) -> bool:
+    """Whether a pickle ends with a call of something whose arguments are in a tuple.
+
+    >>> ends_in_call(b'\x82\x05)R.'), ends_in_call(b'\x82\x05.')
+    (True, False)
+    """
+    return content.endswith(_CALL_AND_STOP) and content[-3] in _MAKES_TUPLE if len(content) > 2 else False
+
+
+def _places(content: bytes, sign: bytes, end: int) -> Iterator[int]:
+    at = content.find(sign, 0, end)
     while at >= 0:
-        if may_end_text(content, at):
-            return True
-        at = content.find(b'\x93', at + 1)
-    return False
+        yield at
+        at = content.find(sign, at + 1, end)
+
+
+def _last_calls(content: bytes, end: int) -> Iterator[int]:
+    """Where a call may be that ends a pickle, behind a tuple."""
+    return (at for sign in _CALL_AND_STOP for at in _places(content, sign, end) if at and content[at - 1] in _MAKES_TUPLE)
 
 
 def may_have_lines(content: bytes, start: int, end: int) -> bool:
@@ -115,24 +146,26 @@ class _Search:
     # --- Places that a pickle with an import has ---
 
     def anchors(self, window: bytes, end: int) -> Iterator[int]:
-        """Where PROTO, GLOBAL and INST are, and the first text of a STACK_GLOBAL."""
+        """Where PROTO, GLOBAL and INST are, the first text of a STACK_GLOBAL, and a number of copyreg that is called."""
         self.dead = set()
         for match in BEGINS_PICKLE.finditer(window, 0, min(len(window), end + 2)):
             yield match.start()
         for match in _SECOND_LINE.finditer(window, 0, end):
             yield from _global_lines(window, match.start())
-        at = window.find(b'\x93', 0, end)
-        while at >= 0:
+        for at in _places(window, b'\x93', end):
             if may_end_text(window, at):
-                yield from self._texts_before(window, at)
-            at = window.find(b'\x93', at + 1, end)
+                yield from self._before(window, _TEXTS, at, at + 1)
+        for at in _last_calls(window, end):
+            yield from self._before(window, _EXTENSIONS, at, at + 2)
 
-    def _texts_before(self, window: bytes, at: int) -> Iterator[int]:
-        """Where the first of two texts begins that STACK_GLOBAL takes, as far as a walk leads from there to it."""
-        places = [match.start() for match in _TEXTS.finditer(window, max(0, at - _BEFORE_STACK_GLOBAL), at)]
+    def _before(self, window: bytes, begins: 're.Pattern[bytes]', at: int, end: int) -> Iterator[int]:
+        """Where the nearest one of these begins from which a walk leads to `end`, and takes only out of the memo what it has put there: the
+        first of the texts that STACK_GLOBAL takes, or a number of copyreg.
+        """
+        places = [match.start() for match in begins.finditer(window, max(0, at - _BEFORE_STACK_GLOBAL), at)]
         for place in reversed(places[-_MOST_MARKS:]):
-            way = self._walk(window, place, _MOST_FROM_NAME, at + 1)
-            if way.end == at + 1 and not way.lacks:
+            way = self._walk(window, place, _MOST_FROM_NAME, end)
+            if way.end == end and not way.lacks and _has_its_memo(window, way):
                 yield place
                 return
 
@@ -185,13 +218,32 @@ class _Search:
         return None
 
 
+def _has_its_memo(window: bytes, way: Walk) -> bool:
+    """Whether all that a walk takes out of the memo was put there by it."""
+    def number(at: int, width: int) -> int:
+        found = window[at + 1:at + 1 + width] if width else window[at + 1:window.index(b'\n', at)]
+        return int.from_bytes(found, 'little') if width else int(found) if len(found) < _MOST_OF_NUMBER and found.isdigit() else -1
+
+    memo: Set[int] = set()
+    for at in way.passed:
+        code = window[at]
+        if code == _MEMOIZE:
+            memo.add(len(memo))
+        elif code in _PUTS:
+            memo.add(number(at, _PUTS[code]))
+        elif code in _GETS and number(at, _GETS[code]) not in memo:
+            return False
+    return True
+
+
 def _global_lines(window: bytes, newline: int) -> Iterator[int]:
     """Where GLOBAL or INST may be, by the newline after their first line."""
-    after = window[window.index(b'\n', newline + 1) + 1]
+    behind = window.index(b'\n', newline + 1) + 1
+    takes = _OPCODE.match(window, behind) is None or window[behind] in _TAKING
     for at in range(newline - 2, max(-1, newline - _MOST_OF_LINE), -1):
         code = window[at]
         if code in b'ci' and window[at + 1] in _BEGINS_NAME and (
-                code == 99 and after not in _TAKING or window.rfind(b'(', max(0, at - _BEFORE), at) >= 0):
+                code == 99 and not takes or window.rfind(b'(', max(0, at - _BEFORE), at) >= 0):
             yield at
         if code not in _IN_NAME:
             return
@@ -215,8 +267,10 @@ def may_end_text(window: bytes, at: int) -> bool:
             return False
         if window[end - length - 1] == length and window[end - length - 2] in b'\x8cU':
             return True
-        begin = window[end - length - 5:end - length]
+        begin = window[max(0, end - length - 5):end - length]
         if begin[:1] in (b'X', b'T') and begin[1:] == bytes([length, 0, 0, 0]):
+            return True
+        if begin == bytes(5) and window[max(0, end - length - 9):end - length - 5] == bytes([0x8d, length, 0, 0]):
             return True
     return False
 
@@ -226,4 +280,4 @@ def _has_names(window: bytes, end: int) -> bool:
     return _NEAR_TEXT.search(window, max(0, end - _BEFORE_STACK_GLOBAL), end) is not None
 
 
-_NEAR_TEXT = re.compile(rb'(?:[\x8cU][\x01-\x7f]|X[\x01-\xff]\x00\x00\x00|V|S[\'"])[A-Za-z_][A-Za-z0-9_.]')
+_NEAR_TEXT = re.compile(rb'(?:[\x8cU][\x01-\x7f]|[XT][\x01-\xff]\0\0\0|\x8d[\x01-\xff]\0{7}|V|S[\'"])(?:[A-Za-z_][A-Za-z0-9_.\\\n]|\\[uUx0-7])')

@@ -16,6 +16,7 @@ from typing import TYPE_CHECKING, Dict, Iterator, List, Optional, Tuple
 from ..blobs import Blob
 from ..containers import Held
 from ..results import Place
+from .ends import tell_file
 from .values import Values, key_name
 
 if TYPE_CHECKING:
@@ -67,8 +68,8 @@ class _Gnu:
 
     @property
     def header(self) -> struct.Struct:
-        """Block size, directory, its size, its bits, bucket size and entries of a bucket."""
-        return struct.Struct(f'{self.order}{"iqiiii" if self.width == 8 else "iiiiii"}')
+        """Block size, directory, its size, its bits, bucket size, entries of a bucket, and the end of all blocks."""
+        return struct.Struct(f'{self.order}{"iqiiiiq" if self.width == 8 else "iiiiiii"}')
 
     @property
     def bucket(self) -> int:
@@ -88,13 +89,16 @@ _GNU: Dict[bytes, _Gnu] = {struct.pack(f'{order}I', number): _Gnu(order, width)
 
 def look_into_gnu(looker: 'Looker', held: Held) -> bool:
     """Looks at all values of a file of GNU dbm."""
-    _look(looker, held.blob, held.where, held.depth, _gnu_pairs(held.blob, _GNU[held.blob.read(0, 4)]))
+    kind = _GNU[held.blob.read(0, 4)]
+    _look(looker, held.blob, held.where, held.depth, _gnu_pairs(held.blob, kind))
+    header = held.blob.read(4, kind.header.size)
+    tell_file(looker, held, kind.header.unpack(header)[-1] if len(header) == kind.header.size else None)
     return True
 
 
 def _gnu_pairs(blob: Blob, kind: _Gnu) -> Iterator[_Pair]:
     header = kind.header
-    _, directory, size, _, bucket_size, entries = header.unpack(blob.read(4, header.size))
+    _, directory, size, _, bucket_size, entries, _ = header.unpack(blob.read(4, header.size))
     least = entries * kind.entry.size + kind.bucket
     if not (0 < directory < blob.size and 0 < size <= blob.size and 0 < least <= max(bucket_size, 0) <= blob.size):
         raise _Damaged('gdbm: its header does not fit the file')
@@ -116,6 +120,8 @@ def _gnu_pairs(blob: Blob, kind: _Gnu) -> Iterator[_Pair]:
 
 _BERKELEY_HASH = 0x061561
 _BERKELEY_PAGE = 26
+# (so far are the size of a page and the number of the last one)
+_BERKELEY_HEADER = 36
 _HASH_PAGES = (2, 13)
 _OVERFLOW = 7
 _ON_PAGE, _OFF_PAGE = 1, 3
@@ -127,7 +133,11 @@ def _order_of(head: bytes) -> Optional[str]:
 
 def look_into_berkeley(looker: 'Looker', held: Held) -> bool:
     """Looks at all values of a hash file of Berkeley DB."""
-    _look(looker, held.blob, held.where, held.depth, _berkeley_pairs(held.blob, _order_of(held.blob.read(0, 16)) or '<'))
+    order = _order_of(held.blob.read(0, 16)) or '<'
+    _look(looker, held.blob, held.where, held.depth, _berkeley_pairs(held.blob, order))
+    header = held.blob.read(0, _BERKELEY_HEADER)
+    size, last = struct.unpack_from(f'{order}I8xI', header, 20) if len(header) == _BERKELEY_HEADER else (0, 0)
+    tell_file(looker, held, (last + 1) * size)
     return True
 
 

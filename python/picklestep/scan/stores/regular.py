@@ -53,28 +53,37 @@ def blocks(content: bytes, marked: bytes, least: int) -> Iterator[Block]:
     """
     at = 0
     while at < len(content):
-        block = _block(content, marked, at, least)
+        block, at = _block(content, marked, at, least)
         yield from () if block is None else (block,)
-        at = at + _APART if block is None else block.end
 
 
-def _block(content: bytes, marked: bytes, at: int, least: int) -> Optional[Block]:
-    """The block whose line before it begins with the first line that begins here or later."""
+def _block(content: bytes, marked: bytes, at: int, least: int) -> Tuple[Optional[Block], int]:
+    """The block whose line before it begins with the first line that begins here or later; and where the next may begin. (Lines that are no
+    block are not counted again, or many would take long.)
+    """
     start = at if not at or content[at - 1:at] == b'\n' else content.find(b'\n', at, at + _MOST_OF_LINE) + 1
     first = content.find(b'\n', start, start + _MOST_OF_LINE) + 1
     line = marked[start:first]
     if start < at or b'a' * least not in line or not marked.startswith(line * _FEW_LINES, first):
-        return None
-    count, stride = _count(marked, line, first), first - start
-    end = first + count * stride
-    if content.count(b'\n', first, end) != count or content[first + stride - 1:end:stride].count(b'\n') != count:
-        return None
+        return None, at + _APART
     found = list(_runs(line, least))
-    for begin, behind in found:
-        follow = content[first + behind:end:stride]
+    block = Block(first, first - start, _FEW_LINES, found)
+    if not _is_block(content, block):
+        return None, at + _APART
+    block = block._replace(lines=_count(marked, line, first))
+    return block if _is_block(content, block) else None, block.end
+
+
+def _is_block(content: bytes, block: Block) -> bool:
+    """Whether each of these lines ends where it is to end, and no run goes on in the next one."""
+    start, stride = block.start, block.stride
+    if content.count(b'\n', start, block.end) != block.lines or content[start + stride - 1:block.end:stride].count(b'\n') != block.lines:
+        return False
+    for begin, behind in block.runs:
+        follow = content[start + behind:block.end:stride]
         if behind - begin > _MOST_OF_RUN or b'\n' in follow or b'\r' in follow:
-            return None
-    return Block(first, stride, count, found)
+            return False
+    return True
 
 
 def _runs(line: bytes, least: int) -> Iterator[Tuple[int, int]]:

@@ -19,6 +19,7 @@ from typing import TYPE_CHECKING, Any, Dict, Iterator, List, Optional, Tuple
 from ..blobs import Blob, FileBlob
 from ..containers import Held
 from ..results import Place
+from .ends import end_of_sqlite, tell_file
 from .values import SMALL, Values, not_looked_at
 
 if TYPE_CHECKING:
@@ -45,6 +46,7 @@ _COMPUTED = (2, 3)
 def look_into(looker: 'Looker', held: Held) -> bool:
     """Looks at all values. Where the file is damaged, its bytes are searched too."""
     _look(looker, held.blob, held.where, held.depth)
+    tell_file(looker, held, end_of_sqlite(held.blob))
     return True
 
 

@@ -67,6 +67,9 @@ _STOP = ord('.')
 
 _MOST_OF_KEY = 200
 
+# How what is imported by a number of copyreg is shown.
+_EXTENSION = 'ext '
+
 
 def key_name(key: bytes) -> str:
     """A key as a part of a place. Of a long one the first signs are shown, and its length.
@@ -87,10 +90,12 @@ def not_looked_at(what: str, names: Sequence[str]) -> str:
     return f'{what} are not looked at ({len(names)}, such as {key_name(names[0].encode("utf-8", "surrogateescape"))})'
 
 
-def _names_something(answer: Summary) -> bool:
-    """Whether an answer imports something by a plain name, or says nothing. Raw numbers that are taken for a pickle do not."""
-    imports = answer.pickle((), 0).imports
-    return answer.is_empty or any(is_plain_name(found.name) for found in imports)
+def _names_something(answer: Summary, content: bytes) -> bool:
+    """Whether an answer imports something by a plain name, or by a number of copyreg that is called at last; or says nothing. Raw numbers that
+    are taken for a pickle do not.
+    """
+    names = [found.name for found in answer.pickle((), 0).imports]
+    return answer.is_empty or any(map(is_plain_name, names)) or any(name.startswith(_EXTENSION) for name in names) and anywhere.ends_in_call(content)
 
 
 def _with_others(limit: LimitMet, count: int) -> str:
@@ -573,7 +578,7 @@ class Values:
         if answer.is_empty and answer.end.is_stopped:
             self.looker.plain += 1
             self._found.add(each.value)
-        elif each.guessed and not _names_something(answer):
+        elif each.guessed and not _names_something(answer, each.content):
             return
         elif answer.is_sure or answer.end.is_stopped or answer.trouble is not None:
             pickle = answer.pickle(each.where, len(each.content))
