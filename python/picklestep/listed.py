@@ -18,7 +18,7 @@ __all__ = ['Listed', 'in_columns', 'offset_of']
 
 
 class Listed:
-    """The opcodes of an input, in batches of lines. `end` and `kept` are there after the last batch.
+    """The opcodes of an input, in batches of lines. How reading ended is known after the last batch.
 
     A refused opcode is in no batch, since it does nothing; `refused` is its line then.
     """
@@ -30,32 +30,40 @@ class Listed:
         self._closing: Dict[str, str] = {}
         self._is_whole = False
         self.refused = ''
-        self.places = 0
 
     def batches(self) -> Iterator[Tuple[int, str]]:
         """The text of lines, each with its newline, and the column in which their codes begin. A line of what STOP left comes in no batch."""
-        parts: List[bytes] = []  # of the line that is not at its end
-        held = ''  # (the last line may be refused, which only the next one says)
+        parts: List[bytes] = []  # from the last line on, which may be refused as only the next one says
         for block in self._blocks:
-            whole, newline, rest = block.rpartition(b'\n')
-            if not newline:
-                parts.append(rest)
+            end = block.rfind(b'\n') + 1
+            last = block.rfind(b'\n', 0, max(0, end - 1)) + 1
+            if not last:
+                parts.append(block)
                 continue
-            text = held + b''.join([*parts, whole, newline]).decode('ascii')
-            parts = [rest]
-            last = text.rfind('\n', 0, -1) + 1
-            if text[last].isalpha() or self._many and '\nleft: ' in text:
-                text = self._without_closing(text)
+            if block[last:last + 1].isalpha():
+                text = self._without_closing(b''.join([*parts, block[:end]]).decode('ascii'))
                 last = text.rfind('\n', 0, -1) + 1
-            held = text[last:]
-            yield from self._in_columns(text[:last])
-        if any(parts) or not self._is_whole:
+                parts = [text[last:].encode('ascii'), block[end:]]
+                text = text[:last]
+            else:
+                text = b''.join([*parts, memoryview(block)[:last]]).decode('ascii')
+                parts = [block[last:]]
+                if self._many and 'left: ' in text:
+                    text = self._without_closing(text)
+            yield from self._in_columns(text)
+        yield from self._in_columns(self._before_refused(b''.join(parts).decode('ascii')))
+
+    def _before_refused(self, text: str) -> str:
+        """The last lines, without the opcode that is refused, if one is."""
+        is_ended = text[-1:] in ('', '\n')
+        text = self._without_closing(text)
+        if not (is_ended and self._is_whole):
             raise ProgramError('the program gave no whole answer')
-        if 'refused' in self._closing:
-            self.refused = held
-            self.places += 1
-        else:
-            yield from self._in_columns(held)
+        if 'refused' not in self._closing:
+            return text
+        last = text.rfind('\n', 0, -1) + 1
+        self.refused = text[last:]
+        return text[:last]
 
     def _without_closing(self, text: str) -> str:
         """The lines of opcodes. What else there is, is kept by its words."""
@@ -72,7 +80,6 @@ class Listed:
     def _in_columns(self, text: str) -> Iterator[Tuple[int, str]]:
         if not text:
             return
-        self.places += text.count('\n')
         last = text.rfind('\n', 0, -1) + 1
         column = text.index(':') + 2
         if text.index(':', last) + 2 - last == column:
@@ -81,12 +88,11 @@ class Listed:
             for column, lines in in_columns(text[:-1].split('\n'), ':'):
                 yield column, '\n'.join(lines) + '\n'
 
-    @property
-    def end(self) -> End:
-        """How reading ended."""
+    def end(self, places: int) -> End:
+        """How reading ended, behind so many opcodes."""
         if 'refused' in self._closing:
             text = self._closing['refused']
-            return End('refused', text.partition(' ')[0], text, offset_of(self.refused), self.places - 1)
+            return End('refused', text.partition(' ')[0], text, offset_of(self.refused), places)
         return end_of(self._closing.get('fault', 'stopped'))
 
     @property

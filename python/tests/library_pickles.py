@@ -24,24 +24,28 @@ def _numpy() -> List[Any]:
 def _scipy() -> List[Any]:
     import scipy.interpolate
     import scipy.sparse
-    import scipy.spatial
-    return [scipy.sparse.eye(3, format=kind) for kind in ('csr', 'coo', 'lil', 'dok')] + [
-        scipy.interpolate.BSpline([0, 1, 2, 3], [1, 2], 1), scipy.spatial.cKDTree([[0.0, 1], [1, 0]])]
+    import scipy.spatial.transform
+    import scipy.stats
+    return [scipy.sparse.eye(3, format=kind) for kind in ('csr', 'csc', 'bsr', 'dia', 'coo', 'lil', 'dok')] + [
+        scipy.interpolate.BSpline([0, 1, 2, 3], [1, 2], 1), scipy.interpolate.CubicSpline([0, 1, 2], [1, 4, 2]),
+        scipy.spatial.cKDTree([[0.0, 1], [1, 0]]), scipy.spatial.transform.Rotation.from_euler('x', 1), scipy.stats.norm(1, 2)]
 
 
 def _pandas() -> List[Any]:
     import pandas as pd
     frame = pd.DataFrame({'a': [1, 2], 'b': ['x', None], 'c': pd.to_datetime(['2020-01-01', None])})
     return [frame, frame['a'], frame.set_index('b'), pd.Categorical(['a', 'b', 'a']), pd.Timestamp('2020-01-01', tz='UTC'),
-            pd.Interval(0, 1), pd.MultiIndex.from_tuples([(1, 'a'), (2, 'b')]), pd.Timedelta('1 day'), pd.period_range('2020', periods=2)]
+            pd.Interval(0, 1), pd.MultiIndex.from_tuples([(1, 'a'), (2, 'b')]), pd.Timedelta('1 day'), pd.period_range('2020', periods=2),
+            pd.array([1, None], dtype='Int64'), pd.Series([1.0, 2], dtype='Sparse[float]'), frame.groupby('a').sum(numeric_only=True)]
 
 
 def _sklearn() -> List[Any]:
-    from sklearn import cluster, ensemble, feature_extraction, linear_model, pipeline, preprocessing, svm, tree
+    from sklearn import cluster, ensemble, feature_extraction, linear_model, naive_bayes, neighbors, pipeline, preprocessing, svm, tree
     data, labels = [[0.0, 1.0], [1.0, 0.0], [2.0, 1.0], [3.0, 3.0]], [0, 0, 1, 1]
     models = [linear_model.LogisticRegression(), tree.DecisionTreeClassifier(random_state=0), svm.SVC(),
               ensemble.RandomForestClassifier(3, random_state=0), preprocessing.StandardScaler(), cluster.KMeans(2, n_init=1, random_state=0),
-              pipeline.make_pipeline(preprocessing.MinMaxScaler(), linear_model.Ridge())]
+              ensemble.GradientBoostingClassifier(n_estimators=2, random_state=0), preprocessing.OneHotEncoder(), naive_bayes.GaussianNB(),
+              neighbors.KNeighborsClassifier(1), pipeline.make_pipeline(preprocessing.MinMaxScaler(), linear_model.Ridge())]
     counter = feature_extraction.text.CountVectorizer().fit(['a word', 'and a word'])
     return [model.fit(data, labels) for model in models] + [counter]
 
@@ -56,7 +60,8 @@ def _networkx() -> List[Any]:
 def _sympy() -> List[Any]:
     import sympy
     x, y = sympy.symbols('x y')
-    return [x + 1, sympy.sin(x) * y, sympy.Matrix([[1, x]]), sympy.Rational(1, 3), sympy.Integral(x, y)]
+    return [x + 1, sympy.sin(x) * y, sympy.Matrix([[1, x]]), sympy.Rational(1, 3), sympy.Integral(x, y), sympy.Eq(x, y),
+            sympy.Piecewise((x, x > 0), (y, True)), sympy.FiniteSet(x, 1), sympy.oo]
 
 
 def _dateutil() -> List[Any]:

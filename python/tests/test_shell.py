@@ -17,6 +17,7 @@ import time
 import unittest
 from pathlib import Path
 from typing import List
+from unittest import mock
 
 import picklestep
 from examples_of_using import stories
@@ -24,6 +25,7 @@ from picklestep.shell.complete import completions
 from picklestep.shell.explain import EFFECTS, EXPLAINED
 from picklestep.shell.shell import Shell, WordError
 from picklestep.shell.words import SAMPLE, WORDS
+from picklestep.view.document import Document
 from pickles import real_pickles
 from terminals import Terminal
 
@@ -348,8 +350,34 @@ class Words(unittest.TestCase):
                     with self.subTest(name, line=line), Shell(shell.pickle.content(), '', many=True) as fresh:
                         self.assertEqual(shell.pickle.lines.makers.codes, fresh.pickle.lines.makers.codes)
                         self.assertEqual(shell.pickle.lines.text, fresh.pickle.lines.text)
+                        self.assertEqual(shell.pickle.final_text, fresh.pickle.final_text)
+                        self.assertEqual(shell.pickle.reaches.answer.text, fresh.pickle.reaches.answer.text)
+                        self.assertEqual(shell.pickle.lines.closing, fresh.pickle.lines.closing)
                         made = len(fresh.pickle.final_text.split(b'\n')) - 1
                         self.assertEqual([*map(shell.pickle.maker, range(made))], [*map(fresh.pickle.maker, range(made))])
+
+    def test_undone_and_made_again(self) -> None:
+        """What was read before an edit is known again where that is undone, and is not taken for what another edit made."""
+        shell = self.shell(SAMPLE, '')
+        rows, made = shell.obey('list 0'), {}
+        for value in ('4', '5'):
+            shell.obey(f'set 2 to {value}')
+            made[value] = shell.obey('list 0')
+            with mock.patch.object(Document, '_read', side_effect=AssertionError):
+                for line, wanted, data in (('undo', rows, SAMPLE), ('redo', made[value], SAMPLE.replace(b'K\x03', b'K' + bytes([int(value)]))), ('undo', rows, SAMPLE)):
+                    shell.obey(line)
+                    self.assertEqual((shell.obey('list 0'), shell.pickle.content()), (wanted, data))
+                    self.assertEqual(shell.obey('diff') == 'as the file', data == SAMPLE)
+        self.assertNotEqual(made['4'], made['5'])
+        for line in ('redo', "set 1 to 'x'", 'undo', 'undo', 'redo', 'redo', 'undo'):
+            shell.obey(line)
+        self.assertEqual(shell.obey('list 0'), made['5'])
+        with mock.patch.object(Document, '_read', side_effect=ValueError('not read')):
+            shell.obey('insert 0 NONE')
+            with self.assertRaisesRegex(WordError, 'not read'):
+                shell.obey('where')
+        shell.obey('undo')
+        self.assertEqual((shell.obey('list 0'), shell.pickle.content()), (rows, SAMPLE))
 
     def test_edits_behind_a_refused_opcode(self) -> None:
         """Also where the first of several pickles leaves something on the stack, of which the listing has a line."""

@@ -126,7 +126,7 @@ class Real(unittest.TestCase):
         done = subprocess.run([python, os.path.join(_HERE, 'library_pickles.py')], env=environment, capture_output=True, text=True, timeout=900)
         self.assertEqual(done.returncode, 0, done.stdout + done.stderr[-500:])
         counts = dict(line.split() for line in done.stdout.splitlines())
-        self.assertGreaterEqual(int(counts['standard']), 70)
+        self.assertGreaterEqual(int(counts.pop('standard')), 70)
         if len(counts) < 10:
             self.skipTest(f'of other libraries there are only {", ".join(counts)}')
         self.assertGreaterEqual(sum(map(int, counts.values())), 300)

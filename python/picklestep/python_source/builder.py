@@ -11,13 +11,14 @@ import pickletools
 from ast import literal_eval
 from functools import lru_cache
 from itertools import repeat
-from typing import Callable, Dict, Iterable, List, Optional, Sequence, Set, Tuple, Union
+from operator import itemgetter
+from typing import Any, Callable, Dict, List, Optional, Sequence, Set, Tuple, Union
 
 from ..listed import offset_of
 from ..texts import opcode_of
 from .literals import of_bytes, of_float, of_floats, of_integer, of_line, of_text
 from .names import Names, python3_name
-from .nodes import Arguments, Called, Entry, Event, Filled, Formed, Insides, Node, Paired, Statement, is_pure
+from .nodes import Arguments, Called, Entry, Event, Filled, Formed, Insides, Needed, Node, Paired, Statement, is_pure
 from .shapes import ALIKE, GETS, LETTERS, RUNS, RUNS_WITHOUT_UNITS, Part, Shape, argument_at, decoded, shape_of
 
 __all__ = ['Builder', 'KINDS', 'MOST_SHORT', 'taken_count']
@@ -25,51 +26,61 @@ __all__ = ['Builder', 'KINDS', 'MOST_SHORT', 'taken_count']
 # The most letters of a plain value that is written wherever it is used.
 MOST_SHORT = 80
 
-_Handler = Callable[[str], None]
+_Handler = Callable[['Builder', str], None]
 
 # Codes of opcodes that there are most of.
 _TEXTS = frozenset('X\x8c\x8d')
 _NUMBER, _MEMOIZE, _MARK, _LIST, _DICT, _FLOAT = 'K', '\x94', '(', ']', '}', 'G'
 _FLOAT_LETTERS = len('f8:') + 16
 _NUMBER_AT = argument_at(_NUMBER, 0, 0)
+_NUMBERS = frozenset([_NUMBER, *(code for code, like in ALIKE.items() if like == _NUMBER)])
+# The words of a line of a number, the place of its code among them, and that of the number.
+_WORDS, _CODE_WORD, _NUMBER_WORD = 4, 1, 3
+# The values of these codes are always short.
+_SHORT = frozenset([_NUMBER, _FLOAT])
 _READ = GETS | _TEXTS | {_NUMBER, _MEMOIZE, _MARK, _LIST, _DICT, _FLOAT, *ALIKE}
 
 # So many letters of lines are split at once. So many units of a shape are read at once; where many are in these lines, more are looked for in the
-# text, by patterns of so many shapes. Where there are none, they are not looked for in the next pieces, in at most so many.
+# text, by patterns of so many shapes. Where there are none in so many lines, they are not looked for in the next pieces, in at most so many.
 _PIECE = 1 << 15
 _SOME_UNITS = 4
 _MANY_UNITS = 8
 _NEAR = 1 << 12
 _MOST_PATTERNS = 30
 _MOST_PASSED = 16
+_MANY_LINES = 256
 _MANY_ENTRIES = 32
+# Behind so many other lines numbers may go on: a long list is filled in pieces.
+_FEW_LINES = 3
 
 # What is under a key of the memo: an entry, or a container in another one that was not opened.
 _Stored = Union[Entry, Tuple[Formed, Part]]
 
 
 class Builder:
-    """What the opcodes that were read so far have built. `events` is what happens, `needs` the helpers that this takes."""
+    """What the opcodes that were read so far have built. `events` is what happens, `needs` the helpers that this takes, `places` how many
+    opcodes were read."""
 
     def __init__(self) -> None:
         self.events: List[Event] = []
         self.needs: Set[str] = set()
         self.stack: List[Entry] = []
         self.results = 0
+        self.places = 0
         self._names = Names()
         self._made = 0
         self._known: Set[Tuple[Shape, int, int]] = set()  # shapes that are looked for in the text, with the columns and the open marks
         self._latest: Optional[Tuple[Shape, int, int]] = None
         self._misses = self._passes = 0  # in how many pieces there were no units, and in how many they are not looked for
         self._begin()
-        self._handlers = self._handlers_by_code()
 
     def _begin(self) -> None:
         """A pickle begins."""
         self.stack.clear()
         self._marks: List[int] = []
-        self._memo: Dict[int, _Stored] = {}
-        self._has_gaps = False  # (in the keys of the memo)
+        self._memo: List[_Stored] = []  # by keys, and those behind a gap
+        self._far: Dict[int, _Stored] = {}
+        self._in_numbers = False
         self._protocol = 0
 
     # --- Lines ---
@@ -87,20 +98,24 @@ class Builder:
             at = end - sum(map(len, left)) - len(left)
             if shape is not None:
                 at = self._read_units_in(text, at, shape, column)
+            elif self._in_numbers:
+                at = self._read_numbers_in(text, at, column)
 
     def _read_lines(self, column: int, lines: List[str]) -> Tuple[Optional[Shape], List[str]]:
         """Reads lines. Where they end within units of one shape, these may go on: then it answers the shape, and the lines of the last unit."""
         end = column + 4
-        codes = ''.join([line[column] for line in lines])
+        codes = ''.join(map(itemgetter(column), lines))
         if '\\' in codes:
             codes = ''.join([code if code != '\\' else LETTERS[line[column + 2:end]] for code, line in zip(codes, lines)])
         for other, like in ALIKE.items():
             codes = codes.replace(other, like)
         read = 0
+        self._in_numbers = False
+        self.places += len(lines)
         is_passed = self._passes > 0
         if is_passed:
             self._passes -= 1
-        else:
+        elif len(lines) > _MANY_LINES:
             self._misses, self._passes = self._misses + 1, min(_MOST_PASSED, 1 << self._misses >> 2)
         for run in (RUNS_WITHOUT_UNITS if is_passed else RUNS).finditer(codes):
             begin, end = run.span()
@@ -110,19 +125,20 @@ class Builder:
                 size = len(run['unit'])
                 self._read_units(column, lines[begin:end], codes[begin:end], size)
                 if len(lines) - end < size and (end - begin) // size >= _MANY_UNITS:
+                    self.places -= len(lines) - end
                     return shape_of(run['unit']), lines[end:]
-            elif self._has_gaps:
+            elif self._far:
                 self._read_each(column, lines[begin:end], codes[begin:end])
             else:
                 entries: Sequence[Entry] = getattr(self, f'_{run.lastgroup}')(lines[begin:end], column)
                 self.stack += entries
                 self._made += len(entries)
+                self._in_numbers = end == len(lines) and run.lastgroup == 'numbers'
         self._read_each(column, lines[read:], codes[read:])
         return None, []
 
     def _numbers(self, lines: List[str], column: int) -> List[str]:
-        argument = column + _NUMBER_AT + 4 * len(self._marks)
-        return [line[argument:] for line in lines]
+        return list(map(itemgetter(slice(column + _NUMBER_AT + 4 * len(self._marks), None)), lines))
 
     @staticmethod
     def _floats(lines: List[str], column: int) -> List[str]:
@@ -131,18 +147,19 @@ class Builder:
     def _texts(self, lines: List[str], column: int) -> List[Entry]:
         """Texts that are stored as they come."""
         entries = [self._text(line[line.index("'"):], number) for number, line in enumerate(lines[::2], self._made)]
-        self._memo.update(enumerate(entries, len(self._memo)))
+        self._memo += entries
         return entries
 
     def _read_each(self, column: int, lines: List[str], codes: str) -> None:
         """Reads lines one by one. What there is most of is done here and not by a handler, which would take twice the time."""
-        handlers, stack, memo, marks, made = self._handlers, self.stack, self._memo, self._marks, self._made
+        stack, memo, marks, made = self.stack, self._memo, self._marks, self._made
         argument = column + _NUMBER_AT + 4 * len(marks)
         for code, line in zip(codes, lines):
-            if code == _MEMOIZE:
-                memo[len(memo)] = stack[-1]
+            if code == _MEMOIZE and not self._far:
+                memo.append(stack[-1])
             elif code in GETS:
-                entry = memo[int(line[argument:])]
+                key = int(line[argument:])
+                entry = memo[key] if key < len(memo) else self._far[key]
                 if isinstance(entry, tuple):
                     entry = entry[0].open()[entry[1]]
                 stack.append(entry)
@@ -164,7 +181,7 @@ class Builder:
                 made += 1
             else:
                 self._made = made
-                handlers[code](line)
+                _HANDLERS[code](self, line)
                 memo, marks, made = self._memo, self._marks, self._made
                 argument = column + _NUMBER_AT + 4 * len(marks)
         self._made = made
@@ -201,6 +218,7 @@ class Builder:
         self._known.add((shape, column, marks))
         self._latest = shape, column, marks
         columns, end = shape.columns_in(text, begin, column, marks)
+        self.places += len(shape.codes) * len(columns[0] if columns else ())
         if columns and self._take_units(shape, columns, len(columns[0])):
             lines = text[begin:end - 1].split('\n')
             self._read_units(column, lines, shape.codes * len(columns[0]), len(shape.codes))
@@ -209,7 +227,7 @@ class Builder:
     def _read_units_near(self, text: str, at: int, column: int) -> int:
         """Where units of the shape that was read last begin again near a position, reads up to their end, and answers where that is."""
         while self._latest is not None:
-            shape, known_column, marks = self._latest
+            shape, known_column, marks = latest = self._latest
             self._latest = None
             begin = shape.find(text, at, at + _NEAR, column, marks) if known_column == column else -1
             if begin >= 0:
@@ -217,37 +235,34 @@ class Builder:
                 at = begin - sum(map(len, left)) - len(left)
                 if not left and len(self._marks) == marks:
                     at = self._read_units_in(text, at, shape, column)
+            elif at + _NEAR >= len(text):
+                self._latest = latest  # (the next text may go on with them)
+                break
         return at
 
     def _take_units(self, shape: Shape, columns: List[Sequence[str]], count: int) -> List[int]:
         """Takes units of one shape, whose arguments are in columns. Where it cannot it answers those in which more is than short plain values."""
-        memo, step = self._memo, len(shape.stores)
-        keys = [range(len(memo) + at, len(memo) + step * count, step) for at in range(step)]
-        if step and not self._are_next(shape, columns, keys):
+        first, step = len(self._memo), len(shape.stores)
+        if step and not self._are_next(shape, columns, [range(first + at, first + step * count, step) for at in range(step)]):
             return list(range(count))
-        known: Dict[int, _Stored] = {}
         values: List[Sequence[str]] = [decoded(shape.columns[at].code, columns[at]) if shape.columns[at].code not in GETS else () for at in shape.values]
-        for (item, _), numbers in zip(shape.stores, keys):
+        stored: List[Any] = [None] * (step * count)
+        for at, (item, _) in enumerate(shape.stores):
             if not isinstance(item, Part):
-                plain: Iterable[str] = values[item] if isinstance(item, int) else repeat(item)
-                known.update(zip(numbers, plain))
+                stored[at::step] = values[item] if isinstance(item, int) else [item] * count
         odd: Set[int] = set()
         for number, at in enumerate(shape.values):
             if shape.columns[at].code in GETS:
-                values[number] = self._taken(columns[at], known, odd)
-            elif max(map(len, values[number])) > MOST_SHORT:
+                values[number] = self._taken(columns[at], stored, odd)
+            elif shape.columns[at].code not in _SHORT and max(map(len, values[number])) > MOST_SHORT:
                 odd.update(place for place, value in enumerate(values[number]) if len(value) > MOST_SHORT)
         if not odd:
             numbers = range(self._made + shape.part.number, self._made + shape.made * count, shape.made)
-            rows: Iterable[Tuple[str, ...]] = zip(*values) if values else repeat(())
-            nodes = list(map(Formed, repeat(shape), numbers, rows))
-            memo.update(known)
-            for (item, _), numbers in zip(shape.stores, keys):
+            nodes = list(map(Formed, repeat(shape), numbers, zip(*values) if values else repeat(())))
+            for at, (item, _) in enumerate(shape.stores):
                 if isinstance(item, Part):
-                    inner: Iterable[_Stored] = zip(nodes, repeat(item))
-                    if item is shape.part:
-                        inner = nodes
-                    memo.update(zip(numbers, inner))
+                    stored[at::step] = nodes if item is shape.part else zip(nodes, repeat(item))
+            self._memo += stored
             if shape.taken:
                 self.events.append(Insides(nodes))
             self.stack += nodes
@@ -256,20 +271,22 @@ class Builder:
 
     def _are_next(self, shape: Shape, columns: List[Sequence[str]], keys: List[range]) -> bool:
         """Whether units store under these keys, and nothing is under them."""
-        return not self._has_gaps and all(key is None or list(map(int, columns[key])) == list(numbers)
+        return not self._far and all(key is None or list(map(int, columns[key])) == list(numbers)
                                           for (_, key), numbers in zip(shape.stores, keys))
 
-    def _taken(self, column: Sequence[str], known: Dict[int, _Stored], odd: Set[int]) -> Sequence[str]:
-        """What is in the memo under keys. The places of those under which no short plain value is, are added to `odd`."""
+    def _taken(self, column: Sequence[str], stored: Sequence[Any], odd: Set[int]) -> Sequence[str]:
+        """What is in the memo under keys, or is stored behind it. The places of keys under which no short plain value is, are added to `odd`."""
         found: Dict[str, str] = {}
-        for key in set(column):
-            entry = known.get(int(key)) or self._memo.get(int(key))
+        keys = set(column)
+        for key in keys:
+            number = int(key)
+            entry = self._far.get(number) or (self._memo[number] if number < len(self._memo) else stored[number - len(self._memo)])
             if isinstance(entry, str):
                 found[key] = entry
-        if len(found) < len(set(column)):
+        if len(found) < len(keys):
             odd.update(place for place, key in enumerate(column) if key not in found)
             return column
-        return list(map(found.__getitem__, column))
+        return list(found.values()) * len(column) if len(found) == 1 else list(map(found.__getitem__, column))
 
     @staticmethod
     def _text(quoted: str, number: int) -> Entry:
@@ -277,39 +294,41 @@ class Builder:
         text = of_text(quoted) if '\\' in quoted else quoted
         return text if len(text) <= MOST_SHORT else Node.atom(number, text)
 
-    def _handlers_by_code(self) -> Dict[str, _Handler]:
-        """What reads each other opcode, by its code."""
-        handlers: Dict[str, _Handler] = {}
-        for opcode in pickletools.opcodes:
-            if opcode.code not in _READ:
-                handlers[opcode.code] = self._handler(opcode)
-        return handlers
+    # --- Numbers one after another ---
 
-    def _handler(self, opcode: pickletools.OpcodeInfo) -> _Handler:
-        own: Optional[_Handler] = getattr(self, f'_on_{opcode.name.lower()}', None)
-        if own is not None:
-            return own
-        form = opcode.arg.name if opcode.arg else ''
-        if opcode.name in KINDS:
-            return self._maker(KINDS[opcode.name], opcode)
-        if opcode.name.startswith('EXT'):
-            return self._on_extension
-        if opcode.name.endswith('PUT'):
-            return self._on_put
-        return self._pusher(opcode.name, form)
+    def _read_numbers_in(self, text: str, at: int, column: int) -> int:
+        """Reads numbers as long as they follow one another in the text of lines, also behind a few other lines, and answers where they end."""
+        while at < len(text):
+            begin = at = self._read_run(text, at, column)
+            for _ in range(_FEW_LINES):
+                at = text.find('\n', at) + 1
+                if not at or text[at + column:at + column + 1] in _NUMBERS:
+                    break
+            else:
+                return begin
+            if not at:
+                return begin
+            self._read_lines(column, text[begin:at - 1].split('\n'))
+        return at
+
+    def _read_run(self, text: str, at: int, column: int) -> int:
+        """Reads lines of numbers, by their words, up to the first other line, and answers where that begins."""
+        while at < len(text):
+            other = text.find('(', at, at + _PIECE)  # (no line of a number has one)
+            end = text.rfind('\n', at, other) + 1 if other >= 0 else text.find('\n', at + _PIECE) + 1 or len(text)
+            words = text[at:end].split()
+            codes = words[_CODE_WORD::_WORDS]
+            count = len(codes) if _NUMBERS.issuperset(codes) else next(at for at, code in enumerate(codes) if code not in _NUMBERS)
+            numbers = words[_NUMBER_WORD:_WORDS * count:_WORDS]
+            self.stack += numbers
+            self._made += count
+            self.places += count
+            if other >= 0 or count < len(codes):
+                return at + count * (column + _NUMBER_AT + 4 * len(self._marks) + 1) + len(''.join(numbers))
+            at = end
+        return at
 
     # --- Plain values ---
-
-    def _pusher(self, name: str, form: str) -> _Handler:
-        """A handler for an opcode whose argument is a plain value, or that makes one without an argument."""
-        if form in ('long1', 'long4'):
-            return lambda line: self._push_value(of_integer(line[line.rindex(' ') + 1:]))
-        if form in ('bytes1', 'bytes4', 'bytes8'):
-            return lambda line: self._push_value(of_bytes(line[line.index("'"):]))
-        if form:
-            return lambda line: self._push_value(of_line(name, line[line.index("'"):]))
-        value = {'NONE': 'None', 'NEWTRUE': 'True', 'NEWFALSE': 'False'}[name]
-        return lambda line: self._push_value(value)
 
     def _push_value(self, text: str) -> None:
         self.stack.append(text if len(text) <= MOST_SHORT else Node.atom(self._made, text))
@@ -350,9 +369,19 @@ class Builder:
         self.stack.append(self.stack[-1])
 
     def _on_put(self, line: str) -> None:
-        key = int(line[line.rindex(' ') + 1:])
-        self._has_gaps = self._has_gaps or key > len(self._memo)
-        self._memo[key] = self.stack[-1]
+        self._store(int(line[line.rindex(' ') + 1:]))
+
+    def _on_memoize(self, line: str) -> None:
+        self._store(len(self._memo) + len(self._far))
+
+    def _store(self, key: int) -> None:
+        """Stores what is on top of the stack."""
+        if key < len(self._memo):
+            self._memo[key] = self.stack[-1]
+        elif key > len(self._memo) or self._far:
+            self._far[key] = self.stack[-1]
+        else:
+            self._memo.append(self.stack[-1])
 
     def _on_stop(self, line: str) -> None:
         result = self._take(self.stack.pop())
@@ -374,27 +403,25 @@ class Builder:
 
     def _take_all(self, entries: List[Entry]) -> List[Node]:
         """Objects are needed. Answers those of them that are nodes."""
-        if len(entries) > _MANY_ENTRIES and set(map(type, entries)) == {str}:
+        if len(entries) > _MANY_ENTRIES and _are_texts(entries):
             return []
         nodes: List[Node] = [entry for entry in entries if type(entry) is not str]  # type: ignore[misc]
+        needed: List[Node] = []
         for node in nodes:
             node.uses += 1
             if not node.is_taken:
                 node.is_taken = True
-                self.events.append(node)
+                needed.append(node)
+        if len(needed) > _MANY_ENTRIES:
+            self.events.append(Needed(needed))
+        else:
+            self.events += needed
         return nodes
 
     def _name_now(self, node: Node) -> None:
         """The object is made here and not later."""
         self._take(node)
         node.uses += 1
-
-    def _maker(self, kind: str, opcode: pickletools.OpcodeInfo) -> _Handler:
-        """A handler for an opcode that makes a container: empty, of what is above the mark, or of the objects on top."""
-        count = taken_count(opcode)
-        if count is None:
-            return lambda line: self._push_container(kind, self._cut())
-        return lambda line: self._push_container(kind, self._last(count)) if count else self._push(Node(kind, self._made, []))
 
     def _last(self, count: int) -> List[Entry]:
         items = self.stack[-count:]
@@ -597,6 +624,15 @@ KINDS = {
     'TUPLE1': 'tuple', 'TUPLE2': 'tuple', 'TUPLE3': 'tuple'}
 
 
+def _are_texts(entries: Sequence[Entry]) -> bool:
+    """Whether all entries are short plain values."""
+    try:
+        ''.join(entries)  # type: ignore[arg-type]
+    except TypeError:
+        return False
+    return True
+
+
 def taken_count(opcode: pickletools.OpcodeInfo) -> Optional[int]:
     """How many objects an opcode takes from the stack. None where it takes all that is above the mark."""
     return None if pickletools.markobject in opcode.stack_before else len(opcode.stack_before)
@@ -619,3 +655,45 @@ def _literal_text(entry: Entry) -> Optional[str]:
 @lru_cache(maxsize=1000)
 def _evaluated(text: str) -> str:
     return str(literal_eval(text))
+
+
+# --- What reads each other opcode, by its code ---
+
+def _handler(opcode: pickletools.OpcodeInfo) -> _Handler:
+    own: Optional[_Handler] = getattr(Builder, f'_on_{opcode.name.lower()}', None)
+    if own is not None:
+        return own
+    form = opcode.arg.name if opcode.arg else ''
+    if opcode.name in KINDS:
+        return _maker(KINDS[opcode.name], opcode)
+    if opcode.name.startswith('EXT'):
+        return Builder._on_extension
+    if opcode.name.endswith('PUT'):
+        return Builder._on_put
+    return _pusher(opcode.name, form)
+
+
+def _pusher(name: str, form: str) -> _Handler:
+    """A handler for an opcode whose argument is a plain value, or that makes one without an argument."""
+    if form in ('long1', 'long4'):
+        return lambda builder, line: builder._push_value(of_integer(line[line.rindex(' ') + 1:]))
+    if form in ('bytes1', 'bytes4', 'bytes8'):
+        return lambda builder, line: builder._push_value(of_bytes(line[line.index("'"):]))
+    if form:
+        return lambda builder, line: builder._push_value(of_line(name, line[line.index("'"):]))
+    value = {'NONE': 'None', 'NEWTRUE': 'True', 'NEWFALSE': 'False'}[name]
+    return lambda builder, line: builder._push_value(value)
+
+
+def _maker(kind: str, opcode: pickletools.OpcodeInfo) -> _Handler:
+    """A handler for an opcode that makes a container: empty, of what is above the mark, or of the objects on top."""
+    count = taken_count(opcode)
+    if count is None:
+        return lambda builder, line: builder._push_container(kind, builder._cut())
+    most: int = count
+    if not most:
+        return lambda builder, line: builder._push(Node(kind, builder._made, []))
+    return lambda builder, line: builder._push_container(kind, builder._last(most))
+
+
+_HANDLERS: Dict[str, _Handler] = {opcode.code: _handler(opcode) for opcode in pickletools.opcodes if opcode.code not in _READ - {_MEMOIZE}}

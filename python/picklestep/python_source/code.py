@@ -61,29 +61,34 @@ def source(pickle: Source, *, full: bool = True, many: bool = False, unframed: b
     result = _3
     <BLANKLINE>
     """
-    builder = Builder()
     with _without_collector(), Input(pickle) as given:
-        listed = Listed(given, modes(many, unframed), timeout, memory)
-        for column, text in listed.batches():
-            builder.read(column, text)
-        return _written(builder, listed, full)
+        return _source(given, full, modes(many, unframed), timeout, memory)
+
+
+def _source(given: Input, full: bool, words: List[str], timeout: Optional[float], memory: Optional[int]) -> PythonSource:
+    builder = Builder()
+    listed = Listed(given, words, timeout, memory)
+    for column, text in listed.batches():
+        builder.read(column, text)
+    return _written(builder, listed, full)
 
 
 def _written(builder: Builder, listed: Listed, full: bool) -> PythonSource:
     """The source of what was built."""
     left: List[Event] = []
-    if not listed.end.is_stopped:
+    end = listed.end(builder.places)
+    if not end.is_stopped:
         left.append(Statement('stack = [' + ', '.join(['{}'] * len(builder.stack)) + ']', builder.leave()))
     writer = Writer(full)
     writer.write(builder.events)
     if left:
-        place = f' at {listed.end.offset}' if listed.refused else ''
-        writer.lines.append(f'# {listed.end.text}{place}: reading ends here, and the stack is')
+        place = f' at {end.offset}' if listed.refused else ''
+        writer.lines.append(f'# {end.text}{place}: reading ends here, and the stack is')
         writer.write(left)
     if listed.kept:
         writer.lines.append(f'# {listed.kept} bytes after STOP are not read')
     head = ''.join(text for need, text in HELPERS.items() if need in builder.needs)
-    return PythonSource(HEAD + head + '\n'.join(writer.lines) + '\n', listed.end, listed.kept)
+    return PythonSource(HEAD + head + '\n'.join(writer.lines) + '\n', end, listed.kept)
 
 
 @contextlib.contextmanager

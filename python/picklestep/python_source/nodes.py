@@ -7,7 +7,7 @@ from typing import Dict, List, Optional, Sequence, Tuple, Union
 
 from .shapes import Part, Shape
 
-__all__ = ['Arguments', 'Called', 'Entry', 'Event', 'Filled', 'Formed', 'Insides', 'Node', 'Paired', 'Statement', 'is_pure']
+__all__ = ['Arguments', 'Called', 'Entry', 'Event', 'Filled', 'Formed', 'Insides', 'Needed', 'Node', 'Paired', 'Statement', 'is_pure']
 
 
 class Node:
@@ -157,5 +157,12 @@ class Insides:
     nodes: Sequence[Formed]
 
 
+@dataclass(frozen=True)
+class Needed:
+    """Some nodes are first needed, one after another."""
+
+    nodes: Sequence[Node]
+
+
 # What comes one after another: a node where it is first needed, and what happens.
-Event = Union[Node, Statement, Called, Filled, Paired, Insides]
+Event = Union[Node, Needed, Statement, Called, Filled, Paired, Insides]

@@ -8,6 +8,7 @@ from __future__ import annotations
 
 import pickletools
 import re
+import sys
 from functools import lru_cache, partial
 from typing import Callable, Dict, Iterator, List, NamedTuple, Optional, Sequence, Tuple, Union
 
@@ -28,6 +29,12 @@ _STORES = frozenset('\x94qp')
 _CONSTANTS = {'N': 'None', '\x88': 'True', '\x89': 'False', ')': '()'}
 _FILLED = {']': 'list', '}': 'dict'}
 _TAKEN = {'a': 1, 's': 2, '\x85': 1, '\x86': 2, '\x87': 3}
+
+# Opcodes whose lines end in their names.
+_BARE = frozenset(_CONSTANTS) | frozenset('(]}as\x85\x86\x87')
+
+# What was taken to the end of a line is never given back, where patterns can say so: it takes half the time.
+_KEEPS = '+' if sys.version_info >= (3, 11) else ''
 
 # A plain value that may be stored, or what comes from the memo; the same, or a tuple of up to three of them; a container of some items.
 _MOST_ITEMS = 64
@@ -210,8 +217,8 @@ class Shape:
             others = [other for other, like in ALIKE.items() if like == code]
             letters = f'[{"".join([code, *others])}]' if others else re.escape(shown)
             at = argument_at(code, column, marks + open_marks) if place in columns else column + 5 + 4 * (marks + open_marks) + len(_NAMES[code])
-            rest = '(.*)' if place in columns else '.*'
-            yield f'(?s:.{{{column}}}){letters}(?s:.{{{at - column - len(shown)}}}){rest}\n'
+            rest = f'(.*{_KEEPS})' if place in columns else '' if code in _BARE else f'.*{_KEEPS}'
+            yield f'(?s:{"." * column}){letters}(?s:{"." * (at - column - len(shown))}){rest}\n'
             open_marks += (code == '(') - (code in 'teu')
 
 

@@ -2,11 +2,13 @@
 
 from __future__ import annotations
 
-from typing import Callable, Dict, Iterable, List, Optional, Sequence, Union
+from itertools import groupby, repeat
+from operator import itemgetter, mod
+from typing import Any, Callable, Dict, Iterable, List, Optional, Sequence, Union
 
 from .names import is_identifier
-from .nodes import Arguments, Called, Entry, Event, Filled, Formed, Insides, Node, Paired, Statement
-from .shapes import BRACKETS, Part
+from .nodes import Arguments, Called, Entry, Event, Filled, Formed, Insides, Needed, Node, Paired, Statement
+from .shapes import BRACKETS, Part, Shape
 
 __all__ = ['COLUMNS', 'MOST_DEPTH', 'MOST_ITEMS', 'MOST_LETTERS', 'Writer']
 
@@ -24,15 +26,11 @@ class Writer:
     def __init__(self, full: bool) -> None:
         self.lines: List[str] = []
         self._full = full
-        self._writers: Dict[type, Callable[..., None]] = {
-            Node: self._place, Formed: self._formed, Insides: self._insides, Statement: self._statement, Called: self._called,
-            Filled: self._filled, Paired: self._paired}
 
     def write(self, events: Iterable[Event]) -> None:
         """Writes what happened, in its order."""
-        writers = self._writers
         for event in events:
-            writers[type(event)](event)
+            _WRITERS[type(event)](self, event)
 
     def _end(self, statement: str, offset: Optional[int], note: str = '') -> None:
         """A statement ends, with its opcode's offset where it reaches out of the pickle."""
@@ -58,6 +56,27 @@ class Writer:
         if len(text) - shape.closing >= COLUMNS or shape.width > MOST_ITEMS:
             text = self._laid_out(shape.part, node.values)
         self._put(node, text, shape.depth)
+
+    def _needed(self, needed: Needed) -> None:
+        shapes = [node.shape if type(node) is Formed and node.opened is None else None for node in needed.nodes]
+        for shape, group in groupby(zip(shapes, needed.nodes), itemgetter(0)):
+            nodes: List[Any] = [node for _, node in group]
+            if shape is None or not self._formed_together(shape, nodes):
+                for node in nodes:
+                    _WRITERS[type(node)](self, node)
+
+    def _formed_together(self, shape: Shape, nodes: Sequence[Formed]) -> bool:
+        """Containers of one shape come to be, unless one of them is not short."""
+        texts = list(map(mod, repeat(shape.form), [node.values for node in nodes]))
+        depth = shape.depth
+        if shape.width > MOST_ITEMS or depth > MOST_DEPTH or max(map(len, texts)) - shape.closing >= COLUMNS:
+            return False
+        for node, text in zip(nodes, texts):
+            if node.uses > 1:
+                self._put(node, text, depth)
+            else:
+                node.text, node.depth = text, depth
+        return True
 
     def _laid_out(self, part: Part, values: Sequence[str]) -> str:
         """A container of plain values, which need not be short."""
@@ -95,11 +114,10 @@ class Writer:
         if not items:
             return _EMPTY.get(kind) or ''.join(BRACKETS[kind])
         shown = items if self._full or len(items) <= MOST_ITEMS else items[:MOST_ITEMS * (2 if kind == 'dict' else 1)]
+        texts: List[str] = shown if are_texts else [entry if type(entry) is str else entry.text for entry in shown]  # type: ignore
         if kind == 'dict':
-            texts = list(map('%s: %s'.__mod__, zip(shown[::2], shown[1::2])))
-        else:
-            texts = list(shown) if are_texts else list(map(str, shown))  # type: ignore[arg-type]
-        if len(shown) < len(items):
+            texts = list(map('%s: %s'.__mod__, zip(texts[::2], texts[1::2])))
+        if len(shown) < len(items):  # (then they are a list of their own)
             texts.append(f'**cut({(len(items) - len(shown)) // 2})' if kind == 'dict' else f'*cut({len(items) - len(shown)})')
         return _bracketed(*BRACKETS[kind], texts, kind == 'tuple')
 
@@ -160,16 +178,26 @@ def _value_of(text: str) -> Union[str, bytes]:
 
 def _bracketed(start: str, end: str, texts: List[str], is_tuple: bool) -> str:
     """Texts in brackets: in one line where that is short."""
-    inner = ', '.join(texts)
     if not texts:
         return start + end
-    if len(inner) + len(start) < COLUMNS and '\n' not in inner:
+    inner = ', '.join(texts) if 2 * len(texts) <= COLUMNS else ''  # (more of them are not short)
+    if inner and len(inner) + len(start) < COLUMNS and '\n' not in inner:
         return f'{start}{inner},{end}' if is_tuple and len(texts) == 1 else start + inner + end
+    return f'{start}\n    ' + ',\n    '.join(_rows(texts)) + f',\n{end}'
+
+
+def _rows(texts: List[str]) -> List[str]:
+    """The rows of texts that are not in one line: some in each where all are short, else one."""
     longest = max(map(len, texts))
-    if longest < COLUMNS // 4 and '\n' not in inner:
+    if longest < COLUMNS // 4:
         count = COLUMNS // (longest + 2)
         rows = list(map(', '.join, zip(*[iter(texts)] * count)))
-        texts = rows + [', '.join(texts[len(rows) * count:])] * (len(texts) % count > 0)
-    elif '\n' in inner:
-        texts = [text.replace('\n', '\n    ') for text in texts]
-    return f'{start}\n    ' + ',\n    '.join(texts) + f',\n{end}'
+        rows += [', '.join(texts[len(rows) * count:])] * (len(texts) % count > 0)
+        if not any('\n' in row for row in rows):
+            return rows
+    return [text.replace('\n', '\n    ') for text in texts] if '\n' in ''.join(texts) else texts
+
+
+_WRITERS: Dict[type, Callable[[Writer, Any], None]] = {
+    Node: Writer._place, Formed: Writer._formed, Needed: Writer._needed, Insides: Writer._insides, Statement: Writer._statement,
+    Called: Writer._called, Filled: Writer._filled, Paired: Writer._paired}

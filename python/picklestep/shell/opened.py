@@ -5,7 +5,7 @@ from __future__ import annotations
 import contextlib
 import re
 from bisect import bisect_left
-from typing import Callable, Iterator, List, NamedTuple, Optional, Sequence, Set, Tuple
+from typing import Any, Callable, Dict, Iterator, List, NamedTuple, Optional, Sequence, Set, Tuple
 
 from ..arguments import ArgumentValue
 from ..comparing import shown_value
@@ -14,7 +14,7 @@ from ..python_source.shapes import BRACKETS
 from ..records import Global, Object, Reach, Ref
 from ..texts import LinesError, object_of
 from ..values import PLAIN_KINDS, kind_value
-from ..view.document import Document, Done
+from ..view.document import Document, Done, places_edited
 from ..view.lines import CODE_BY_NAME, Lines
 from .history import History
 from .later import Later
@@ -38,7 +38,8 @@ class Edit(NamedTuple):
 class Opened(Document):
     """A document whose objects can be described by their values, and that is edited at any place.
 
-    After an edit the pickle is read while the prompt waits for a line: call `settle` before anything else.
+    After an edit the pickle is read while the prompt waits for a line: call `settle` before anything else. What was read before an edit is kept:
+    where that is undone, the pickle is the same again.
     """
 
     _reading: Optional[Later[None]] = None
@@ -46,6 +47,8 @@ class Opened(Document):
     _history: Later[History]
     _edition = 0
     _edited_codes = bytearray()  # the codes of all opcodes, as they are after the edits
+    _known: Optional[Dict[str, Any]] = None  # what was read before the latest change
+    _turn = ''  # the word of that: '' is an edit
 
     # --- The pickle ---
 
@@ -81,12 +84,19 @@ class Opened(Document):
         self.settle()
         return super().content()
 
-    def _changed(self, edits: List[Done], undone: List[Done], back: Callable[[], object]) -> None:
+    def _changed(self, edits: List[Done], undone: List[Done], back: Callable[[], object], turn: str = '') -> None:
         here = self._here
         self._edition += 1
         self._codes = bytes(self._edited_codes)
+        known = self._known if turn == ('redo' if self._turn == 'undo' else 'undo') else None
+        is_kept = len(self.lines.text) + len(self._final.text) <= _MOST_KEPT
+        self._known, self._turn = {name: vars(self)[name] for name in _READ} if is_kept else None, turn
+        if known is not None:
+            self._read_known(known, edits, undone, here)
+            return
 
         def back_and_return() -> None:
+            self._known = None
             self.session.goto(0)
             back()
             self._return(here)
@@ -96,6 +106,15 @@ class Opened(Document):
             self._return(here)
             Document._changed(self, edits, undone, back_and_return)
         self._reading = Later(read)
+
+    def _read_known(self, known: Dict[str, Any], edits: List[Done], undone: List[Done], here: int) -> None:
+        """The pickle is again what it was as this was read."""
+        version, has_content = self.version + 1, known['_content'][0] == known['version']
+        vars(self).update(known)
+        self._edits, self._undone, self.edited, self._heap = edits, undone, places_edited(edits), None
+        self.version, self._content = version, (version if has_content else 0, self._content[1])
+        self._reading = Later(lambda: self._return(here))
+        self._follow()
 
     @property
     def final_text(self) -> bytearray:
@@ -273,7 +292,7 @@ class Opened(Document):
         count, turned = len(edits), list(edits)
         left, more = (self._undone[:-count], self._edits) if is_redo else (self._edits[:-count], self._undone)
         lists = ([*more, *turned], left) if is_redo else (left, [*more, *turned])
-        self._changed(*lists, lambda: [back() for _ in edits])
+        self._changed(*lists, lambda: [back() for _ in edits], 'redo' if is_redo else 'undo')
         return edits
 
     @property
@@ -352,6 +371,10 @@ class Opened(Document):
         return self.described(name, 0) + ('.__new__' if made.kind.startswith('new') else '') + self._inside(numbers, depth, _CALL)
 
 
+# What is read of a pickle.
+_READ = ('lines', '_final', 'reaches', 'listed', '_makers', '_content', 'version')
+# Of at most so many bytes of lines it is kept.
+_MOST_KEPT = 1 << 28
 _MOST_LINE = 400
 _CALL = '(', ')'
 _FRAME = CODE_BY_NAME['FRAME']

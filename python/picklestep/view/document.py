@@ -19,7 +19,7 @@ from ..tasks import modes
 from ..texts import as_made, broken_places, held_in, holding
 from .lines import Lines, add_items, cut_text, lines_of, read_all, silent
 
-__all__ = ['Document', 'Done', 'Fields']
+__all__ = ['Document', 'Done', 'Fields', 'places_edited']
 
 Fields = Dict[str, Any]
 
@@ -178,7 +178,7 @@ class Document:
             self._read_from(self.session._input)
         self.version += 1
         self._heap: Optional[Lines] = None
-        self.edited = _edited(self._edits)
+        self.edited = places_edited(self._edits)
         if self._has_breaks:
             self.breaks = broken_places(self.session.items().text)
 
@@ -485,7 +485,7 @@ def _last(answer: str) -> Fields:
     return {'words': shown, 'more': first.count(' ')}
 
 
-def _edited(edits: List[Done]) -> Set[int]:
+def places_edited(edits: List[Done]) -> Set[int]:
     """The places that edits touched, each where it is after those that came later."""
     places: Set[int] = set()
     for what, at, *_ in edits:

@@ -8,7 +8,7 @@ import pickletools
 from array import array
 from bisect import bisect_left, bisect_right
 from itertools import accumulate, islice
-from typing import Callable, Dict, Iterator, List, Optional, Sequence, Tuple
+from typing import Any, Callable, Dict, Generator, Iterator, List, Optional, Sequence, Tuple
 
 from ..errors import ProgramError
 from ..listed import in_columns
@@ -53,7 +53,7 @@ class Lines:
         text, known = self.text, len(self._ended) - 1
         counts = (text.count(b'\n', at, at + _PIECE) for at in range(known * _PIECE, len(text) - _PIECE + 1, _PIECE))
         self._ended.extend(islice(accumulate(counts, initial=self._ended[-1]), 1, None))
-        self._count += lines.count(b'\n')
+        self._count = self._ended[-1] + text.count(b'\n', (len(self._ended) - 1) * _PIECE)
 
     def drop_last(self) -> str:
         """Takes the last line out, and answers it."""
@@ -166,7 +166,7 @@ class _Cutter:
         self._into.add(_cut(bytes(self._head), self._length - len(self._head)) + b'\n')
         if end:
             lines = others[:end]
-            if any(lines.find(b'\n', at, at + CUT // 2) < 0 for at in range(0, len(lines), CUT // 2)):  # (else no line is so long)
+            if b"'" in lines and _has_long(lines):
                 lines = b'\n'.join(map(_cut, lines.split(b'\n')))
             self._into.add(lines)
         self._head, self._length = bytearray(), 0
@@ -180,6 +180,16 @@ class _Cutter:
         if quote >= 0 and len(self._head) > 4 * _BLOCK:
             last = self._head.rfind(b"'")
             del self._head[CUT:last if last > CUT else len(self._head) - _BLOCK]
+
+
+def _has_long(lines: bytes) -> bool:
+    """Whether one of some lines is to be cut, perhaps."""
+    begin, end = 0, len(lines)
+    while begin + CUT < end:
+        begin = lines.rfind(b'\n', begin, begin + CUT) + 1
+        if not begin:
+            return True
+    return False
 
 
 def _cut(line: bytes, dropped: int = 0, most: int = CUT) -> bytes:
@@ -203,16 +213,35 @@ def cut_text(text: str, most: int) -> str:
     return _cut(text.encode('ascii'), most=most).decode('ascii') if len(text) > most else text
 
 
+# What is read of a program that may be working meanwhile. Its answer comes at the end.
+_Reading = Generator[None, None, Any]
+
+
+def _in_turns(readings: Sequence[_Reading]) -> List[Any]:
+    """Goes on with each in turn, so that the programs work side by side, and gives their answers."""
+    answers: List[Any] = [None] * len(readings)
+    left = dict(enumerate(readings))
+    while left:
+        for number, reading in list(left.items()):
+            try:
+                next(reading)
+            except StopIteration as end:
+                answers[number] = end.value
+                del left[number]
+    return answers
+
+
 def silent(text: str) -> None:
     """Says nothing of how far it is."""
 
 
-def _read(into: Lines, process: Process, told: Callable[[str], None] = silent, word: str = '') -> None:
-    """Reads all that the program answers, and says to `told` how far it is."""
+def _read(into: Lines, process: Process, told: Callable[[str], None] = silent, word: str = '') -> _Reading:
+    """Reads all that the program answers, a block each time that it goes on, and says to `told` how far it is."""
     cutter = _Cutter(into)
     for block in process.blocks():
         cutter.feed(block)
         told(f'{word}: {len(into):,} lines')
+        yield
 
 
 def read_all(given: Input, options: Sequence[str] = (), told: Callable[[str], None] = silent,
@@ -228,22 +257,27 @@ def read_all(given: Input, options: Sequence[str] = (), told: Callable[[str], No
             process = Process([*words, given.path], given.files)
             running.callback(process.close)
             return process
-        started = map(start, [*tasks, of_calls] if is_framed else tasks)  # (it starts each where it is asked for)
-        processes = iter(list(started)) if os.stat(given.path).st_size <= _MOST_AT_ONCE else started
-        listing = _read_listing(next(processes), OpcodeLines(codes), told, os.stat(given.path).st_size)
-        objects = _read_objects(next(processes), told)
-        told('calls ..')
-        holes = running.enter_context(left_out(() if is_framed else frames_in(listing.text)))
-        calls, is_part = _read_calls(next(processes) if is_framed else start([*of_calls, *holes]))
+        size = os.stat(given.path).st_size
+        asked: List[Callable[[], _Reading]] = [
+            lambda: _read_listing(start(tasks[0]), OpcodeLines(codes), told, size), lambda: _read_objects(start(tasks[1]), told)]
+        if is_framed:
+            asked.append(lambda: _read_calls(start(of_calls)))
+        readings = (ask() for ask in asked)  # (it starts each where it is asked for)
+        listing, objects, *found = _in_turns(list(readings)) if size <= _MOST_AT_ONCE else [_in_turns([reading])[0] for reading in readings]
+        if not is_framed:
+            told('calls ..')
+            holes = running.enter_context(left_out(frames_in(listing.text)))
+            found = _in_turns([_read_calls(start([*of_calls, *holes]))])
+        calls, is_part = found[0]
     return listing, objects, calls, is_part
 
 
-def _read_listing(process: Process, listing: OpcodeLines, told: Callable[[str], None], size: int) -> OpcodeLines:
+def _read_listing(process: Process, listing: OpcodeLines, told: Callable[[str], None], size: int) -> _Reading:
     def check(text: str) -> None:
         if listing.whole > 4 * size + _MOST_LINE * len(listing) + _MOST_DEEP:  # (a byte of a text has up to four letters)
             raise ProgramError('too many marks are open at once to be shown')
         told(text)
-    _read(listing, process, check, 'list')
+    yield from _read(listing, process, check, 'list')
     while len(listing) and not begins_with_offset(listing.raw(len(listing) - 1)):
         listing.closing.insert(0, listing.drop_last())
     if not listing.closing:
@@ -256,13 +290,14 @@ def _read_listing(process: Process, listing: OpcodeLines, told: Callable[[str], 
     return listing
 
 
-def _read_calls(process: Process) -> Tuple[str, bool]:
+def _read_calls(process: Process) -> _Reading:
     """The text of `calls`, or its first lines where these are very long, and whether it is cut so."""
     text = bytearray()
     for block in process.blocks():
         text += block
         if len(text) > _MOST_CALLS:
             return text[:text.rfind(b'\n') + 1].decode('ascii'), True
+        yield
     return text.decode('ascii'), False
 
 
@@ -271,7 +306,7 @@ def add_items(listing: OpcodeLines, given: Input, options: Sequence[str] = ()) -
     items = Lines()
     with contextlib.closing(Process(['debug', *options, given.path], given.files, stdin=True)) as process:
         os.write(process.stdin, b'items\nquit\n')
-        _read(items, process)
+        _in_turns([_read(items, process)])
     added = []
     for item in islice(items.all(), len(listing), None):
         line = item_line_of(item.decode('ascii'))
@@ -281,9 +316,9 @@ def add_items(listing: OpcodeLines, given: Input, options: Sequence[str] = ()) -
         listing.add(b''.join(added))
 
 
-def _read_objects(process: Process, told: Callable[[str], None]) -> Lines:
+def _read_objects(process: Process, told: Callable[[str], None]) -> _Reading:
     objects = Lines()
-    _read(objects, process, told, 'objects')
+    yield from _read(objects, process, told, 'objects')
     while len(objects) and objects.text[objects.start(len(objects) - 1)] != ord('#'):
         objects.drop_last()
     return objects
