@@ -51,10 +51,12 @@ class TooCrooked(PicklestepError):
 
 @dataclass(frozen=True)
 class Mended:
-    """A pickle that reads to its STOP, and what was done to it, a line each. There are none where it was whole."""
+    """A pickle that reads to its STOP, and what was done to it, a line each. There are none where it was whole. `kept` is how many bytes come after
+    its STOP, which stay as they are and were not read."""
 
     content: bytes
     steps: Tuple[str, ...]
+    kept: int = 0
 
 
 def mended(source: Source) -> Mended:
@@ -74,9 +76,9 @@ def mended(source: Source) -> Mended:
     steps: List[str] = []
     is_cut = False
     for _ in range(_MOST_ROUNDS):
-        end = _ending(content)
+        end, read = _ending(content)
         if end.code is None or end.offset is None:
-            return Mended(_closed(content, steps) if is_cut else content, tuple(steps))
+            return Mended(_closed(content, steps) if is_cut else content, tuple(steps), len(content) - read)
         code, offset, text = end.code, end.offset, end.text
         if code in _OF_FRAMES:
             content = _without_frame(content, offset, text, code == 'F8', steps)
@@ -87,12 +89,12 @@ def mended(source: Source) -> Mended:
     raise TooCrooked(f'it has more than {_MOST_ROUNDS} faults')
 
 
-def _ending(content: bytes) -> End:
-    """How reading ends. (A listing would say so, too, but has four blanks for each open mark in each line.)"""
+def _ending(content: bytes) -> Tuple[End, int]:
+    """How reading ends, and at which offset. (A listing would say so, too, but has four blanks for each open mark in each line.)"""
     with Session(content) as session:
         text = _run(session)
         where = session.where()
-        return End('refused', text.partition(' ')[0], text, where.offset, where.place) if text else where.end
+        return End('refused', text.partition(' ')[0], text, where.offset, where.place) if text else where.end, where.offset
 
 
 def _run(session: Session) -> str:

@@ -13,7 +13,7 @@ from . import library
 from .answers import Calls, Listing, Objects
 from .errors import ProgramError
 from .listed import TooDeep, bounded
-from .program import Process
+from .program import Process, run_program
 from .records import OtherForm
 from .sources import Input, Source, small_content
 from .texts import MOST_OFFSET, OFFSET_IN_BYTES, frames_in, other_form, where_of
@@ -166,11 +166,12 @@ class _Asked:
         """What the program writes about it with these words."""
         answer = self._in_process(words)
         if answer is None:
+            given = self._given()
             self._begun = time.monotonic()
             if words[0] == 'list':
-                answer = b''.join(bounded(self._process(words).blocks(self._timeout), self._given().size()))
+                answer = b''.join(bounded(self._process(words).blocks(self._timeout), given.size()))
             else:
-                answer = self._process(words).communicate(None, self._timeout)
+                answer = run_program([words[0], given.path, *words[1:]], given.files, timeout=self._timeout, memory=self._memory)
         if not answer.endswith(b'\n'):
             raise ProgramError('the program gave no whole answer')
         return answer.decode('ascii')
@@ -183,16 +184,17 @@ class _Asked:
             blocks = [answer] if answer is not None else bounded(self._process(['list', *words]).blocks(self._left()), self._given().size())
             return _last_offset(blocks)
         except TooDeep:
-            told = self._process(['debug', *words], stdin=True).communicate(b'run\nwhere\n', self._left())
+            given = self._given()
+            told = run_program(['debug', given.path, *words], given.files, b'run\nwhere\n', self._left(), self._memory)
             return where_of(told.decode('ascii').splitlines()[-1]).offset
 
     def _left(self) -> Optional[float]:
         """The time that is left, in seconds."""
         return None if self._timeout is None else max(0.0, self._timeout - (time.monotonic() - self._begun))
 
-    def _process(self, words: List[str], stdin: bool = False) -> Process:
+    def _process(self, words: List[str]) -> Process:
         given = self._given()
-        return Process([words[0], given.path, *words[1:]], given.files, self._memory, stdin)
+        return Process([words[0], given.path, *words[1:]], given.files, self._memory)
 
     def _in_process(self, words: List[str]) -> Optional[bytes]:
         return None if self._content is None else library.answer(words, self._content, self._memory)

@@ -8,10 +8,10 @@ import pickletools
 from array import array
 from bisect import bisect_left, bisect_right
 from itertools import accumulate, islice
-from typing import Callable, Dict, Iterator, List, Optional, Sequence, Tuple
+from typing import Callable, Dict, Iterable, Iterator, List, Optional, Sequence, Tuple
 
 from ..errors import ProgramError
-from ..listed import in_columns
+from ..listed import bounded, in_columns
 from ..program import Process
 from ..sources import Input
 from ..tasks import left_out
@@ -23,9 +23,6 @@ __all__ = ['CODE_BY_NAME', 'CUT', 'Line', 'Lines', 'OpcodeLines', 'add_items', '
 CUT = 500
 _BLOCK = 1 << 20
 _PIECE = 1 << 11
-# So many bytes has a line besides texts and the blanks for open marks, and so many all these blanks.
-_MOST_LINE = 100
-_MOST_DEEP = 1 << 28
 # So many bytes are read of `calls`, in which a long name may stand again and again.
 _MOST_CALLS = 1 << 26
 # An input of at most so many bytes is read by three runs of the program at once.
@@ -217,10 +214,10 @@ def silent(text: str) -> None:
     """Says nothing of how far it is."""
 
 
-def _read(into: Lines, process: Process, told: Callable[[str], None] = silent, word: str = '') -> None:
+def _read(into: Lines, blocks: Iterable[bytes], told: Callable[[str], None] = silent, word: str = '') -> None:
     """Reads all that the program answers, and says to `told` how far it is."""
     cutter = _Cutter(into)
-    for block in process.blocks():
+    for block in blocks:
         cutter.feed(block)
         told(f'{word}: {len(into):,} lines')
 
@@ -249,11 +246,7 @@ def read_all(given: Input, options: Sequence[str] = (), told: Callable[[str], No
 
 
 def _read_listing(process: Process, listing: OpcodeLines, told: Callable[[str], None], size: int) -> OpcodeLines:
-    def check(text: str) -> None:
-        if listing.whole > 4 * size + _MOST_LINE * len(listing) + _MOST_DEEP:  # (a byte of a text has up to four letters)
-            raise ProgramError('too many marks are open at once to be shown')
-        told(text)
-    _read(listing, process, check, 'list')
+    _read(listing, bounded(process.blocks(), size), told, 'list')
     while len(listing) and not begins_with_offset(listing.raw(len(listing) - 1)):
         listing.closing.insert(0, listing.drop_last())
     if not listing.closing:
@@ -281,7 +274,7 @@ def add_items(listing: OpcodeLines, given: Input, options: Sequence[str] = ()) -
     items = Lines()
     with contextlib.closing(Process(['debug', *options, given.path], given.files, stdin=True)) as process:
         os.write(process.stdin, b'items\nquit\n')
-        _read(items, process)
+        _read(items, process.blocks())
     begin = items.start(min(len(listing), len(items)))
     while begin < len(items.text):
         end = items.text.find(b'\n', begin + _BLOCK) + 1 or len(items.text)
@@ -292,7 +285,7 @@ def add_items(listing: OpcodeLines, given: Input, options: Sequence[str] = ()) -
 
 def _read_objects(process: Process, told: Callable[[str], None]) -> Lines:
     objects = Lines()
-    _read(objects, process, told, 'objects')
+    _read(objects, process.blocks(), told, 'objects')
     while len(objects) and objects.text[objects.start(len(objects) - 1)] != ord('#'):
         objects.drop_last()
     return objects
