@@ -6,7 +6,7 @@ lines whose offsets have as many digits begin their codes in the same column, so
 
 from __future__ import annotations
 
-from typing import AnyStr, Dict, Iterator, List, Optional, Sequence, Tuple
+from typing import AnyStr, Dict, Iterable, Iterator, List, Optional, Sequence, Tuple
 
 from .errors import ProgramError
 from .program import Process
@@ -14,7 +14,32 @@ from .records import End
 from .sources import Input
 from .texts import end_of
 
-__all__ = ['Listed', 'in_columns', 'offset_of']
+__all__ = ['Listed', 'TooDeep', 'bounded', 'in_columns', 'offset_of']
+
+# So many bytes has a line besides texts and the blanks for open marks, and so many all these blanks.
+_MOST_LINE = 100
+_MOST_DEEP = 1 << 28
+
+
+class TooDeep(ProgramError):
+    """A listing that is hardly more than blanks: there are four for each open mark in each line."""
+
+    def __init__(self) -> None:
+        super().__init__('too many marks are open at once to be shown')
+
+
+def bounded(blocks: Iterable[bytes], size: int) -> Iterator[bytes]:
+    """The blocks of a listing as they come, of an input of so many bytes. Raises TooDeep where too much of them is blanks for open marks.
+
+    >>> sum(map(len, bounded([b'    0: N    NONE\\n', b'    1: .    STOP\\n'], 2)))
+    34
+    """
+    left = 4 * size + _MOST_DEEP  # (a byte of a text has up to four letters)
+    for block in blocks:
+        left += _MOST_LINE * block.count(b'\n') - len(block)
+        if left < 0:
+            raise TooDeep
+        yield block
 
 
 class Listed:
@@ -25,7 +50,7 @@ class Listed:
 
     def __init__(self, given: Input, words: Sequence[str] = (), timeout: Optional[float] = None, memory: Optional[int] = None) -> None:
         """Starts a listing; `words` say how the input is read."""
-        self._blocks = Process(['list', given.path, *words], given.files, memory).blocks(timeout)
+        self._blocks = bounded(Process(['list', given.path, *words], given.files, memory).blocks(timeout), given.size())
         self._many = '--many' in words
         self._closing: Dict[str, str] = {}
         self._is_whole = False

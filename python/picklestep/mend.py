@@ -16,11 +16,11 @@ __all__ = ['main']
 
 
 def main(arguments: List[str]) -> int:
-    """Writes a line for each edit, and saves the result. The status is 0 where the pickle was whole, 1 where it was mended, 2 where there is
-    no result."""
+    """Writes a line for each edit, and saves the result. The status is 0 where the pickle was whole, 1 where it was mended or is followed by what
+    was not read, 2 where there is no result."""
     parser = argparse.ArgumentParser(
         prog='picklestep mend', description='Makes a pickle that reads to its STOP of one that is cut off or damaged; nothing of it is run.',
-        epilog='Status: 0 if the pickle was whole, 1 if it was mended, 2 if there is no result.')
+        epilog='Status: 0 if the pickle was whole, 1 if it was mended or bytes after it were not read, 2 if there is no result.')
     parser.add_argument('file', metavar='FILE', help='the pickle, which stays as it is')
     parser.add_argument('out', metavar='OUT', nargs='?', help='write the result to this file, which cannot be FILE')
     parser.add_argument('--save', metavar='OUT', help='the same')
@@ -33,7 +33,8 @@ def main(arguments: List[str]) -> int:
         return 2
     try:
         answer = mended(options.file)
-        print_text(''.join(f'{step}\n' for step in answer.steps) or 'it is whole\n')
+        kept = (f'{answer.kept} bytes after STOP are not read (try --many)',) if answer.kept else ()
+        print_text(''.join(f'{step}\n' for step in (*answer.steps, *kept)) or 'it is whole\n')
         if out is not None:
             with Session(answer.content) as session:
                 session.save(out)
@@ -41,7 +42,7 @@ def main(arguments: List[str]) -> int:
     except (OSError, PicklestepError) as error:
         print(f'picklestep: {reason(error)}', file=sys.stderr)
         return 2
-    return 1 if answer.steps else 0
+    return 1 if answer.steps or answer.kept else 0
 
 
 def _is_same(file: str, out: Optional[str]) -> bool:

@@ -9,15 +9,17 @@ The edits are those of a session, so it is the proved program that makes them an
 
 from __future__ import annotations
 
+import pickletools
 from dataclasses import dataclass
-from typing import List, Optional, Tuple
+from itertools import islice
+from typing import Dict, List, Optional, Set, Tuple
 
 from .answers import Heap
-from .errors import PicklestepError
-from .records import Mark, Object
+from .errors import PicklestepError, Refused
+from .program import run_program
+from .records import End, Mark, Object
 from .session import Session
-from .sources import Source, content_of
-from .tasks import ending, listing
+from .sources import Input, OwnFile, Source, content_of
 from .texts import FRAME_SIZE
 
 __all__ = ['Mended', 'TooCrooked', 'mended']
@@ -35,7 +37,8 @@ _OF_FRAMES = ('F6', 'F7', 'F8')
 _OF_PROTOCOL = 'S6'
 _HIGHEST = 5
 _OF_PROTO = 2
-_PROTO_SIZE = 2
+_PROTO, _PROTO_SIZE = b'\x80', 2
+_PROTOCOLS: Dict[str, int] = {opcode.name: opcode.proto for opcode in pickletools.opcodes}
 
 _UNHASHABLE = ('list', 'dict', 'set', 'bytearray')
 _FILLERS = {'list': 'APPENDS', 'set': 'ADDITEMS', 'dict': 'SETITEMS', 'append': 'APPENDS', 'add': 'ADDITEMS', 'set in': 'SETITEMS'}
@@ -48,10 +51,12 @@ class TooCrooked(PicklestepError):
 
 @dataclass(frozen=True)
 class Mended:
-    """A pickle that reads to its STOP, and what was done to it, a line each. There are none where it was whole."""
+    """A pickle that reads to its STOP, and what was done to it, a line each. There are none where it was whole. `kept` is how many bytes come after
+    its STOP, which stay as they are and were not read."""
 
     content: bytes
     steps: Tuple[str, ...]
+    kept: int = 0
 
 
 def mended(source: Source) -> Mended:
@@ -71,9 +76,9 @@ def mended(source: Source) -> Mended:
     steps: List[str] = []
     is_cut = False
     for _ in range(_MOST_ROUNDS):
-        end = ending(content)
+        end, read = _ending(content)
         if end.code is None or end.offset is None:
-            return Mended(_closed(content, steps) if is_cut else content, tuple(steps))
+            return Mended(_closed(content, steps) if is_cut else content, tuple(steps), len(content) - read)
         code, offset, text = end.code, end.offset, end.text
         if code in _OF_FRAMES:
             content = _without_frame(content, offset, text, code == 'F8', steps)
@@ -84,10 +89,30 @@ def mended(source: Source) -> Mended:
     raise TooCrooked(f'it has more than {_MOST_ROUNDS} faults')
 
 
+def _ending(content: bytes) -> Tuple[End, int]:
+    """How reading ends, and at which offset. (A listing would say so, too, but has four blanks for each open mark in each line.)"""
+    with Session(content) as session:
+        text = _run(session)
+        where = session.where()
+        return End('refused', text.partition(' ')[0], text, where.offset, where.place) if text else where.end, where.offset
+
+
+def _run(session: Session) -> str:
+    """Runs to the end, or to an opcode that is refused: then it answers why."""
+    try:
+        ran = session.run()
+    except Refused as error:  # (it is the first one)
+        return error.text.partition(': ')[2]
+    return '' if ran.why == 'end' else ran.text.partition(', ')[2]
+
+
 def _with_protocol(content: bytes, offset: int, text: str, steps: List[str]) -> bytes:
     """The bytes with a PROTO that loaders know: of the protocol that the opcodes need. (Without one, names would be those of Python 2.)"""
     known = content[:offset + 1] + bytes([_HIGHEST]) + content[offset + _PROTO_SIZE:]
-    protocol = listing(known).protocol or _OF_PROTO
+    with Session(known) as session:
+        _run(session)
+        names = {item.name for item in islice(session.items(), session.where().place)}
+    protocol = max([_PROTOCOLS[name] for name in names - {'PROTO'}] + [_OF_PROTO])
     steps.append(f'{offset}: PROTO {content[offset + 1]} replaced by PROTO {protocol}: {text}')
     return content[:offset + 1] + bytes([protocol]) + content[offset + _PROTO_SIZE:]
 
@@ -95,8 +120,9 @@ def _with_protocol(content: bytes, offset: int, text: str, steps: List[str]) -> 
 def _without_frame(content: bytes, offset: int, text: str, is_crossed: bool, steps: List[str]) -> bytes:
     """The bytes without the FRAME that does not fit: the one at an offset, or the last before it, which an opcode crosses."""
     if is_crossed:
-        lines = listing(content)
-        offset = next(opcode.offset for opcode in map(lines.__getitem__, range(len(lines) - 1, -1, -1)) if opcode.name == 'FRAME')
+        with Session(content) as session:
+            items = session.items()
+        offset = next(item.offset for item in map(items.__getitem__, range(len(items) - 1, -1, -1)) if item.name == 'FRAME')
     length = int.from_bytes(content[offset + 1:offset + FRAME_SIZE], 'little')
     steps.append(f'{offset}: FRAME {length} taken away: {text}')
     return content[:offset] + content[offset + FRAME_SIZE:]
@@ -114,23 +140,25 @@ def _cut(content: bytes, offset: int, text: str, steps: List[str]) -> bytes:
 def _closed(content: bytes, steps: List[str]) -> bytes:
     """A pickle that ends in NONE and STOP which were added, with what was under way closed."""
     with Session(content) as session:
-        place = session.where().places - 2
-        session.goto(place)
-        closing = _Closing(session, place, steps)
-        if closing.close():
-            session.delete(closing.place)
-        ran = session.run()
-        if ran.why != 'end':
-            raise PicklestepError(f'what was under way cannot be closed: {ran.text}')
-        return session.bytes()
+        session.goto(session.where().places - 2)
+        closing = _Closing(session, content[:1] == _PROTO, steps)
+    if closing.close():
+        closing.script.append(f'delete {closing.place}')
+    with Input(content) as given, OwnFile() as made:
+        script = ''.join(f'{line}\n' for line in (*closing.script, 'run'))
+        told = run_program(['debug', given.path, '--save', made.path], [*given.files, *made.files], script.encode('ascii')).decode('ascii').splitlines()
+        if not told[-1].partition(': ')[2].startswith('end,') or any(line.startswith('refused') for line in told):
+            raise PicklestepError(f'what was under way cannot be closed: {told[-1]}')
+        return made.content()
 
 
 class _Closing:
-    """Closes what is under way before the NONE at a place."""
+    """Closes what is under way before the NONE at the cursor. `script` has the edits, as lines of a session: there may be as many as open marks."""
 
-    def __init__(self, session: Session, place: int, steps: List[str]) -> None:
-        self.session = session
-        self.place = place
+    def __init__(self, session: Session, has_proto: bool, steps: List[str]) -> None:
+        where = session.where()
+        self.script: List[str] = []
+        self.place = where.place
         self.steps = steps
         self.heap: Heap = session.objects()
         # What is on the stack, from the bottom: the numbers of objects, cut at the marks.
@@ -141,6 +169,10 @@ class _Closing:
             else:
                 self.sections[-1].append(entry.number)
         self.added: List[Object] = []  # (the numbers of these come after those of the heap)
+        self._has_proto = has_proto
+        self._offset = where.offset
+        self._fillers: Dict[int, Tuple[Optional[str], str]] = {}
+        self._keys: Set[int] = set()  # objects that can be keys
 
     def close(self) -> bool:
         """Answers whether one object is on the stack then; else there is none."""
@@ -150,7 +182,7 @@ class _Closing:
         if len(bottom) > 1:
             self._gather(len(bottom))
         elif not bottom:
-            self.steps.append(f'{self.session.where().offset}: NONE added: nothing was built')
+            self.steps.append(f'{self._offset}: NONE added: nothing was built')
         return bool(bottom)
 
     # --- What stands above a mark ---
@@ -168,10 +200,14 @@ class _Closing:
 
     def _filler(self, number: int) -> Tuple[Optional[str], str]:
         """The opcode by which a pickler fills the object below a mark. None where that is no container."""
-        made = self._object(number)
+        if number not in self._fillers:
+            self._fillers[number] = self._filler_of(self._object(number))
+        return self._fillers[number]
+
+    def _filler_of(self, made: Object) -> Tuple[Optional[str], str]:
         ways = [change.how if change.key is None else 'set in' for change in made.changes if change.how in ('append', 'add', 'set')]
         way = made.kind if made.kind in ('list', 'set', 'dict') else ways[-1] if ways else ''
-        return _FILLERS.get(way), f'{made.kind} #{number}'
+        return _FILLERS.get(way), f'{made.kind} #{made.number}'
 
     def _fill(self, items: List[int], filler: str, target: str) -> None:
         kept = len(items)
@@ -193,23 +229,21 @@ class _Closing:
         if count in _TUPLES:
             self._add(_TUPLES[count], f'{_objects(count)} on the stack')
             return
-        self.session.goto(0)
-        first = 1 if self.session.items()[0].name == 'PROTO' else 0
-        self.session.insert(first, 'MARK')
+        first = 1 if self._has_proto else 0
+        self.script.append(f'insert {first} MARK')
         self.place += 1
-        self.session.goto(self.place)
-        self.steps.append(f'{self.session.items()[first].offset}: MARK added')
+        self._offset += 1
+        self.steps.append(f'{first * _PROTO_SIZE}: MARK added')
         self._add('TUPLE', f'{_objects(count)} on the stack')
 
     # --- Edits and objects ---
 
     def _add(self, name: str, why: str) -> None:
-        """Puts an opcode behind all that was built."""
-        offset = self.session.where().offset
-        self.session.insert(self.place, name)
-        self.session.step()
+        """Puts an opcode, which is a byte alone, behind all that was built."""
+        self.script.append(f'insert {self.place} {name}')
+        self.steps.append(f'{self._offset}: {name} added: {why}')
         self.place += 1
-        self.steps.append(f'{offset}: {name} added: {why}')
+        self._offset += 1
 
     def _new(self, items: List[int]) -> int:
         """The number of the tuple of these items that was made last."""
@@ -223,15 +257,18 @@ class _Closing:
 
     def _can_be_key(self, number: int) -> bool:
         """Whether an object can be a key or a member of a set, as far as the pickle shows it."""
-        waiting = [number]
+        waiting, seen = [number], {number}
         for _ in range(_MOST_LOOKED_AT):
             if not waiting:
+                self._keys |= seen
                 return True
             made = self._object(waiting.pop())
             if made.kind in _UNHASHABLE:
                 return False
             if made.kind in ('tuple', 'frozenset'):
-                waiting.extend(made.parts)
+                new = set(made.parts) - self._keys - seen
+                seen |= new
+                waiting.extend(new)
         return False
 
 

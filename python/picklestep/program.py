@@ -41,12 +41,19 @@ _HAS_LIFELINES = hasattr(fcntl, 'F_SETSIG')
 _LIMITED = ['/bin/sh', '-c', 'ulimit -v "$1" && shift && exec "$@"', 'sh']
 
 
+# No program starts in so little memory: the system ends it by a signal.
+_OF_PROGRAM = 1 << 20
+_WORDS = 'out of memory'
+
+
 def _command(words: Sequence[str], memory: Optional[int]) -> Tuple[List[str], Optional[Dict[str, str]]]:
     """The command that runs the program on these words, with at most this many bytes of memory, and its environment if that is another."""
     program = find_program()
     command = [*program_words(program), *words]
     if memory is None:
         return command, None
+    if memory <= _OF_PROGRAM:
+        raise OutOfMemory(_WORDS)
     if is_module(program):
         return command, {**os.environ, 'PICKLESTEP_MEMORY': str(memory)}
     return [*_LIMITED, str(max(1, memory // 1024)), *command], None
@@ -63,6 +70,7 @@ class Process:
                  command: Optional[List[str]] = None) -> None:
         """`command` starts something else than the program on these words."""
         command, environment = _command(words, memory) if command is None else (command, None)
+        self._is_limited = memory is not None
         self._is_open = False
         self._timed_out = False
         near, self._lifeline = os.pipe() if _HAS_LIFELINES else (-1, -1)
@@ -122,7 +130,7 @@ class Process:
         finally:
             self.close()
         if self._popen.returncode not in (0, 1):
-            _raise_failure(self._popen.returncode, errors)
+            _raise_failure(self._popen.returncode, errors, self._is_limited)
         return bytes(output)
 
     def blocks(self, timeout: Optional[float] = None) -> Generator[bytes, None, None]:
@@ -146,7 +154,7 @@ class Process:
         finally:
             self.close()
         if self._popen.returncode not in (0, 1):
-            _raise_failure(self._popen.returncode, errors)
+            _raise_failure(self._popen.returncode, errors, self._is_limited)
 
     @contextlib.contextmanager
     def waiting(self, file: int, deadline: Optional[float], writes: bool = False) -> Iterator[None]:
@@ -184,7 +192,7 @@ class Process:
         except subprocess.TimeoutExpired:
             output = (b'', b'')
         self.close()
-        _raise_failure(self._popen.returncode, output[1])
+        _raise_failure(self._popen.returncode, output[1], self._is_limited)
 
     def close(self) -> None:
         """Ends the program, where it runs."""
@@ -226,17 +234,19 @@ def _widen(pipe: int) -> None:
         fcntl.fcntl(pipe, fcntl.F_SETPIPE_SZ, _BLOCK)
 
 
-def _raise_failure(status: int, errors: bytes) -> NoReturn:
-    """Raises why a run failed, by its status and by what it wrote on standard error."""
+def _raise_failure(status: int, errors: bytes, is_limited: bool) -> NoReturn:
+    """Raises why a run failed, by its status and by what it wrote on standard error. Where its memory is limited, its stack may not grow either."""
     words = errors.decode('utf-8', 'replace').strip()
     if words.startswith('picklestep: '):
         words = words[len('picklestep: '):]
+    if status == -signal.SIGSEGV and is_limited:
+        raise OutOfMemory(_WORDS, signal=-status)
     if status < 0:
         raise ProgramError(words or f'ended by signal {-status}', signal=-status)
     if words == 'too large':
         raise TooLarge(words, status)
-    if words == 'out of memory' or any(loader in words for loader in _OUT_OF_MEMORY):
-        raise OutOfMemory(words, status)
+    if words == _WORDS or any(loader in words for loader in _OUT_OF_MEMORY):
+        raise OutOfMemory(_WORDS, status)
     raise ProgramError(words or f'ended with status {status}', status)
 
 

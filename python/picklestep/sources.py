@@ -77,6 +77,11 @@ class Input:
         content = os.pread(self._own.descriptor, most + 1, 0)
         return content if len(content) <= most else None
 
+    def size(self) -> int:
+        """How many bytes it has; of what is no file, how many it may have."""
+        status = os.stat(self.path)
+        return status.st_size if stat.S_ISREG(status.st_mode) else LIMIT
+
     def close(self) -> None:
         """Lets the input go."""
         if self._own is not None:

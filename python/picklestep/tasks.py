@@ -6,19 +6,19 @@ import operator
 import os
 import tempfile
 import time
-from collections import deque
 from contextlib import contextmanager
 from typing import Callable, Iterable, Iterator, List, Optional, Tuple, Type, TypeVar
 
 from . import library
 from .answers import Calls, Listing, Objects
 from .errors import ProgramError
+from .listed import TooDeep, bounded
 from .program import Process, run_program
-from .records import End, OtherForm
+from .records import OtherForm
 from .sources import Input, Source, small_content
-from .texts import MOST_OFFSET, OFFSET_IN_BYTES, closing_of, end_of, frames_in, other_form
+from .texts import MOST_OFFSET, OFFSET_IN_BYTES, frames_in, other_form, where_of
 
-__all__ = ['AskedOfEdits', 'calls', 'calls_of', 'ending', 'form', 'frames', 'frames_of', 'left_out', 'listing', 'listing_of', 'modes', 'objects']
+__all__ = ['AskedOfEdits', 'calls', 'calls_of', 'form', 'frames', 'frames_of', 'left_out', 'listing', 'listing_of', 'modes', 'objects']
 
 _Report = TypeVar('_Report', Objects, Calls)
 
@@ -54,7 +54,7 @@ def objects(source: Source, *, many: bool = False, unframed: bool = False, timeo
     ('tuple', (0, 1), (2,))
     """
     with _Asked(source, timeout, memory) as asked:
-        return _report(Objects, ['objects', *modes(many, unframed)], asked, ['list', *modes(many, unframed)])
+        return _report(Objects, ['objects', *modes(many, unframed)], asked, modes(many, unframed))
 
 
 def calls(source: Source, *, first: bool = False, memo_kept: bool = False, full: bool = False, many: bool = True,
@@ -89,24 +89,6 @@ def form(source: Source, *, timeout: Optional[float] = None, memory: Optional[in
         return other_form(asked.answer(['form']))
 
 
-def ending(source: Source) -> End:
-    """How reading a pickle ends. Of its listing only what says so is kept.
-
-    >>> ending(b'N0.')
-    End(how='refused', code='S2', text='S2 stack underflow', offset=2, item=None)
-    """
-    with _Asked(source, None, None) as asked:
-        tail = bytearray()
-        offset = _last_offset(_with_tail(asked.blocks(['list']), tail))
-    lines = tail.decode('ascii').split('\n')
-    closing = closing_of(lines[1 if len(tail) == _MOST_CLOSING else 0:-1])
-    if 'refused' in closing:
-        return End('refused', closing['refused'].partition(' ')[0], closing['refused'], offset)
-    if not closing:
-        raise ProgramError('the program gave no whole answer')
-    return end_of(closing.get('fault', 'stopped'))
-
-
 def frames(source: Source, many: bool = False) -> List[Tuple[int, int]]:
     r"""What `calls` leaves out where a pickle is read unframed: the offset and the length of each FRAME.
 
@@ -136,7 +118,7 @@ def calls_of(asked: _Asked, first: bool, memo_kept: bool, full: bool, skip: Iter
     options += ['--full'] if full else []
     # (A listing does not read on as one unpickler does, and leaves nothing out: where that was refused only the place is known.)
     with left_out(skip) as words:
-        return _report(Calls, ['calls', *options, *words], asked, None if memo_kept or words else ['list', *modes(not first)])
+        return _report(Calls, ['calls', *options, *words], asked, None if memo_kept or words else modes(not first))
 
 
 @contextmanager
@@ -157,11 +139,11 @@ def left_out(skip: Iterable[Tuple[int, int]]) -> Iterator[List[str]]:
 
 
 def _report(kind: Type[_Report], words: List[str], asked: _Asked, listing_words: Optional[List[str]]) -> _Report:
-    """An answer that counts opcodes and not bytes. Where one was refused, a listing by these words shows its offset."""
+    """An answer that counts opcodes and not bytes. Where one was refused, a reading by these words says at which offset."""
     answer = kind(asked.answer(words))
     if answer.end.how != 'refused' or listing_words is None:
         return answer
-    return kind(answer.text, _last_offset(asked.blocks(listing_words)))
+    return kind(answer.text, asked.refused_at(listing_words))
 
 
 def modes(many: bool, unframed: bool = False) -> List[str]:
@@ -186,19 +168,33 @@ class _Asked:
         if answer is None:
             given = self._given()
             self._begun = time.monotonic()
-            answer = run_program([words[0], given.path, *words[1:]], given.files, timeout=self._timeout, memory=self._memory)
+            if words[0] == 'list':
+                answer = b''.join(bounded(self._process(words).blocks(self._timeout), given.size()))
+            else:
+                answer = run_program([words[0], given.path, *words[1:]], given.files, timeout=self._timeout, memory=self._memory)
         if not answer.endswith(b'\n'):
             raise ProgramError('the program gave no whole answer')
         return answer.decode('ascii')
 
-    def blocks(self, words: List[str]) -> Iterator[bytes]:
-        """The same in pieces, within the time that is left."""
-        answer = self._in_process(words)
-        if answer is not None:
-            return iter([answer])
+    def refused_at(self, words: List[str]) -> Optional[int]:
+        """The offset of the opcode that is refused, which a listing by these words ends in. Where that is hardly more than blanks, a session stops
+        before the opcode."""
+        answer = self._in_process(['list', *words])
+        try:
+            blocks = [answer] if answer is not None else bounded(self._process(['list', *words]).blocks(self._left()), self._given().size())
+            return _last_offset(blocks)
+        except TooDeep:
+            given = self._given()
+            told = run_program(['debug', given.path, *words], given.files, b'run\nwhere\n', self._left(), self._memory)
+            return where_of(told.decode('ascii').splitlines()[-1]).offset
+
+    def _left(self) -> Optional[float]:
+        """The time that is left, in seconds."""
+        return None if self._timeout is None else max(0.0, self._timeout - (time.monotonic() - self._begun))
+
+    def _process(self, words: List[str]) -> Process:
         given = self._given()
-        left = None if self._timeout is None else max(0.0, self._timeout - (time.monotonic() - self._begun))
-        return Process([words[0], given.path, *words[1:]], given.files, self._memory).blocks(left)
+        return Process([words[0], given.path, *words[1:]], given.files, self._memory)
 
     def _in_process(self, words: List[str]) -> Optional[bytes]:
         return None if self._content is None else library.answer(words, self._content, self._memory)
@@ -239,25 +235,17 @@ class AskedOfEdits(_Asked):
         return Input(self._saved())
 
 
-def _with_tail(blocks: Iterable[bytes], tail: bytearray) -> Iterator[bytes]:
-    """The same blocks. Their last bytes are put into `tail`."""
-    for block in blocks:
-        tail += block
-        del tail[:-_MOST_CLOSING]
-        yield block
-
-
 def _last_offset(blocks: Iterable[bytes]) -> Optional[int]:
     """The offset of the last opcode that is listed. Of the listing only the beginning of its last line is kept."""
     offset, line = None, b''
     for block in blocks:
         block = line + block
-        for match in deque(OFFSET_IN_BYTES.finditer(block), 1):
-            offset = int(match[1])
+        end, found = len(block), None
+        while found is None and end >= 0:
+            end = block.rfind(b'\n', 0, end)
+            found = OFFSET_IN_BYTES.match(block, end + 1)
+        if found is not None:
+            offset = int(found[1])
         at = block.rfind(b'\n') + 1
         line = block[at:at + MOST_OFFSET]  # (its colon may come with the next block)
     return offset
-
-
-# The closing lines of a listing have less.
-_MOST_CLOSING = 1000

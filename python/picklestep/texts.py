@@ -13,10 +13,11 @@ from typing import Callable, Dict, Generic, Iterator, List, NamedTuple, Optional
 
 from .records import Argument, Change, End, Item, Mark, Object, Opcode, OtherForm, Ref, Shown, Where
 
-__all__ = ['Closing', 'FRAME_SIZE', 'HELD', 'MOST_OFFSET', 'HeldObject', 'ITEMS', 'ItemLine', 'Line', 'LineReader', 'LinesError', 'NAMED_BY_TEXTS', 'NUMBER',
-           'OBJECTS', 'OFFSET_IN_BYTES', 'OPCODES', 'QUOTED', 'SHOWN', 'as_made', 'begins_with_offset', 'broken_places', 'closing_of', 'container_in',
-           'end_of', 'frames_in', 'held_in', 'holding', 'item_line_of', 'left_in', 'line_of', 'lines_with_offsets', 'memo_of', 'number_of', 'object_of',
-           'offset_of_item', 'opcode_of', 'other_form', 'readonly_count', 'results_in', 'stack_of', 'stored_under', 'unquoted', 'where_of']
+__all__ = ['Closing', 'FRAME_SIZE', 'HELD', 'MOST_OFFSET', 'HeldObject', 'ITEMS', 'ITEM_IN_BYTES', 'Line', 'LineReader', 'LinesError',
+           'NAMED_BY_TEXTS', 'NUMBER', 'OBJECTS', 'OFFSET_IN_BYTES', 'OPCODES', 'QUOTED', 'SHOWN', 'as_made', 'begins_with_offset',
+           'broken_places', 'closing_of', 'container_in', 'end_of', 'frames_in', 'held_in', 'holding', 'left_in', 'line_of',
+           'lines_with_offsets', 'memo_of', 'number_of', 'object_of', 'offset_of_item', 'opcode_of', 'other_form', 'readonly_count',
+           'results_in', 'stack_of', 'stored_under', 'unquoted', 'where_of']
 
 Record = TypeVar('Record')
 
@@ -38,6 +39,8 @@ FRAME_SIZE = 9
 # Lines of `objects`, `items` and `show`, and closing lines of which there may be several.
 _OBJECT_LINE = re.compile(r'^#.*$', re.MULTILINE)
 _ITEM = re.compile(r'^([> ])([* ]) *([0-9]+) +([0-9]+): ([A-Z][A-Z0-9_]*)(?: (.*))?$', re.MULTILINE)
+# The offset, the name, and the argument behind its blank.
+ITEM_IN_BYTES = re.compile(rb'^[> ][* ] *[0-9]+ +([0-9]+): ([A-Z][A-Z0-9_]*)((?: .*)?)$', re.MULTILINE)
 _SHOWN = re.compile(r'^([0-9]+) (#[0-9]+)( .*)?$', re.MULTILINE)
 _LEFT = re.compile(r'^left: ([0-9]+) objects, ([0-9]+) marks$', re.MULTILINE)
 _RESULT = re.compile(r'^result #([0-9]+)$', re.MULTILINE)
@@ -199,6 +202,8 @@ def object_of(line: str) -> Object:
     text, at = _argument(line, match.end() + 1)
     if text is None:
         at = match.end()
+    if at == len(line):
+        return Object(int(match[1]), match[2], text, (), ())
     parts = _PARTS.match(line, at)
     return Object(int(match[1]), match[2], text, _numbers(parts[1]) if parts else (),
                   tuple(_change(change) for change in _CHANGE.finditer(line, parts.end() if parts else at)))
@@ -408,20 +413,6 @@ def offset_of_item(listing: bytes, item: int) -> Optional[int]:
     """The offset of the opcode at a place in a listing."""
     found = next(islice(OFFSET_IN_BYTES.finditer(listing), item, None), None)
     return None if found is None else int(found[1])
-
-
-class ItemLine(NamedTuple):
-    """A line of `items`: where the opcode is, its name, and its argument as it stands there."""
-
-    offset: str
-    name: str
-    argument: str
-
-
-def item_line_of(line: str) -> Optional[ItemLine]:
-    """What a line of `items` says, if it is one."""
-    match = _ITEM.match(line)
-    return None if match is None else ItemLine(match[4], match[5], match[6] or '')
 
 
 # --- Lines of `objects`, as bytes ---

@@ -89,6 +89,36 @@ class Calls:
         return Calls, tuple(self.values[:2]), None, iter(self.values[2:]), iter(self.pairs.items())
 
 
+class OwnList(list):
+    """A list that keeps how it was filled."""
+
+    def append(self, item: Any) -> None:
+        super().append(('append', item))
+
+    def extend(self, items: Any) -> None:
+        super().append(('extend', [*items]))
+
+
+class OwnSet(set):
+    """A set that keeps how it was filled."""
+
+    def add(self, item: Any) -> None:
+        super().add(('add', item))
+
+    def update(self, *items: Any) -> None:
+        super().add(('update', *map(tuple, items)))
+
+
+class OnlyAdds:
+    """It is filled by one method, and is no set."""
+
+    def __init__(self) -> None:
+        self.values: List[Any] = []
+
+    def add(self, item: Any) -> None:
+        self.values.append(item)
+
+
 class Colour(enum.Enum):
     RED = 1
     BLUE = 'blue'

@@ -13,6 +13,7 @@ import re
 import subprocess
 import sys
 import tempfile
+import time
 import unittest
 import zlib
 from collections import Counter
@@ -166,6 +167,19 @@ class Crooked(unittest.TestCase):
                 if not data.startswith((b'N\x95', b'\x80')):
                     self.assertEqual(answer.content, content)
 
+    def test_many_open_marks(self) -> None:
+        """The time goes with the bytes, and what was built is there."""
+        depth = 30_000
+        begun = time.process_time()
+        self.assertIsNone(pickle.loads(mended(b'(' * depth).content))
+        made = pickle.loads(mended(b'](' * depth).content)
+        for _ in range(depth - 1):
+            made, = made
+        self.assertEqual(made, [])
+        members = mended(b'\x8f(' + b'(' * 5_000 + b't' * 5_000 + b'q\x00' + b'h\x00\x85' * 2_000)
+        self.assertEqual((len(pickle.loads(members.content)), len(members.steps)), (2, 2))
+        self.assertLess(time.process_time() - begun, 30)
+
     def test_protocols_that_are_none(self) -> None:
         for data, content, step in ((b'\x80\x41N.', b'\x80\x02N.', '0: PROTO 65 replaced by PROTO 2: S6 bad protocol 65'),
                                     (b'\x80\x06]\x94.', b'\x80\x04]\x94.', '0: PROTO 6 replaced by PROTO 4: S6 bad protocol 6'),
@@ -218,6 +232,13 @@ class Words(unittest.TestCase):
             self.assertEqual((run('cut.pickle', 'a', '--save', 'b').returncode, run('cut.pickle', 'cut.pickle').returncode), (2, 2))
             done = run('out.pickle')
             self.assertEqual((done.returncode, done.stdout), (0, 'it is whole\n'))
+            whole = pickle.dumps([1], 4)
+            stream = io.BytesIO(whole + whole[:-3])
+            pickle._Unpickler(stream).load()  # type: ignore[attr-defined]
+            Path(folder, 'two.pickle').write_bytes(stream.getvalue())
+            done = run('two.pickle', 'out.pickle')
+            self.assertEqual((done.returncode, done.stdout), (1, f'{len(stream.read())} bytes after STOP are not read (try --many)\nsaved out.pickle\n'))
+            self.assertEqual(Path(folder, 'out.pickle').read_bytes(), stream.getvalue())
             os.link(path, Path(folder, 'same'))
             done = run('cut.pickle', '--save', 'same')
             self.assertEqual((done.returncode, done.stdout, path.read_bytes()), (2, '', b']K\x01a'))

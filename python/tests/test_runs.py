@@ -173,6 +173,24 @@ class Errors(LeavesNothing):
                 ask(data, memory=64 * MB)
             self.assertEqual((caught.exception.words, caught.exception.status), ('out of memory', 2))
         self.assertEqual(len(picklestep.objects(b'N.', memory=64 * MB)), 1)
+        for size in (1, MB // 2, MB, MB + 1, 5 * MB // 4, 2 * MB, 3 * MB):
+            for ask in (picklestep.calls, picklestep.listing, Session):
+                with self.subTest(size, ask=ask), self.assertRaises(OutOfMemory) as caught:
+                    ask(data[-70_000:], memory=size)
+                self.assertEqual(str(caught.exception), 'out of memory')
+
+    def test_many_open_marks(self) -> None:
+        """A listing has four blanks for each in each line: one that would be hardly more is not read. What needs no listing is answered."""
+        begun = time.process_time()
+        for ask in (picklestep.listing, picklestep.source):
+            for data, memory in ((b'(' * 3_000_000, 16 * MB), (b'(' * 60_000, None)):
+                with self.assertRaisesRegex(picklestep.ProgramError, 'too many marks are open at once'):
+                    ask(data, memory=memory)
+            self.assertEqual(ask(b'(' * 2_000).end.offset, 2_000)
+        refused = b'(' * 60_000 + b'R.'
+        for ends in (picklestep.objects(refused).end, picklestep.calls(refused).end):
+            self.assertEqual((ends.code, ends.offset), ('S2', 60_000))
+        self.assertLess(time.process_time() - begun, 30)
 
     def test_a_limit_that_a_session_meets(self) -> None:
         with Session(b'N0' * 900_000 + b'N.', memory=160 * MB) as session:

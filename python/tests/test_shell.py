@@ -23,6 +23,7 @@ import picklestep
 from examples_of_using import stories
 from picklestep.shell.complete import completions
 from picklestep.shell.explain import EFFECTS, EXPLAINED
+from picklestep.shell.opened import Opened
 from picklestep.shell.shell import Shell, WordError
 from picklestep.shell.words import SAMPLE, WORDS
 from picklestep.view.document import Document
@@ -253,6 +254,44 @@ class Words(unittest.TestCase):
         shell.obey(f'clear {shell.obey("break").partition(":")[0]}')
         return ways[0]
 
+    def test_breaks_come_back_with_their_opcodes(self) -> None:
+        """They are where a session of the program has them after the same edits."""
+        rng = random.Random(51)
+        for _ in range(20):
+            shell = self.shell(SAMPLE)
+            with picklestep.Session(SAMPLE) as session:
+                for place in rng.sample(range(10), 4):
+                    shell.obey(f'break {place}')
+                    session.set_break(place)
+                for _ in range(25):
+                    place = rng.randrange(1, 8)
+                    line = rng.choice((f'delete {place}', f'insert {place} NONE', f'replace {place} NONE', 'undo', 'undo', 'redo', f'break {place}'))
+                    said = f'{line} ' if line.endswith('NONE') else line
+                    try:
+                        session.ask(said)
+                    except picklestep.Refused:
+                        if line not in ('undo', 'redo'):
+                            continue
+                    with contextlib.suppress(WordError):
+                        shell.obey(line)
+                    wanted = {item.place for item in session.items() if item.has_break}
+                    found = shell.obey('break')
+                    self.assertEqual({int(row.split()[2]) for row in found.split('\n') if row[0].isdecimal()}, wanted, line)
+                    numbers = [row.partition(':')[0] for row in found.split('\n')]
+                    self.assertEqual(len(numbers), len(set(numbers)))
+
+    def test_breaks_after_an_edit_that_is_taken_back(self) -> None:
+        """Where the edited pickle cannot be read."""
+        shell = self.shell(SAMPLE)
+        for place in (3, 8):
+            shell.obey(f'break {place}')
+        before = shell.obey('break')
+        for line in ('delete 3', 'insert 1 NONE', 'rename oldapp newapp'):
+            with mock.patch.object(Opened, '_read_from', side_effect=picklestep.ProgramError('it fails')), self.assertRaisesRegex(WordError, 'it fails'):
+                shell.obey(line)
+                shell.obey('where')
+            self.assertEqual((shell.obey('break'), shell.pickle.content()), (before, SAMPLE), line)
+
     def test_depth(self) -> None:
         shell = self.shell(b'((N1N0N.')
         shell.obey('break depth 2')
@@ -327,7 +366,7 @@ class Words(unittest.TestCase):
         for line in ('bogus', 'goto', 'goto x', 'goto 99', 'goto @3', 'until 0', 'back', 'break depth x', 'break opcode NOPE', 'clear 7', 'go 99',
                      'who 99', 'show 99', 'memo 5', 'find nothing', 'hex 99', 'replace 10 1', 'replace 3 bob', "replace 3 {}", 'insert 99 1',
                      'delete 10', 'delete 99', 'frame 1', 'unframe 1', 'set 99 to 1', 'set 2', 'rename none other', 'undo', 'redo', 'save', 'help nope',
-                     'step x', 'who', 'go', 'show x', 'clear', 'off', 'on', 'undo 2', 'where x', 'source x', 'list 1 2 3', 'list 99', 'replace', 'insert',
+                     'step x', 'who', 'go', 'show x', 'clear', 'off', 'on', 'undo 2', 'where x', 'source x', 'list 1 2 3', 'list 99', 'list 5 3', 'replace', 'insert',
                      'replace 8 7', 'set 3 to 1', 'set 4 to 1', 'break opcode', 'break text', 'rename oldapp',
                      "replace 3 BININT1 300", 'replace 3 NONE 1', 'replace 3 BININT1 hex zz', 'run on'):
             with self.subTest(line):

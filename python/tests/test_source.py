@@ -5,6 +5,7 @@ from __future__ import annotations
 import ast
 import builtins
 import collections
+import collections.abc
 import contextlib
 import copyreg
 import io
@@ -20,7 +21,7 @@ import unittest
 from typing import Any, List, Tuple
 
 import picklestep
-from harmless import Maker, canonical, executed, opcodes_at_random
+from harmless import Maker, OwnList, canonical, executed, opcodes_at_random
 from picklestep.python_source import main, source
 from picklestep.python_source.code import HEAD
 from picklestep.python_source.names import TAKEN
@@ -87,12 +88,50 @@ class Equality(unittest.TestCase):
             data = dumped(records(random.Random(seed)), seed)
             self.assertEqual(canonical(executed(source(data).text)['result']), canonical(pickle.loads(data)), f'seed {seed}')
 
+    def test_what_fills(self) -> None:
+        """The methods that C's unpickler calls, or what it raises, where a type has methods of its own or lacks some."""
+        whole = OwnList()
+        list.append(whole, 1)
+        made = [pickle.dumps(whole, protocol) for protocol in range(6)]
+        items = [b'', b'K\x01', b'K\x01K\x02', b'](K\x01K\x02e', b'K\x01\x85N']
+        for kind in ('OwnList', 'OwnSet', 'OnlyAdds', 'Calls', 'ManyItems', 'ManyMembers', 'ManyKeys', 'Plain'):
+            thing = b'charmless\n' + kind.encode() + b'\n)R'
+            made += [thing + b'(' + item + fill + b'.' for item in items for fill in (b'e', b'\x90', b'u')]
+            made += [thing + b'K\x01' + item + fill for item in items[1:] for fill in (b'a.', b's.')]
+        self.assert_same(made)
+
+    def test_states(self) -> None:
+        states = [b'N', b'}', b']', b')', b'K\x00', b'}X\x05\0\0\0firstK\x01s', b'NN\x86', b'N}\x86', b'}}\x86', b'N}X\x05\0\0\0firstK\x01s\x86', b']]\x86',
+                  b'](X\x01\0\0\0aK\x01\x86e', b'NNN\x87', b'}K\x01K\x02s', b'N}K\x01K\x02s\x86']
+        self.assert_same([b'charmless\n' + kind + b'\n)\x81' + state + b'b.' for kind in (b'Plain', b'Slotted', b'Mixed', b'WithState') for state in states])
+
+    def assert_same(self, pickles: List[bytes]) -> None:
+        """Each gives what it loads to, or fails as loading does."""
+        for data in pickles:
+            with self.subTest(data):
+                if not picklestep.calls(data).end.is_stopped:
+                    self.assertRaises(Exception, pickle.loads, data)
+                    continue
+                try:
+                    wanted = pickle.loads(data)
+                except Exception:
+                    self.assertRaises(Exception, executed, source(data).text)
+                    continue
+                made = executed(source(data).text)['result']
+                self.assertEqual((type(made), inside(made)), (type(wanted), inside(wanted)), source(data).text)
+
     def test_opcodes_at_random(self) -> None:
         pickles = [opcodes_at_random(seed) for seed in range(3000)]
         names = executed(source(b''.join(pickles), many=True).text)
         for number, data in enumerate(pickles, 1):
             made = names['result' if number == 1 else f'result_{number}']
             self.assertEqual(canonical(made), canonical(pickle.loads(data)), f'seed {number - 1}')
+
+
+def inside(value: Any) -> Tuple[Any, ...]:
+    """What an object holds, and its attributes."""
+    slots = {name: getattr(value, name) for name in ('first', 'second') if hasattr(value, name)}
+    return (sorted(map(repr, value)) if isinstance(value, collections.abc.Iterable) else None), getattr(value, '__dict__', None), slots
 
 
 class Reaching(unittest.TestCase):
@@ -237,7 +276,8 @@ class Shown(unittest.TestCase):
         self.assertIn(f'from os import {name}  # ', source(data, full=False).text)
 
     def test_texts_that_no_loader_takes(self) -> None:
-        for data in (b'X\x01\0\0\0\xff.', b'U\x01\xff.', b'I1x\n.', b'I08\n.', b'I0777777777777777777777777\n.', b'Fa\n.', b'Lx\n.', b'V\\u12\n.'):
+        for data in (b'X\x01\0\0\0\xff.', b'U\x01\xff.', b'I1x\n.', b'I08\n.', b'I0777777777777777777777777\n.', b'Fa\n.', b'Lx\n.', b'V\\u12\n.', b"S'a\\'\n.",
+                     b"S'\\\\\\'\n.", b"S'\\x4'\n."):
             with self.subTest(data):
                 with self.assertRaises(ValueError):
                     pickle.loads(data)

@@ -50,7 +50,7 @@ _WHOLE = [b'0', b'00', b'01', b'1', b'007', b'-0377', b' 010', b'+1', b'-0', b'7
 _FLOATS = [b'1', b'1.5', b'-0.0', b'1e16', b'1e-5', b'inf', b'-inf', b'nan', b'-nan', b'Infinity', b'1_0.5', b'1.', b'.5', b'1e400', b'5e-324', b'a', b' 1 ',
            b'1\0x', b'0x10', b'1._5', b'', b'1e', b'.', b'123456789012345678', b'infinit']
 _STRINGS = [b"'a'", b'"a"', b"'it\\'s'", b"'\\x41'", b"'\\X41'", b"'\\x4'", b"'\\101'", b"'\\777'", b"'\\q'", b"'\\\\'", b"'\\n\\t\\b'", b"'\\xff'", b"'\xff'",
-            b"''", b"'\\08'", b"'" + b'z' * 200 + b"'"]
+            b"''", b"'a\\'", b"'\\08'", b"'" + b'z' * 200 + b"'"]
 _UNICODES = [b'a', b'\\u1234', b'\\U0001f600', b'\\U00110000', b'\\u12', b'\\\\u1234', b'\\\\\\u1234', b'\\', b'\xe9', b'\\ud83d\\ude00', b'\\x41', b'\\u00E9',
              b"'", b'z' * 300, b'']
 _NAMES = [b'os\nsystem\n', b'__builtin__\neval\n', b'copy_reg\n_reconstructor\n', b'\xff\n\xe2\x82x\n', b'a.b\nc.d\n', b'os\n\n', b'class\nx\n',
@@ -72,7 +72,7 @@ _EDGES = [
     b'(\x82\x05\x83\x00\x01\x84\x00\x00\x00\x7fK\x01Qt.', b'(\x97\x97\x98B\x01\0\0\0a\x98\x96\x01\0\0\0\0\0\0\0aq\x00\x98h\x00\x98\x98ca\nb\n\x98\x98t.',
     b']p0\ng0\na(lp5\nI1\nag5\nag0\nat.', b'Np18446744073709551615\n0K\x01p18446744073709551614\ng18446744073709551615\n\x86.',
     b''.join(each + b'.' for each in _MARKED), pickle.dumps([list(range(100)), {n: n for n in range(40)}, {*range(30)}, (*range(50),)], 4),
-    b'ca\nb\n(K\x01K\x02e(K\x01K\x02u(K\x01K\x02\x90K\x05a(' + b'K\x01' * 40 + b'e(' + b'K\x01' * 80 + b'u(' + b'K\x01' * 40 + b'\x90.',
+    b'ca\nb\n(K\x01K\x02e(K\x01K\x02u(K\x01K\x02\x90K\x05a(K\x06e(K\x07\x90(' + b'K\x01' * 40 + b'e(' + b'K\x01' * 80 + b'u(' + b'K\x01' * 40 + b'\x90.',
     b'\x80\x04ca\nb\n)}(X\x01\0\0\0aK\x01X\x02\0\0\0ifK\x02u\x92.' + b'\x80\x04ca\nb\n)}X\x01\0\0\0aK\x01s\x92.',
     b']' * 300 + b'a' * 299 + b'.', b'N' + b'\x85' * 100 + b'.',
     b'(ca\nb\no.(ca\nb\nK\x01o.ca\nb\n}X\x01\0\0\0aK\x01sb.', *_ENDS]

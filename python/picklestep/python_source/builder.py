@@ -484,12 +484,13 @@ class Builder:
             self._fill_later(line, target, items, method)
 
     def _fill_later(self, line: str, target: Node, items: List[Entry], method: str) -> None:
-        """A statement puts items into a container."""
-        is_each = len(items) == 1 or (target.is_opaque and method == 'add')
+        """A statement puts items into a container. What that does to one that comes from a call depends on its type, which C's unpickler asks."""
+        is_each = len(items) == 1 and not target.is_opaque
         form = f'{{}}.{method}({{}})' if is_each else '{}.update({})' if method == 'add' else '{}.extend({})'
-        if target.is_opaque and not is_each:
-            form = 'extend({}, {})'
-            self.needs.add('extend')
+        if target.is_opaque:
+            helper = 'add_items' if method == 'add' else 'extend'
+            form = f'{helper}({{}}, {{}})'
+            self.needs.add(helper)
         self.events.append(Filled(form, target, items, is_each, offset_of(line) if target.is_opaque else None))
 
     def _on_setitem(self, line: str) -> None:

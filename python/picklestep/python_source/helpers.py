@@ -1,4 +1,4 @@
-"""The functions that a source defines for what Python has no statement for."""
+"""The functions that a source defines for what Python has no statement for. They do what C's unpickler does, which `pickle.loads` is."""
 
 from __future__ import annotations
 
@@ -29,25 +29,38 @@ def instantiate(kind):
 _SET_STATE = '''
 def set_state(thing, state):
     """What BUILD does."""
-    if getattr(thing, '__setstate__', None) is not None:
+    if hasattr(thing, '__setstate__'):
         thing.__setstate__(state)
         return
-    state, slots = state if isinstance(state, tuple) and len(state) == 2 else (state, None)
-    if state:
-        thing.__dict__.update(state)
-    for name, value in (slots or {}).items():
+    state, slots = state if isinstance(state, tuple) and len(state) == 2 else (state, {})
+    if state is not None:
+        attributes = thing.__dict__
+        for name, value in dict.items(state):
+            attributes[name] = value
+    for name, value in dict.items(slots):
         setattr(thing, name, value)
 
 '''
 
 _EXTEND = '''
 def extend(thing, items):
-    """What APPENDS does to an object that is no plain list."""
+    """What APPEND and APPENDS do to an object that is no plain list."""
     if hasattr(thing, 'extend'):
         thing.extend(items)
         return
     for item in items:
         thing.append(item)
+
+'''
+
+_ADD_ITEMS = '''
+def add_items(thing, items):
+    """What ADDITEMS does to an object that is no plain set."""
+    if isinstance(thing, set):
+        set.update(thing, items)
+        return
+    for item in items:
+        thing.add(item)
 
 '''
 
@@ -60,4 +73,4 @@ _BUFFERS = '''# buffers is to be given: an iterator over the buffers that are ke
 # By what a source needs, in the order in which they are written.
 HELPERS: Dict[str, str] = {
     'persistent_load': _PERSISTENT, 'buffers': _BUFFERS, 'import_module': _IMPORT_MODULE, 'extension': _EXTENSION, 'instantiate': _INSTANTIATE,
-    'set_state': _SET_STATE, 'extend': _EXTEND}
+    'set_state': _SET_STATE, 'extend': _EXTEND, 'add_items': _ADD_ITEMS}

@@ -75,7 +75,7 @@ def _failing_string(data: bytes) -> str:
     try:
         return f"{unescaped(data)!r}.decode('ascii')"
     except ValueError:
-        return f"{data!r}.decode('unicode_escape')"
+        return f"{data[1:-1]!r}.decode('unicode_escape')"  # (it fails at what makes the other fail)
 
 
 _FAILING = {'INT': 'int({!r}, 0)', 'LONG': 'int({!r}, 0)', 'FLOAT': 'float({!r})', 'UNICODE': "{!r}.decode('raw-unicode-escape')"}

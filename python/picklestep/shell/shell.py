@@ -5,7 +5,7 @@ from __future__ import annotations
 import re
 import shlex
 from bisect import bisect_right
-from itertools import accumulate, islice
+from itertools import accumulate, chain, islice
 from typing import Callable, Dict, List, Optional, Sequence, Tuple
 
 from ..comparing import compare, shown_value
@@ -61,6 +61,9 @@ class Shell:
         self._saved: Tuple[Done, ...] = ()
         self._saved_bytes = self._original
         self._breaks: List[Break] = []
+        self._hidden: List[List[Break]] = []  # for each edit the breaks whose opcodes went with it, and the same for each that is undone
+        self._hidden_back: List[List[Break]] = []
+        self._moved: Tuple[List[Tuple[int, int]], List[List[Break]], List[List[Break]]] = [], [], []  # how breaks were moved last
         self._last = ''
         self._found: Tuple[str, int, int] = '', -1, -1  # what was found last, from where, and the place
         self._listed: Tuple[int, int] = -1, 0  # where the cursor was as opcodes were listed last, and the place behind them
@@ -86,7 +89,7 @@ class Shell:
     @property
     def is_unsaved(self) -> bool:
         """Whether there are edits that were not saved."""
-        self.pickle.settle()
+        self._settle()
         return self.pickle.edits_made != self._saved and self.pickle.content() != self._saved_bytes
 
     def obey(self, line: str) -> str:
@@ -103,13 +106,25 @@ class Shell:
         if not text and name in _NEED or text and WORDS[name].usage == name:
             raise WordError(f'it is: {WORDS[name].usage}')
         try:
-            self.pickle.settle()
+            self._settle()
             self._check_names()  # (of a rename that was interrupted)
             return self._words[name](text)
         except Refused as error:
             raise WordError(f'refused: {error.text}') from error
         except (EditError, ValueError, TypeError, OverflowError, OSError, PicklestepError) as error:
             raise WordError(str(error)) from error
+
+    def _settle(self) -> None:
+        """Waits until the pickle is read after an edit. Where that fails, the edit was taken back, and breaks are where they were."""
+        (moves, shown, hidden), self._moved = self._moved, ([], [], [])
+        try:
+            self.pickle.settle()
+        except KeyboardInterrupt:
+            self._moved = moves, shown, hidden
+            raise
+        except Exception:
+            self._move_breaks([(at, -shift) for at, shift in reversed(moves)], hidden, shown)
+            raise
 
     # --- Places ---
 
@@ -264,7 +279,8 @@ class Shell:
             raise WordError(f'there is no opcode at {rest}')
         if not rest:
             raise WordError(f'break {what} takes {_TAKES.get(what, "a text")}')
-        self._breaks.append(Break(1 + max([point.number for point in self._breaks], default=0), what, rest))
+        known = chain(self._breaks, *self._hidden, *self._hidden_back)
+        self._breaks.append(Break(1 + max([point.number for point in known], default=0), what, rest))
         return str(self._breaks[-1])
 
     def _chosen(self, text: str) -> Break:
@@ -302,6 +318,8 @@ class Shell:
         last = self._place(words[1]) + 1 if len(words) > 1 else first + _MOST_LINES
         if len(words) > 2 or first >= len(self.pickle.lines):
             raise WordError(f'it is: {WORDS["list"].usage}' if len(words) > 2 else f'there is no opcode at {first}')
+        if last <= first:
+            raise WordError(f'{last - 1} is before {first}')
         self._listed = here, last
         return '\n'.join([*self._rows(first, last, here), *(self.pickle.kept if last >= len(self.pickle.lines) else [])])
 
@@ -446,26 +464,35 @@ class Shell:
             moved.append(edit._replace(place=edit.place + shift))
             shift += SHIFTS.get(edit.word, 0)
         done = self.pickle.edit_all(moved)
-        self._move_breaks([(edit.place, SHIFTS.get(edit.word, 0)) for edit in moved])
+        self._moved = [(edit.place, SHIFTS.get(edit.word, 0)) for edit in moved], [], self._hidden
+        self._move_breaks(*self._moved)
+        self._hidden_back.clear()
         return '\n'.join(self._echo(edit, place, old) for edit, place, old in zip(known, done, was))
 
     def _echo(self, edit: Edit, place: int, old: str) -> str:
         if edit.word in ('delete', 'unframe'):
             return f'{place}: {old} is gone'
         if edit.word == 'frame':
-            self.pickle.settle()
+            self._settle()
         now = self._was(place) if edit.word == 'frame' else edit.name if OPCODES[edit.name].arg is None else _shown(line_put(edit))
         return f'{place}: {now}' + (f' (was {old})' if old else ' is new')
 
-    def _move_breaks(self, moves: Sequence[Tuple[int, int]]) -> None:
-        """Breaks on a place stay with their opcodes, where one comes (1) or goes (-1) at each of these places."""
+    def _move_breaks(self, moves: Sequence[Tuple[int, int]], shown: List[List[Break]], hidden: List[List[Break]]) -> None:
+        """Breaks on a place stay with their opcodes, where one comes (1) or goes (-1) at each of these places. With an opcode that comes back those
+        come that went with it, which are the last that are `shown`; what goes is added to what is `hidden`."""
         for at, shift in moves:
+            come, gone = shown.pop() if shown else [], []
             for point in [point for point in self._breaks if point.what == 'at' and shift]:
                 place = int(point.text)
                 if shift < 0 and place == at:
                     self._breaks.remove(point)
+                    gone.append(point)
                 elif place >= at:
                     point.text = str(place + shift)
+            for point in come:
+                point.text = str(at)
+            self._breaks = sorted(self._breaks + come, key=lambda point: point.number)
+            hidden.append(gone)
 
     def _split(self, text: str) -> Tuple[int, str]:
         """A place, and what comes after it. Without a place it is the cursor."""
@@ -512,7 +539,7 @@ class Shell:
         stays = [f'{place + shifts[bisect_right(places, place)]}: {self._was(place)} stays: it is data too' for place in found.stays]
         self._unchecked = found, self.pickle.edits_made
         rows = [self._edited(found.edits), *stays]
-        self.pickle.settle()
+        self._settle()
         self._check_names()
         where = self.pickle.session.where()
         if self.pickle.listed < where.places or not where.end.is_stopped or not end.is_stopped:
@@ -526,7 +553,7 @@ class Shell:
             is_made = self.pickle.edits_made != before
             if is_made and [names_of(reach.said or reach.name) for reach in self.pickle.imports()] != found.names:
                 self._undo(is_redo=False)
-                self.pickle.settle()
+                self._settle()
                 self._unchecked = None
                 raise WordError('not renamed: the imports would not be these alone')
             self._unchecked = None
@@ -539,7 +566,9 @@ class Shell:
 
     def _undo(self, is_redo: bool) -> str:
         edits = self.pickle.undo_back(is_redo)
-        self._move_breaks([(edit.place, SHIFTS.get(edit.what, 0) * (1 if is_redo else -1)) for edit in edits])
+        moves = [(edit.place, SHIFTS.get(edit.what, 0) * (1 if is_redo else -1)) for edit in edits]
+        self._moved = (moves, self._hidden_back, self._hidden) if is_redo else (moves, self._hidden, self._hidden_back)
+        self._move_breaks(*self._moved)
         rows = [f'{"redone" if is_redo else "undone"} {edit.place}: {edit}' for edit in edits[:_MOST_LINES]]
         return '\n'.join(rows + ([f'.. {len(edits) - _MOST_LINES} more'] if len(edits) > _MOST_LINES else []))
 

@@ -8,14 +8,14 @@ import pickletools
 from array import array
 from bisect import bisect_left, bisect_right
 from itertools import accumulate, islice
-from typing import Any, Callable, Dict, Generator, Iterator, List, Optional, Sequence, Tuple
+from typing import Callable, Dict, Iterable, Iterator, List, Optional, Sequence, Tuple
 
 from ..errors import ProgramError
-from ..listed import in_columns
+from ..listed import bounded, in_columns
 from ..program import Process
 from ..sources import Input
 from ..tasks import left_out
-from ..texts import Line, begins_with_offset, frames_in, item_line_of, line_of, readonly_count
+from ..texts import ITEM_IN_BYTES, Line, begins_with_offset, frames_in, line_of, readonly_count
 
 __all__ = ['CODE_BY_NAME', 'CUT', 'Line', 'Lines', 'OpcodeLines', 'add_items', 'cut_text', 'line_of', 'lines_of', 'read_all', 'shown_code', 'silent']
 
@@ -23,9 +23,6 @@ __all__ = ['CODE_BY_NAME', 'CUT', 'Line', 'Lines', 'OpcodeLines', 'add_items', '
 CUT = 500
 _BLOCK = 1 << 20
 _PIECE = 1 << 11
-# So many bytes has a line besides texts and the blanks for open marks, and so many all these blanks.
-_MOST_LINE = 100
-_MOST_DEEP = 1 << 28
 # So many bytes are read of `calls`, in which a long name may stand again and again.
 _MOST_CALLS = 1 << 26
 # An input of at most so many bytes is read by three runs of the program at once.
@@ -183,7 +180,7 @@ class _Cutter:
 
 
 def _has_long(lines: bytes) -> bool:
-    """Whether one of some lines is to be cut, perhaps."""
+    """Whether one of some lines may have to be cut."""
     begin, end = 0, len(lines)
     while begin + CUT < end:
         begin = lines.rfind(b'\n', begin, begin + CUT) + 1
@@ -213,35 +210,16 @@ def cut_text(text: str, most: int) -> str:
     return _cut(text.encode('ascii'), most=most).decode('ascii') if len(text) > most else text
 
 
-# What is read of a program that may be working meanwhile. Its answer comes at the end.
-_Reading = Generator[None, None, Any]
-
-
-def _in_turns(readings: Sequence[_Reading]) -> List[Any]:
-    """Goes on with each in turn, so that the programs work side by side, and gives their answers."""
-    answers: List[Any] = [None] * len(readings)
-    left = dict(enumerate(readings))
-    while left:
-        for number, reading in list(left.items()):
-            try:
-                next(reading)
-            except StopIteration as end:
-                answers[number] = end.value
-                del left[number]
-    return answers
-
-
 def silent(text: str) -> None:
     """Says nothing of how far it is."""
 
 
-def _read(into: Lines, process: Process, told: Callable[[str], None] = silent, word: str = '') -> _Reading:
-    """Reads all that the program answers, a block each time that it goes on, and says to `told` how far it is."""
+def _read(into: Lines, blocks: Iterable[bytes], told: Callable[[str], None] = silent, word: str = '') -> None:
+    """Reads all that the program answers, and says to `told` how far it is."""
     cutter = _Cutter(into)
-    for block in process.blocks():
+    for block in blocks:
         cutter.feed(block)
         told(f'{word}: {len(into):,} lines')
-        yield
 
 
 def read_all(given: Input, options: Sequence[str] = (), told: Callable[[str], None] = silent,
@@ -257,27 +235,18 @@ def read_all(given: Input, options: Sequence[str] = (), told: Callable[[str], No
             process = Process([*words, given.path], given.files)
             running.callback(process.close)
             return process
-        size = os.stat(given.path).st_size
-        asked: List[Callable[[], _Reading]] = [
-            lambda: _read_listing(start(tasks[0]), OpcodeLines(codes), told, size), lambda: _read_objects(start(tasks[1]), told)]
-        if is_framed:
-            asked.append(lambda: _read_calls(start(of_calls)))
-        readings = (ask() for ask in asked)  # (it starts each where it is asked for)
-        listing, objects, *found = _in_turns(list(readings)) if size <= _MOST_AT_ONCE else [_in_turns([reading])[0] for reading in readings]
-        if not is_framed:
-            told('calls ..')
-            holes = running.enter_context(left_out(frames_in(listing.text)))
-            found = _in_turns([_read_calls(start([*of_calls, *holes]))])
-        calls, is_part = found[0]
+        started = map(start, [*tasks, of_calls] if is_framed else tasks)  # (it starts each where it is asked for)
+        processes = iter(list(started)) if os.stat(given.path).st_size <= _MOST_AT_ONCE else started
+        listing = _read_listing(next(processes), OpcodeLines(codes), told, os.stat(given.path).st_size)
+        objects = _read_objects(next(processes), told)
+        told('calls ..')
+        holes = running.enter_context(left_out(() if is_framed else frames_in(listing.text)))
+        calls, is_part = _read_calls(next(processes) if is_framed else start([*of_calls, *holes]))
     return listing, objects, calls, is_part
 
 
-def _read_listing(process: Process, listing: OpcodeLines, told: Callable[[str], None], size: int) -> _Reading:
-    def check(text: str) -> None:
-        if listing.whole > 4 * size + _MOST_LINE * len(listing) + _MOST_DEEP:  # (a byte of a text has up to four letters)
-            raise ProgramError('too many marks are open at once to be shown')
-        told(text)
-    yield from _read(listing, process, check, 'list')
+def _read_listing(process: Process, listing: OpcodeLines, told: Callable[[str], None], size: int) -> OpcodeLines:
+    _read(listing, bounded(process.blocks(), size), told, 'list')
     while len(listing) and not begins_with_offset(listing.raw(len(listing) - 1)):
         listing.closing.insert(0, listing.drop_last())
     if not listing.closing:
@@ -290,14 +259,13 @@ def _read_listing(process: Process, listing: OpcodeLines, told: Callable[[str], 
     return listing
 
 
-def _read_calls(process: Process) -> _Reading:
+def _read_calls(process: Process) -> Tuple[str, bool]:
     """The text of `calls`, or its first lines where these are very long, and whether it is cut so."""
     text = bytearray()
     for block in process.blocks():
         text += block
         if len(text) > _MOST_CALLS:
             return text[:text.rfind(b'\n') + 1].decode('ascii'), True
-        yield
     return text.decode('ascii'), False
 
 
@@ -306,19 +274,18 @@ def add_items(listing: OpcodeLines, given: Input, options: Sequence[str] = ()) -
     items = Lines()
     with contextlib.closing(Process(['debug', *options, given.path], given.files, stdin=True)) as process:
         os.write(process.stdin, b'items\nquit\n')
-        _in_turns([_read(items, process)])
-    added = []
-    for item in islice(items.all(), len(listing), None):
-        line = item_line_of(item.decode('ascii'))
-        if line is not None:
-            added.append(f'{line.offset:>5}: {_CODES[line.name]:4} {line.name}{line.argument and " " + line.argument}\n'.encode('ascii'))
-    if added:
-        listing.add(b''.join(added))
+        _read(items, process.blocks())
+    begin = items.start(min(len(listing), len(items)))
+    while begin < len(items.text):
+        end = items.text.find(b'\n', begin + _BLOCK) + 1 or len(items.text)
+        listing.add(b''.join([b'%5b: %-4b %b%b\n' % (offset, _SHOWN_CODES[name], name, argument)
+                              for offset, name, argument in ITEM_IN_BYTES.findall(items.text, begin, end)]))
+        begin = end
 
 
-def _read_objects(process: Process, told: Callable[[str], None]) -> _Reading:
+def _read_objects(process: Process, told: Callable[[str], None]) -> Lines:
     objects = Lines()
-    yield from _read(objects, process, told, 'objects')
+    _read(objects, process.blocks(), told, 'objects')
     while len(objects) and objects.text[objects.start(len(objects) - 1)] != ord('#'):
         objects.drop_last()
     return objects
@@ -337,7 +304,7 @@ def shown_code(code: str) -> str:
     return code if '!' <= code <= '~' else f'\\x{ord(code):02x}'
 
 
-_CODES: Dict[str, str] = {opcode.name: shown_code(opcode.code) for opcode in pickletools.opcodes}
+_SHOWN_CODES: Dict[bytes, bytes] = {opcode.name.encode('ascii'): shown_code(opcode.code).encode('ascii') for opcode in pickletools.opcodes}
 
 # Opcodes that make no object. READONLY_BUFFER makes one or none.
 MAKE_NONE = frozenset(

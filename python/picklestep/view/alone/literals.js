@@ -190,7 +190,7 @@ function failingString(bytes) {
   try {
     return `${pythonBytes(latin(unescapedLine(binary(bytes))))}.decode('ascii')`;
   } catch (error) {
-    return `${pythonBytes(bytes)}.decode('unicode_escape')`;
+    return `${pythonBytes(bytes.slice(1, -1))}.decode('unicode_escape')`;
   }
 }
 

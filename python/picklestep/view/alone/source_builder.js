@@ -165,12 +165,13 @@ class Builder {
   fill(items, method) {
     const target = this.extendLiteral(items, items);
     if (!target) return;
-    const isEach = items.length === 1 || (target.isOpaque && method === 'add');
+    const isEach = items.length === 1 && !target.isOpaque;
     const many = method === 'add' ? 'update' : 'extend';
     let form = (into, item) => `${into}.${isEach ? method : many}(${item})`;
-    if (target.isOpaque && !isEach) {
-      form = (into, item) => `extend(${into}, ${item})`;
-      this.needs.add('extend');
+    if (target.isOpaque) {
+      const helper = method === 'add' ? 'add_items' : 'extend';
+      form = (into, item) => `${helper}(${into}, ${item})`;
+      this.needs.add(helper);
     }
     this.events.push(new Filled(form, target, items, isEach, target.isOpaque ? this.offset : null));
   }
