@@ -123,7 +123,7 @@ impl LoaderMachine {
         };
         prove!(!is_far(own));
         let _objects = self.machine.objects();
-        self.machine.step_as(alloc, own, op, place)?;
+        self.machine.step_as(alloc, own, &op.by_ref(), place)?;
         prove!(self.machine.has_short_keys());
         Ok(())
     }
@@ -137,7 +137,7 @@ impl LoaderMachine {
         ensures objects { length self.new.state.heap ≤ length self.old.state.heap + 1 }
     {
         self.far.clear();
-        self.machine.step_as(alloc, row, op, place)?;
+        self.machine.step_as(alloc, row, &op.by_ref(), place)?;
         prove!(self.machine.has_short_keys());
         Ok(())
     }

@@ -10,7 +10,9 @@ use crate::check::Operands;
 use crate::machine::{Core, Machine};
 use crate::refusal::Refusal;
 use crate::stack::deep;
-use pickle_ops::{Class, Cutting, Demand, Filling, Kind, ObjId, Object, Op, Opcode, Row, Taking};
+use pickle_ops::{
+    Class, Cutting, Demand, Filling, Kind, ObjId, Object, OpRef, Opcode, Row, Taking,
+};
 use std::alloc::{AllocError, Global};
 
 /// What goes into an object that the machine would refuse: how, how many items, pairs or members, and into which.
@@ -117,7 +119,7 @@ fn string_at(heap: &[Object], id: ObjId) -> bool
 }
 
 /// How many items, pairs or members these objects are.
-fn parts_in(filling: Filling, objects: usize) -> usize
+pub(crate) fn parts_in(filling: Filling, objects: usize) -> usize
     ensures { result ≡ parts_in filling objects }
 {
     match filling {
@@ -395,7 +397,7 @@ fn first_loader_move(opcode: Opcode, row: Row) -> LoaderMove
 }
 
 impl Machine {
-    ghost use Rattle.std.specs.Prelude.{◌≡◌, ◌≢◌, ◌+◌, ◌<◌, ◌≤◌, ◌-◌, ◌^◌, true, length, slice_get, OnOk, OnErr, IfErr, Ok, Some};
+    ghost use Rattle.std.specs.Prelude.{◌≡◌, ◌≢◌, ◌+◌, ◌<◌, ◌≤◌, ◌-◌, ◌^◌, true, length, slice_get, OnOk, OnErr, IfErr, Ok, Some, None};
     ghost use Rattle.pickle_machine.specs.Kept.{AreBelow};
     ghost use Rattle.pickle_machine.specs.Move.{fresh, refusal_of, put_on};
     ghost use Rattle.pickle_machine.specs.Loader.{loader_move, move_as, cleared};
@@ -412,9 +414,35 @@ impl Machine {
         }
     }
 
-    /// One step forwards as a row that need not be the operation's own: what it makes is of the operation's kind.
+    /// A row that is not refused, of which nothing is kept to go back by.
     #[inline(always)]
-    pub fn step_as(&mut self, alloc: Global, row: Row, op: &Op, place: usize) -> Result<(), Refusal>
+    fn advance_as(
+        &mut self,
+        alloc: Global,
+        row: Row,
+        op: &OpRef<'_>,
+        place: usize,
+    ) -> Result<(), AllocError>
+        requires heap { length self.old.state.heap < 2 ^ 32 - 1 }
+        requires good { refusal_of row (fresh self.old.state) ≡ None }
+        ensures ok { OnOk result (move_as row op.now place self.old.state ≡ Ok self.new.state) }
+        ensures err { OnErr result (self.new.state ≡ self.old.state) }
+        ensures objects { length self.new.state.heap ≤ length self.old.state.heap + 1 }
+    {
+        self.core.go_on(alloc, row, op, place)?;
+        Ok(())
+    }
+
+    /// One step forwards as a row that need not be the operation's own: what it makes is of the operation's kind. No record of it is
+    /// made, and it is not counted.
+    #[inline(always)]
+    pub fn step_as(
+        &mut self,
+        alloc: Global,
+        row: Row,
+        op: &OpRef<'_>,
+        place: usize,
+    ) -> Result<(), Refusal>
         requires { length self.old.state.heap < 2 ^ 32 - 1 }
         ensures ok { OnOk result (move_as row op.now place self.old.state ≡ Ok self.new.state) }
         ensures refused { IfErr result (λ e. e ≢ Refusal.Memory → refusal_of row (fresh self.old.state) ≡ Some e) }
@@ -424,7 +452,7 @@ impl Machine {
         if let Some(refusal) = self.check_row(row) {
             return Err(refusal);
         }
-        self.perform_as(alloc, row, op, place)?;
+        self.advance_as(alloc, row, op, place)?;
         Ok(())
     }
 

@@ -144,6 +144,26 @@ impl Object {
         Ok(())
     }
 
+    /// The same of a list, which is kept where nothing was done to it before.
+    pub fn change_all(&mut self, alloc: Global, more: Vec<Change>) -> Result<(), AllocError>
+        ensures ok { OnOk result (self.new ≡ record self.old { changes = self.old.changes ++ more.items }) }
+        ensures err { OnErr result (self.new ≡ self.old) }
+    {
+        if more.is_empty() {
+            return Ok(());
+        }
+        if let Made::More(content) = &mut self.made {
+            content.changes.extend_from_slice(more.as_slice())?;
+            return Ok(());
+        }
+        let content = Content {
+            parts: Vec::from_slice(alloc, self.parts())?,
+            changes: more,
+        };
+        self.made = Made::More(Box::new(alloc, content)?);
+        Ok(())
+    }
+
     /// Takes the last changes away, where a step that put them there is taken back. It takes no memory, and a box stays.
     pub fn shorten(&mut self, count: usize)
         ensures { self.new ≡ record self.old { changes = take (length self.old.changes - count) self.old.changes } }

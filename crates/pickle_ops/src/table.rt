@@ -11,7 +11,7 @@ use crate::opcodes;
 use crate::payload::Payload;
 use crate::peek::OpRef;
 use crate::row::{Cutting, Filling, Row, Taking};
-use std::alloc::AllocError;
+use std::alloc::{AllocError, Global};
 
 /// The row of a record, of the operation.
 macro_rules! row {
@@ -25,15 +25,15 @@ macro_rules! row {
     ($op:ident ($row:ident integer)) => { Row::$row($op.integer()) };
 }
 
-/// The kind of a record, of the operation.
+/// The kind of a record, of the operation; its payload and its texts by these methods, with what they take.
 macro_rules! kind {
-    (($op:ident) { $code:literal $name:literal $protocol:literal $form:ident $row:tt $kind:tt $($rest:tt)* }) => { kind!($op $kind) };
-    ($op:ident _) => { Ok(Kind::None) };
-    ($op:ident $kind:ident) => { Ok(Kind::$kind) };
-    ($op:ident (int_kind payload)) => { Ok(int_kind($op.shared_payload()?)) };
-    ($op:ident ($kind:ident payload)) => { Ok(Kind::$kind($op.shared_payload()?)) };
-    ($op:ident ($kind:ident texts)) => { Ok(Kind::$kind($op.shared_texts()?)) };
-    ($op:ident ($kind:ident integer)) => { Ok(Kind::$kind($op.integer())) };
+    (($op:ident $by:tt $with:tt) { $code:literal $name:literal $protocol:literal $form:ident $row:tt $kind:tt $($rest:tt)* }) => { kind!($op $by $with $kind) };
+    ($op:ident $by:tt $with:tt _) => { Ok(Kind::None) };
+    ($op:ident $by:tt $with:tt $kind:ident) => { Ok(Kind::$kind) };
+    ($op:ident ($payload:ident $texts:ident) $with:tt (int_kind payload)) => { Ok(int_kind($op.$payload $with?)) };
+    ($op:ident ($payload:ident $texts:ident) $with:tt ($kind:ident payload)) => { Ok(Kind::$kind($op.$payload $with?)) };
+    ($op:ident ($payload:ident $texts:ident) $with:tt ($kind:ident texts)) => { Ok(Kind::$kind($op.$texts $with?)) };
+    ($op:ident $by:tt $with:tt ($kind:ident integer)) => { Ok(Kind::$kind($op.integer())) };
 }
 
 impl Row {
@@ -77,6 +77,14 @@ impl Kind {
         ensures ok { IfOk result (λ k. k ≡ kind_of op.now) }
         ensures err { OnErr result (most_inline < length op.now.arg) }
     {
-        opcodes!(match op.opcode() => kind!(op))
+        opcodes!(match op.opcode() => kind!(op (shared_payload shared_texts) ()))
+    }
+
+    /// The same, of an operation where it is, whose bytes are copied. It fails only where memory runs out.
+    #[inline(always)]
+    pub fn of_ref(alloc: Global, op: &OpRef<'_>) -> Result<Kind, AllocError>
+        ensures { IfOk result (λ k. k ≡ kind_of op.now) }
+    {
+        opcodes!(match op.opcode() => kind!(op (kept_payload kept_texts) (alloc)))
     }
 }

@@ -38,6 +38,12 @@ naming_after (row.Protocol n) objects m = turned (nat_lt n 3) objects m
 naming_after row.Stop objects m = begin m.detail objects
 naming_after _ objects m = m
 
+-- whether it may change
+abbrev pub turns : Row → Bool
+turns (row.Protocol n) = true
+turns row.Stop = true
+turns _ = false
+
 -- ---- texts
 
 -- a text as it is in a pickle

@@ -5,7 +5,7 @@ ghost use Rattle.pickle_show.specs.CallsLine.{is_import, is_call, imports_of, ca
 ghost use Rattle.pickle_show.specs.Event.{object_is};
 
 use crate::event::Event;
-use crate::naming::{Detail, Naming, left_behind};
+use crate::naming::{Detail, Naming, left_behind, turns};
 use pickle_ops::{Kind, ObjId, Object, OpRef, Row};
 
 /// What goes along with the items that were stepped: how many imports and calls their lines are, how names are read, and what is left of a
@@ -126,7 +126,23 @@ impl Course {
         }
     }
 
+    /// The same, apart: few steps have a line or change how names are read.
+    #[inline(never)]
+    fn told(self, row: Row, heap: &[Object], event: Option<Event>) -> Course
+        requires imports { self.imports < 2 ^ 32 }
+        requires calls { self.calls < 2 ^ 32 }
+        requires objects { length heap.now < 2 ^ 32 }
+        ensures imports { result.imports ≡ self.imports + imports_of heap.now event }
+        ensures calls { result.calls ≡ self.calls + calls_of heap.now event }
+        ensures naming { result.naming ≡ naming_after row (length heap.now) self.naming }
+        ensures left { result.left ≡ self.left }
+    {
+        self.with(row, heap, event)
+    }
+
     /// After one step more, over this opcode, with its line, if it has one.
+    #[tactic(auto, using(crate::proofs::Turns::unturned))]
+    #[inline(always)]
     pub fn over(self, op: &OpRef<'_>, row: Row, heap: &[Object], event: Option<Event>) -> Course
         requires imports { self.imports < 2 ^ 32 }
         requires calls { self.calls < 2 ^ 32 }
@@ -136,7 +152,15 @@ impl Course {
         ensures naming { result.naming ≡ naming_after row (length heap.now) self.naming }
         ensures left { result.left ≡ left_behind false self.left op.now }
     {
-        let course = self.with(row, heap, event);
+        if event.is_none() && !turns(row) {
+            return Course {
+                imports: self.imports,
+                calls: self.calls,
+                naming: self.naming,
+                left: left_behind(op, self.left),
+            };
+        }
+        let course = self.told(row, heap, event);
         Course {
             imports: course.imports,
             calls: course.calls,

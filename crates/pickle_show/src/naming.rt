@@ -3,6 +3,7 @@
 ghost use Rattle.std.specs.Prelude.{◌≡◌, ◌&&◌, false, nat_lt};
 ghost use Rattle.pickle_doc.specs.DocUnit.{is_stop, is_frame, frame_number};
 ghost use Rattle.pickle_doc.specs.Fitting.{left_behind};
+ghost use Rattle.pickle_show.specs.Naming.{turns};
 
 use pickle_ops::{ObjId, OpRef, Opcode, Row};
 
@@ -68,6 +69,14 @@ impl Naming {
             _ => self,
         }
     }
+}
+
+/// Whether an item of this row may change how names are read.
+#[inline(always)]
+pub(crate) fn turns(row: Row) -> bool
+    ensures { result ≡ turns row }
+{
+    matches!(row, Row::Protocol(_) | Row::Stop)
 }
 
 /// How many bytes are left of a frame after an opcode.

@@ -113,7 +113,7 @@ fn write_report<S: Page>(machine: &Machine, closing: Closing, sink: &mut S) -> R
 }
 
 /// Steps a machine over an item, whose row this is, and keeps no record. Refused, it changes nothing. `Refusal::Memory` comes also where
-/// there is no memory for a copy of the item's argument.
+/// there is no memory for a copy of the item's bytes, which an object keeps.
 #[inline(always)]
 pub fn step_over(
     alloc: Global,
@@ -129,10 +129,7 @@ pub fn step_over(
     ensures err { OnErr result (machine.new.state ≡ machine.old.state) }
     ensures refused { IfErr result (λ e. e ≢ Refusal.Memory → refusal_at op.now machine.old.state ≡ Some e) }
 {
-    let Ok(op) = op.copied(alloc) else {
-        return Err(Refusal::Memory);
-    };
-    machine.step_as(alloc, row, &op, place)
+    machine.step_as(alloc, row, op, place)
 }
 
 /// How a run ends that went over all items: `stop` says whether the last of them is STOP, and the tail has `left` bytes, this fault

@@ -19,4 +19,4 @@ invariant_of-self-2 c =
     let near : is_far c.in-Some.own ≡ false = sym c.is_far.ensures.is ∙ c.is_far.ensures.never in
     let within : c.self.inside.machine.state.stopped ≡ false = rw (← c.self.view_is) at c.requires.within in
     apart_within c.args.row c.in-Some.own c.args.op.now c.args.place c.self.inside.far.entries c.self.inside.machine.state c.step_as.new.self.state c.self.invariant c.objects-objects.ensures.names is near within
-    c.in_ok-step_as.ensures.ok c.has_short_keys.ensures.below
+    (rw c.by_ref.ensures at c.in_ok-step_as.ensures.ok) c.has_short_keys.ensures.below
