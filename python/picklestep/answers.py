@@ -12,12 +12,22 @@ from typing import Any, ClassVar, Iterator, List, Optional, Sequence, Tuple, Typ
 from . import reaches, texts
 from .records import End, Item, Object, Opcode, Reach, Shown
 
-__all__ = ['Answer', 'Calls', 'Heap', 'Items', 'Listing', 'Objects', 'Part', 'Reached', 'ShownObjects']
+__all__ = ['Answer', 'Calls', 'Heap', 'Items', 'Listing', 'Objects', 'Part', 'Reached', 'ShownObjects', 'closing_in']
 
 Line = TypeVar('Line')
 
 _SHOWN_LINES = 200
 _TAIL = 1000  # more bytes than all closing lines have, the results apart
+
+
+def closing_in(text: str, start: int, end: int) -> texts.Closing:
+    """The closing lines of a part of a text.
+
+    >>> closing_in('0 imports, 0 calls\\nfault: F1 ended at 1\\n', 0, 40).end(None).code
+    'F1'
+    """
+    lines = text[max(start, end - _TAIL):end].split('\n')
+    return texts.Closing(texts.closing_of(lines[1 if end - start > _TAIL else 0:-1]))
 
 
 class Answer(Sequence[Line]):
@@ -79,9 +89,7 @@ class Answer(Sequence[Line]):
     @cached_property
     def _closing(self) -> texts.Closing:
         """The closing lines. A line of which only a part was looked at is none of them."""
-        start, end = self._span
-        lines = self.text[max(start, end - _TAIL):end].split('\n')
-        return texts.Closing(texts.closing_of(lines[1 if end - start > _TAIL else 0:-1]))
+        return closing_in(self.text, *self._span)
 
     def _summary(self) -> str:
         return f'{len(self)} {self._what}'

@@ -9,22 +9,25 @@ from typing import Callable, Dict, Iterator, List, NamedTuple, Optional, Tuple, 
 from .records import Brief, Briefs, End, Extension, Global, Name, Reach, Ref, Value
 from .texts import NUMBER, QUOTED, LineReader, LinesError, number_of, unquoted
 
-__all__ = ['Heading', 'LineKey', 'REACHES', 'ReachedLine', 'before_headings', 'counts_in', 'given_in', 'headings_in', 'lowered', 'made_by',
-           'reach_of', 'reached_line_of', 'reached_lines', 'unnumbered', 'with_offset']
+__all__ = ['Heading', 'LineKey', 'REACHES', 'ReachedLine', 'before_headings', 'counts_in', 'given_in', 'headings_in', 'line_of', 'lowered',
+           'made_by', 'reach_of', 'reached_line_of', 'reached_lines', 'unnumbered', 'with_offset']
 
 # What is under these headings the strict reading does not reach. Each has the words of the second, and hardly any other line.
 _HEADING = re.compile(r'^(a loader(?: that buffers frames| that keeps its buffer)? may go on):$', re.MULTILINE)
 _IN_HEADINGS = ' may go on:\n'
 _COUNTS = re.compile(r'^([0-9]+) imports, ([0-9]+) calls$', re.MULTILINE)
-# A line of `calls`: its offset, its text and first word, and the name in it where the module is in quotes.
+# A line of `calls`: its offset, its text and first word, and the name in it where the module is in quotes. Then those that follow at once and
+# call the same: most calls are made again and again.
 _REACHED = re.compile(rf"^ *([0-9]+): ((\w+)(?: ((?:raw )?{QUOTED} (?:(?:raw )?{QUOTED}|#[0-9]+)))?.*)$", re.MULTILINE)
+_IN_ROW = re.compile(rf'{_REACHED.pattern}(?:\n *[0-9]+: (?=call |new |inst )\3 \4(?![0-9]).*){{0,1000}}', re.MULTILINE)
 # What may be the number of an object, beside texts.
 _QUOTED_OR_NUMBER = re.compile(rf'{QUOTED}|#([0-9]+)')
 # A text in quotes, a number that was given to an object, or the place of a fault.
 _NUMBERED = re.compile(rf'({QUOTED})| as #\d+|(#)\d+| at \d+')
-# The object that a line makes, and the one that it makes or that is given something.
+# The object that a line makes, and the one that it makes or that is given something. (Such an end is no longer than that.)
 _MADE = re.compile(' as #([0-9]+)$')
 _GIVEN = re.compile(r' (?:as|to|in) #([0-9]+)$')
+_LONGEST_GIVEN = 25
 
 
 class _Units:
@@ -267,29 +270,32 @@ def counts_in(text: str, start: int, end: int) -> Tuple[int, int]:
 
 # --- One line, as far as it is asked for ---
 
-class ReachedLine(NamedTuple):
-    """A line: the whole of it, its offset, its text, the first word of that, and the name in it where the module is in quotes."""
-
-    whole: str
-    offset: str
-    text: str
-    what: str
-    quoted: Optional[str]
-
-
-# The first word of a line and the name whose module is in quotes: lines that have the same say the same, but for numbers and arguments.
+# A line: its offset, its text, the first word of that, and the name in it where the module is in quotes.
+ReachedLine = Tuple[str, str, str, Optional[str]]
+# The last two of these: lines that have the same say the same, but for numbers and arguments.
 LineKey = Tuple[str, Optional[str]]
 
 
-def reached_lines(text: str, start: int, end: int) -> 'Iterator[Tuple[LineKey, re.Match[str]]]':
-    """The lines in a part of a text, each with its key, as they matched: a pickle may have a hundred thousand lines and few names."""
-    for match in _REACHED.finditer(text, start, end):
-        yield (match[3], match[4]), match
+def reached_lines(text: str, start: int, end: int, each: bool = False) -> 'Iterator[Tuple[LineKey, int, re.Match[str]]]':
+    """The lines in a part of a text, each with its key and as it matched: a pickle may have a hundred thousand lines and few names.
+
+    The number says how many lines of that key are counted by it, which come one after another. With `each` every line comes by itself.
+
+    >>> [found[:2] for found in reached_lines("0: new 'a' 'b' () as #2\\n9: new 'a' 'b' (#2) as #4\\n12: state #4 to #2\\n", 0, 70)]
+    [(('new', "'a' 'b'"), 2), (('state', None), 1)]
+    """
+    for match in (_REACHED if each else _IN_ROW).finditer(text, start, end):
+        yield (match[3], match[4]), 1 if each else 1 + text.count('\n', *match.span()), match
 
 
 def reached_line_of(match: 're.Match[str]') -> ReachedLine:
-    """What a line that matched says."""
-    return ReachedLine(match[0], match[1], match[2], match[3], match[4])
+    """What the first line that matched says."""
+    return match[1], match[2], match[3], match[4]
+
+
+def line_of(match: 're.Match[str]') -> str:
+    """The first line that matched."""
+    return match.string[match.start():match.end(2)]
 
 
 def made_by(text: str) -> Optional[int]:
@@ -308,7 +314,7 @@ def given_in(text: str) -> str:
     >>> given_in('state #1 to #0')
     '0'
     """
-    found = _GIVEN.search(text)
+    found = _GIVEN.search(text, max(0, len(text) - _LONGEST_GIVEN))
     return found[1] if found else ''
 
 

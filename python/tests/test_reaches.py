@@ -6,11 +6,12 @@ from __future__ import annotations
 import re
 import struct
 import unittest
+from collections import Counter
 from typing import Dict, Iterator, List, Union
 
 import picklestep
 from picklestep import Brief, Briefs, Extension, Global, Reach, Ref
-from picklestep.reaches import reach_of
+from picklestep.reaches import LineKey, reach_of, reached_lines
 from picklestep.texts import begins_with_offset
 from pickles import ROOT, real_pickles
 
@@ -129,6 +130,33 @@ class Lines(unittest.TestCase):
             answer = picklestep.calls(data)
             with self.subTest(answer[-1].text):
                 self.check([f'{reach.offset:5d}: {reach.text}' for reach in answer])
+
+
+class Rows(unittest.TestCase):
+    """Lines that call the same one after another are counted together, and no others."""
+
+    def test_real_pickles(self) -> None:
+        for name, data in real_pickles().items():
+            with self.subTest(name):
+                text = picklestep.calls(data).text
+                one_by_one: Counter[LineKey] = Counter(key for key, _, _ in reached_lines(text, 0, len(text), each=True))
+                together: Counter[LineKey] = Counter()
+                for key, count, _ in reached_lines(text, 0, len(text)):
+                    together[key] += count
+                self.assertEqual(together, one_by_one)
+
+    def test_what_is_no_row(self) -> None:
+        for first, second in (("call 'a' #1 () as #2", "call 'a' #12 () as #14"), ("call 'a' 'b' () as #2", "new 'a' 'b' () as #4"),
+                              ("import 'a' 'b' as #2", "import 'a' 'b' as #5"), ("call 'a' 'b' () as #2", "call raw 'a' 'b' () as #4"),
+                              ("state 'a' to #1", "state 'a' to #2"), ("call #1 () as #2", "call #1 () as #2"),
+                              ("call 'a' 'b' () as #2", "call 'a' 'b\\'' () as #4")):
+            with self.subTest(first):
+                text = f'    0: {first}\n   20: {second}\n'
+                self.assertEqual([count for _, count, _ in reached_lines(text, 0, len(text))], [1, 1])
+
+    def test_a_long_row(self) -> None:
+        text = ''.join(f"{at:5}: call 'a' 'b' (#{at}) as #{at + 1}\n" for at in range(5000))
+        self.assertEqual(sum(count for _, count, _ in reached_lines(text, 0, len(text))), 5000)
 
 
 if __name__ == '__main__':

@@ -10,10 +10,10 @@ from functools import lru_cache
 from typing import Callable, Dict, Iterable, List, Optional, Tuple
 
 from .. import library
-from ..answers import Reached
+from ..answers import closing_in
 from ..errors import OutOfMemory, PicklestepError, ProgramError, TimedOut
 from ..program import Process
-from ..reaches import LineKey, ReachedLine, given_in, headings_in, reach_of, reached_line_of, reached_lines, with_offset
+from ..reaches import LineKey, given_in, headings_in, line_of, reach_of, reached_line_of, reached_lines, with_offset
 from ..records import End, Extension, Global, Name, Ref
 from ..session import Session
 from ..texts import offset_of_item
@@ -127,17 +127,18 @@ class Summary:
     def _take_lines(self, text: str, start: int, end: int, tail: str) -> str:
         """Counts lines, and answers the last ones. A pickle may have a hundred thousand lines and few names."""
         again, budget = self._again, self._budget
-        for key, match in reached_lines(text, start, end):
-            self._count += 1
-            budget.lines -= 1
+        for key, count, match in reached_lines(text, start, end, each=self._lines is not None):
+            self._count += count
+            budget.lines -= count
+            allowed = count + min(budget.lines, 0)
+            if allowed > 0:
+                found = again.get(key) or self._found_by(match)
+                found.count += allowed
+                if self._lines is not None:
+                    self._keep_line(match)
             if budget.lines < 0:
                 raise Enough(f'the answers about the file have more than {budget.limits.lines:,} lines')
-            found = again.get(key)
-            if found is None:
-                self._line(reached_line_of(match))
-            else:
-                found.count += 1
-        return (tail + text[start:end])[-_CLOSING:]
+        return text[end - _CLOSING:end] if end - start >= _CLOSING else (tail + text[start:end])[-_CLOSING:]
 
     def _begin_part(self, heading: str, tail: str) -> None:
         """Goes on with what is under a heading."""
@@ -151,18 +152,18 @@ class Summary:
 
     def _take_end(self, tail: str) -> None:
         """Keeps how the strict reading ended."""
-        self.end = Reached(tail).end
+        self.end = closing_in(tail, 0, len(tail)).end(None)
         if self._offset_of is not None and self.end.offset is not None:
             self.end = with_offset(self.end, self._offset_of(self.end.offset))
 
-    def _line(self, reached: ReachedLine) -> None:
-        """Counts a line that is not the same as one before, as far as it counts."""
-        whole, offset, text, what, quoted = reached
+    def _found_by(self, match: 're.Match[str]') -> '_Found':
+        """What a line is counted by. It is kept with the first line of its kind about its name."""
+        offset, text, what, quoted = reached_line_of(match)
         name = self._imported.get(given_in(text), '') if what in _CHANGES else quoted or ''
         has_other_name = quoted is None and what in _WITH_NAME  # one that is no text: a number, or an object of the pickle
         found = None if has_other_name else self._found.get((what, name, self._part))
         if found is None:
-            known = _name_in(whole, quoted) if what in _WITH_NAME else _NO_NAME
+            known = _name_in(match, quoted) if what in _WITH_NAME else _NO_NAME
             shown = name if what in _CHANGES else known.shown
             key = (what, name or shown, self._part)
             if key not in self._found:
@@ -170,15 +171,19 @@ class Summary:
                 self._found[key] = _Found(what, shown, self._place(offset), text, self._part)
             found = self._found[key]
             self.is_sure = self.is_sure or self._shows_pickle(what, known)
-        found.count += 1
         if what == 'import':
             self._imported[given_in(text)] = found.name
-        elif quoted is not None and self._lines is None:
+        elif quoted is not None:
             self._again[what, quoted] = found
-        if self._lines is not None:
-            line = whole if self._offset_of is None else f'{self._place(offset):>5}: {text}'
-            self._keep(line)
-            self._lines.append(line)
+        return found
+
+    def _keep_line(self, match: 're.Match[str]') -> None:
+        """Keeps a whole line."""
+        assert self._lines is not None
+        offset, text, _, _ = reached_line_of(match)
+        line = line_of(match) if self._offset_of is None else f'{self._place(offset):>5}: {text}'
+        self._keep(line)
+        self._lines.append(line)
 
     def _shows_pickle(self, what: str, name: '_Known') -> bool:
         """Whether a line shows that the bytes are a pickle. Loaders that go on raise at an import that cannot be there."""
@@ -261,9 +266,9 @@ def _known_by(quoted: str) -> _Known:
     return _known(reach_of(f'0: import {quoted} as #0').name)
 
 
-def _name_in(line: str, quoted: Optional[str]) -> _Known:
+def _name_in(match: 're.Match[str]', quoted: Optional[str]) -> _Known:
     """What is known of what a line imports or calls."""
-    return _known_by(quoted) if quoted is not None and len(quoted) <= _SHORT else _known(reach_of(line).name)
+    return _known_by(quoted) if quoted is not None and len(quoted) <= _SHORT else _known(reach_of(line_of(match)).name)
 
 
 def calls_words(full: bool) -> List[str]:
