@@ -13,6 +13,7 @@ import subprocess
 import sys
 import time
 import unittest
+import unittest.mock
 from pathlib import Path
 from typing import Callable, Dict, List
 
@@ -83,6 +84,15 @@ class Runs(RunCase):
         self.assertEqual(sorted(result['path'] for result in results), [f'files/{name}' for name in names])
         self.assertEqual([result['error'] for result in results], [None] * 8)
         self.assertTrue(os.path.exists(f'{self.folder}/program.seen'))
+
+    def test_a_worker_that_dies_at_one_of_many_small_files(self) -> None:
+        names = self.fill(120)
+        env = self.wrapped('case $file in *0091.pkl) kill -9 $PPID; sleep 1;; esac')
+        run = subprocess.run([sys.executable, '-m', 'picklestep', 'scan', 'files', '--json', '--jobs', '2'], cwd=self.folder, env=env,
+                             capture_output=True, text=True, timeout=120)
+        results = {result['path']: result['error'] for result in map(json.loads, run.stdout.splitlines())}
+        self.assertEqual(sorted(results), [f'files/{name}' for name in names])
+        self.assertEqual([path for path, error in results.items() if error is not None], ['files/0091.pkl'])
 
     def test_a_file_that_kills_each_worker(self) -> None:
         self.fill(6)
@@ -293,6 +303,16 @@ class AFewWorkers(ScanCase):
 
     def test_nothing_to_do(self) -> None:
         self.assertEqual(list(pool.look_at_all([], Options(), 4)), [])
+
+    def test_many_at_once_come_once_each(self) -> None:
+        paths = [str(self.file(f'{number}.pkl', HOSTILE)) for number in range(200)]
+        self.assertEqual(sorted(result.path for result in pool.look_at_all(paths, Options(), 2)), sorted(paths))
+
+    def test_a_worker_answers_in_time(self) -> None:
+        paths = [str(self.file(f'{number}.pkl', HOSTILE)) for number in range(5)]
+        for turn, count in ((0.0, 1), (60.0, 5)):
+            with unittest.mock.patch.object(pool, '_TURN', turn):
+                self.assertEqual([result.path for result in pool._first_results(paths, Options())], paths[:count])
 
     def test_no_dask(self) -> None:
         if python_with('distributed') == sys.executable:

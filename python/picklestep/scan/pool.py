@@ -2,14 +2,19 @@
 
 A thread for each file would not do: what Python does for a small file takes longer than the program, and threads take turns there. The
 library's executors end as a whole when one of their processes dies, as it may by a hostile file. Here that costs its file a second try.
+
+Several small files are handed over at once: to hand one over takes a good part of the time that it takes to look at it.
 """
 
 from __future__ import annotations
 
+import gc
 import os
 import signal
 import subprocess
 import sys
+import threading
+import time
 from collections import deque
 from contextlib import suppress
 from itertools import islice
@@ -27,6 +32,9 @@ _Task = Tuple[Union[str, Task], int]
 
 # A process that dies twice at one file is not started a third time for it.
 TRIES = 2
+# So many files are handed over at once, and a worker answers after so many seconds though it was given more.
+_MOST_AT_ONCE = 16
+_TURN = 0.05
 
 
 def look_at_all(paths: Iterable[Union[str, Task]], options: Options, jobs: int) -> Generator[Result, None, None]:
@@ -41,16 +49,27 @@ _WORKER = Path(__file__).resolve().parent / 'worker.py'
 
 
 def work(link: Connection) -> None:
-    """What a worker does: it gets the options, and looks at each path that it is given, until there is none."""
+    """What a worker does: it gets the options, and looks at the paths that it is given, until there are none."""
     # A group of its own: Ctrl-C goes to the parent alone, which ends this process and all that it started.
     if hasattr(os, 'setpgid'):
         os.setpgid(0, 0)
     try:
         options = link.recv()
         while True:
-            link.send(work_on(link.recv(), options))
+            link.send(_first_results(link.recv(), options))
     except (EOFError, OSError):
         pass  # the parent is gone or has no more
+
+
+def _first_results(tasks: List[Union[str, Task]], options: Options) -> List[Result]:
+    """The results of the first of these, of as many as take a short time."""
+    end = time.monotonic() + _TURN
+    results: List[Result] = []
+    for task in tasks:
+        results.append(work_on(task, options))
+        if time.monotonic() >= end:
+            break
+    return results
 
 
 def _start(command: List[str], link: int) -> 'subprocess.Popen[bytes]':
@@ -64,28 +83,85 @@ def _start(command: List[str], link: int) -> 'subprocess.Popen[bytes]':
                             startupinfo=processes.STARTUPINFO(lpAttributeList={'handle_list': [link]}))
 
 
-class _Worker:
-    """A process, the path that it looks at, and which try that is."""
+def _new_process(link: int) -> 'subprocess.Popen[bytes]':
+    """A worker that finds modules where this process does."""
+    places = [path for path in sys.path if path]
+    flags = ['-I', '-B'] if sys.dont_write_bytecode else ['-I']
+    return _start([sys.executable, *flags, str(_WORKER), str(link), *places], link)
 
-    def __init__(self, options: Options) -> None:
-        self.link, far = Pipe()
-        places = [path for path in sys.path if path]
-        flags = ['-I', '-B'] if sys.dont_write_bytecode else ['-I']
-        with far:
-            self.process = _start([sys.executable, *flags, str(_WORKER), str(far.fileno()), *places], far.fileno())
-        self.task: Optional[_Task] = None
+
+class _Fork:
+    """A copy of this process as a worker. It has imported everything, which takes longer than hundreds of small files."""
+
+    def __init__(self, link: Connection, others: Iterable[Connection]) -> None:
+        """`others` are the ends of links that are the parent's alone: a worker sees by them that it is gone."""
+        self._status: Optional[int] = None
+        self.pid = os.fork()
+        if self.pid:
+            return
         try:
-            self.link.send(options)
+            gc.freeze()  # (what it was copied with is not looked through again and again)
+            for other in others:
+                other.close()
+            os.dup2(os.open(os.devnull, os.O_RDONLY), 0)
+            work(link)
+        finally:
+            os._exit(0)
+
+    def poll(self) -> Optional[int]:
+        """The status, once it has ended."""
+        return self._wait(os.WNOHANG)
+
+    def wait(self) -> Optional[int]:
+        """Waits for the end."""
+        return self._wait(0)
+
+    def kill(self) -> None:
+        """Ends it."""
+        os.kill(self.pid, signal.SIGKILL)
+
+    def _wait(self, how: int) -> Optional[int]:
+        if self._status is None:
+            ended, status = os.waitpid(self.pid, how)
+            self._status = status if ended else None
+        return self._status
+
+
+def _may_fork() -> bool:
+    """Whether a copy of this process is as good as a new one: it finds modules at the same places, and has no other thread."""
+    return sys.platform == 'linux' and hasattr(os, 'fork') and bool(sys.flags.isolated) and threading.active_count() == 1
+
+
+class _Worker:
+    """A process, and the paths that it has."""
+
+    def __init__(self, options: Options, others: Optional[Iterable[Connection]]) -> None:
+        """A copy of this process where the other links are given, else a new one."""
+        self.link, far = Pipe()
+        self.process: Union['subprocess.Popen[bytes]', _Fork]
+        with far:
+            self.process = _new_process(far.fileno()) if others is None else _Fork(far, [*others, self.link])
+        self.tasks: List[_Task] = []
+        # How many it gets at once: one at first, and more as long as it answers all of them in time.
+        self.at_once = 1
+        self._send(options)
+
+    def give(self, tasks: List[_Task]) -> None:
+        """Hands over paths."""
+        self.tasks = tasks
+        self._send([path for path, _ in tasks])
+
+    def _send(self, what: Any) -> None:
+        try:
+            self.link.send(what)
         except OSError:
             pass  # it is dead already, which is noticed when its answer is read
 
-    def give(self, task: _Task) -> None:
-        """Hands over a path. A process that is dead already is noticed when its answer is read."""
-        self.task = task
-        try:
-            self.link.send(task[0])
-        except OSError:
-            pass
+    def answered(self, results: List[Result]) -> List[_Task]:
+        """Takes its results, and answers those of its tasks that are yet to be done."""
+        left, self.tasks = self.tasks[len(results):], []
+        self.at_once = len(results) if left else min(2 * self.at_once, _MOST_AT_ONCE)
+        return left
 
     def end(self) -> None:
         """Ends the process and the programs that it started."""
@@ -112,15 +188,12 @@ class _Pool:
     def results(self) -> Generator[Result, None, None]:
         """Hands out the files and answers what comes back."""
         try:
-            while True:
-                self._fill()
-                if not self.workers:
-                    return
-                ready = wait(list(self.workers))
+            self._fill(_may_fork())
+            while any(worker.tasks for worker in self.workers.values()):
+                ready = wait([link for link, worker in self.workers.items() if worker.tasks])
                 for worker in [worker for link, worker in self.workers.items() if link in ready]:
-                    result = self._answer_of(worker)
-                    if result is not None:
-                        yield result
+                    yield from self._answers_of(worker)
+                self._fill()
         finally:
             for worker in self.workers.values():
                 worker.end()
@@ -131,30 +204,50 @@ class _Pool:
             self.waiting.extend((path, 1) for path in islice(self.paths, 1))
         return bool(self.waiting)
 
-    def _fill(self) -> None:
+    def _take(self, most: int) -> List[_Task]:
+        """The tasks that come next: files that nobody has died at, or one alone."""
+        tasks: List[_Task] = []
+        while len(tasks) < most and self._next() and (not tasks or _is_first_try(tasks[0]) and _is_first_try(self.waiting[0])):
+            tasks.append(self.waiting.popleft())
+        return tasks
+
+    def _fill(self, forks: bool = False) -> None:
+        """Lets as many workers work as there may be. Once a server was asked for keys, none is a copy of this process, which has a connection."""
+        for worker in self.workers.values():  # (what others did not come to may wait again when one has nothing to do)
+            if not worker.tasks:
+                self._hand_out(worker)
         while len(self.workers) < self.jobs and self._next():
-            worker = _Worker(self.options)
+            worker = _Worker(self.options, self.workers if forks and _is_first_try(self.waiting[0]) else None)
             self.workers[worker.link] = worker
-            worker.give(self.waiting.popleft())
+            self._hand_out(worker)
 
-    def _answer_of(self, worker: _Worker) -> Optional[Result]:
-        """What a worker found. It gets the next file; where it has died, its file waits again."""
-        assert worker.task is not None
-        path, tries = worker.task
+    def _hand_out(self, worker: _Worker) -> None:
+        """Gives a worker what comes next, if there is something."""
+        tasks = self._take(worker.at_once)
+        if tasks:
+            worker.give(tasks)
+
+    def _answers_of(self, worker: _Worker) -> List[Result]:
+        """What a worker found. It gets the next files; where it has died, its files wait again."""
         try:
-            result: Result = worker.link.recv()
+            results: List[Result] = worker.link.recv()
         except (EOFError, OSError):
-            self._end(worker)
-            if tries < TRIES:
-                self.waiting.appendleft((path, tries + 1))
-                return None
-            return Result(str(path), error=f'the process that looked at it ended without an answer, {TRIES} times')
-        if self._next():
-            worker.give(self.waiting.popleft())
-        else:
-            self._end(worker)
-        return result
+            del self.workers[worker.link]
+            worker.end()
+            return self._given_up(worker.tasks)
+        self.waiting.extendleft(reversed(worker.answered(results)))
+        self._hand_out(worker)
+        return results
 
-    def _end(self, worker: _Worker) -> None:
-        del self.workers[worker.link]
-        worker.end()
+    def _given_up(self, tasks: List[_Task]) -> List[Result]:
+        """Lets the files of a worker that has died wait again, where one of them was not tried too often."""
+        if tasks[0][1] < TRIES:
+            self.waiting.extendleft((path, tries + 1) for path, tries in reversed(tasks))
+            return []
+        return [Result(str(path), error=f'the process that looked at it ended without an answer, {TRIES} times') for path, _ in tasks]
+
+
+def _is_first_try(task: _Task) -> bool:
+    """Whether a task is a file that nobody has died at."""
+    path, tries = task
+    return tries == 1 and isinstance(path, str)
