@@ -63,7 +63,9 @@ class _Library:
     def ask(self, asked: Question, memory: int) -> Optional[bytes]:
         """The text, where it can be had in so much memory."""
         function = self._functions[asked.function]
-        given = (*asked.options, *(part for content, size in asked.inputs for part in (_aligned(content, size), len(content) // size)))
+        given: List[Any] = [*asked.options]
+        for content, size in asked.inputs:
+            given += _aligned(content, size), len(content) // size
         out: Any = _room.out
         written = _room.written
         self._limit(memory)
@@ -85,7 +87,7 @@ def _declared(library: ctypes.CDLL, name: str, options: int, inputs: int) -> Cal
 
 def _aligned(content: bytes, size: int) -> Any:
     """An input where the numbers in it may stand. (What is in bytes may stand anywhere.)"""
-    return content if size == 1 else ctypes.create_string_buffer(content)
+    return content if size == 1 or not content else ctypes.create_string_buffer(content)
 
 
 @lru_cache(maxsize=None)
@@ -125,7 +127,7 @@ def edited(words: Sequence[str], many: bool, unframed: bool, content: bytes, scr
 def _ask(asked: Optional[Question], memory: Optional[int]) -> Optional[bytes]:
     """What the library answers, if there is one and it is to be asked about so many bytes in so much memory."""
     most = _MOST_MEMORY if memory is None else min(_MOST_MEMORY, memory - _OF_PROGRAM)
-    if asked is None or most <= 0 or sum(len(content) for content, _ in asked.inputs) > MOST_BYTES:
+    if asked is None or most <= 0 or sum([len(content) for content, _ in asked.inputs]) > MOST_BYTES:
         return None
     library = _library(os.environ.get('PICKLESTEP_PROGRAM'), place._HERE)
     return None if library is None else library.ask(asked, most)

@@ -4,8 +4,8 @@ from __future__ import annotations
 
 import re
 import struct
-from dataclasses import dataclass
-from typing import List, Optional, Sequence, Tuple
+from functools import lru_cache
+from typing import List, NamedTuple, Optional, Sequence, Tuple
 
 __all__ = ['FUNCTIONS', 'Question', 'question', 'question_of_edits']
 
@@ -22,8 +22,7 @@ _HOLE = re.compile(r'(\d+):(\d+)', re.ASCII)
 _BYTE, _SIZE_OF_HOLE = 1, 16
 
 
-@dataclass(frozen=True)
-class Question:
+class Question(NamedTuple):
     """A function, its options if it takes any, and its inputs: each with the size of what its length counts."""
 
     function: str
@@ -39,14 +38,20 @@ def question(words: Sequence[str], content: bytes) -> Optional[Question]:
     >>> question(['scan'], b'N.') is None
     True
     """
+    asked = _asked_by(tuple(words))
+    return None if asked is None else Question(asked.function, asked.options, (*asked.inputs, (content, _BYTE)))
+
+
+@lru_cache(maxsize=64)
+def _asked_by(words: Tuple[str, ...]) -> Optional[Question]:
+    """What words ask, before it is known of what."""
     task, *rest = words
     if task == 'form' and not rest:
-        return Question('picklestep_form', (), ((content, _BYTE),))
+        return Question('picklestep_form', (), ())
     options = _options(rest)
     if task not in _TASKS or options is None or (options.holes and task != 'calls'):
         return None
-    holes = [(options.holes, _SIZE_OF_HOLE)] if task == 'calls' else []
-    return Question(f'picklestep_{task}_with', (options.number,), (*holes, (content, _BYTE)))
+    return Question(f'picklestep_{task}_with', (options.number,), ((options.holes, _SIZE_OF_HOLE),) if task == 'calls' else ())
 
 
 def question_of_edits(words: Sequence[str], many: bool, unframed: bool, content: bytes, script: bytes) -> Optional[Question]:
@@ -61,8 +66,7 @@ def question_of_edits(words: Sequence[str], many: bool, unframed: bool, content:
     return Question(f'picklestep_edited_{task}_with', (options.number | modes,), ((content, _BYTE), (script, _BYTE)))
 
 
-@dataclass(frozen=True)
-class _Options:
+class _Options(NamedTuple):
     """The sum of the options, and the holes as the library takes them."""
 
     number: int

@@ -71,7 +71,7 @@ class Budget:
         self.lines = limits.lines
         self.answered = 0
         self.held = 0
-        self._begin = _processor_time()
+        self._begin = _used.seconds()
         self._size = _own_size()
         self._steps = 0
         self._parts: List[float] = []
@@ -87,14 +87,14 @@ class Budget:
     @property
     def seconds(self) -> float:
         """Processor time that is left. It counts what this process took, and the programs that it started."""
-        return self.limits.seconds - (_processor_time() - self._begin)
+        return self.limits.seconds - (_used.seconds() - self._begin)
 
     def spend(self) -> None:
         """Looks at the processor time, and at the memory of this process."""
         seconds = self.seconds
         if seconds <= 0:
             raise LimitMet(f'it took {self.limits.seconds:g} seconds of processor time: the rest of the file is not looked at')
-        grown = _own_size() - self._size
+        grown = _used.memory - self._size
         if self._parts and (seconds <= self._parts[-1] or grown > self.limits.memory // 4):
             raise PartMet('reading it strictly would take more time or memory than there is')
         if grown > self.limits.memory // 2:
@@ -121,8 +121,8 @@ class Budget:
         return max(1 << 16, self.limits.memory // 4 - self.held)
 
     def memory(self) -> int:
-        """What is left of the memory for a program."""
-        return max(16 << 20, self.limits.memory - self.held - max(_OWN_MEMORY, _own_size()))
+        """What is left of the memory for a program, by what was used when it was last asked for."""
+        return max(16 << 20, self.limits.memory - self.held - max(_OWN_MEMORY, _used.memory))
 
     def unpack(self, count: int) -> None:
         """Counts unpacked bytes."""
@@ -160,12 +160,12 @@ def _statm(process: int) -> int:
     return os.open(f'/proc/{process}/statm', os.O_RDONLY | os.O_CLOEXEC)
 
 
-# Seconds between two questions for the processor time.
+# Seconds between two questions for what is used.
 _WAIT = 0.01
 
 
-class _Clock:
-    """Seconds that this process and the programs that it waited for have taken.
+class _Used:
+    """What this process and the programs that it waited for have taken.
 
     The kernel is asked again only after a while: on a busy machine it takes the question as a place to run others, and a small file asks
     several times.
@@ -173,17 +173,21 @@ class _Clock:
 
     def __init__(self) -> None:
         self._next = -1.0
-        self._told = 0.0
+        self._seconds = 0.0
+        # The bytes of memory that this process had when the seconds were asked for.
+        self.memory = 0
 
-    def __call__(self) -> float:
+    def seconds(self) -> float:
+        """The seconds of processor time."""
         now = time.monotonic()
         if now >= self._next:
-            self._told = time.process_time() + _time_of_children()
+            self._seconds = time.process_time() + _time_of_children()
+            self.memory = _own_size()
             self._next = now + _WAIT
-        return self._told
+        return self._seconds
 
 
-_processor_time = _Clock()
+_used = _Used()
 
 
 def _time_of_children() -> float:
@@ -268,9 +272,16 @@ class FileBlob(Blob):
             return b''
         if self.size > _KEPT:
             return self._read(offset, min(count, self.size - offset))
+        return self._kept()[offset:offset + count]
+
+    def find(self, sign: bytes, offset: int = 0) -> int:
+        return super().find(sign, offset) if self.size > _KEPT else self._kept().find(sign, offset)
+
+    def _kept(self) -> bytes:
+        """All bytes of a small file."""
         if self._content is None:
             self._content = self._read(0, self.size)
-        return self._content[offset:offset + count]
+        return self._content
 
     def _read(self, offset: int, count: int) -> bytes:
         pieces = []

@@ -137,8 +137,8 @@ class Looker:
 
     def _look_at_leaf(self, blob: Blob, head: bytes, where: Place, names: Tuple[str, ...], depth: int, is_gap: bool) -> None:
         """Looks at what is no container: a pickle by its name or its first bytes, or where a loader gets somewhere in it; or records."""
-        is_pickle = _begins_as_pickle(head, names) or self._leads_somewhere(blob)
-        if is_pickle and self.is_read(blob, head, where, names):
+        begins = _begins_as_pickle(head, names)
+        if (begins or self._leads_somewhere(blob)) and self.is_read(blob, head, where, names, is_sure=begins):
             stores.look_behind(self, blob, where, depth)
         elif not stores.look_further(self, blob, where, depth, is_gap):
             self._count_other(where)
@@ -384,9 +384,9 @@ def _joined(begin: List[bytes], pieces: Iterator[bytes]) -> Iterator[bytes]:
 
 # --- Files ---
 
-def _state(file: BinaryIO) -> Tuple[int, int, int]:
+def _state(file: BinaryIO) -> Tuple[int, int, int, int]:
     state = os.fstat(file.fileno())
-    return state.st_size, state.st_mtime_ns, state.st_ctime_ns
+    return state.st_mode, state.st_size, state.st_mtime_ns, state.st_ctime_ns
 
 
 # (Windows has only the last of these; a FIFO is no file there.)
@@ -400,12 +400,11 @@ def _opened(path: str) -> BinaryIO:
 
 def _look_at_file(looker: Looker, path: str) -> Result:
     with _opened(path) as file:
-        mode = os.fstat(file.fileno()).st_mode
+        state = mode, size, modified, changed = _state(file)
         if not stat.S_ISREG(mode):
             return Result(path, left=left_out(mode))
-        size, modified, changed = _state(file)
-        result = _gone_through(looker, FileBlob(file, size, path), Result(path, size, modified, changed=changed))
-        if _state(file) == (size, modified, changed):
+        result = _gone_through(looker, FileBlob(file, size, path), path, modified, changed)
+        if _state(file) == state:
             return result
         return replace(result, notes=result.notes + (Note((), 'it changed while it was looked at', True),))
 
@@ -422,8 +421,7 @@ def _look_at_url(looker: Looker, path: str) -> Result:
     except ImportError:
         return Result(path, error='a URL is opened where fsspec is installed')
     with fsspec.open(path, 'rb') as file:
-        blob = OpenedBlob(file)
-        return _gone_through(looker, blob, Result(path, blob.size))
+        return _gone_through(looker, OpenedBlob(file), path)
 
 
 def is_url(path: str) -> bool:
@@ -431,20 +429,20 @@ def is_url(path: str) -> bool:
     return _URL.match(path) is not None and not os.path.lexists(path)
 
 
-def _gone_through(looker: Looker, blob: Blob, start: Result) -> Result:
+def _gone_through(looker: Looker, blob: Blob, path: str, modified: int = 0, changed: int = 0) -> Result:
     """The result of a file, also where a limit is met or reading fails on the way."""
     error = None
     looker.budget.size = blob.size
-    looker.name = start.path.rpartition('/')[2]
+    looker.name = path.rpartition('/')[2]
     try:
-        if not stores.look_beside(looker, blob, start.path):
+        if not stores.look_beside(looker, blob, path):
             looker.look_at(blob, (), (looker.name,), 0)
     except LimitMet as limit:
         looker.note(looker.at, str(limit), missed=True)
     except OSError as failure:
         error = failure.strerror or str(failure)
-    return replace(start, pickles=tuple(looker.pickles), others=looker.others, notes=tuple(looker.notes), error=error,
-                   plain=looker.plain, forms=forms_of(looker.others, looker.forms))
+    return Result(path, blob.size, modified, tuple(looker.pickles), looker.others, tuple(looker.notes), error, changed=changed,
+                  plain=looker.plain, forms=forms_of(looker.others, looker.forms))
 
 
 def look(path: str, options: Options = Options()) -> Result:
@@ -460,7 +458,7 @@ def look_at_bytes(name: str, content: bytes, options: Options = Options()) -> Re
     (Import(name='posix.system', count=1, offset=0, part=''),)
     """
     looker = Looker(options)
-    return _whatever_happens(looker, name, lambda: _gone_through(looker, BytesBlob(content), Result(name, len(content))))
+    return _whatever_happens(looker, name, lambda: _gone_through(looker, BytesBlob(content), name))
 
 
 def _whatever_happens(looker: Looker, path: str, work: Callable[[], Result]) -> Result:

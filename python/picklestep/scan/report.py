@@ -64,17 +64,14 @@ class Report:
             self.servers[result.path] = self.servers.get(result.path, False) or bool(result.pickles or result.plain)
         counts['skipped'] += result.left is not None
         counts['others'] += result.others
-        self.forms.update(dict(result.forms))
+        for form, count in result.forms:
+            self.forms[form] += count
         counts['pickles'] += len(result.pickles) + result.plain
         counts['files with pickles'] += bool(result.pickles or result.plain) and not result.keys
-        rules = Counter(look.rule for look in looks)
         if result.keys and result.error is not None:
             self.errors[result.path, result.error] += 1
-        if self._is_told(result):
-            del rules['cannot-be-read']
-        counts['not-looked-at'] += rules.pop('not-looked-at', 0) > 0
-        counts.update(rules)
-        self.asks = self.asks or bool(looks)
+        if looks:
+            self._count_looks(result, looks)
         for pickle in result.pickles:
             place = place_of(result.path, pickle.where)
             for found in pickle.imports:
@@ -82,6 +79,14 @@ class Report:
                 self.pickles_with[found.name] += 1
                 # The first by name: files come in any order.
                 self.first_with[found.name] = min(place, self.first_with.get(found.name, place))
+
+    def _count_looks(self, result: Result, looks: List[Look]) -> None:
+        self.asks = True
+        rules = Counter(look.rule for look in looks)
+        if self._is_told(result):
+            del rules['cannot-be-read']
+        self.counts['not-looked-at'] += rules.pop('not-looked-at', 0) > 0
+        self.counts.update(rules)
 
     def _is_told(self, result: Result) -> bool:
         """Whether a server has an error that one of its earlier results had."""

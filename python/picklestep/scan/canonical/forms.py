@@ -53,6 +53,10 @@ class Member:
     unpacked: int = 0
     checksum: Optional[int] = None
 
+    def as_numbers(self) -> 'Member':
+        """The same as raw numbers. (An archive has thousands, and `replace` asks for the fields each time.)"""
+        return Member(self.name, self.offset, self.size, 'numbers', self.method, self.unpacked, self.checksum)
+
 
 @dataclass(frozen=True)
 class Form:

@@ -7,7 +7,7 @@ from typing import List, Optional
 
 from ..begins import HEAD
 from ..blobs import Blob
-from ..containers import CONTAINERS, PACKED, Container, kind_of, named, store_of
+from ..containers import CONTAINERS, PACKED, Container, kind_by_sign, named, store_of
 from ..unread import kind_of_file, kind_of_short
 
 __all__ = ['asked_form', 'begun_form', 'kinds_of', 'without_ending']
@@ -19,7 +19,9 @@ _NOT_TAR = re.compile(r'.*\.(pth|pt|ckpt|bin)\.tar', re.IGNORECASE | re.DOTALL)
 _PACKED_TARS = frozenset(each.tar_ending for each in PACKED if each.tar_ending)
 _PACKED_ENDINGS = [*_PACKED_TARS, *(ending for each in PACKED for ending in (*each.endings, *each.other_endings))]
 _PACKED_ENDING = re.compile(rf'\.({"|".join(_PACKED_ENDINGS)})$', re.IGNORECASE)
-_BY_MORE = tuple(each for each in CONTAINERS if each.takes is not None)
+_BY_MORE = tuple((each, each.takes) for each in CONTAINERS if each.takes is not None)
+_STREAMS = tuple((each, each.stream.takes) for each in PACKED if each.stream is not None and each.stream.takes is not None)
+_BEGUN = tuple(each for each in CONTAINERS if each.begun)
 
 
 def kinds_of(blob: Blob, head: bytes, tries: bool = True) -> List[Container]:
@@ -27,15 +29,15 @@ def kinds_of(blob: Blob, head: bytes, tries: bool = True) -> List[Container]:
 
     Without `tries` those are left out that only unpacking shows.
     """
-    known = kind_of(head)
+    known = kind_by_sign(head)
     kinds = [known] if known is not None and _is_by_sign(known) and (tries or not _is_weak(known)) else []
-    kinds += [each for each in _BY_MORE if each.takes is not None and each.takes(head)]
+    kinds += [each for each, takes in _BY_MORE if takes(head)]
     unread = kind_of_file(blob, head) if tries else kind_of_short(head)
     if unread is not None:
         kinds.append(named(unread))
     start = head[:HEAD]
-    for each in PACKED:
-        if each.stream is not None and each.stream.takes is not None and (tries or not each.stream.is_weak) and each.stream.takes(blob, start):
+    for each, takes_stream in _STREAMS if tries else _NOT_WEAK:
+        if takes_stream(blob, start):
             kinds.append(each)
             break
     store = store_of(head)
@@ -51,13 +53,16 @@ def _is_weak(kind: Container) -> bool:
     return kind.stream is not None and kind.stream.is_weak
 
 
+_NOT_WEAK = tuple((each, takes) for each, takes in _STREAMS if not _is_weak(each))
+
+
 def begun_form(head: bytes) -> Optional[Container]:
     """The kind that bytes which are of no kind only begin like: no reader goes on from there, and the program names it all the same.
 
     >>> [str(begun_form(head)) for head in (b'\\x1f\\x8b\\0', b'BZh\\0', b'PK')]
     ['gzip', 'bz2', 'None']
     """
-    return next((each for each in CONTAINERS if each.begun and head.startswith(each.begun)), None)
+    return next((each for each in _BEGUN if head.startswith(each.begun)), None)
 
 
 def asked_form(name: str) -> Optional[Container]:

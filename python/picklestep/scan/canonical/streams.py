@@ -27,6 +27,8 @@ _FIRST_PART = 1 << 12
 _DICTIONARY = 1 << 20
 _MOST_STREAMS = 4096
 _LZMA_HEADER = 13
+# The first bytes of what liblzma takes: properties with lc + lp of at most 4, or that of lzip. (XZ has a kind of its own.)
+_BEGINS_LZMA = frozenset(byte for byte in range(225) if byte % 9 + byte // 9 % 5 <= 4) | {0x4C}
 # Names in a gzip header are Latin-1 without control characters.
 _NAME = re.compile(rb'[\x20-\x7e\xa0-\xff]{1,255}\0')
 _BZ2 = re.compile(rb'BZh[1-9](1AY&SY|\x17rE8P\x90)')
@@ -147,7 +149,7 @@ def _is_lzma(blob: Blob) -> bool:
         if blob.read(at, len(_EMPTY)) == _EMPTY:
             at += _zeros(blob, at) // len(_EMPTY) * len(_EMPTY)
         head = blob.read(at, HEAD)
-        if len(head) < _LZMA_HEADER or not at and head[0] >= 225:
+        if len(head) < _LZMA_HEADER or not at and head[0] not in _BEGINS_LZMA:
             return False
         inner = lzma.LZMADecompressor(lzma.FORMAT_ALONE if head[0] == 0x5D else lzma.FORMAT_AUTO, LZMA_MEMORY)
         try:

@@ -6,7 +6,6 @@ Sources: torch/serialization.py (_save, _legacy_save, _legacy_load), caffe2/seri
 from __future__ import annotations
 
 import re
-from dataclasses import replace
 from typing import Any, Dict, List, NamedTuple, Optional, Sequence, Tuple
 
 from ..blobs import Blob, Budget
@@ -78,7 +77,7 @@ def with_numbers(pickle: Pickle, members: Sequence[Member], prefix: str) -> List
         size = sizes.pop(member.name[len(prefix):], None) if member.name.startswith(prefix) else None
         if size is not None:
             require(member.method == 0 and member.size == size[0], f'{member.name!a} has another size than its tensor')
-            member = replace(member, role='numbers')
+            member = member.as_numbers()
         told.append(member)
     require(not sizes, f'the numbers of {len(sizes)} tensors are missing, such as {next(iter(sizes), "")!a}')
     return told

@@ -12,7 +12,7 @@ from __future__ import annotations
 
 import pickletools
 import re
-from dataclasses import dataclass, field
+from dataclasses import dataclass, field, replace
 from typing import Any, Callable, Dict, List, Optional, Set, Tuple
 
 from ..blobs import CHUNK, STEPS, Blob, Budget, BytesBlob
@@ -131,8 +131,12 @@ class _Machine:
                     return Reach('more opcodes than are gone over', self.at)
                 if self.budget is not None and not count % STEPS:
                     self.budget.spend()
-                self.begin = self.at
-                code = self.read(1)[0]
+                self.begin = at = self.at
+                if self._frame_end is None and 0 <= at - self._base < len(self._window):
+                    code = self._window[at - self._base]
+                    self.at = at + 1
+                else:
+                    code = self.read(1)[0]
                 # (Numbers of one value may all be one opcode.)
                 if self.imported is None or code != last and self.begin >= self.known:
                     counted += 1
@@ -182,6 +186,11 @@ class _Machine:
         return here
 
     def read(self, count: int) -> bytes:
+        start = self.at - self._base
+        end = start + count
+        if self._frame_end is None and start >= 0 and end <= len(self._window):
+            self.at += count
+            return self._window[start:end]
         return self._bytes(count, False)
 
     def line(self) -> bytes:
@@ -465,6 +474,7 @@ _EVEN = {code: bytes([code]) * 256 for code in (_MARK, *b'N)]}\x88\x89\x8f')}
 
 _WAYS = (_Way(), _Way(keeps=True), _Way(drops=True), _Way(drops=True, keeps=True), _Way(drops=True, across=False),
          _Way(drops=True, across=False, keeps=True))
+_WITHOUT_NUMBERS = tuple(replace(way, extends=False) for way in _WAYS)
 
 
 def reach_of(blob: Blob, budget: Optional[Budget] = None, extends: bool = True) -> Tuple[Optional[Reach], int]:
@@ -473,11 +483,11 @@ def reach_of(blob: Blob, budget: Optional[Budget] = None, extends: bool = True) 
     Without `extends` no loader knows a number of copyreg.
     """
     stops, framed = 0, True
-    for way in _WAYS:
+    for way in _WAYS if extends else _WITHOUT_NUMBERS:
         # (Ways that differ in frames, or in the memo of a second pickle, read alike where there is none.)
         if way.drops and not framed or way.keeps and not stops:
             continue
-        machine = _Machine(blob, _Way(way.drops, way.across, way.keeps, extends), budget)
+        machine = _Machine(blob, way, budget)
         found = machine.run()
         stops = max(stops, machine.stops)
         if found is not None:
