@@ -127,7 +127,7 @@ def edited(words: Sequence[str], many: bool, unframed: bool, content: bytes, scr
 def _ask(asked: Optional[Question], memory: Optional[int]) -> Optional[bytes]:
     """What the library answers, if there is one and it is to be asked about so many bytes in so much memory."""
     most = _MOST_MEMORY if memory is None else min(_MOST_MEMORY, memory - _OF_PROGRAM)
-    if asked is None or most <= 0 or sum(len(content) for content, _ in asked.inputs) > MOST_BYTES:
+    if asked is None or most <= 0 or sum([len(content) for content, _ in asked.inputs]) > MOST_BYTES:
         return None
     library = _library(os.environ.get('PICKLESTEP_PROGRAM'), place._HERE)
     return None if library is None else library.ask(asked, most)

@@ -272,9 +272,16 @@ class FileBlob(Blob):
             return b''
         if self.size > _KEPT:
             return self._read(offset, min(count, self.size - offset))
+        return self._kept()[offset:offset + count]
+
+    def find(self, sign: bytes, offset: int = 0) -> int:
+        return super().find(sign, offset) if self.size > _KEPT else self._kept().find(sign, offset)
+
+    def _kept(self) -> bytes:
+        """All bytes of a small file."""
         if self._content is None:
             self._content = self._read(0, self.size)
-        return self._content[offset:offset + count]
+        return self._content
 
     def _read(self, offset: int, count: int) -> bytes:
         pieces = []

@@ -27,7 +27,7 @@ if TYPE_CHECKING:
     from .looking import Looker
 
 __all__ = ['AsPickle', 'CONTAINERS', 'Container', 'HDF5', 'Held', 'MAY_BE_KNOWN', 'MAY_BE_PACKED', 'MAY_BE_STORE', 'PACKED', 'STORES', 'ZIP',
-           'ZLIB', 'kind_of', 'named', 'store_of']
+           'ZLIB', 'kind_by_sign', 'kind_of', 'named', 'store_of']
 
 
 class AsPickle(Enum):
@@ -226,6 +226,15 @@ def kind_of(head: bytes) -> Optional[Container]:
         if each.begins(head):
             return each
     return None
+
+
+def kind_by_sign(head: bytes) -> Optional[Container]:
+    """The same where one of the signs is there; None where a container can only be known otherwise.
+
+    >>> str(kind_by_sign(b'BZh9')), kind_by_sign(b'N.')
+    ('bz2', None)
+    """
+    return kind_of(head) if _MAY_BE_OPENED.match(head) is not None else None
 
 
 def store_of(head: bytes) -> Optional[Container]:

@@ -3,7 +3,7 @@
 A thread for each file would not do: what Python does for a small file takes longer than the program, and threads take turns there. The
 library's executors end as a whole when one of their processes dies, as it may by a hostile file. Here that costs its file a second try.
 
-Files that are quick are handed over some at once, since to hand one over takes as long as to look at it.
+Several small files are handed over at once: to hand one over takes a good part of the time that it takes to look at it.
 """
 
 from __future__ import annotations
@@ -100,7 +100,7 @@ class _Fork:
         if self.pid:
             return
         try:
-            gc.freeze()
+            gc.freeze()  # (what it was copied with is not looked through again and again)
             for other in others:
                 other.close()
             os.dup2(os.open(os.devnull, os.O_RDONLY), 0)
@@ -129,7 +129,7 @@ class _Fork:
 
 def _may_fork() -> bool:
     """Whether a copy of this process is as good as a new one: it finds modules at the same places, and has no other thread."""
-    return sys.platform == 'linux' and bool(sys.flags.isolated) and threading.active_count() == 1
+    return sys.platform == 'linux' and hasattr(os, 'fork') and bool(sys.flags.isolated) and threading.active_count() == 1
 
 
 class _Worker:
@@ -159,7 +159,7 @@ class _Worker:
 
     def answered(self, results: List[Result]) -> List[_Task]:
         """Takes its results, and answers those of its tasks that are yet to be done."""
-        left = self.tasks[len(results):]
+        left, self.tasks = self.tasks[len(results):], []
         self.at_once = len(results) if left else min(2 * self.at_once, _MOST_AT_ONCE)
         return left
 
@@ -188,13 +188,12 @@ class _Pool:
     def results(self) -> Generator[Result, None, None]:
         """Hands out the files and answers what comes back."""
         try:
-            while True:
-                self._fill()
-                if not self.workers:
-                    return
-                ready = wait(list(self.workers))
+            self._fill(_may_fork())
+            while any(worker.tasks for worker in self.workers.values()):
+                ready = wait([link for link, worker in self.workers.items() if worker.tasks])
                 for worker in [worker for link, worker in self.workers.items() if link in ready]:
                     yield from self._answers_of(worker)
+                self._fill()
         finally:
             for worker in self.workers.values():
                 worker.end()
@@ -212,27 +211,32 @@ class _Pool:
             tasks.append(self.waiting.popleft())
         return tasks
 
-    def _fill(self) -> None:
+    def _fill(self, forks: bool = False) -> None:
+        """Lets as many workers work as there may be. Once a server was asked for keys, none is a copy of this process, which has a connection."""
+        for worker in self.workers.values():  # (what others did not come to may wait again when one has nothing to do)
+            if not worker.tasks:
+                self._hand_out(worker)
         while len(self.workers) < self.jobs and self._next():
-            # (Who looks at keys has a connection of its own, and so is no copy of a process that has one.)
-            others = self.workers if _is_first_try(self.waiting[0]) and _may_fork() else None
-            worker = _Worker(self.options, others)
+            worker = _Worker(self.options, self.workers if forks and _is_first_try(self.waiting[0]) else None)
             self.workers[worker.link] = worker
-            worker.give(self._take(1))
+            self._hand_out(worker)
+
+    def _hand_out(self, worker: _Worker) -> None:
+        """Gives a worker what comes next, if there is something."""
+        tasks = self._take(worker.at_once)
+        if tasks:
+            worker.give(tasks)
 
     def _answers_of(self, worker: _Worker) -> List[Result]:
         """What a worker found. It gets the next files; where it has died, its files wait again."""
         try:
             results: List[Result] = worker.link.recv()
         except (EOFError, OSError):
-            self._end(worker)
+            del self.workers[worker.link]
+            worker.end()
             return self._given_up(worker.tasks)
         self.waiting.extendleft(reversed(worker.answered(results)))
-        tasks = self._take(worker.at_once)
-        if tasks:
-            worker.give(tasks)
-        else:
-            self._end(worker)
+        self._hand_out(worker)
         return results
 
     def _given_up(self, tasks: List[_Task]) -> List[Result]:
@@ -241,10 +245,6 @@ class _Pool:
             self.waiting.extendleft((path, tries + 1) for path, tries in reversed(tasks))
             return []
         return [Result(str(path), error=f'the process that looked at it ended without an answer, {TRIES} times') for path, _ in tasks]
-
-    def _end(self, worker: _Worker) -> None:
-        del self.workers[worker.link]
-        worker.end()
 
 
 def _is_first_try(task: _Task) -> bool:

@@ -7,7 +7,7 @@ from typing import List, Optional
 
 from ..begins import HEAD
 from ..blobs import Blob
-from ..containers import CONTAINERS, PACKED, Container, kind_of, named, store_of
+from ..containers import CONTAINERS, PACKED, Container, kind_by_sign, named, store_of
 from ..unread import kind_of_file, kind_of_short
 
 __all__ = ['asked_form', 'begun_form', 'kinds_of', 'without_ending']
@@ -29,7 +29,7 @@ def kinds_of(blob: Blob, head: bytes, tries: bool = True) -> List[Container]:
 
     Without `tries` those are left out that only unpacking shows.
     """
-    known = kind_of(head)
+    known = kind_by_sign(head)
     kinds = [known] if known is not None and _is_by_sign(known) and (tries or not _is_weak(known)) else []
     kinds += [each for each, takes in _BY_MORE if takes(head)]
     unread = kind_of_file(blob, head) if tries else kind_of_short(head)
