@@ -106,7 +106,7 @@ def may_have_candidates(content: bytes) -> bool:
 def ends_in_call(content: bytes) -> bool:
     """Whether a pickle ends with a call of something whose arguments are in a tuple.
 
-    >>> ends_in_call(b'\x82\x05)R.'), ends_in_call(b'\x82\x05.')
+    >>> ends_in_call(b'\\x82\\x05)R.'), ends_in_call(b'\\x82\\x05.')
     (True, False)
     """
     return content.endswith(_CALL_AND_STOP) and content[-3] in _MAKES_TUPLE if len(content) > 2 else False

@@ -39,7 +39,7 @@ _COLUMNS = """
 # Which tables are parts of others.
 _PARENTS = 'SELECT inhrelid::bigint, inhparent::bigint FROM pg_inherits'
 
-_TABLES = ('r', 'm')
+_TABLES, _IN_PARTS = ('r', 'm'), 'p'
 _UNREAD = {'v': 'views', 'f': 'foreign tables'}
 _TEMPORARY = 'temporary tables of other sessions'
 
@@ -111,7 +111,10 @@ class PostgresqlServer(SqlServer):
         for number, parent in self.all_of(_PARENTS):
             parents.setdefault(number, []).append(parent)
         found: List[Table] = []
+        whole = {parent for several in parents.values() for parent in several}
         for number, each in relations.items():
+            if each.kind == _IN_PARTS and number not in whole:
+                each.kind = _TABLES[0]  # (it has no parts, and so no rows)
             found += _tables_of(each, types, tuple(_within(number, parents, relations)))
         found += self._large_objects()
         self._end()
@@ -219,7 +222,7 @@ def _value(value: str) -> List[str]:
 
 
 def _elements(column: Column) -> str:
-    return f'unnest({_cast(_quoted(column.name), column)}[]) WITH ORDINALITY elements (element, number)'
+    return f'unnest({_quoted(column.name)}) WITH ORDINALITY elements (element, number)'
 
 
 def _quoted(name: str) -> str:
