@@ -35,10 +35,10 @@ class Labels:
     """Labels of values: two values have the same one where they are alike. (Where they hold themselves, perhaps also where they differ deep inside.)
 
     >>> from picklestep.trees import values
-    >>> labels, made = Labels(), values(b'}(K\\x01cos\\ngetcwd\\n)RI01\\ncos\\ngetcwd\\n)Ru.', False, False, None, None)
-    >>> keys = [labels.of(made[0], value) for value in inside(made[1])]
-    >>> keys[0] == keys[2], keys[1] == keys[3]
-    (False, True)
+    >>> labels, (objects, result) = Labels(), values(b'](cos\\ngetcwd\\n)Rcos\\ngetcwd\\n)RK\\x01I01\\ne.', False, False, None, None)
+    >>> one, other, number, truth = (labels.of(objects, value) for value in result)
+    >>> one == other, number == truth
+    (True, False)
     """
 
     def __init__(self) -> None:

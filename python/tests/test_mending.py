@@ -253,7 +253,8 @@ class Words(unittest.TestCase):
             pickle._Unpickler(stream).load()  # type: ignore[attr-defined]
             Path(folder, 'two.pickle').write_bytes(stream.getvalue())
             done = run('two.pickle', 'out.pickle')
-            self.assertEqual((done.returncode, done.stdout), (1, f'{len(stream.read())} bytes after STOP are not read (try --many)\nsaved out.pickle\n'))
+            said = f'{len(stream.read())} bytes after STOP are not read (try --many)\nsaved out.pickle\n'
+            self.assertEqual((done.returncode, done.stdout), (1, said))
             self.assertEqual(Path(folder, 'out.pickle').read_bytes(), stream.getvalue())
             os.link(path, Path(folder, 'same'))
             done = run('cut.pickle', '--save', 'same')

@@ -228,7 +228,7 @@ class Words(unittest.TestCase):
 
     def test_breaks_on_names_that_are_no_texts(self) -> None:
         """`*` stops at each line of `calls` that imports or calls. A pattern is compared with the name as that line has it."""
-        data = (b'\x80\x02(' + b'X\x02\0\0\0os' + b'c__builtin__\nstr\n)R' + b'\x93' + b')R' + b'\x82\x07)R' + b'cos\ngetcwd\n)R)R' + b'(ia\nB\n' + b't.')
+        data = b'\x80\x02(X\x02\0\0\0osc__builtin__\nstr\n)R\x93)R\x82\x07)Rcos\ngetcwd\n)R)R(ia\nB\nt.'
         calls = picklestep.calls(data)
         shell = self.shell(data)
         for word, kinds in (('import', ('import', 'inst')), ('call', ('inst', 'call', 'new'))):
