@@ -277,8 +277,8 @@ class Shown(unittest.TestCase):
         self.assertIn(f'from os import {name}  # ', source(data, full=False).text)
 
     def test_texts_that_no_loader_takes(self) -> None:
-        for data in (b'X\x01\0\0\0\xff.', b'U\x01\xff.', b'I1x\n.', b'I08\n.', b'I0777777777777777777777777\n.', b'Fa\n.', b'Lx\n.', b'V\\u12\n.', b"S'a\\'\n.",
-                     b"S'\\\\\\'\n.", b"S'\\x4'\n."):
+        for data in (b'X\x01\0\0\0\xff.', b'U\x01\xff.', b'I1x\n.', b'I08\n.', b'I0777777777777777777777777\n.', b'Fa\n.', b'Lx\n.',
+                     b'V\\u12\n.', b"S'a\\'\n.", b"S'\\\\\\'\n.", b"S'\\x4'\n."):
             with self.subTest(data):
                 with self.assertRaises(ValueError):
                     pickle.loads(data)
