@@ -28,8 +28,8 @@ def lines_of(half: int) -> List[str]:
     """What is typed. The numbers are those of opcodes and objects that there are in both pickles."""
     looks = ['where', 'list', 'hex', 'explain', 'stack', 'memo', 'objects', 'who 0', 'who 1', 'show 1', 'find APPENDS', 'calls']
     breaks = ['break opcode STOP', 'break', 'off 1', 'on 1', 'clear 1', 'help', f'until {half + 100}', f'go {half // 2}', f'goto {half}']
-    edits = [f'insert {half} NONE', 'where', 'undo', 'where', 'redo', 'where', f'delete {half}', 'where', 'undo', 'undo', 'where', f'replace {half} NONE',
-             'undo', 'where', 'set 1 to 7', 'where', 'undo', 'where']
+    edits = [f'insert {half} NONE', 'where', 'undo', 'where', 'redo', 'where', f'delete {half}', 'where', 'undo', 'undo', 'where',
+             f'replace {half} NONE', 'undo', 'where', 'set 1 to 7', 'where', 'undo', 'where']
     whole = ['run', 'where', 'back', 'run back', 'insert 0 NONE', 'diff', 'undo', 'source', 'rename no.such other']
     return ['step', 'step 5', 'back', *looks, f'goto {half}', 'step', 'back', *looks, *breaks, *edits, *whole]
 

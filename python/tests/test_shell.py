@@ -399,20 +399,23 @@ class Words(unittest.TestCase):
 
     def test_undone_and_made_again(self) -> None:
         """What was read before an edit is known again where that is undone, and is not taken for what another edit made."""
-        shell = self.shell(SAMPLE, '')
+        shell = self.shell(SAMPLE)
         rows, made = shell.obey('list 0'), {}
-        for value in ('4', '5'):
+        for value, edited in (('4', SAMPLE.replace(b'K\x03', b'K\x04')), ('5', SAMPLE.replace(b'K\x03', b'K\x05'))):
             shell.obey(f'set 2 to {value}')
             made[value] = shell.obey('list 0')
             with mock.patch.object(Document, '_read', side_effect=AssertionError):
-                for line, wanted, data in (('undo', rows, SAMPLE), ('redo', made[value], SAMPLE.replace(b'K\x03', b'K' + bytes([int(value)]))), ('undo', rows, SAMPLE)):
+                for line, wanted, data in (('undo', rows, SAMPLE), ('redo', made[value], edited), ('undo', rows, SAMPLE)):
                     shell.obey(line)
                     self.assertEqual((shell.obey('list 0'), shell.pickle.content()), (wanted, data))
                     self.assertEqual(shell.obey('diff') == 'as the file', data == SAMPLE)
         self.assertNotEqual(made['4'], made['5'])
-        for line in ('redo', "set 1 to 'x'", 'undo', 'undo', 'redo', 'redo', 'undo'):
+        shell.obey('redo')
+        shell.obey("set 1 to 'x'")
+        both = shell.obey('list 0')
+        for line, wanted in (('undo', made['5']), ('undo', rows), ('redo', made['5']), ('redo', both), ('undo', made['5'])):
             shell.obey(line)
-        self.assertEqual(shell.obey('list 0'), made['5'])
+            self.assertEqual(shell.obey('list 0'), wanted)
         with mock.patch.object(Document, '_read', side_effect=ValueError('not read')):
             shell.obey('insert 0 NONE')
             with self.assertRaisesRegex(WordError, 'not read'):

@@ -245,16 +245,17 @@ class Builder:
         first, step = len(self._memo), len(shape.stores)
         if step and not self._are_next(shape, columns, [range(first + at, first + step * count, step) for at in range(step)]):
             return list(range(count))
-        values: List[Sequence[str]] = [decoded(shape.columns[at].code, columns[at]) if shape.columns[at].code not in GETS else () for at in shape.values]
+        codes = [shape.columns[at].code for at in shape.values]
+        values: List[Sequence[str]] = [decoded(code, columns[at]) if code not in GETS else () for code, at in zip(codes, shape.values)]
         stored: List[Any] = [None] * (step * count)
         for at, (item, _) in enumerate(shape.stores):
             if not isinstance(item, Part):
                 stored[at::step] = values[item] if isinstance(item, int) else [item] * count
         odd: Set[int] = set()
-        for number, at in enumerate(shape.values):
-            if shape.columns[at].code in GETS:
+        for number, (code, at) in enumerate(zip(codes, shape.values)):
+            if code in GETS:
                 values[number] = self._taken(columns[at], stored, odd)
-            elif shape.columns[at].code not in _SHORT and max(map(len, values[number])) > MOST_SHORT:
+            elif code not in _SHORT and max(map(len, values[number])) > MOST_SHORT:
                 odd.update(place for place, value in enumerate(values[number]) if len(value) > MOST_SHORT)
         if not odd:
             numbers = range(self._made + shape.part.number, self._made + shape.made * count, shape.made)
