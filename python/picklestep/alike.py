@@ -10,7 +10,7 @@ from .python_source.literals import literal
 from .records import Global, Ref
 from .trees import Call, Values
 
-__all__ = ['CONTAINERS', 'Labels', 'inside', 'is_held', 'paired']
+__all__ = ['CONTAINERS', 'Compared', 'Labels', 'inside', 'is_held', 'paired']
 
 CONTAINERS = (list, tuple, dict, set, frozenset, Call)
 # Values that hold themselves are told apart by what they hold up to so many levels.
@@ -35,10 +35,10 @@ class Labels:
     """Labels of values: two values have the same one where they are alike. (Where they hold themselves, perhaps also where they differ deep inside.)
 
     >>> from picklestep.trees import values
-    >>> labels, made = Labels(), values(b'}(K\\x01cos\\ngetcwd\\n)RI01\\ncos\\ngetcwd\\n)Ru.', False, False, None, None)
-    >>> keys = [labels.of(made[0], value) for value in inside(made[1])]
-    >>> keys[0] == keys[2], keys[1] == keys[3]
-    (False, True)
+    >>> labels, (objects, result) = Labels(), values(b'](cos\\ngetcwd\\n)Rcos\\ngetcwd\\n)RK\\x01I01\\ne.', False, False, None, None)
+    >>> one, other, number, truth = (labels.of(objects, value) for value in result)
+    >>> one == other, number == truth
+    (True, False)
     """
 
     def __init__(self) -> None:
@@ -125,6 +125,41 @@ class Labels:
         if kind in (tuple, frozenset) and self._plain.issuperset(parts):
             self._plain.add(label)
         return label
+
+
+class Compared:
+    """Which containers were compared already. Of each two it is said once that they are new, as long as there are few pairs; where there are more
+    than `most`, two are new only if nothing links them: what differs between them differs between two of those that do, too.
+
+    >>> compared, one, other, third = Compared(2), [], [], []
+    >>> [compared.is_new(*pair) for pair in ((one, other), (one, other), (other, third), (one, third))]
+    [True, False, True, False]
+    """
+
+    def __init__(self, most: int) -> None:
+        self._most = most
+        self._pairs: Set[Tuple[int, int]] = set()
+        self._links: Dict[int, int] = {}  # to another one, of those that were compared with one another
+
+    def is_new(self, one: Any, other: Any) -> bool:
+        """Whether two are to be compared, which they are then."""
+        if (id(one), id(other)) in self._pairs:
+            return False
+        first, second = self._end(id(one)), self._end(id(other))
+        if first == second and len(self._pairs) >= self._most:
+            return False
+        self._pairs.add((id(one), id(other)))
+        self._links[first] = second
+        return True
+
+    def _end(self, each: int) -> int:
+        """The last of those that are linked to one, to which all on the way are linked then."""
+        end = each
+        while self._links.get(end, end) != end:
+            end = self._links[end]
+        while each != end:
+            self._links[each], each = end, self._links[each]
+        return end
 
 
 def _has_inside(value: Any) -> bool:

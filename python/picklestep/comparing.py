@@ -5,9 +5,9 @@ from __future__ import annotations
 import sys
 from dataclasses import dataclass
 from itertools import zip_longest
-from typing import Any, Dict, Iterator, List, Optional, Sequence, Set, Tuple, Union
+from typing import Any, Dict, Iterator, List, Optional, Sequence, Tuple, Union
 
-from .alike import CONTAINERS, Labels, inside, is_held, paired
+from .alike import CONTAINERS, Compared, Labels, inside, is_held, paired
 from .records import Extension, Global, Ref
 from .python_source.literals import literal
 from .sources import Source
@@ -17,6 +17,8 @@ __all__ = ['Difference', 'compare', 'shown_value']
 
 _SLOTS: Dict[str, Any] = {'slots': True} if sys.version_info >= (3, 10) else {}
 _MOST_LETTERS = 64
+# So many times as many pairs as there are objects are compared, each for itself.
+_MANY = 4
 _ABSENT = object()
 
 
@@ -84,7 +86,7 @@ class _Comparison:
     def differences(self, old: Any, new: Any) -> Iterator[Difference]:
         """Walks both at once. What was compared already is not compared again, so that this ends."""
         left: List[Tuple[_Path, Any, Any]] = [(None, old, new)]
-        seen: Set[Tuple[int, int]] = set()
+        compared = Compared(_MANY * (len(self._old) + len(self._new)))
         while left:
             path, one, other = left.pop()
             one, other = self._old.of(one), self._new.of(other)
@@ -95,8 +97,7 @@ class _Comparison:
             elif type(one) is not type(other) or not (isinstance(one, CONTAINERS) or is_held(one) and is_held(other)):
                 if type(one) is not type(other) or not _is_same(one, other):
                     yield Difference(_words(path), 'changed', *_shown_pair(one, other))
-            elif (id(one), id(other)) not in seen:
-                seen.add((id(one), id(other)))
+            elif compared.is_new(one, other):
                 left += [((path, step), first, second) for step, first, second in reversed(list(self._inside(one, other)))]
 
     def _inside(self, one: Any, other: Any) -> Iterator[_Step]:

@@ -23,6 +23,7 @@ def main(arguments: List[str]) -> int:
         epilog='Status: 0 if the pickle was whole, 1 if it was mended or bytes after it were not read, 2 if there is no result.')
     parser.add_argument('file', metavar='FILE', help='the pickle, which stays as it is')
     parser.add_argument('out', metavar='OUT', nargs='?', help='write the result to this file, which cannot be FILE')
+    parser.add_argument('--many', action='store_true', help='FILE holds several pickles one after another')
     parser.add_argument('--save', metavar='OUT', help='the same')
     options = parser.parse_args(arguments)
     if options.out is not None and options.save is not None:
@@ -32,11 +33,11 @@ def main(arguments: List[str]) -> int:
         print('picklestep: OUT is FILE, which stays as it is', file=sys.stderr)
         return 2
     try:
-        answer = mended(options.file)
+        answer = mended(options.file, options.many)
         kept = (f'{answer.kept} bytes after STOP are not read (try --many)',) if answer.kept else ()
         print_text(''.join(f'{step}\n' for step in (*answer.steps, *kept)) or 'it is whole\n')
         if out is not None:
-            with Session(answer.content) as session:
+            with Session(answer.content, many=options.many) as session:
                 session.save(out)
             print_text(f'saved {ascii(out)[1:-1]}\n')
     except (OSError, PicklestepError) as error:

@@ -20,6 +20,7 @@ from .program import run_program
 from .records import End, Mark, Object
 from .session import Session
 from .sources import Input, OwnFile, Source, content_of
+from .tasks import modes
 from .texts import FRAME_SIZE
 
 __all__ = ['Mended', 'TooCrooked', 'mended']
@@ -37,7 +38,7 @@ _OF_FRAMES = ('F6', 'F7', 'F8')
 _OF_PROTOCOL = 'S6'
 _HIGHEST = 5
 _OF_PROTO = 2
-_PROTO, _PROTO_SIZE = b'\x80', 2
+_PROTO_SIZE = 2
 _PROTOCOLS: Dict[str, int] = {opcode.name: opcode.proto for opcode in pickletools.opcodes}
 
 _UNHASHABLE = ('list', 'dict', 'set', 'bytearray')
@@ -59,8 +60,8 @@ class Mended:
     kept: int = 0
 
 
-def mended(source: Source) -> Mended:
-    """What can be kept of a pickle.
+def mended(source: Source, many: bool = False) -> Mended:
+    """What can be kept of a pickle; with `many`, of several pickles one after another.
 
     >>> made = mended(b'\\x80\\x04\\x95\\x40\\0\\0\\0\\0\\0\\0\\0]\\x94(K\\x01K\\x02M')
     >>> made.content
@@ -76,22 +77,25 @@ def mended(source: Source) -> Mended:
     steps: List[str] = []
     is_cut = False
     for _ in range(_MOST_ROUNDS):
-        end, read = _ending(content)
+        end, read = _ending(content, many)
         if end.code is None or end.offset is None:
-            return Mended(_closed(content, steps) if is_cut else content, tuple(steps), len(content) - read)
+            return Mended(_closed(content, many, steps) if is_cut else content, tuple(steps), len(content) - read)
         code, offset, text = end.code, end.offset, end.text
         if code in _OF_FRAMES:
-            content = _without_frame(content, offset, text, code == 'F8', steps)
+            content = _without_frame(content, many, offset, text, code == 'F8', steps)
         elif code == _OF_PROTOCOL:
-            content = _with_protocol(content, offset, text, steps)
+            content = _with_protocol(content, many, offset, text, steps)
+        elif many and offset < len(content) and _ending(content[:offset], many)[0].is_stopped:
+            steps.append(f'{offset}: {_bytes(len(content) - offset)} cut off: {text}')
+            content = content[:offset]
         else:
             content, is_cut = _cut(content, offset, f'refused, {text}' if end.how == 'refused' else text, steps), True
     raise TooCrooked(f'it has more than {_MOST_ROUNDS} faults')
 
 
-def _ending(content: bytes) -> Tuple[End, int]:
+def _ending(content: bytes, many: bool) -> Tuple[End, int]:
     """How reading ends, and at which offset. (A listing would say so, too, but has four blanks for each open mark in each line.)"""
-    with Session(content) as session:
+    with Session(content, many=many) as session:
         text = _run(session)
         where = session.where()
         return End('refused', text.partition(' ')[0], text, where.offset, where.place) if text else where.end, where.offset
@@ -106,21 +110,21 @@ def _run(session: Session) -> str:
     return '' if ran.why == 'end' else ran.text.partition(', ')[2]
 
 
-def _with_protocol(content: bytes, offset: int, text: str, steps: List[str]) -> bytes:
+def _with_protocol(content: bytes, many: bool, offset: int, text: str, steps: List[str]) -> bytes:
     """The bytes with a PROTO that loaders know: of the protocol that the opcodes need. (Without one, names would be those of Python 2.)"""
     known = content[:offset + 1] + bytes([_HIGHEST]) + content[offset + _PROTO_SIZE:]
-    with Session(known) as session:
+    with Session(known, many=many) as session:
         _run(session)
-        names = {item.name for item in islice(session.items(), session.where().place)}
+        names = {item.name for item in islice(session.items(), session.where().place) if item.offset >= offset}
     protocol = max([_PROTOCOLS[name] for name in names - {'PROTO'}] + [_OF_PROTO])
     steps.append(f'{offset}: PROTO {content[offset + 1]} replaced by PROTO {protocol}: {text}')
     return content[:offset + 1] + bytes([protocol]) + content[offset + _PROTO_SIZE:]
 
 
-def _without_frame(content: bytes, offset: int, text: str, is_crossed: bool, steps: List[str]) -> bytes:
+def _without_frame(content: bytes, many: bool, offset: int, text: str, is_crossed: bool, steps: List[str]) -> bytes:
     """The bytes without the FRAME that does not fit: the one at an offset, or the last before it, which an opcode crosses."""
     if is_crossed:
-        with Session(content) as session:
+        with Session(content, many=many) as session:
             items = session.items()
         offset = next(item.offset for item in map(items.__getitem__, range(len(items) - 1, -1, -1)) if item.name == 'FRAME')
     length = int.from_bytes(content[offset + 1:offset + FRAME_SIZE], 'little')
@@ -132,21 +136,22 @@ def _cut(content: bytes, offset: int, text: str, steps: List[str]) -> bytes:
     """The bytes up to an offset, then NONE (since STOP is refused where nothing is built) and STOP."""
     count = len(content) - offset
     if count:
-        steps.append(f'{offset}: {count} byte{"s" if count > 1 else ""} cut off: {text}')
+        steps.append(f'{offset}: {_bytes(count)} cut off: {text}')
     steps.append(f'{offset}: STOP added' + ('' if count else f': {text}'))
     return content[:offset] + b'N.'
 
 
-def _closed(content: bytes, steps: List[str]) -> bytes:
+def _closed(content: bytes, many: bool, steps: List[str]) -> bytes:
     """A pickle that ends in NONE and STOP which were added, with what was under way closed."""
-    with Session(content) as session:
+    with Session(content, many=many) as session:
         session.goto(session.where().places - 2)
-        closing = _Closing(session, content[:1] == _PROTO, steps)
-    if closing.close():
-        closing.script.append(f'delete {closing.place}')
+        closing = _Closing(session, steps)
+        if closing.close():
+            closing.script.append(f'delete {closing.place}')
     with Input(content) as given, OwnFile() as made:
         script = ''.join(f'{line}\n' for line in (*closing.script, 'run'))
-        told = run_program(['debug', given.path, '--save', made.path], [*given.files, *made.files], script.encode('ascii')).decode('ascii').splitlines()
+        words = ['debug', given.path, *modes(many), '--save', made.path]
+        told = run_program(words, [*given.files, *made.files], script.encode('ascii')).decode('ascii').splitlines()
         if not told[-1].partition(': ')[2].startswith('end,') or any(line.startswith('refused') for line in told):
             raise PicklestepError(f'what was under way cannot be closed: {told[-1]}')
         return made.content()
@@ -155,8 +160,9 @@ def _closed(content: bytes, steps: List[str]) -> bytes:
 class _Closing:
     """Closes what is under way before the NONE at the cursor. `script` has the edits, as lines of a session: there may be as many as open marks."""
 
-    def __init__(self, session: Session, has_proto: bool, steps: List[str]) -> None:
+    def __init__(self, session: Session, steps: List[str]) -> None:
         where = session.where()
+        self.session = session
         self.script: List[str] = []
         self.place = where.place
         self.steps = steps
@@ -169,7 +175,6 @@ class _Closing:
             else:
                 self.sections[-1].append(entry.number)
         self.added: List[Object] = []  # (the numbers of these come after those of the heap)
-        self._has_proto = has_proto
         self._offset = where.offset
         self._fillers: Dict[int, Tuple[Optional[str], str]] = {}
         self._keys: Set[int] = set()  # objects that can be keys
@@ -229,11 +234,13 @@ class _Closing:
         if count in _TUPLES:
             self._add(_TUPLES[count], f'{_objects(count)} on the stack')
             return
-        first = 1 if self._has_proto else 0
+        items = self.session.items()
+        first = next((at for at in range(self.place, 0, -1) if items[at - 1].name == 'STOP'), 0)  # (of several pickles the last one)
+        first += items[first].name == 'PROTO'
         self.script.append(f'insert {first} MARK')
         self.place += 1
         self._offset += 1
-        self.steps.append(f'{first * _PROTO_SIZE}: MARK added')
+        self.steps.append(f'{items[first].offset}: MARK added')
         self._add('TUPLE', f'{_objects(count)} on the stack')
 
     # --- Edits and objects ---
@@ -270,6 +277,10 @@ class _Closing:
                 seen |= new
                 waiting.extend(new)
         return False
+
+
+def _bytes(count: int) -> str:
+    return f'{count} bytes' if count > 1 else '1 byte'
 
 
 def _objects(count: int) -> str:

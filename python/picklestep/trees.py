@@ -58,6 +58,9 @@ class Values:
         for made in heap:
             self._change(self._values[made.number], made.changes)
 
+    def __len__(self) -> int:
+        return len(self._values)
+
     def at(self, number: int) -> Any:
         """The value of an object."""
         return self._values[number]

@@ -212,6 +212,17 @@ class Compare(unittest.TestCase):
         next(iter(new)).age = 7
         self.assertTrue(_paths(old, new))
 
+    def test_rings_of_other_lengths(self) -> None:
+        """They are alike all the same, and each of one is compared with each of the other: unless it is known by then."""
+        def ring(length: int, last: bytes = b'') -> bytes:
+            return b']q\x00' + b']' * (length - 1) + b'h\x00a' + last + b'a' * (length - 1) + b'.'
+        one, other = pickle.loads(ring(3)), pickle.loads(ring(2))
+        self.assertEqual([one[0][0][0] is one, other[0][0] is other], [True, True])
+        begun = time.process_time()
+        self.assertEqual(picklestep.compare(ring(5_000), ring(4_999)), [])
+        self.assertNotEqual(picklestep.compare(ring(5_000), ring(4_999, b'Na')), [])
+        self.assertLess(time.process_time() - begun, 20)
+
     def test_many_and_deep_keys_in_linear_time(self) -> None:
         for name, (old, new) in {
                 'many': [pickle.dumps({Decimal(number): number for number in numbers}) for numbers in (range(10_000), range(10_000, 0, -1))],

@@ -25,7 +25,7 @@ import cut_pickles
 import picklestep
 from examples_of_using import blocks, stories
 from pickles import real_pickles
-from picklestep.mending import TooCrooked, mended
+from picklestep.mending import Mended, TooCrooked, mended
 from scan_support import environment
 
 _FILLS = ('append ', 'set ', 'add ')
@@ -180,6 +180,22 @@ class Crooked(unittest.TestCase):
         self.assertEqual((len(pickle.loads(members.content)), len(members.steps)), (2, 2))
         self.assertLess(time.process_time() - begun, 30)
 
+    def test_several_pickles(self) -> None:
+        """The whole ones load to what they were, the cut one to what it is alone."""
+        values = [{'a': [1, 2, (3, 4)]}, 'x', [[1], {2}]]
+        whole = [pickle.dumps(value, protocol) for value in values for protocol in (0, 2, 4)]
+        for before in (whole[:1], whole[2:7]):
+            joined = b''.join(before)
+            self.assertEqual(mended(joined, True), Mended(joined, ()))
+            for damage in (b'\xff', b'\xffabc', b'h\x07.'):
+                self.assertEqual(mended(joined + damage, True).content, joined)
+            for data in whole:
+                for cut in range(1, len(data), 3):
+                    alone, answer = mended(data[:cut]), mended(joined + data[:cut], True)
+                    self.assertEqual(answer.content[:len(joined)], joined)
+                    self.assertEqual(answer.content[len(joined):] or b'N.', alone.content, data[:cut])
+                    self.assertEqual(answer.kept, 0)
+
     def test_protocols_that_are_none(self) -> None:
         for data, content, step in ((b'\x80\x41N.', b'\x80\x02N.', '0: PROTO 65 replaced by PROTO 2: S6 bad protocol 65'),
                                     (b'\x80\x06]\x94.', b'\x80\x04]\x94.', '0: PROTO 6 replaced by PROTO 4: S6 bad protocol 6'),
@@ -237,7 +253,8 @@ class Words(unittest.TestCase):
             pickle._Unpickler(stream).load()  # type: ignore[attr-defined]
             Path(folder, 'two.pickle').write_bytes(stream.getvalue())
             done = run('two.pickle', 'out.pickle')
-            self.assertEqual((done.returncode, done.stdout), (1, f'{len(stream.read())} bytes after STOP are not read (try --many)\nsaved out.pickle\n'))
+            said = f'{len(stream.read())} bytes after STOP are not read (try --many)\nsaved out.pickle\n'
+            self.assertEqual((done.returncode, done.stdout), (1, said))
             self.assertEqual(Path(folder, 'out.pickle').read_bytes(), stream.getvalue())
             os.link(path, Path(folder, 'same'))
             done = run('cut.pickle', '--save', 'same')

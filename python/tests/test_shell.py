@@ -228,7 +228,7 @@ class Words(unittest.TestCase):
 
     def test_breaks_on_names_that_are_no_texts(self) -> None:
         """`*` stops at each line of `calls` that imports or calls. A pattern is compared with the name as that line has it."""
-        data = (b'\x80\x02(' + b'X\x02\0\0\0os' + b'c__builtin__\nstr\n)R' + b'\x93' + b')R' + b'\x82\x07)R' + b'cos\ngetcwd\n)R)R' + b'(ia\nB\n' + b't.')
+        data = b'\x80\x02(X\x02\0\0\0osc__builtin__\nstr\n)R\x93)R\x82\x07)Rcos\ngetcwd\n)R)R(ia\nB\nt.'
         calls = picklestep.calls(data)
         shell = self.shell(data)
         for word, kinds in (('import', ('import', 'inst')), ('call', ('inst', 'call', 'new'))):
@@ -287,9 +287,10 @@ class Words(unittest.TestCase):
             shell.obey(f'break {place}')
         before = shell.obey('break')
         for line in ('delete 3', 'insert 1 NONE', 'rename oldapp newapp'):
-            with mock.patch.object(Opened, '_read_from', side_effect=picklestep.ProgramError('it fails')), self.assertRaisesRegex(WordError, 'it fails'):
-                shell.obey(line)
-                shell.obey('where')
+            with mock.patch.object(Opened, '_read_from', side_effect=picklestep.ProgramError('it fails')):
+                with self.assertRaisesRegex(WordError, 'it fails'):
+                    shell.obey(line)
+                    shell.obey('where')
             self.assertEqual((shell.obey('break'), shell.pickle.content()), (before, SAMPLE), line)
 
     def test_depth(self) -> None:
@@ -366,7 +367,8 @@ class Words(unittest.TestCase):
         for line in ('bogus', 'goto', 'goto x', 'goto 99', 'goto @3', 'until 0', 'back', 'break depth x', 'break opcode NOPE', 'clear 7', 'go 99',
                      'who 99', 'show 99', 'memo 5', 'find nothing', 'hex 99', 'replace 10 1', 'replace 3 bob', "replace 3 {}", 'insert 99 1',
                      'delete 10', 'delete 99', 'frame 1', 'unframe 1', 'set 99 to 1', 'set 2', 'rename none other', 'undo', 'redo', 'save', 'help nope',
-                     'step x', 'who', 'go', 'show x', 'clear', 'off', 'on', 'undo 2', 'where x', 'source x', 'list 1 2 3', 'list 99', 'list 5 3', 'replace', 'insert',
+                     'step x', 'who', 'go', 'show x', 'clear', 'off', 'on', 'undo 2', 'where x', 'source x', 'list 1 2 3', 'list 99', 'list 5 3',
+                     'replace', 'insert',
                      'replace 8 7', 'set 3 to 1', 'set 4 to 1', 'break opcode', 'break text', 'rename oldapp',
                      "replace 3 BININT1 300", 'replace 3 NONE 1', 'replace 3 BININT1 hex zz', 'run on'):
             with self.subTest(line):

@@ -101,9 +101,10 @@ class Equality(unittest.TestCase):
         self.assert_same(made)
 
     def test_states(self) -> None:
-        states = [b'N', b'}', b']', b')', b'K\x00', b'}X\x05\0\0\0firstK\x01s', b'NN\x86', b'N}\x86', b'}}\x86', b'N}X\x05\0\0\0firstK\x01s\x86', b']]\x86',
-                  b'](X\x01\0\0\0aK\x01\x86e', b'NNN\x87', b'}K\x01K\x02s', b'N}K\x01K\x02s\x86']
-        self.assert_same([b'charmless\n' + kind + b'\n)\x81' + state + b'b.' for kind in (b'Plain', b'Slotted', b'Mixed', b'WithState') for state in states])
+        states = [b'N', b'}', b']', b')', b'K\x00', b'}X\x05\0\0\0firstK\x01s', b'NN\x86', b'N}\x86', b'}}\x86', b']]\x86',
+                  b'N}X\x05\0\0\0firstK\x01s\x86', b'](X\x01\0\0\0aK\x01\x86e', b'NNN\x87', b'}K\x01K\x02s', b'N}K\x01K\x02s\x86']
+        for kind in (b'Plain', b'Slotted', b'Mixed', b'WithState'):
+            self.assert_same([b'charmless\n' + kind + b'\n)\x81' + state + b'b.' for state in states])
 
     def assert_same(self, pickles: List[bytes]) -> None:
         """Each gives what it loads to, or fails as loading does."""
@@ -276,8 +277,8 @@ class Shown(unittest.TestCase):
         self.assertIn(f'from os import {name}  # ', source(data, full=False).text)
 
     def test_texts_that_no_loader_takes(self) -> None:
-        for data in (b'X\x01\0\0\0\xff.', b'U\x01\xff.', b'I1x\n.', b'I08\n.', b'I0777777777777777777777777\n.', b'Fa\n.', b'Lx\n.', b'V\\u12\n.', b"S'a\\'\n.",
-                     b"S'\\\\\\'\n.", b"S'\\x4'\n."):
+        for data in (b'X\x01\0\0\0\xff.', b'U\x01\xff.', b'I1x\n.', b'I08\n.', b'I0777777777777777777777777\n.', b'Fa\n.', b'Lx\n.',
+                     b'V\\u12\n.', b"S'a\\'\n.", b"S'\\\\\\'\n.", b"S'\\x4'\n."):
             with self.subTest(data):
                 with self.assertRaises(ValueError):
                     pickle.loads(data)

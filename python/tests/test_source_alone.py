@@ -72,7 +72,8 @@ _EDGES = [
     b'(\x82\x05\x83\x00\x01\x84\x00\x00\x00\x7fK\x01Qt.', b'(\x97\x97\x98B\x01\0\0\0a\x98\x96\x01\0\0\0\0\0\0\0aq\x00\x98h\x00\x98\x98ca\nb\n\x98\x98t.',
     b']p0\ng0\na(lp5\nI1\nag5\nag0\nat.', b'Np18446744073709551615\n0K\x01p18446744073709551614\ng18446744073709551615\n\x86.',
     b''.join(each + b'.' for each in _MARKED), pickle.dumps([list(range(100)), {n: n for n in range(40)}, {*range(30)}, (*range(50),)], 4),
-    b'ca\nb\n(K\x01K\x02e(K\x01K\x02u(K\x01K\x02\x90K\x05a(K\x06e(K\x07\x90(' + b'K\x01' * 40 + b'e(' + b'K\x01' * 80 + b'u(' + b'K\x01' * 40 + b'\x90.',
+    b'ca\nb\n(K\x01K\x02e(K\x01K\x02u(K\x01K\x02\x90K\x05a(K\x06e(K\x07\x90(' + b'K\x01' * 40 + b'e(' + b'K\x01' * 80 + b'u(' +
+    b'K\x01' * 40 + b'\x90.',
     b'\x80\x04ca\nb\n)}(X\x01\0\0\0aK\x01X\x02\0\0\0ifK\x02u\x92.' + b'\x80\x04ca\nb\n)}X\x01\0\0\0aK\x01s\x92.',
     b']' * 300 + b'a' * 299 + b'.', b'N' + b'\x85' * 100 + b'.',
     b'(ca\nb\no.(ca\nb\nK\x01o.ca\nb\n}X\x01\0\0\0aK\x01sb.', *_ENDS]
