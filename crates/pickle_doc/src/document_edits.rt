@@ -1,8 +1,13 @@
 //! Edits of a document.
 
+use crate::delete::{delete_fault, deletion};
 use crate::document::Document;
 use crate::edit::{Edit, EditFault};
+use crate::frame::{frame_fault, framing};
+use crate::insert::{insert_fault, insertion};
 use crate::record::EditRecord;
+use crate::replace::{replace_fault, replacement};
+use crate::unframe::{unframe_fault, unframing};
 use pickle_ops::Op;
 use std::alloc::AllocError;
 
@@ -11,19 +16,19 @@ impl Document {
     ghost use Rattle.pickle_doc.specs.Document.{items_of, document_bytes, IsDocument, IsReadAgain, size_limit};
     ghost use Rattle.pickle_doc.specs.Edit.{with_units, raised_next, new_item, replaced, inserted, deleted, framed, unframed};
     ghost use Rattle.pickle_doc.specs.Edit.{replace_fault, insert_fault, delete_fault, frame_fault, unframe_fault};
-    ghost use Rattle.pickle_doc.specs.Edit.{lent, edit_place, adds_item, edit_fault, edited, raised_next_by, KeepsRoom};
+    ghost use Rattle.pickle_doc.specs.Edit.{edit_place, adds_item, edit_fault, edited, raised_next_by, KeepsRoom};
     ghost use Rattle.pickle_doc.specs.Swap.{EditLeads, record_place};
 
     /// Why an edit is refused; none where it can be made, if there is memory. This takes none.
-    pub fn edit_fault(&self, edit: &Edit<&Op>) -> Option<EditFault>
-        ensures { result ≡ edit_fault (lent edit.now) self.now.contents }
+    pub fn edit_fault(&self, edit: &Edit<Op>) -> Option<EditFault>
+        ensures { result ≡ edit_fault edit.now self.now.contents }
     {
         match edit {
-            Edit::Replace(k, op) => self.replace_fault(*k, op),
-            Edit::Insert(k, op) => self.insert_fault(*k, op),
-            Edit::Delete(k) => self.delete_fault(*k),
-            Edit::Frame(k, count) => self.frame_fault(*k, *count),
-            Edit::Unframe(k) => self.unframe_fault(*k),
+            Edit::Replace(k, op) => replace_fault(self, *k, op),
+            Edit::Insert(k, op) => insert_fault(self, *k, op),
+            Edit::Delete(k) => delete_fault(self, *k),
+            Edit::Frame(k, count) => frame_fault(self, *k, *count),
+            Edit::Unframe(k) => unframe_fault(self, *k),
         }
     }
 
@@ -38,11 +43,11 @@ impl Document {
         ensures room { length (items_of (edited edit self.now.contents)) ≤ length (items_of self.now.contents) + (if adds_item edit then 1 else 0) }
     {
         match edit {
-            Edit::Replace(k, op) => self.replacement(k, op),
-            Edit::Insert(k, op) => self.insertion(k, op),
-            Edit::Delete(k) => self.deletion(k),
-            Edit::Frame(k, count) => self.framing(k, count),
-            Edit::Unframe(k) => self.unframing(k),
+            Edit::Replace(k, op) => replacement(self, k, op),
+            Edit::Insert(k, op) => insertion(self, k, op),
+            Edit::Delete(k) => deletion(self, k),
+            Edit::Frame(k, count) => framing(self, k, count),
+            Edit::Unframe(k) => unframing(self, k),
         }
     }
 
@@ -83,7 +88,7 @@ impl Document {
         ensures again { OnOk result (IsReadAgain self.new.contents) }
         ensures total { KeepsRoom edit (length (items_of self.old.contents) + self.old.room) (length (items_of self.new.contents) + self.new.room) }
     {
-        if let Some(fault) = self.edit_fault(&edit.by_ref()) {
+        if let Some(fault) = self.edit_fault(&edit) {
             return Err(fault);
         }
         Ok(self.apply(edit)?)

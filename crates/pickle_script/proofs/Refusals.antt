@@ -61,7 +61,7 @@ pub redone_accepts : (e : End) (k : ℕ) → false ≡ is_refusal (reply_text e 
 unfolding reply_text placed_text ◌⧺◌
 redone_accepts e k = refl
 
--- ---- what is told
+-- ---- what is shown
 
 pub missing_refuses : true ≡ is_refusal no_object_line
 unfolding no_object_line

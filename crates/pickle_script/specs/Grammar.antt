@@ -10,6 +10,7 @@ use Rattle.pickle_ops.specs.Spelling.{Operation, IsSpelled, FailsAsArg}
 use Rattle.pickle_ops.specs.Table.{opcode_named}
 use Rattle.pickle_ops.specs.declared.opcode.Opcode.{Opcode}
 use Rattle.pickle_ops.specs.declared.fault.OpFault.TheVariants as fault
+use Rattle.pickle_doc.specs.declared.edit.Edit.TheVariants as edit
 use Rattle.pickle_session.specs.declared.command.Command.{Command}
 use Rattle.pickle_session.specs.declared.command.Command.TheVariants as command
 use Rattle.pickle_script.specs.declared.line.Query.TheVariants as query
@@ -127,11 +128,11 @@ abbrev pub command_at : Action → ℕ → Command
 command_at action.Goto k = command.Goto k
 command_at action.Break k = command.Break k
 command_at action.Clear k = command.Clear k
-command_at (action.Replace o) k = command.Replace k o
-command_at (action.Insert o) k = command.Insert k o
-command_at action.Delete k = command.Delete k
-command_at (action.Frame n) k = command.Frame k n
-command_at action.Unframe k = command.Unframe k
+command_at (action.Replace o) k = command.Edit (edit.Replace k o)
+command_at (action.Insert o) k = command.Edit (edit.Insert k o)
+command_at action.Delete k = command.Edit (edit.Delete k)
+command_at (action.Frame n) k = command.Edit (edit.Frame k n)
+command_at action.Unframe k = command.Edit (edit.Unframe k)
 
 -- ---- one word after another
 

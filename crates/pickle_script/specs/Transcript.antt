@@ -53,7 +53,7 @@ PrintsAt (place.Offset offset) a p text q = RepliesAt offset a p text q
 pub record Shows (query : Query) (p : SessionState) (text : List ℕ) (q : SessionState) : Type 0 where
   pub state : State
   pub reached : state_at p.session.document p.session.cursor ≡ Some state
-  pub told : IsQueryText query p.session state text
+  pub text_is : IsQueryText query p.session state text
   pub unchanged : q ≡ p
 
 abbrev pub PrintsBy : Result Line Syntax → SessionState → List ℕ → SessionState → Type 0

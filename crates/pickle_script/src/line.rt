@@ -3,6 +3,7 @@
 ghost use Rattle.std.specs.Prelude.{◌≡◌};
 ghost use Rattle.pickle_script.specs.Grammar.{command_at};
 
+use pickle_doc::Edit;
 use pickle_ops::{Op, OpFault};
 use pickle_session::Command;
 
@@ -64,11 +65,11 @@ impl Action {
             Action::Goto => Command::Goto(k),
             Action::Break => Command::Break(k),
             Action::Clear => Command::Clear(k),
-            Action::Replace(op) => Command::Replace(k, op),
-            Action::Insert(op) => Command::Insert(k, op),
-            Action::Delete => Command::Delete(k),
-            Action::Frame(count) => Command::Frame(k, count),
-            Action::Unframe => Command::Unframe(k),
+            Action::Replace(op) => Command::Edit(Edit::Replace(k, op)),
+            Action::Insert(op) => Command::Edit(Edit::Insert(k, op)),
+            Action::Delete => Command::Edit(Edit::Delete(k)),
+            Action::Frame(count) => Command::Edit(Edit::Frame(k, count)),
+            Action::Unframe => Command::Edit(Edit::Unframe(k)),
         }
     }
 }

@@ -26,7 +26,7 @@ fn object_of<P: Past>(session: &Session<P>, number: u64) -> Option<ObjId>
 }
 
 /// Writes that there is no such object.
-#[tactic(auto, using(crate::proofs::Queries::told_steps))]
+#[tactic(auto, using(crate::proofs::Queries::query_steps))]
 fn write_missing<P: Past, K: Page>(
     session: &Session<P>,
     number: u64,
@@ -40,7 +40,7 @@ fn write_missing<P: Past, K: Page>(
 }
 
 /// Writes an object with all that it contains, or that memory runs out for it.
-#[tactic(auto, using(crate::proofs::Queries::told_steps))]
+#[tactic(auto, using(crate::proofs::Queries::query_steps))]
 fn write_object_of<P: Past, K: Page>(
     alloc: Global,
     session: &Session<P>,
@@ -76,7 +76,7 @@ fn write_shown<P: Past, K: Page>(
 }
 
 /// Writes what is asked of a session. Memory is asked for to show an object that is there, and for nothing else.
-#[tactic(auto, using(crate::proofs::Refusals::telling_steps, crate::proofs::Queries::line_told))]
+#[tactic(auto, using(crate::proofs::Refusals::telling_steps, crate::proofs::Queries::line_of_query))]
 pub fn write_query<P: Past, K: Page>(
     alloc: Global,
     session: &Session<P>,

@@ -21,7 +21,7 @@ reaches_keep [] p q h = ap (λ (x : SessionState). oldest x.session) h
 reaches_keep (c ∷ cs) p q (r, m, a, h) = reaches_keep cs m q h ∙ allowed c p r m.session a
 
 oldest_opened : (many loose : Bool) (bytes : List ℕ) (p : SessionState) → IsOpenedIn many loose bytes p → version_bytes (oldest p.session) ≡ bytes
-oldest_opened many loose bytes p o = rw o.begun.past o.document.whole
+oldest_opened many loose bytes p o = rw o.begun.undos o.document.whole
 
 kept : (many loose : Bool) (bytes : List ℕ) (cs : List Command) (q : SessionState) → IsReached many loose bytes cs q → version_bytes (oldest q.session) ≡ bytes
 kept many loose bytes cs q (p, o, h) = ap version_bytes (reaches_keep cs p q h) ∙ oldest_opened many loose bytes p o
@@ -31,23 +31,23 @@ not_refused None s D a e x = x
 not_refused (Some f) s D a e x = absurd cc
 
 -- an Undo at the start, by what there is to undo
-undo_at : (ws : List Snapshot) (p : SessionState) (r : Reply) (t : Session) → p.session.past ≡ ws → p.session.cursor ≡ 0 → 0 < length ws → Answers command.Undo p r t
+undo_at : (ws : List Snapshot) (p : SessionState) (r : Reply) (t : Session) → p.session.undos ≡ ws → p.session.cursor ≡ 0 → 0 < length ws → Answers command.Undo p r t
     → (r ≡ reply.Undone (place_in ws)) × (t ≡ undone_by ws p.session)
 undo_at [] p r t e z h a = absurd (omega (arith, h))
 undo_at (w ∷ ws) p r t e z h (inl o) =
-    let b : record { reply = r; after = t } ≡ record { reply = reply.Undone (place_in p.session.past); after = undone_by p.session.past p.session } = not_refused (history_fault fault.NothingToUndo p.session.past p.session.cursor) p.session _ _ (rw (e, z, le-ltb w.place 0 (omega arith)) refl) o in
+    let b : record { reply = r; after = t } ≡ record { reply = reply.Undone (place_in p.session.undos); after = undone_by p.session.undos p.session } = not_refused (history_fault fault.NothingToUndo p.session.undos p.session.cursor) p.session _ _ (rw (e, z, le-ltb w.place 0 (omega arith)) refl) o in
     (ap (λ (x : Answer). x.reply) b ∙ ap (λ (x : List Snapshot). reply.Undone (place_in x)) e, ap (λ (x : Answer). x.after) b ∙ ap (λ (x : List Snapshot). undone_by x p.session) e)
 undo_at (w ∷ ws) p r t e z h (inr m) = let f = m.takes in cc
 
-accepted : (p : SessionState) (r : Reply) (t : Session) → p.session.cursor ≡ 0 → 0 < length p.session.past → Answers command.Undo p r t
-    → (r ≡ reply.Undone (place_in p.session.past)) × (t ≡ undone p.session)
-accepted p r t z h a = undo_at p.session.past p r t refl z h a
+accepted : (p : SessionState) (r : Reply) (t : Session) → p.session.cursor ≡ 0 → 0 < length p.session.undos → Answers command.Undo p r t
+    → (r ≡ reply.Undone (place_in p.session.undos)) × (t ≡ undone p.session)
+accepted p r t z h a = undo_at p.session.undos p r t refl z h a
 
-undos_empty : (ws : List Snapshot) (m t : SessionState) → m.session.past ≡ ws → m.session.cursor ≡ 0 → Reaches (undos (length ws)) m t → t.session.past ≡ []
-undos_empty [] m t e z h = ap (λ (x : SessionState). x.session.past) h ∙ e
+undos_empty : (ws : List Snapshot) (m t : SessionState) → m.session.undos ≡ ws → m.session.cursor ≡ 0 → Reaches (undos (length ws)) m t → t.session.undos ≡ []
+undos_empty [] m t e z h = ap (λ (x : SessionState). x.session.undos) h ∙ e
 undos_empty (w ∷ ws) m t e z (r, n, a, h) =
     let u : n.session ≡ undone_by (w ∷ ws) m.session = (undo_at (w ∷ ws) m r n.session e z (omega arith) a).1 in
-    undos_empty ws n t (ap (λ (s : Session). s.past) u) (ap (λ (s : Session). s.cursor) u ∙ z) h
+    undos_empty ws n t (ap (λ (s : Session). s.undos) u) (ap (λ (s : Session). s.cursor) u ∙ z) h
 
 pub to_start : (q : SessionState) (k : ℕ) (t : Session) → Answers (command.Goto 0) q (reply.At k) t → t ≡ record q.session { cursor = 0 }
 to_start q k t (inl o) =
@@ -55,15 +55,15 @@ to_start q k t (inl o) =
     ap (λ (x : Answer). x.after) b
 to_start q k t (inr m) = let f = m.reply in absurd cc
 
-pub oldest_left : (t : Session) → t.past ≡ [] → version_bytes (oldest t) ≡ document_bytes t.document
+pub oldest_left : (t : Session) → t.undos ≡ [] → version_bytes (oldest t) ≡ document_bytes t.document
 oldest_left t e = rw e refl
 
 given : (many loose : Bool) (bytes : List ℕ) (cs : List Command) (q m t : SessionState) → IsReached many loose bytes cs q → Answers (command.Goto 0) q (reply.At 0) m.session
-    → Reaches (undos (length q.session.past)) m t → (document_bytes t.session.document ≡ bytes) × (t.session.past ≡ [])
+    → Reaches (undos (length q.session.undos)) m t → (document_bytes t.session.document ≡ bytes) × (t.session.undos ≡ [])
 given many loose bytes cs q m t i a h =
     let went : m.session ≡ record q.session { cursor = 0 } = to_start q 0 m.session a in
-    let none : t.session.past ≡ [] = undos_empty q.session.past m t (ap (λ (s : Session). s.past) went) (ap (λ (s : Session). s.cursor) went) h in
-    let same : oldest t.session ≡ oldest q.session = reaches_keep (undos (length q.session.past)) m t h ∙ allowed (command.Goto 0) q (reply.At 0) m.session a in
+    let none : t.session.undos ≡ [] = undos_empty q.session.undos m t (ap (λ (s : Session). s.undos) went) (ap (λ (s : Session). s.cursor) went) h in
+    let same : oldest t.session ≡ oldest q.session = reaches_keep (undos (length q.session.undos)) m t h ∙ allowed (command.Goto 0) q (reply.At 0) m.session a in
     (sym (oldest_left t.session none) ∙ ap version_bytes same ∙ kept many loose bytes cs q i, none)
 
 pub opened_stays : OpenedStays
@@ -98,16 +98,16 @@ near_all command.Back p e = rw e refl
 near_all (command.Goto k) p e = rw e refl
 near_all _ p e = refl
 
-pub told_near : (c : Command) (p : SessionState) (r : Reply) (t : Session) → goes_beyond c p ≡ false → goes_back c p.session ≡ true → Answers c p r t → Obeys c p.session (record { reply = r; after = t })
-told_near c p r t e h (inl o) = o
-told_near c p r t e h (inr m) = let x : true ≡ false = sym m.takes ∙ no_memory c p e h in absurd cc
+pub obeys_near : (c : Command) (p : SessionState) (r : Reply) (t : Session) → goes_beyond c p ≡ false → goes_back c p.session ≡ true → Answers c p r t → Obeys c p.session (record { reply = r; after = t })
+obeys_near c p r t e h (inl o) = o
+obeys_near c p r t e h (inr m) = let x : true ≡ false = sym m.takes ∙ no_memory c p e h in absurd cc
 
-pub told_back : (c : Command) (p : SessionState) (r : Reply) (t : Session) → p.past.limit ≡ None → goes_back c p.session ≡ true → Answers c p r t → Obeys c p.session (record { reply = r; after = t })
-told_back c p r t e h a = told_near c p r t (near_all c p e) h a
+pub obeys_back : (c : Command) (p : SessionState) (r : Reply) (t : Session) → p.past.limit ≡ None → goes_back c p.session ≡ true → Answers c p r t → Obeys c p.session (record { reply = r; after = t })
+obeys_back c p r t e h a = obeys_near c p r t (near_all c p e) h a
 
 pub starts : (p : SessionState) (r : Reply) (t : Session) → p.past.limit ≡ None → Answers (command.Goto 0) p r t → r ≡ reply.At 0
 starts p r t e a =
-    let o = told_back (command.Goto 0) p r t e (rw (le-ltb p.session.cursor 0 (omega arith)) refl) a in
+    let o = obeys_back (command.Goto 0) p r t e (rw (le-ltb p.session.cursor 0 (omega arith)) refl) a in
     let b : record { reply = r; after = t } ≡ goes_to 0 p.session = rw (le-ltb (len_of p.session.document) 0 (omega arith), le-ltb p.session.cursor 0 (omega arith)) at o in
     ap (λ (x : Answer). x.reply) b
 
@@ -115,12 +115,12 @@ cursor_stays : (ws : List Snapshot) (s : Session) → (undone_by ws s).cursor �
 cursor_stays [] s = refl
 cursor_stays (w ∷ ws) s = refl
 
-pub undo_at_start : (p : SessionState) (r : Reply) (t : Session) → p.session.cursor ≡ 0 → 0 < length p.session.past → Answers command.Undo p r t → t.cursor ≡ 0
-undo_at_start p r t z h a = ap (λ (s : Session). s.cursor) (undo_at p.session.past p r t refl z h a).1 ∙ cursor_stays p.session.past p.session ∙ z
+pub undo_at_start : (p : SessionState) (r : Reply) (t : Session) → p.session.cursor ≡ 0 → 0 < length p.session.undos → Answers command.Undo p r t → t.cursor ≡ 0
+undo_at_start p r t z h a = ap (λ (s : Session). s.cursor) (undo_at p.session.undos p r t refl z h a).1 ∙ cursor_stays p.session.undos p.session ∙ z
 
-shorter : (ws : List Snapshot) (s : Session) → s.past ≡ ws → 0 < length ws → length (undone_by ws s).past < length ws
+shorter : (ws : List Snapshot) (s : Session) → s.undos ≡ ws → 0 < length ws → length (undone_by ws s).undos < length ws
 shorter [] s e h = absurd (omega (arith, h))
 shorter (w ∷ ws) s e h = omega arith
 
-pub undo_shorter : (p : SessionState) (r : Reply) (t : Session) → p.session.cursor ≡ 0 → 0 < length p.session.past → Answers command.Undo p r t → length t.past < length p.session.past
-undo_shorter p r t z h a = rw (undo_at p.session.past p r t refl z h a).1 (shorter p.session.past p.session refl h)
+pub undo_shorter : (p : SessionState) (r : Reply) (t : Session) → p.session.cursor ≡ 0 → 0 < length p.session.undos → Answers command.Undo p r t → length t.undos < length p.session.undos
+undo_shorter p r t z h a = rw (undo_at p.session.undos p r t refl z h a).1 (shorter p.session.undos p.session refl h)

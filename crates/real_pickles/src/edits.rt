@@ -122,7 +122,7 @@ fn next_edit(
 ) -> Result<Edit<usize>, Stop> {
     for _ in 0..16 {
         let edit = roll(dice, document.len());
-        let fault = document.edit_fault(&edit_of(alloc, &edit)?.by_ref());
+        let fault = document.edit_fault(&edit_of(alloc, &edit)?);
         if fault != plain_fault(plain, &edit) {
             return Err(Stop::Edits);
         }

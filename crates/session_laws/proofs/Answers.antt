@@ -78,8 +78,8 @@ one_show : (query : Query) (p q r s : SessionState) (text other : List ℕ) → 
     → Shows query p text q → Shows query r other s → IsSame text other q s
 one_show query p q r s text other e n m x y =
     let state = one_state p.session r.session x.state y.state e x.reached y.reached in
-    let there = subst (λ (t : State). IsQueryText query r.session t other) (sym state) y.told in (
-      one_query query p.session x.state text other n m x.told (subst (λ (t : Session). IsQueryText query t x.state other) (sym e) there),
+    let there = subst (λ (t : State). IsQueryText query r.session t other) (sym state) y.text_is in (
+      one_query query p.session x.state text other n m x.text_is (subst (λ (t : Session). IsQueryText query t x.state other) (sym e) there),
       ap (λ (t : SessionState). t.session) x.unchanged ∙ e ∙ sym (ap (λ (t : SessionState). t.session) y.unchanged),
     )
 

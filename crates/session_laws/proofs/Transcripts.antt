@@ -29,15 +29,15 @@ one_transcript lines texts others p q r s e n m x y = all_lines (up_to_quit line
 -- ---- an opening
 
 abbrev session_of : Contents → ℕ → List ℕ → List Snapshot → List Snapshot → Session
-session_of document cursor breaks past future = record { document = document; cursor = cursor; breaks = breaks; past = past; future = future }
+session_of document cursor breaks undos redos = record { document = document; cursor = cursor; breaks = breaks; undos = undos; redos = redos }
 
-begun : (p r : Session) → p.document ≡ r.document → p.cursor ≡ r.cursor → p.breaks ≡ r.breaks → p.past ≡ r.past → p.future ≡ r.future → p ≡ r
+begun : (p r : Session) → p.document ≡ r.document → p.cursor ≡ r.cursor → p.breaks ≡ r.breaks → p.undos ≡ r.undos → p.redos ≡ r.redos → p ≡ r
 begun p r a b c d e =
-    ap₂ (λ (document : Contents) (cursor : ℕ). session_of document cursor p.breaks p.past p.future) a b
-    ∙ ap₂ (λ (breaks : List ℕ) (past : List Snapshot). session_of r.document r.cursor breaks past p.future) c d ∙ ap (λ (future : List Snapshot). session_of r.document r.cursor r.breaks r.past future) e
+    ap₂ (λ (document : Contents) (cursor : ℕ). session_of document cursor p.breaks p.undos p.redos) a b
+    ∙ ap₂ (λ (breaks : List ℕ) (undos : List Snapshot). session_of r.document r.cursor breaks undos p.redos) c d ∙ ap (λ (redos : List Snapshot). session_of r.document r.cursor r.breaks r.undos redos) e
 
 pub one_opening : OneDocument → OneOpening
 one_opening law many loose bytes p r is few x y =
     let one = law many loose bytes is few in
     let document = sym (one.2 p.session.document x.document) ∙ one.2 r.session.document y.document in
-    begun p.session r.session document (x.begun.cursor ∙ sym y.begun.cursor) (x.begun.breaks ∙ sym y.begun.breaks) (x.begun.past ∙ sym y.begun.past) (x.begun.future ∙ sym y.begun.future)
+    begun p.session r.session document (x.begun.cursor ∙ sym y.begun.cursor) (x.begun.breaks ∙ sym y.begun.breaks) (x.begun.undos ∙ sym y.begun.undos) (x.begun.redos ∙ sym y.begun.redos)

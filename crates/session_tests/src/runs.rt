@@ -3,7 +3,7 @@
 
 ghost use Rattle.std.specs.Prelude.{◌≡◌, []};
 
-use pickle_doc::{DocFault, LIMIT};
+use pickle_doc::{DocFault, Edit, LIMIT};
 use pickle_io::{Failed, ToWrite};
 use pickle_machine::Machine;
 use pickle_ops::{Op, OpFault, Opcode, op_of};
@@ -106,9 +106,9 @@ fn plain_command(number: usize, place: usize, ahead: usize, count: usize) -> Com
         3 => Command::Run,
         4 => Command::Break(place),
         5 => Command::Clear(place),
-        6 => Command::Delete(place),
-        7 => Command::Frame(place, count),
-        8 => Command::Unframe(ahead),
+        6 => Command::Edit(Edit::Delete(place)),
+        7 => Command::Edit(Edit::Frame(place, count)),
+        8 => Command::Edit(Edit::Unframe(ahead)),
         9 => Command::Undo,
         10 => Command::Redo,
         _ => Command::Step,
@@ -132,9 +132,9 @@ fn any_command(
     let ahead = cursor.saturating_add(chance.below(4));
     let count = chance.below(5);
     match chance.below(16) {
-        13 => Ok(Command::Replace(place, any_op(alloc, chance)?)),
-        14 => Ok(Command::Insert(place, any_op(alloc, chance)?)),
-        15 => Ok(Command::Insert(ahead, any_op(alloc, chance)?)),
+        13 => Ok(Command::Edit(Edit::Replace(place, any_op(alloc, chance)?))),
+        14 => Ok(Command::Edit(Edit::Insert(place, any_op(alloc, chance)?))),
+        15 => Ok(Command::Edit(Edit::Insert(ahead, any_op(alloc, chance)?))),
         number => Ok(plain_command(number, place, ahead, count)),
     }
 }

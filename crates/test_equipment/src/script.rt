@@ -5,7 +5,7 @@ ghost use Rattle.std.specs.Prelude.{◌≡◌, []};
 
 use crate::pages::{paper, taken};
 use crate::session::{shows, write_session};
-use pickle_doc::DocFault;
+use pickle_doc::{DocFault, Edit};
 use pickle_io::{Failed, ToWrite};
 use pickle_ops::{OpFault, Opcode, op_of};
 use pickle_session::{Command, Fault, Past, Reply, Session, Whole, Window};
@@ -57,7 +57,7 @@ const COMMANDS: usize = 6;
 fn command(alloc: Global, k: usize, len: usize) -> Result<Command, OpFault> {
     Ok(match k {
         1 => Command::Goto(len / 2),
-        2 => Command::Insert(len / 2, op_of(alloc, Opcode::BinInt2, b"\x01\x00")?),
+        2 => Command::Edit(Edit::Insert(len / 2, op_of(alloc, Opcode::BinInt2, b"\x01\x00")?)),
         4 => Command::Goto(0),
         5 => Command::Undo,
         _ => Command::Run,

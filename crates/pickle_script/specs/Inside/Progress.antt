@@ -40,7 +40,7 @@ was_refused outcome.Refused = true
 -- what a query is answered was written, and the outcome is whether it refuses
 pub record WritesQuery (query : Query) (s : Session) (t : State) (old new : Told) (r : Result Outcome Failed) : Type 0 where
   pub text : List ℕ
-  pub told : IsQueryText query s t text
+  pub text_is : IsQueryText query s t text
   pub writes : Writes old new r text
   pub refuses : IfOk r (λ o. was_refused o ≡ is_refusal text)
 

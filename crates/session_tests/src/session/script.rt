@@ -1,5 +1,6 @@
 //! Commands as rows of tables, and sessions that obey them.
 
+use pickle_doc::Edit;
 use pickle_ops::{Opcode, op_of};
 use pickle_session::{Command, Reply, Session, Whole, Window};
 use std::alloc::Global;
@@ -29,8 +30,11 @@ fn try_command(alloc: Global, told: Told) -> Option<Command> {
         Told::Run => Command::Run,
         Told::Goto(k) => Command::Goto(k),
         Told::Clear(k) => Command::Clear(k),
-        Told::Insert(k, opcode, arg) => Command::Insert(k, op_of(alloc, opcode, arg).ok()?),
-        Told::Delete(k) => Command::Delete(k),
+        Told::Insert(k, opcode, arg) => Command::Edit(Edit::Insert(
+            k,
+            op_of(alloc, opcode, arg).ok()?,
+        )),
+        Told::Delete(k) => Command::Edit(Edit::Delete(k)),
         Told::Undo => Command::Undo,
         Told::Redo => Command::Redo,
     })

@@ -13,7 +13,7 @@ loop-alloc-init g c = record {
 
 pub loop-alloc-preserved : goal.loop-alloc-preserved
 loop-alloc-preserved g c =
-    let some : 0 < length c.loop-alloc.session.session.past = omega (arith, c.undos.ensures, c.loop-alloc-test.true) in
+    let some : 0 < length c.loop-alloc.session.session.undos = omega (arith, c.undos.ensures, c.loop-alloc-test.true) in
     record {
       start = undo_at_start _ _ _ c.loop-alloc.invariant.start some c.obey-reply.ensures.answers;
       same = allowed command.Undo _ _ _ c.obey-reply.ensures.answers ∙ c.loop-alloc.invariant.same;
@@ -21,5 +21,5 @@ loop-alloc-preserved g c =
 
 pub loop-alloc-smaller : goal.loop-alloc-smaller
 loop-alloc-smaller g c =
-    let some : 0 < length c.loop-alloc.session.session.past = omega (arith, c.undos.ensures, c.loop-alloc-test.true) in
+    let some : 0 < length c.loop-alloc.session.session.undos = omega (arith, c.undos.ensures, c.loop-alloc-test.true) in
     undo_shorter _ _ _ c.loop-alloc.invariant.start some c.obey-reply.ensures.answers

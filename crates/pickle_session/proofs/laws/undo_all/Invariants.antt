@@ -10,4 +10,4 @@ invariant-loop-alloc g l = record {
 }
 
 abbrev pub decreases-loop-alloc : goal.decreases-loop-alloc
-decreases-loop-alloc g l = length l.session.session.past
+decreases-loop-alloc g l = length l.session.session.undos
