@@ -6,11 +6,9 @@ use Rattle.pickle_script.specs.declared.line.Query.TheVariants as query
 use Rattle.pickle_script.specs.declared.line.Place.{Place}
 use Rattle.pickle_script.specs.declared.line.Action.TheVariants as action
 use Rattle.pickle_script.specs.declared.line.Syntax.{Syntax}
-use Rattle.pickle_script.specs.declared.keyword.PlainWord.{PlainWord}
-use Rattle.pickle_script.specs.declared.keyword.PlainWord.TheVariants as plain
 use Rattle.pickle_script.specs.declared.keyword.PlaceWord.{PlaceWord}
 use Rattle.pickle_script.specs.declared.keyword.PlaceWord.TheVariants as placed
-use Rattle.pickle_script.specs.Grammar.{op_in, alone, plain_line, place_action, number_first, place_first, show_says, place_says, frame_says, and_then, AnswersWords}
+use Rattle.pickle_script.specs.Grammar.{op_in, alone, place_action, number_first, place_first, show_says, place_says, frame_says, and_then, AnswersWords}
 
 -- a line without an operation
 abbrev IsFree : Result Line Syntax → Type 0
@@ -25,19 +23,6 @@ free_alone : (l : Line) (words : List (List ℕ)) → op_in l ≡ None → IsFre
 free_alone l [] h = h
 free_alone l (w ∷ words) h = tt
 
-free_plain : (w : PlainWord) → op_in (plain_line w) ≡ None
-free_plain plain.Step = refl
-free_plain plain.Back = refl
-free_plain plain.Run = refl
-free_plain plain.Undo = refl
-free_plain plain.Redo = refl
-free_plain plain.Items = refl
-free_plain plain.Objects = refl
-free_plain plain.Stack = refl
-free_plain plain.Memo = refl
-free_plain plain.Where = refl
-free_plain plain.Quit = refl
-
 free_place : (p : Place) (w : PlaceWord) → op_in (line.At p (place_action w)) ≡ None
 free_place p placed.Goto = refl
 free_place p placed.Break = refl
@@ -49,8 +34,8 @@ free_then : {A : Type 0} (r : Result A Syntax) (f : A → Result Line Syntax) �
 free_then (Ok x) f h = h x
 free_then (Err e) f h = tt
 
-pub plain_answers : (w : PlainWord) (words : List (List ℕ)) (answer : Result Line Syntax) → answer ≡ alone (plain_line w) words → AnswersWords (alone (plain_line w) words) answer
-plain_answers w words answer e = answered (alone (plain_line w) words) answer (free_alone (plain_line w) words (free_plain w)) e
+pub alone_answers : (l : Line) (words : List (List ℕ)) (answer : Result Line Syntax) → op_in l ≡ None → answer ≡ alone l words → AnswersWords (alone l words) answer
+alone_answers l words answer free e = answered (alone l words) answer (free_alone l words free) e
 
 pub show_answers : (words : List (List ℕ)) (answer : Result Line Syntax) → answer ≡ show_says words → AnswersWords (show_says words) answer
 show_answers words answer e =
@@ -68,4 +53,4 @@ frame_answers words answer e =
     (free_then (place_first words) (λ (p : Place × List (List ℕ)). and_then (number_first p.1) (λ (q : ℕ × List (List ℕ)). alone (line.At p.0 (action.Frame q.0)) q.1))
     (λ p. free_then (number_first p.1) (λ (q : ℕ × List (List ℕ)). alone (line.At p.0 (action.Frame q.0)) q.1) (λ q. free_alone (line.At p.0 (action.Frame q.0)) q.1 refl))) e
 
-pub ruleset saying_steps = (plain_answers, show_answers, place_answers, frame_answers)
+pub ruleset saying_steps = (alone_answers, show_answers, place_answers, frame_answers)

@@ -13,6 +13,7 @@ use Rattle.pickle_ops.specs.declared.fault.OpFault.TheVariants as fault
 use Rattle.pickle_doc.specs.declared.edit.Edit.TheVariants as edit
 use Rattle.pickle_session.specs.declared.command.Command.{Command}
 use Rattle.pickle_session.specs.declared.command.Command.TheVariants as command
+use Rattle.pickle_script.specs.declared.line.Query.{Query}
 use Rattle.pickle_script.specs.declared.line.Query.TheVariants as query
 use Rattle.pickle_script.specs.declared.line.Place.{Place}
 use Rattle.pickle_script.specs.declared.line.Place.TheVariants as place
@@ -22,14 +23,10 @@ use Rattle.pickle_script.specs.declared.line.Line.{Line}
 use Rattle.pickle_script.specs.declared.line.Line.TheVariants as line
 use Rattle.pickle_script.specs.declared.line.Syntax.{Syntax}
 use Rattle.pickle_script.specs.declared.line.Syntax.TheVariants as syntax
-use Rattle.pickle_script.specs.declared.keyword.PlainWord.{PlainWord}
-use Rattle.pickle_script.specs.declared.keyword.PlainWord.TheVariants as plain
 use Rattle.pickle_script.specs.declared.keyword.PlaceWord.{PlaceWord}
 use Rattle.pickle_script.specs.declared.keyword.PlaceWord.TheVariants as placed
 use Rattle.pickle_script.specs.declared.keyword.OpWord.{OpWord}
 use Rattle.pickle_script.specs.declared.keyword.OpWord.TheVariants as op
-use Rattle.pickle_script.specs.declared.keyword.Word.{Word}
-use Rattle.pickle_script.specs.declared.keyword.Word.TheVariants as word
 
 -- ---- words
 
@@ -57,20 +54,24 @@ bytes_of_word w = found_bytes (decode_of w)
 
 -- ---- first words
 
--- the first words without arguments
-abbrev pub plain_word : List ℕ → Option PlainWord
-plain_word w =
-    if bytes_eq w (codes "step") then Some plain.Step
-    else if bytes_eq w (codes "back") then Some plain.Back
-    else if bytes_eq w (codes "run") then Some plain.Run
-    else if bytes_eq w (codes "undo") then Some plain.Undo
-    else if bytes_eq w (codes "redo") then Some plain.Redo
-    else if bytes_eq w (codes "items") then Some plain.Items
-    else if bytes_eq w (codes "objects") then Some plain.Objects
-    else if bytes_eq w (codes "stack") then Some plain.Stack
-    else if bytes_eq w (codes "memo") then Some plain.Memo
-    else if bytes_eq w (codes "where") then Some plain.Where
-    else if bytes_eq w (codes "quit") then Some plain.Quit
+-- those that are a command
+abbrev pub command_word : List ℕ → Option Command
+command_word w =
+    if bytes_eq w (codes "step") then Some command.Step
+    else if bytes_eq w (codes "back") then Some command.Back
+    else if bytes_eq w (codes "run") then Some command.Run
+    else if bytes_eq w (codes "undo") then Some command.Undo
+    else if bytes_eq w (codes "redo") then Some command.Redo
+    else None
+
+-- those that are a question
+abbrev pub query_word : List ℕ → Option Query
+query_word w =
+    if bytes_eq w (codes "items") then Some query.Items
+    else if bytes_eq w (codes "objects") then Some query.Objects
+    else if bytes_eq w (codes "stack") then Some query.Stack
+    else if bytes_eq w (codes "memo") then Some query.Memo
+    else if bytes_eq w (codes "where") then Some query.Where
     else None
 
 -- those before a place
@@ -90,28 +91,7 @@ op_word w =
     else if bytes_eq w (codes "insert") then Some op.Insert
     else None
 
--- the first words: these; `show`, before a number; and `frame`, before a place and a count
-abbrev pub keyword : List ℕ → Option Word
-keyword w =
-    if bytes_eq w (codes "show") then Some word.Show
-    else if bytes_eq w (codes "frame") then Some word.Frame
-    else option_map_or (λ (p : PlainWord). Some (word.Plain p)) (plain_word w)
-    (option_map_or (λ (n : PlaceWord). Some (word.Place n)) (place_word w) (option_map word.Op (op_word w)))
-
--- what each of them says
-abbrev pub plain_line : PlainWord → Line
-plain_line plain.Step = line.Command command.Step
-plain_line plain.Back = line.Command command.Back
-plain_line plain.Run = line.Command command.Run
-plain_line plain.Undo = line.Command command.Undo
-plain_line plain.Redo = line.Command command.Redo
-plain_line plain.Items = line.Query query.Items
-plain_line plain.Objects = line.Query query.Objects
-plain_line plain.Stack = line.Query query.Stack
-plain_line plain.Memo = line.Query query.Memo
-plain_line plain.Where = line.Query query.Where
-plain_line plain.Quit = line.Quit
-
+-- what each of them does
 abbrev pub place_action : PlaceWord → Action
 place_action placed.Goto = action.Goto
 place_action placed.Break = action.Break
@@ -202,18 +182,20 @@ op_says w words =
     and_then (name_first p.1) (λ (q : Opcode × List (List ℕ)).
     and_then (arg_last q.1) (λ (arg : List ℕ). Ok (line.At p.0 (op_action w (record { opcode = q.0; arg = arg }))))))
 
--- by each kind of first word; an unknown one is a fault whatever comes after it
-abbrev pub word_says : Option Word → List (List ℕ) → Result Line Syntax
-word_says None words = Err syntax.UnknownWord
-word_says (Some (word.Plain w)) words = alone (plain_line w) words
-word_says (Some word.Show) words = show_says words
-word_says (Some (word.Place w)) words = place_says w words
-word_says (Some word.Frame) words = frame_says words
-word_says (Some (word.Op w)) words = op_says w words
+-- by each first word; an unknown one is a fault whatever comes after it
+abbrev pub word_says : List ℕ → List (List ℕ) → Result Line Syntax
+word_says w words =
+    if bytes_eq w (codes "show") then show_says words
+    else if bytes_eq w (codes "frame") then frame_says words
+    else if bytes_eq w (codes "quit") then alone line.Quit words
+    else option_map_or (λ (c : Command). alone (line.Command c) words) (command_word w)
+    (option_map_or (λ (q : Query). alone (line.Query q) words) (query_word w)
+    (option_map_or (λ (p : PlaceWord). place_says p words) (place_word w)
+    (option_map_or (λ (o : OpWord). op_says o words) (op_word w) (Err syntax.UnknownWord))))
 
 abbrev pub words_say : List (List ℕ) → Result Line Syntax
 words_say [] = Ok line.Nothing
-words_say (w ∷ words) = word_says (keyword w) words
+words_say (w ∷ words) = word_says w words
 
 -- the most bytes of a line
 abbrev pub longest : ℕ

@@ -2,11 +2,11 @@
 
 ghost use Rattle.std.specs.Prelude.{◌≡◌, ℕ, List, MatchResult, Ok, Err};
 ghost use Rattle.hex.specs.Hex.{decode_of, is_hex_digit};
-ghost use Rattle.pickle_script.specs.Grammar.{words_of, alone, plain_line, number_first, place_of, place_first, show_says, place_says, frame_says, name_first, arg_last, last_bytes, bytes_of_word, op_action, op_says, word_says, line_says, AnswersWords};
+ghost use Rattle.pickle_script.specs.Grammar.{words_of, alone, number_first, place_of, place_first, show_says, place_says, frame_says, name_first, arg_last, last_bytes, bytes_of_word, op_action, op_says, word_says, line_says, AnswersWords};
 ghost use Rattle.pickle_script.specs.Inside.Words.{is_hex, fault_syntax};
 
 use crate::keyword::{
-    OpWord, PlaceWord, PlainWord, Word, keyword, op_action, place_action, plain_line,
+    OpWord, PlaceWord, command_word, op_action, op_word, place_action, place_word, query_word,
 };
 use crate::line::{Action, Line, Place, Query, Syntax};
 use crate::words::{LONGEST, first_word};
@@ -57,13 +57,6 @@ fn place_first(rest: &[u8]) -> Result<(Place, &[u8]), Syntax>
             Some(place) => Ok((place, rest)),
         },
     }
-}
-
-/// What a line says whose first word has no arguments.
-fn read_plain(word: PlainWord, rest: &[u8]) -> Result<Line, Syntax>
-    ensures { result ≡ alone (plain_line word) (words_of rest.now) }
-{
-    alone(plain_line(word), rest)
 }
 
 /// What a line says that shows an object, by its number.
@@ -202,18 +195,32 @@ fn read_op(alloc: Global, word: OpWord, rest: &[u8]) -> Result<Line, Syntax>
     make_line(alloc, word, place, opcode, hex)
 }
 
-/// What a line says by its first word, where that is known.
+/// What a line says by its first word, which decides what comes after it.
 #[tactic(auto, using(crate::proofs::Sayings::saying_steps))]
-fn read_words(alloc: Global, word: Option<Word>, rest: &[u8]) -> Result<Line, Syntax>
-    ensures { AnswersWords (word_says word (words_of rest.now)) result }
+fn read_words(alloc: Global, word: &[u8], rest: &[u8]) -> Result<Line, Syntax>
+    ensures { AnswersWords (word_says word.now (words_of rest.now)) result }
 {
-    match word {
+    if word == b"show".as_slice() {
+        return read_show(rest);
+    }
+    if word == b"frame".as_slice() {
+        return read_frame(rest);
+    }
+    if word == b"quit".as_slice() {
+        return alone(Line::Quit, rest);
+    }
+    if let Some(command) = command_word(word) {
+        return alone(Line::Command(command), rest);
+    }
+    if let Some(query) = query_word(word) {
+        return alone(Line::Query(query), rest);
+    }
+    if let Some(word) = place_word(word) {
+        return read_place(word, rest);
+    }
+    match op_word(word) {
+        Some(word) => read_op(alloc, word, rest),
         None => Err(Syntax::UnknownWord),
-        Some(Word::Plain(word)) => read_plain(word, rest),
-        Some(Word::Show) => read_show(rest),
-        Some(Word::Place(word)) => read_place(word, rest),
-        Some(Word::Frame) => read_frame(rest),
-        Some(Word::Op(word)) => read_op(alloc, word, rest),
     }
 }
 
@@ -229,6 +236,6 @@ pub fn read_command(alloc: Global, bytes: &[u8]) -> Result<Line, Syntax>
     }
     match first_word(bytes) {
         None => Ok(Line::Nothing),
-        Some((word, rest)) => read_words(alloc, keyword(word), rest),
+        Some((word, rest)) => read_words(alloc, word, rest),
     }
 }

@@ -1,27 +1,11 @@
 //! The first word of a line.
 
 ghost use Rattle.std.specs.Prelude.{◌≡◌};
-ghost use Rattle.pickle_script.specs.Grammar.{plain_word, place_word, op_word, keyword, plain_line, place_action, op_action};
+ghost use Rattle.pickle_script.specs.Grammar.{command_word, query_word, place_word, op_word, place_action, op_action};
 
-use crate::line::{Action, Line, Query};
+use crate::line::{Action, Query};
 use pickle_ops::Op;
 use pickle_session::Command;
-
-/// A word without arguments.
-#[derive(Clone, Copy)]
-pub(crate) enum PlainWord {
-    Step,
-    Back,
-    Run,
-    Undo,
-    Redo,
-    Items,
-    Objects,
-    Stack,
-    Memo,
-    Where,
-    Quit,
-}
 
 /// A word before a place.
 #[derive(Clone, Copy)]
@@ -40,21 +24,6 @@ pub(crate) enum OpWord {
     Insert,
 }
 
-/// A first word.
-#[derive(Clone, Copy)]
-pub(crate) enum Word {
-    /// It has no arguments.
-    Plain(PlainWord),
-    /// `show`, before the number of an object.
-    Show,
-    /// A place comes after it.
-    Place(PlaceWord),
-    /// `frame`, before a place and a count.
-    Frame,
-    /// A place, a name and bytes come after it.
-    Op(OpWord),
-}
-
 /// The value beside the text that the word is, if it is one of these. This is a chain of `==`, since the proof of a `match` goes over
 /// the bytes of each text.
 macro_rules! row_of {
@@ -70,27 +39,34 @@ macro_rules! row_of {
     };
 }
 
-/// The first word of a line, which has no arguments.
-fn plain_word(word: &[u8]) -> Option<PlainWord>
-    ensures { result ≡ plain_word word.now }
+/// The command that a first word is.
+pub(crate) fn command_word(word: &[u8]) -> Option<Command>
+    ensures { result ≡ command_word word.now }
 {
     row_of!(word {
-        b"step" => PlainWord::Step,
-        b"back" => PlainWord::Back,
-        b"run" => PlainWord::Run,
-        b"undo" => PlainWord::Undo,
-        b"redo" => PlainWord::Redo,
-        b"items" => PlainWord::Items,
-        b"objects" => PlainWord::Objects,
-        b"stack" => PlainWord::Stack,
-        b"memo" => PlainWord::Memo,
-        b"where" => PlainWord::Where,
-        b"quit" => PlainWord::Quit,
+        b"step" => Command::Step,
+        b"back" => Command::Back,
+        b"run" => Command::Run,
+        b"undo" => Command::Undo,
+        b"redo" => Command::Redo,
+    })
+}
+
+/// The question that a first word is.
+pub(crate) fn query_word(word: &[u8]) -> Option<Query>
+    ensures { result ≡ query_word word.now }
+{
+    row_of!(word {
+        b"items" => Query::Items,
+        b"objects" => Query::Objects,
+        b"stack" => Query::Stack,
+        b"memo" => Query::Memo,
+        b"where" => Query::Where,
     })
 }
 
 /// The first word of a line, before a place.
-fn place_word(word: &[u8]) -> Option<PlaceWord>
+pub(crate) fn place_word(word: &[u8]) -> Option<PlaceWord>
     ensures { result ≡ place_word word.now }
 {
     row_of!(word {
@@ -103,54 +79,13 @@ fn place_word(word: &[u8]) -> Option<PlaceWord>
 }
 
 /// The first word of a line, before a place, a name and bytes.
-fn op_word(word: &[u8]) -> Option<OpWord>
+pub(crate) fn op_word(word: &[u8]) -> Option<OpWord>
     ensures { result ≡ op_word word.now }
 {
     row_of!(word {
         b"replace" => OpWord::Replace,
         b"insert" => OpWord::Insert,
     })
-}
-
-/// The first word of a line, where it is known.
-pub(crate) fn keyword(word: &[u8]) -> Option<Word>
-    ensures { result ≡ keyword word.now }
-{
-    if word == b"show".as_slice() {
-        return Some(Word::Show);
-    }
-    if word == b"frame".as_slice() {
-        return Some(Word::Frame);
-    }
-    if let Some(plain) = plain_word(word) {
-        return Some(Word::Plain(plain));
-    }
-    if let Some(place) = place_word(word) {
-        return Some(Word::Place(place));
-    }
-    match op_word(word) {
-        Some(op) => Some(Word::Op(op)),
-        None => None,
-    }
-}
-
-/// What a word without arguments says.
-pub(crate) fn plain_line(word: PlainWord) -> Line
-    ensures { result ≡ plain_line word }
-{
-    match word {
-        PlainWord::Step => Line::Command(Command::Step),
-        PlainWord::Back => Line::Command(Command::Back),
-        PlainWord::Run => Line::Command(Command::Run),
-        PlainWord::Undo => Line::Command(Command::Undo),
-        PlainWord::Redo => Line::Command(Command::Redo),
-        PlainWord::Items => Line::Query(Query::Items),
-        PlainWord::Objects => Line::Query(Query::Objects),
-        PlainWord::Stack => Line::Query(Query::Stack),
-        PlainWord::Memo => Line::Query(Query::Memo),
-        PlainWord::Where => Line::Query(Query::Where),
-        PlainWord::Quit => Line::Quit,
-    }
 }
 
 /// What a word says that is done at a place.
