@@ -65,7 +65,7 @@ def _is_begun(begin: bytes, at: int, size: int) -> bool:
 
 
 def _may_import(content: bytes) -> bool:
-    """Whether STACK_GLOBAL may be in these bytes, lines that name something, or a number of copyreg that is called."""
+    """Whether an import by two texts or two lines may be in these bytes, or a number of copyreg that is called."""
     return b'\x93' in content or content.count(b'\n') >= 2 or may_call_number(content)
 
 
