@@ -267,7 +267,7 @@ def with_queries(rng: Random, lines: Sequence[str], items: int) -> list[str]:
     for text in lines:
         mixed.append(text)
         if rng.random() < 0.4:
-            mixed.append(rng.choice(["items", "objects", "stack", "memo", "where", "", " \t\r", f"show {rng.randrange(items + 2)}"]))
+            mixed.append(rng.choice([*VIEW.split(), "", " \t\r", f"show {rng.randrange(items + 2)}"]))
     return mixed
 
 

@@ -169,6 +169,13 @@ def deep_arguments(program: str, file: pathlib.Path) -> bool:
     return text.splitlines() == wanted and status == 0
 
 
+def deep_readings(program: str, file: pathlib.Path) -> bool:
+    """An argument that is nested deeply and is not gone into, and many open marks, in each reading with whole arguments."""
+    file.write_bytes(b"cm\nn\nN" + b"\x85" * 20_000 + b"R" + b"(" * 20_000 + b"N.")
+    wanted = "    0: import 'm' 'n' as #0\n20006: call 'm' 'n' (#20000) as #20002\n1 imports, 1 calls\n"
+    return all(answer(program, ["calls", "--full", *words, str(file)]) == (wanted, 0) for words in ([], ["--first"], ["--memo", "kept"]))
+
+
 def many_entries(program: str, file: pathlib.Path) -> bool:
     file.write_bytes(b"N" + b"\x94" * 100_000 + b".")
     text, status, is_same = debug(program, file, "run\nmemo\ngoto 0\nmemo\n")
@@ -214,6 +221,7 @@ ROWS = [
     ("a tuple of 100,000 parts", many_parts, 1),
     ("100,000 memo entries", many_entries, 1),
     ("a deep argument, and 100,000 arguments", deep_arguments, 1),
+    ("a deep argument and open marks, in each reading", deep_readings, 3),
     ("lengths at their largest", largest_lengths, len(LARGEST)),
     ("each byte alone", single_bytes, 256),
 ]

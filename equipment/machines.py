@@ -11,6 +11,7 @@ import shutil
 import subprocess
 import sys
 import threading
+from collections import Counter
 from collections.abc import Iterable, Iterator
 from concurrent.futures import ThreadPoolExecutor
 from dataclasses import dataclass, field
@@ -25,12 +26,23 @@ from trials.samples import HOSTILE
 from trials.trial import Noted, Skip, Trial
 
 STATIC, ARM, MODULE, SCRIPTED = "linux-x86_64-static/picklestep", "linux-aarch64/picklestep", "picklestep.wasm", "picklestep.mjs"
-# Each word of the debugger. The two lines before the last are refused, and so is what a pickle does not allow.
-SCRIPT = (
-    b"where\nstep\nstep\nstack\nmemo\nshow 0\nobjects\nrun\nwhere\nback\nback\nbreak 3\ngoto 2\nrun\nclear 3\nrun\ngoto 0\n"
-    b"insert 0 NONE\ninsert 1 BININT1 07\nreplace 0 SHORT_BINUNICODE 0161\nframe 0 2\nitems\nunframe 0\ndelete 1\nundo\nredo\nundo\n"
-    b"step\nshow 0\nrun\nstack\nmemo\nnonsense\ngoto 999999999\nquit\n"
-)
+PAGE = Path(__file__).with_name("conversations.txt")
+LINES_OF_A_WORD = 4
+
+
+def each_word() -> bytes:
+    """The first lines of each word of the debugger among the conversations, in their order, and `quit`. Some are refused."""
+    chosen: list[str] = []
+    counts: Counter[str] = Counter()
+    for line in [line for block in blocks_of(PAGE.read_text("utf-8")) for line in block.script]:
+        word = line.split()[0]
+        counts[word] += 1
+        if counts[word] <= LINES_OF_A_WORD and word != "quit":
+            chosen.append(line)
+    return "".join(line + "\n" for line in [*chosen, "quit"]).encode()
+
+
+SCRIPT = each_word()
 TASKS = (
     ("list",),
     ("list", "--many"),

@@ -10,9 +10,11 @@ import ast
 import functools
 import pickletools
 import re
+import subprocess
 from collections.abc import Iterator
 from dataclasses import dataclass
 from pathlib import Path
+from random import Random
 
 import count_calls
 import fuzz
@@ -32,12 +34,6 @@ FORMS = {
 }
 FORMS_OF = {"GET": "Decimal", "PUT": "Decimal"}
 
-# How bench/plain.c skips an argument of each form. It reads no sign.
-SKIPS = {
-    "Empty": "0", "U1": "U1", "U2": "U2", "U4": "U4", "U8": "U8", "S4": "U4", "R8": "U8", "Line": "LN", "Quoted": "LN", "Decimal": "LN",
-    "Two": "LN2", "B1": "B1", "B4": "B4", "B8": "B8", "Bs4": "B4",
-}
-
 # The files that name opcodes, with their other words in capitals.
 NAMED = {
     "equipment/fuzz.py": {"STEP", "F1", "F3", "F7"},
@@ -49,6 +45,8 @@ NAMED = {
     "python/picklestep/scan/stores/walk.py": {"CHECKSUM", "MOST"},
     "python/tests/test_answers.py": {"F1", "F2", "F5", "S10", "S2", "S3", "U1"},
 }
+
+SEED = 1
 
 # The rows of opcodes that make an object of their own, whatever their kind.
 MAKERS = {"Buffer", "ReadOnly"}
@@ -110,22 +108,36 @@ def fault_of_table(root: Path) -> str:
     return next(filter(None, faults), "") or difference(len(found), len(wanted))
 
 
-def fault_of_test(root: Path) -> str:
-    """The unit tests have a table of their own, as Python prints it."""
-    text = (root / "crates/unit_tests/src/plain/python.rt").read_text(encoding="utf-8")
-    found = [(code_of(code), name, int(protocol)) for code, name, protocol in re.findall(r"""^ +\((b'.'|0x..), b"(\w+)", (\d)\),$""", text, re.MULTILINE)]
-    return difference(found, [(ord(opcode.code), opcode.name, opcode.proto) for opcode in pickletools.opcodes])
+# --- What the program knows ---
+
+# What no edit puts in, and why.
+NOT_PUT_IN = {"STOP": "refused: C9 E2 stop item", "FRAME": "refused: C9 E3 frame item"}
+
+
+def fault_of_opcode(program: str, file: Path, opcode: pickletools.OpcodeInfo) -> str:
+    """The program lists an opcode by its code, and an edit puts it in by its name."""
+    argument = fuzz.argument(opcode.name, Random(SEED))
+    file.write_bytes(opcode.code.encode("latin-1") + argument)
+    listed = subprocess.run([program, "list", "--unframed", str(file)], capture_output=True, timeout=60, check=False).stdout.decode().splitlines()
+    code = opcode.code if opcode.code.isprintable() and opcode.code.isascii() else f"\\x{ord(opcode.code):02x}"
+    begin = f"    0: {code:<4} {opcode.name}"
+    if not listed or not f"{listed[0]} ".startswith(f"{begin} ") or listed[-1] != f"highest protocol among opcodes = {opcode.proto}":
+        return f"{opcode.name} of protocol {opcode.proto} is listed as {listed}"
+    file.write_bytes(b".")
+    script = f"insert 0 {opcode.name} {argument.hex()}\nitems\n".encode()
+    told = subprocess.run([program, "debug", str(file)], input=script, capture_output=True, timeout=60, check=False).stdout.decode().splitlines()
+    shown = f">     0     0: {'STOP' if opcode.name in NOT_PUT_IN else opcode.name}"
+    if len(told) < 2 or told[0] != NOT_PUT_IN.get(opcode.name, "edited 0") or not f"{told[1]} ".startswith(f"{shown} "):
+        return f"{opcode.name} is put in as {told}"
+    return ""
+
+
+def fault_of_program(program: str, folder: Path) -> str:
+    folder.mkdir(parents=True, exist_ok=True)
+    return next(filter(None, (fault_of_opcode(program, folder / "one.pickle", opcode) for opcode in pickletools.opcodes)), "")
 
 
 # --- Other lists ---
-
-
-def fault_of_bench(root: Path) -> str:
-    text = (root / "bench" / "plain.c").read_text(encoding="utf-8")
-    calls = re.findall(r"""\bop\(('.'|0x[0-9a-f]{2}),"(\w+)",(\w+)\);""", text)
-    found = {(code_of("b" + code if code.startswith("'") else code), name, skip) for code, name, skip in calls}
-    wanted = {(record.code, record.name, SKIPS[record.form]) for record in records(root)}
-    return difference(sorted(found - wanted), sorted(wanted - found))
 
 
 def texts(file: Path) -> Iterator[str]:
@@ -174,12 +186,11 @@ def fault_of_fuzzer(root: Path) -> str:
     return difference(lacking, [])
 
 
-def trials(root: Path) -> list[Trial]:
+def trials(root: Path, program: str, folder: Path) -> list[Trial]:
     return [
         Trial("the table of opcodes, against pickletools", functools.partial(fault_of_table, root)),
-        Trial("the table of the unit tests, against pickletools", functools.partial(fault_of_test, root)),
+        Trial("each opcode as it is listed and put in, against pickletools", functools.partial(fault_of_program, program, folder)),
         Trial("the rows of the unit tests, one for each opcode", functools.partial(fault_of_rows, root)),
-        Trial("the opcodes of bench/plain.c", functools.partial(fault_of_bench, root)),
         Trial("the opcodes that count_calls.py knows of", functools.partial(fault_of_sets, root)),
         Trial("the opcodes that make no object, on the page", functools.partial(fault_of_page, root)),
         Trial("the arguments that the fuzzer makes", functools.partial(fault_of_fuzzer, root)),

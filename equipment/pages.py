@@ -34,8 +34,8 @@ CHECKLISTS = [
     ),
     (
         "To add a question of the debugger",
-        r"(?m)\b(write_where|where_text|where_of)\b|\b(PlainWord|Query)::Where\b|\b(plain|query)\.Where\b|^debug> where$|Ic where\b|[\"']where(\\n)?[\"']|`where`: where",
-        ["crates/*/src/**/*.rt", "crates/*/specs/**/*.antt", "crates/*/proofs/**/*.antt", "share/**/*", "equipment/*.txt", "equipment/*.py", "python/picklestep/*.py", "python/tests/*.py"],
+        r"(?m)\b(write_where|where_text|def where_of)\b|\b(PlainWord|Query)::Where\b|\b(plain|query)\.Where\b|^debug> where$|Ic where\b|(?<!obey\()(?<!type\()[\"']where(\\n)?[\"']|`where`: where",
+        ["crates/pickle*/src/**/*.rt", "crates/pickle*/specs/**/*.antt", "crates/pickle*/proofs/**/*.antt", "share/**/*", "equipment/*.txt", "equipment/*.py", "python/picklestep/*.py", "python/tests/*.py"],
     ),
     (
         "To add a text or a command",

@@ -73,7 +73,7 @@ def of_program(room: Room) -> list[AnyGroup]:
         Group("conversations", functools.partial(examples.of_pages, room)),
         Group("begins", functools.partial(begins.trials, room)),
         Group("forms", functools.partial(forms.trials, room)),
-        Group("opcodes", functools.partial(opcodes.trials, room.root)),
+        Group("opcodes", functools.partial(opcodes.trials, room.root, str(room.program), room.folder / "opcodes")),
         Group("pages", functools.partial(pages.trials, room.root, str(room.program), room.folder / "pages")),
     ]
 

@@ -64,18 +64,14 @@ TESTS = (
     ("unit_tests", "plain::whole::refused_memory"),
     ("unit_tests", "plain::opcodes::refused_memory"),
     ("unit_tests", "plain::lists::refused_memory"),
-    ("script_tests", "listings::refused_memory"),
-    ("script_tests", "callings::refused_memory"),
+    ("script_tests", "texts::refused_memory"),
     ("script_tests", "conversations::refused_memory"),
-    ("script_tests", "several::refused_memory"),
+    ("script_tests", "conversations::refused_memory_of_many"),
     ("document_tests", "document::refused_memory"),
     ("document_tests", "document::refused_memory_of_many"),
     ("unit_tests", "machine::refused_memory"),
     ("document_tests", "report::refused_memory"),
     ("document_tests", "report::refused_memory_of_many"),
-    ("script_tests", "scripts::refused_memory"),
-    ("script_tests", "scripts::refused_memory_of_many"),
-    ("script_tests", "scripts::refused_memory_of_objects"),
 )
 # Real pickles under a script, with what is shown after each line written down before.
 SCRIPTS = ("sklearn_tree_protocol_4", "sklearn_pipeline_protocol_4", "sklearn_encoder_protocol_0")

@@ -20,6 +20,13 @@ STEPS = "step\nstep\nstep\nback\nstack\nstep\nstep\nstep\nfly\n"
 STEPS_TOLD = "at 1\nat 2\nat 3\nat 2\nstack #0 #0\nat 3\nat 4\nrefused: C2 at the end, stopped\n" + UNKNOWN
 CUT_LISTING = "    0: K    BININT1    1\nfault: F3 truncated at 2\nhighest protocol among opcodes = 1\n"
 MANY = 50_000
+# Lines of 65,536 bytes at most are obeyed; of a longer one no word is.
+BLANKS = " " * 65_532
+LONG_LINES = (
+    f"    {BLANKS}\n     {BLANKS}\n{BLANKS}step\nstep{BLANKS} \nfly{BLANKS}  \nstep{BLANKS}\nback {BLANKS}"
+)
+TOO_LONG = "refused: X7 line too long\n"
+LONG_LINES_TOLD = f"{TOO_LONG}at 1\n{TOO_LONG}{TOO_LONG}at 2\n{TOO_LONG}"
 
 # A FIFO that is written, read, or left in the middle of a line, at the other end.
 FIFO_GIVES = 'rm -f fifo && mkfifo fifo && { cat pair.pickle >fifo & } && "$@" fifo'
@@ -168,6 +175,20 @@ CONVERSATIONS = (
     ),
     Row("lines of blanks", ("debug", "none.pickle"), "\n \t\r\n\nstack\n \r\t", output="stack\n"),
     Row("a number between blanks", ("debug", "none.pickle"), f"\tgoto  {1:040} \n", output="at 1\n"),
+    Row(
+        "a refused line without its end",
+        ("debug", "none.pickle"),
+        "back",
+        status=1,
+        output="refused: C1 at the start\n",
+    ),
+    Row(
+        "lines of 65,536 bytes and of one more",
+        ("debug", "popped.pickle"),
+        LONG_LINES,
+        status=1,
+        output=LONG_LINES_TOLD,
+    ),
     Row("a quit without its end", ("debug", "none.pickle"), "step\nquit", output="at 1\n"),
     Row(
         "signs that are no blanks",

@@ -184,7 +184,7 @@ class Words(unittest.TestCase):
         said = f'kept: {len(data) - stream.tell()} bytes after STOP'
         self.assertEqual(picklestep.listing(data).text.split('\n')[-3], said)
         with self.subTest('one'), Shell(data, '') as shell:
-            for line in ('calls', 'run', 'where', 'explain', 'list', 'rename old new', 'diff'):
+            for line in (*'calls run where explain list'.split(), 'rename old new', 'diff'):
                 self.assertIn(f'{said} (try --many)', shell.obey(line).split('\n'), line)
             with self.assertRaisesRegex(WordError, r"'other'; kept: .* \(try --many\)$"):
                 shell.obey('rename other new')

@@ -70,6 +70,12 @@ class Behind(ScanCase):
             with self.subTest(content[:20]):
                 self.assertEqual(self.of_value(content), [SYSTEM])
 
+    def test_numbers_of_copyreg(self) -> None:
+        for content in (b'hdr!\x82\x05)R.', b'\1' * 40 + b'\x83\x05\0\x8c\x02id\x85R.', b'hdr!\x84\5\0\0\0(X\2\0\0\0idt\x81.' + b'\xff' * 90):
+            with self.subTest(content):
+                self.assertEqual(names_of(self.look('a.bin', content)), ['ext 5'])
+                self.assertEqual(self.of_value(content), ['ext 5'])
+
     def test_long_ones(self) -> None:
         argument = (9 << 20).to_bytes(4, 'little') + b'a' * (9 << 20)
         for content in (LONG, b'hdr!(X' + argument + b'0' + HOSTILE, b'hdr!(V' + b'a' * (9 << 20) + b'\n0' + HOSTILE):

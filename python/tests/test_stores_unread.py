@@ -15,6 +15,7 @@ from typing import Dict, List
 
 from picklestep.scan import look, unread
 from picklestep.scan.blobs import BytesBlob
+from picklestep.scan.containers import CONTAINERS
 from picklestep.scan.unread import kind_of_file, kind_of_long, kind_of_short
 from scan_support import HOSTILE, ScanCase, notes_of
 from stores_support import python_with
@@ -98,7 +99,8 @@ class Unread(ScanCase):
         return notes_of(look(str(path)))
 
     def test_each_is_told(self) -> None:
-        for kind, begins in [*BEGINS.items(), *((kind, [begin]) for kind, begin in SURE.items() if kind != 'zstd')]:
+        opened = {each.name for each in CONTAINERS}
+        for kind, begins in [*BEGINS.items(), *((kind, [begin]) for kind, begin in SURE.items() if kind not in opened)]:
             for begin in begins:
                 with self.subTest(kind):
                     content = begin + bytes(300)

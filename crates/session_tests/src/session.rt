@@ -2,10 +2,8 @@
 
 ghost use Rattle.std.specs.Prelude.{◌≡◌, []};
 
-mod many;
 mod script;
 
-use crate::session::many::{IN_A_WINDOW, MANY_WALKED, MANY_WAYS, WINDOWED};
 use crate::session::script::{Counts, Told, command, open_whole, open_window};
 use pickle_doc::{Edit, End};
 use pickle_machine::Refusal;
@@ -21,6 +19,9 @@ const DUMP: &[u8] = b"\x80\x04\x95\x06\x00\x00\x00\x00\x00\x00\x00]\x94K\x01a.";
 /// Two numbers in a tuple that is memoized.
 const PAIR: &[u8] = b"K\x01K\x02\x86q\x00.";
 
+/// The same twice, as several pickles.
+const PAIRS: &[u8] = b"K\x01K\x02\x86q\x00.K\x01K\x02\x86q\x00.";
+
 /// A list appended to itself.
 const CYCLE: &[u8] = b"]2a.";
 
@@ -31,12 +32,10 @@ fn note_of<P: Past>(alloc: Global, session: &Session<P>) -> Result<Vec<u8>, Fail
     Ok(taken(sink)?)
 }
 
-/// What is shown at each place of some bytes that are stepped over to their end; nothing where there is no memory.
+/// What is shown at each place of some bytes that are stepped over to their end.
 fn notes_of(alloc: Global, many: bool, bytes: &[u8]) -> Result<Vec<Vec<u8>>, Fail> {
     let mut notes = Vec::new(alloc);
-    let Some(mut session) = open_whole(alloc, many, bytes) else {
-        return Ok(notes);
-    };
+    let mut session = open_whole(alloc, many, bytes)?;
     notes.push(note_of(alloc, &session)?)?;
     for _ in 0..session.document().len() {
         let _reply = session.obey(alloc, &Command::Step);
@@ -109,12 +108,8 @@ fn go_everywhere<P: Past>(
 /// Whether every place of some bytes is reached from every other, with all records and with the latest two.
 fn is_walked(alloc: Global, many: bool, bytes: &[u8]) -> Result<bool, Fail> {
     let notes = notes_of(alloc, many, bytes)?;
-    let Some(mut session) = open_whole(alloc, many, bytes) else {
-        return Ok(false);
-    };
-    let Some(mut window) = open_window(alloc, many, 2, bytes) else {
-        return Ok(false);
-    };
+    let mut session = open_whole(alloc, many, bytes)?;
+    let mut window = open_window(alloc, many, 2, bytes)?;
     Ok(
         notes.len() == session.document().len().saturating_add(1)
             && go_everywhere(&mut session, alloc, &notes, bytes).is_none()
@@ -122,33 +117,37 @@ fn is_walked(alloc: Global, many: bool, bytes: &[u8]) -> Result<bool, Fail> {
     )
 }
 
-/// Pickles that are walked from every place to every place.
-const WALKED: [&[u8]; 8] = [
-    DUMP,
-    PAIR,
-    CYCLE,
-    b"]22aa.",
-    b"]q\x00h\x00a(h\x00e.",
-    b"\x8f\x94(h\x00h\x00\x90.",
-    b"}22s.",
-    b"}2b.",
+/// Bytes, read as several pickles or as one, that are walked from every place to every place.
+const WALKED: [(bool, &[u8]); 13] = [
+    (false, DUMP),
+    (false, PAIR),
+    (false, CYCLE),
+    (false, b"]22aa."),
+    (false, b"]q\x00h\x00a(h\x00e."),
+    (false, b"\x8f\x94(h\x00h\x00\x90."),
+    (false, b"}22s."),
+    (false, b"}2b."),
+    (true, PAIRS),
+    (true, b"(N.N2\x86."),
+    (true, b"NNq\x00.]q\x00(h\x00h\x00e."),
+    (true, b"\x97.\x97\x98."),
+    (true, b"((NN.\x80\x02N(0.N."),
 ];
 
 #[test]
 fn from_every_place_to_every_place(rt: HostRuntime) -> Result<(), Fail> {
-    for (k, bytes) in WALKED.iter().enumerate() {
-        assert!(rt; is_walked(rt.alloc(), false, bytes)?, "row {k}");
-    }
-    for (k, bytes) in MANY_WALKED.iter().enumerate() {
-        assert!(rt; is_walked(rt.alloc(), true, bytes)?, "row {k} of many");
+    for (k, (many, bytes)) in WALKED.iter().enumerate() {
+        assert!(rt; is_walked(rt.alloc(), *many, bytes)?, "row {k}");
     }
     Ok(())
 }
 
-/// Windows, and commands in each of them.
-const WINDOWS: [(usize, &[Counts]); 3] = [
+/// Sessions that keep this many of the latest records, the bytes, and commands in each.
+const WINDOWS: [(usize, bool, &[u8], &[Counts]); 4] = [
     (
         2,
+        false,
+        PAIR,
         &[
             (Told::Goto(4), Reply::At(4), 4, 2, 4),
             (Told::Back, Reply::At(3), 3, 1, 1),
@@ -160,6 +159,8 @@ const WINDOWS: [(usize, &[Counts]); 3] = [
     ),
     (
         1,
+        false,
+        PAIR,
         &[
             (Told::Goto(4), Reply::At(4), 4, 1, 4),
             (Told::Back, Reply::At(3), 3, 0, 1),
@@ -168,10 +169,25 @@ const WINDOWS: [(usize, &[Counts]); 3] = [
     ),
     (
         1,
+        false,
+        PAIR,
         &[
             (Told::Goto(2), Reply::At(2), 2, 1, 2),
             (Told::Back, Reply::At(1), 1, 0, 1),
             (Told::Back, Reply::At(0), 0, 0, 0),
+        ],
+    ),
+    (
+        2,
+        true,
+        PAIRS,
+        &[
+            (Told::Goto(7), Reply::At(7), 7, 2, 7),
+            (Told::Back, Reply::At(6), 6, 1, 1),
+            (Told::Back, Reply::At(5), 5, 0, 1),
+            (Told::Back, Reply::At(4), 4, 2, 4),
+            (Told::Goto(10), Reply::At(10), 10, 2, 6),
+            (Told::Goto(0), Reply::At(0), 0, 0, 0),
         ],
     ),
 ];
@@ -179,7 +195,7 @@ const WINDOWS: [(usize, &[Counts]); 3] = [
 /// Whether a command has this reply, and these counts hold after it.
 fn is_answered<P: Past>(session: &mut Session<P>, alloc: Global, row: &Counts) -> bool {
     let (told, reply, cursor, kept, work) = *row;
-    let Some(command) = command(alloc, told) else {
+    let Ok(command) = command(alloc, told) else {
         return false;
     };
     let found = session.obey(alloc, &command);
@@ -187,14 +203,15 @@ fn is_answered<P: Past>(session: &mut Session<P>, alloc: Global, row: &Counts) -
 }
 
 #[test]
-fn counts_in_a_window(rt: HostRuntime) {
-    for (w, (count, rows)) in WINDOWS.iter().enumerate() {
-        let mut session = open_window(rt.alloc(), false, *count, PAIR).expect(&rt, "room");
+fn counts_in_a_window(rt: HostRuntime) -> Result<(), Fail> {
+    for (w, (count, many, bytes, rows)) in WINDOWS.iter().enumerate() {
+        let mut session = open_window(rt.alloc(), *many, *count, bytes)?;
         for (k, row) in rows.iter().enumerate() {
             let is_answered = is_answered(&mut session, rt.alloc(), row);
             assert!(rt; is_answered, "row {k} of window {w}");
         }
     }
+    Ok(())
 }
 
 /// Bytes, and commands to a session over them that keeps all records.
@@ -256,23 +273,15 @@ const ALL_KEPT: [(&[u8], &[Counts]); 3] = [
 ];
 
 #[test]
-fn counts_with_all_records(rt: HostRuntime) {
+fn counts_with_all_records(rt: HostRuntime) -> Result<(), Fail> {
     for (b, (bytes, rows)) in ALL_KEPT.iter().enumerate() {
-        let mut session = open_whole(rt.alloc(), false, bytes).expect(&rt, "room");
+        let mut session = open_whole(rt.alloc(), false, bytes)?;
         for (k, row) in rows.iter().enumerate() {
             let is_answered = is_answered(&mut session, rt.alloc(), row);
             assert!(rt; is_answered, "row {k} of session {b}");
         }
     }
-}
-
-#[test]
-fn counts_over_two_pickles(rt: HostRuntime) {
-    let mut session = open_window(rt.alloc(), true, 2, WINDOWED).expect(&rt, "room");
-    for (k, row) in IN_A_WINDOW.iter().enumerate() {
-        let is_answered = is_answered(&mut session, rt.alloc(), row);
-        assert!(rt; is_answered, "row {k}");
-    }
+    Ok(())
 }
 
 /// How many objects are on the stack at a place of a mark, a thousand objects, the opcode that drops them and the mark, one
@@ -355,7 +364,7 @@ fn a_thousand_insertions(rt: HostRuntime) -> Result<(), Fail> {
     bytes.push(b'.')?;
     let mut session = Session::open(rt.alloc(), Whole::new(rt.alloc()), b".")?;
     for k in 0..1000 {
-        let insert = command(rt.alloc(), Told::Insert(0, Opcode::None, b"")).expect(&rt, "room");
+        let insert = command(rt.alloc(), Told::Insert(0, Opcode::None, b""))?;
         let reply = session.obey(rt.alloc(), &insert);
         assert_eq!(rt; reply, Reply::Edited(0), "insertion {k}");
     }
@@ -428,35 +437,30 @@ fn many_marks(rt: HostRuntime) -> Result<(), Fail> {
     Ok(())
 }
 
-/// The commands of a way; those after the first few ask for no memory, and are left out where so is said.
-fn go(alloc: Global, many: bool, bytes: &[u8], told: &[Told], most: usize) -> bool {
-    let Some(mut session) = open_whole(alloc, many, bytes) else {
-        return false;
-    };
-    for (k, told) in told.iter().enumerate() {
-        if k < most {
-            let reply = match command(alloc, *told) {
-                Some(command) => session.obey(alloc, &command),
-                None => return false,
-            };
-            if matches!(reply, Reply::Refused(_)) {
-                return false;
-            }
+/// Whether a session accepts the first commands of a way.
+fn go(alloc: Global, many: bool, bytes: &[u8], way: &[Told]) -> Result<bool, Fail> {
+    let mut session = open_whole(alloc, many, bytes)?;
+    for told in way {
+        let command = command(alloc, *told)?;
+        if matches!(session.obey(alloc, &command), Reply::Refused(_)) {
+            return Ok(false);
         }
     }
-    true
+    Ok(true)
 }
 
-/// Ways, and how many of their commands may ask for memory: the first step over a dump is free, and so is a step that is
-/// taken again, and each way back.
-const WAYS: [(&[u8], &[Told], usize); 4] = [
-    (DUMP, &[Told::Step, Told::Back, Told::Step], 0),
+/// Bytes, read as several pickles or as one, a way, and how many of its first commands may ask for memory: the first step over a dump
+/// is free, and so are a step that is taken again behind the first of its pickle, and each way back.
+const WAYS: [(bool, &[u8], &[Told], usize); 7] = [
+    (false, DUMP, &[Told::Step, Told::Back, Told::Step], 0),
     (
+        false,
         CYCLE,
         &[Told::Goto(3), Told::Back, Told::Back, Told::Step],
         1,
     ),
     (
+        false,
         DUMP,
         &[
             Told::Run,
@@ -469,6 +473,7 @@ const WAYS: [(&[u8], &[Told], usize); 4] = [
         1,
     ),
     (
+        false,
         DUMP,
         &[
             Told::Delete(3),
@@ -480,32 +485,54 @@ const WAYS: [(&[u8], &[Told], usize); 4] = [
         ],
         0,
     ),
+    (
+        true,
+        PAIRS,
+        &[
+            Told::Run,
+            Told::Goto(7),
+            Told::Back,
+            Told::Goto(3),
+            Told::Goto(0),
+        ],
+        1,
+    ),
+    (
+        true,
+        b"N.N2\x86.",
+        &[Told::Goto(4), Told::Back, Told::Step, Told::Goto(0)],
+        1,
+    ),
+    (
+        true,
+        b"N.N0N.",
+        &[
+            Told::Delete(3),
+            Told::Undo,
+            Told::Redo,
+            Told::Undo,
+            Told::Delete(4),
+            Told::Undo,
+        ],
+        0,
+    ),
 ];
 
 /// Goes the ways as far as they may ask for memory.
 #[test]
-fn forwards(rt: HostRuntime) {
-    for (k, (bytes, told, most)) in WAYS.iter().enumerate() {
-        assert!(rt; go(rt.alloc(), false, bytes, told, *most), "way {k}");
+fn forwards(rt: HostRuntime) -> Result<(), Fail> {
+    for (k, (many, bytes, way, count)) in WAYS.iter().enumerate() {
+        let first = way.get(..*count).unwrap_or(way);
+        assert!(rt; go(rt.alloc(), *many, bytes, first)?, "way {k}");
     }
-    for (k, (bytes, told, most)) in MANY_WAYS.iter().enumerate() {
-        assert!(rt;
-            go(rt.alloc(), true, bytes, told, *most),
-            "way {k} over many"
-        );
-    }
+    Ok(())
 }
 
 /// Goes the ways to their end, and asks for memory as often as `forwards`.
 #[test]
-fn no_memory_for_free_steps(rt: HostRuntime) {
-    for (k, (bytes, told, _)) in WAYS.iter().enumerate() {
-        assert!(rt; go(rt.alloc(), false, bytes, told, told.len()), "way {k}");
+fn no_memory_for_free_steps(rt: HostRuntime) -> Result<(), Fail> {
+    for (k, (many, bytes, way, _)) in WAYS.iter().enumerate() {
+        assert!(rt; go(rt.alloc(), *many, bytes, way)?, "way {k}");
     }
-    for (k, (bytes, told, _)) in MANY_WAYS.iter().enumerate() {
-        assert!(rt;
-            go(rt.alloc(), true, bytes, told, told.len()),
-            "way {k} over many"
-        );
-    }
+    Ok(())
 }

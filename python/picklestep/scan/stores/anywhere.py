@@ -16,7 +16,8 @@ from typing import Iterator, Optional, Set, Tuple
 from ..blobs import Blob, LimitMet
 from .walk import CHECKSUM, MOST, Walk, walk
 
-__all__ = ['BEGINS_PICKLE', 'candidates', 'ends_in_call', 'may_end_text', 'may_have_candidates', 'may_have_lines']
+__all__ = ['BEGINS_PICKLE', 'calls_number', 'candidates', 'ends_in_call', 'may_call_number', 'may_end_text', 'may_have_candidates',
+           'may_have_lines']
 
 # The bytes are read in such windows, each with this much of the next.
 _WINDOW = 4 << 20
@@ -110,6 +111,16 @@ def ends_in_call(content: bytes) -> bool:
     (True, False)
     """
     return content.endswith(_CALL_AND_STOP) and content[-3] in _MAKES_TUPLE if len(content) > 2 else False
+
+
+def may_call_number(content: bytes) -> bool:
+    """Whether a number of copyreg may be in these bytes, and a call behind it that ends a pickle: a quick test."""
+    return any(_last_calls(content, len(content))) and _EXTENSIONS.search(content) is not None
+
+
+def calls_number(content: bytes, way: Walk) -> bool:
+    """Whether a walk comes to a number of copyreg, and to a call that ends it."""
+    return way.stops and way.calls and ends_in_call(content[:way.end]) and any(_EXTENSIONS.match(content, at) for at in way.passed)
 
 
 def _places(content: bytes, sign: bytes, end: int) -> Iterator[int]:

@@ -9,6 +9,7 @@ import re
 from typing import Iterator, List, NamedTuple, Optional, Set, Tuple
 
 from ..blobs import Blob
+from .anywhere import calls_number, may_call_number
 from .telling import PREFIX, packed_places, prefixes
 from .walk import MOST, Walk, may_begin, walk
 
@@ -42,7 +43,7 @@ def may_be_early(begin: bytes, size: int) -> bool:
     >>> may_be_early(b'12cos\\nsystem\\n)R.', 18), may_be_early(b'12345678', 8)
     (True, False)
     """
-    if size <= len(begin) and b'\x93' not in begin and begin.count(b'\n') < 2:
+    if size <= len(begin) and not _may_import(begin):
         return False
     return any(_may_go_on(begin, match.start(), size) for match in _BEGIN_OPCODE.finditer(begin, 1, PREFIX + 1))
 
@@ -63,9 +64,14 @@ def _is_begun(begin: bytes, at: int, size: int) -> bool:
     return way.is_likely or not way.lacks and _is_left(way, begin, size)
 
 
+def _may_import(content: bytes) -> bool:
+    """Whether an import by two texts or two lines may be in these bytes, or a number of copyreg that is called."""
+    return b'\x93' in content or content.count(b'\n') >= 2 or may_call_number(content)
+
+
 def _may_go_on(begin: bytes, at: int, size: int) -> bool:
     way = walk(begin, at, most=_QUICK)
-    return way.is_called or not way.lacks and (way.goes_on or _is_left(way, begin, size))
+    return way.is_called or calls_number(begin, way) or not way.lacks and (way.goes_on or _is_left(way, begin, size))
 
 
 def _is_left(way: Walk, begin: bytes, size: int) -> bool:
@@ -87,7 +93,7 @@ class EarlySearch:
     def places(self) -> List[Early]:
         """All of them, in their order."""
         content = self._content
-        if self._blob.size <= len(content) and b'\x93' not in content and content.count(b'\n') < 2:
+        if self._blob.size <= len(content) and not _may_import(content):
             return []
         return list(self._places())
 
@@ -141,6 +147,7 @@ class EarlySearch:
         if way.goes_on and not way.is_called:
             way = walk(content, at, most=self._left, dead=dead, learns=False)
         self._left -= min(self._left, way.opcodes)
+        way.is_called = way.is_called or calls_number(content, way)
         return way
 
     def _following(self, content: bytes, cut: int, way: Walk) -> Optional[int]:
