@@ -164,7 +164,8 @@ class _Closing:
         where = session.where()
         self.session = session
         self.script: List[str] = []
-        self.place = where.place
+        # The place of the NONE as the session has it, and with the edits.
+        self._begin = self.place = where.place
         self.steps = steps
         self.heap: Heap = session.objects()
         # What is on the stack, from the bottom: the numbers of objects, cut at the marks.
@@ -235,7 +236,7 @@ class _Closing:
             self._add(_TUPLES[count], f'{_objects(count)} on the stack')
             return
         items = self.session.items()
-        first = next((at for at in range(self.place, 0, -1) if items[at - 1].name == 'STOP'), 0)  # (of several pickles the last one)
+        first = next((at for at in range(self._begin, 0, -1) if items[at - 1].name == 'STOP'), 0)  # (of several pickles the last one)
         first += items[first].name == 'PROTO'
         self.script.append(f'insert {first} MARK')
         self.place += 1

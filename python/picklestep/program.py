@@ -60,7 +60,7 @@ def _command(words: Sequence[str], memory: Optional[int]) -> Tuple[List[str], Op
 
 
 # What the loader of programs says where the memory limit is too small for the program itself.
-_OUT_OF_MEMORY = ('failed to map segment', 'annot allocate memory', 'annot create search path array')
+_OUT_OF_MEMORY = ('failed to map segment', 'annot allocate memory', 'annot allocate TLS', 'annot create search path array')
 
 
 class Process:

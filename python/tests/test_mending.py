@@ -159,7 +159,7 @@ class Crooked(unittest.TestCase):
         for data, content in ((b'\x80\x04\x95\x40\0\0\0\0\0\0\0N.', b'\x80\x04N.'), (b'N\x95\x02\0\0\0\0\0\0\0NK\x01\x86.', b'NNK\x01\x86.'),
                               (b'N\x95\x0b\0\0\0\0\0\0\0N\x95\0\0\0\0\0\0\0\0.', b'NN.'), (b'', b'N.'), (b'(', b'(1N.'), (b'K\x01\xff', b'K\x01.'),
                               (b'K\x01K\x02K\x03K\x04', b'(K\x01K\x02K\x03K\x04t.'), (b']K\x01', b']K\x01\x86.'), (b'N0h\5.', b'N0N.'),
-                              (b'}(K\x01K\x02]K\x03', b'}(K\x01K\x02]K\x0300u.'), (b'N.', b'N.')):
+                              (b'}(K\x01K\x02]K\x03', b'}(K\x01K\x02]K\x0300u.'), (b'N.', b'N.'), (b'NNNN((', b'(NNNN((11t.')):
             with self.subTest(data):
                 answer = mended(data)
                 self.assertTrue(picklestep.calls(answer.content).end.is_stopped)

@@ -98,6 +98,11 @@ class Equality(unittest.TestCase):
             thing = b'charmless\n' + kind.encode() + b'\n)R'
             made += [thing + b'(' + item + fill + b'.' for item in items for fill in (b'e', b'\x90', b'u')]
             made += [thing + b'K\x01' + item + fill for item in items[1:] for fill in (b'a.', b's.')]
+        # Items of lists are replaced, byte arrays grow, or neither where there is no such place.
+        items = [b'', b'K\x00K\x41', b'K\x01K\x42', b'K\x00K\x41K\x01K\x42', b'K\x07K\x42', b'K\x01N', b'NK\x41']
+        for thing in (b']', b'](K\x05K\x06e', b'](K\x05](K\x06ee', b'\x96\2\0\0\0\0\0\0\0ab', b'\x96\0\0\0\0\0\0\0\0', b'}', b'\x8f'):
+            made += [thing + b'q\x00(' + item + fill + more + b'h\x00\x86.' for item in items for fill in (b'e', b'u', b'\x90') for more in (b'', b'K\x43a')]
+            made += [thing + item + b's.' for item in items[1:]]
         self.assert_same(made)
 
     def test_states(self) -> None:

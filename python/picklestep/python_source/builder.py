@@ -479,7 +479,14 @@ class Builder:
             self._name_now(target)
         return None
 
+    def _end_literal(self, *kinds: str) -> None:
+        """What is filled next is filled by statements, where it is of these kinds: no literal says that a byte array grows, or an item is replaced."""
+        target = self.stack[-1]
+        if isinstance(target, Node) and target.kind in kinds and not target.is_taken:
+            self._name_now(target)
+
     def _fill(self, line: str, items: List[Entry], method: str) -> None:
+        self._end_literal('atom')
         target = self._extend_literal(items, items)
         if target is not None:
             self._fill_later(line, target, items, method)
@@ -501,6 +508,7 @@ class Builder:
         self._set(line, self._cut())
 
     def _set(self, line: str, items: List[Entry]) -> None:
+        self._end_literal('atom', 'list')
         target = self._extend_literal(items, items[::2])
         if target is not None:
             self.events.append(Paired(target, items, offset_of(line) if target.is_opaque else None))

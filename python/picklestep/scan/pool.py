@@ -35,6 +35,8 @@ TRIES = 2
 # So many files are handed over at once, and a worker answers after so many seconds though it was given more.
 _MOST_AT_ONCE = 16
 _TURN = 0.05
+# A file above this size is handed over alone: others would wait for it.
+_MOST_OF_SMALL = 1 << 20
 
 
 def look_at_all(paths: Iterable[Union[str, Task]], options: Options, jobs: int) -> Generator[Result, None, None]:
@@ -205,10 +207,13 @@ class _Pool:
         return bool(self.waiting)
 
     def _take(self, most: int) -> List[_Task]:
-        """The tasks that come next: files that nobody has died at, or one alone."""
-        tasks: List[_Task] = []
-        while len(tasks) < most and self._next() and (not tasks or _is_first_try(tasks[0]) and _is_first_try(self.waiting[0])):
-            tasks.append(self.waiting.popleft())
+        """The tasks that come next: small files, or one task alone."""
+        if not self._next():
+            return []
+        tasks = [self.waiting.popleft()]
+        if _goes_along(tasks[0]):
+            while len(tasks) < most and self._next() and _goes_along(self.waiting[0]):
+                tasks.append(self.waiting.popleft())
         return tasks
 
     def _fill(self, forks: bool = False) -> None:
@@ -245,6 +250,17 @@ class _Pool:
             self.waiting.extendleft((path, tries + 1) for path, tries in reversed(tasks))
             return []
         return [Result(str(path), error=f'the process that looked at it ended without an answer, {TRIES} times') for path, _ in tasks]
+
+
+def _goes_along(task: _Task) -> bool:
+    """Whether it may be handed over with others: a small file that nobody has died at."""
+    path = task[0]
+    if not isinstance(path, str) or not _is_first_try(task):
+        return False
+    try:
+        return os.stat(path).st_size <= _MOST_OF_SMALL
+    except (OSError, ValueError):  # (whoever looks at it tells why)
+        return True
 
 
 def _is_first_try(task: _Task) -> bool:

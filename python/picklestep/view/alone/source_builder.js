@@ -162,7 +162,14 @@ class Builder {
     return null;
   }
 
+  // What is filled next is filled by statements, where it is of these kinds: no literal says that a byte array grows, or an item is replaced.
+  endLiteral(...kinds) {
+    const target = this.stack.at(-1);
+    if (isNode(target) && kinds.includes(target.kind) && !target.isTaken) this.nameNow(target);
+  }
+
   fill(items, method) {
+    this.endLiteral('atom');
     const target = this.extendLiteral(items, items);
     if (!target) return;
     const isEach = items.length === 1 && !target.isOpaque;
@@ -177,6 +184,7 @@ class Builder {
   }
 
   set(items) {
+    this.endLiteral('atom', 'list');
     const target = this.extendLiteral(items, keysOf(items));
     if (target) this.events.push(new Paired(target, items, target.isOpaque ? this.offset : null));
   }
