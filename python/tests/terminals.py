@@ -7,6 +7,7 @@ import os
 import pty
 import re
 import select
+import signal
 import subprocess
 import sys
 import termios
@@ -20,7 +21,8 @@ _CONTROL = re.compile(r'\x1b\[[0-9;?]*[a-zA-Z]|\x1b[=>]|\r|\x07')
 
 
 def _take_terminal() -> None:
-    """Makes standard input the terminal of the process, so that Ctrl-C reaches it."""
+    """Makes standard input the terminal of the process, so that Ctrl-C reaches it, also where who runs the tests ignores it."""
+    signal.signal(signal.SIGINT, signal.SIG_DFL)
     fcntl.ioctl(0, termios.TIOCSCTTY, 0)
 
 
