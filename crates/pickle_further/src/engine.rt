@@ -76,15 +76,15 @@ pub fn write_items<S: Page>(
     naming: Naming,
     first: Gone,
     machine: &mut LoaderMachine,
-    sink: &mut S,
+    page: &mut S,
 ) -> Result<TaleEnd, TextStop>
     requires size { first.size ≤ length bytes.now }
     requires few { length bytes.now ≤ 2 ^ 30 }
     requires heap { length machine.old.state.heap + 2 * length bytes.now ≤ 2 ^ 32 - 8 }
     requires offset { from.offset ≤ 2 ^ 31 }
     requires place { from.place ≤ 2 ^ 31 }
-    ensures ok { IfOk result (IsTold (S.told sink.old) (S.told sink.new) (tale_here holes.now (length bytes.now) way (standing machine.old.state bytes.now from naming) first)) }
-    ensures err { IfErr result (CutsText (S.told sink.old) (S.told sink.new) (tale_here holes.now (length bytes.now) way (standing machine.old.state bytes.now from naming) first).lines.text) }
+    ensures ok { IfOk result (IsTold (S.told page.old) (S.told page.new) (tale_here holes.now (length bytes.now) way (standing machine.old.state bytes.now from naming) first)) }
+    ensures err { IfErr result (CutsText (S.told page.old) (S.told page.new) (tale_here holes.now (length bytes.now) way (standing machine.old.state bytes.now from naming) first).lines.text) }
 {
     let mut gone = first;
     let mut rest = bytes;
@@ -98,7 +98,7 @@ pub fn write_items<S: Page>(
             course.naming,
             machine.heap(),
             gone.event,
-            sink,
+            page,
         )?;
         course = course.with(gone.row, machine.heap(), gone.event);
         if let Some(closing) = ended(gone, left, at.offset) {

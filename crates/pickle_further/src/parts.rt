@@ -61,11 +61,11 @@ fn header_words(frames: Frames) -> &'static str
 
 /// Writes that a loader may go on.
 #[tactic(auto, using(pickle_io::proofs::Devices::text_steps), unfolding(crate::specs::Parts::header))]
-fn write_header<S: Page>(frames: Frames, sink: &mut S) -> Result<(), Failed>
-    ensures { Writes (S.told sink.old) (S.told sink.new) result (header frames) }
+fn write_header<S: Page>(frames: Frames, page: &mut S) -> Result<(), Failed>
+    ensures { Writes (S.told page.old) (S.told page.new) result (header frames) }
 {
-    write_all(sink, header_words(frames).as_bytes())?;
-    write_all(sink, b"\n")
+    write_all(page, header_words(frames).as_bytes())?;
+    write_all(page, b"\n")
 }
 
 /// The words of the last line where it ended at STOP.
@@ -78,38 +78,38 @@ fn stop_words() -> &'static str
 
 /// Writes that it ended at STOP.
 #[tactic(auto, using(pickle_io::proofs::Devices::text_steps), unfolding(crate::specs::Parts::stop_line))]
-fn write_stopped<S: Page>(sink: &mut S) -> Result<(), Failed>
-    ensures { Writes (S.told sink.old) (S.told sink.new) result stop_line }
+fn write_stopped<S: Page>(page: &mut S) -> Result<(), Failed>
+    ensures { Writes (S.told page.old) (S.told page.new) result stop_line }
 {
-    write_all(sink, stop_words().as_bytes())?;
-    write_all(sink, b"\n")
+    write_all(page, stop_words().as_bytes())?;
+    write_all(page, b"\n")
 }
 
 /// Writes how it ended.
 #[tactic(auto, using(pickle_io::proofs::Devices::text_steps), unfolding(crate::specs::Parts::ends_line))]
-fn write_ends<S: Page>(closing: Closing, sink: &mut S) -> Result<(), Failed>
-    ensures { Writes (S.told sink.old) (S.told sink.new) result (ends_line closing) }
+fn write_ends<S: Page>(closing: Closing, page: &mut S) -> Result<(), Failed>
+    ensures { Writes (S.told page.old) (S.told page.new) result (ends_line closing) }
 {
     match closing {
-        Closing::Stopped => write_stopped(sink),
+        Closing::Stopped => write_stopped(page),
         Closing::Refused(place, refusal) => {
-            write_all(sink, b"it ends: ")?;
-            write_closing(Closing::Refused(place, refusal), sink)
+            write_all(page, b"it ends: ")?;
+            write_closing(Closing::Refused(place, refusal), page)
         }
         Closing::Fault(fault, offset) => {
-            write_all(sink, b"it ends: ")?;
-            write_closing(Closing::Fault(fault, offset), sink)
+            write_all(page, b"it ends: ")?;
+            write_closing(Closing::Fault(fault, offset), page)
         }
     }
 }
 
 /// Writes the last lines.
 #[tactic(auto, using(pickle_io::proofs::Devices::text_steps), unfolding(crate::specs::Parts::part_end))]
-fn write_part_end<S: Page>(course: Course, closing: Closing, sink: &mut S) -> Result<(), Failed>
-    ensures { Writes (S.told sink.old) (S.told sink.new) result (part_end course.imports course.calls closing) }
+fn write_part_end<S: Page>(course: Course, closing: Closing, page: &mut S) -> Result<(), Failed>
+    ensures { Writes (S.told page.old) (S.told page.new) result (part_end course.imports course.calls closing) }
 {
-    write_totals(course, sink)?;
-    write_ends(closing, sink)
+    write_totals(course, page)?;
+    write_ends(closing, page)
 }
 
 /// Writes what comes to this, and the last lines.
@@ -119,10 +119,10 @@ fn write_tale<S: Page>(
     way: Way,
     item: Visited<'_>,
     machine: &mut LoaderMachine,
-    sink: &mut S,
+    page: &mut S,
 ) -> Result<(), TextStop>
     requires { HasRoom machine.old.state item }
-    ensures { PutsText (S.told sink.old) (S.told sink.new) (tale_text holes.now (tale_here holes.now (length item.entry.rest.now) way (standing_of machine.old.state item.entry) item.entry.gone)) result }
+    ensures { PutsText (S.told page.old) (S.told page.new) (tale_text holes.now (tale_here holes.now (length item.entry.rest.now) way (standing_of machine.old.state item.entry) item.entry.gone)) result }
 {
     let end = write_items(
         alloc,
@@ -133,9 +133,9 @@ fn write_tale<S: Page>(
         item.naming,
         item.gone,
         machine,
-        sink,
+        page,
     )?;
-    write_part_end(end.course, closing_in(holes, end.closing), sink)?;
+    write_part_end(end.course, closing_in(holes, end.closing), page)?;
     Ok(())
 }
 
@@ -146,13 +146,13 @@ fn write_told<S: Page>(
     way: Way,
     item: Visited<'_>,
     machine: &mut LoaderMachine,
-    sink: &mut S,
+    page: &mut S,
 ) -> Result<(), TextStop>
     requires { HasRoom machine.old.state item }
-    ensures { (s : State) → Goes (going way (standing_of s item.entry)) item.entry.gone machine.old.state → PutsText (S.told sink.old) (S.told sink.new) (told_text holes.now way (Some (standing_of s item.entry))) result }
+    ensures { (s : State) → Goes (going way (standing_of s item.entry)) item.entry.gone machine.old.state → PutsText (S.told page.old) (S.told page.new) (told_text holes.now way (Some (standing_of s item.entry))) result }
 {
-    write_header(way.frames, sink)?;
-    write_tale(alloc, holes, way, item, machine, sink)
+    write_header(way.frames, page)?;
+    write_tale(alloc, holes, way, item, machine, page)
 }
 
 /// Writes what loaders may do from this item on, where it or one behind it has an event.
@@ -162,13 +162,13 @@ fn write_visited<S: Page>(
     way: Way,
     item: Visited<'_>,
     machine: &mut LoaderMachine,
-    sink: &mut S,
+    page: &mut S,
 ) -> Result<(), TextStop>
     requires { HasRoom machine.old.state item }
-    ensures { (s : State) → Goes (going way (standing_of s item.entry)) item.entry.gone machine.old.state → PutsText (S.told sink.old) (S.told sink.new) (text_from holes.now way (standing_of s item.entry)) result }
+    ensures { (s : State) → Goes (going way (standing_of s item.entry)) item.entry.gone machine.old.state → PutsText (S.told page.old) (S.told page.new) (text_from holes.now way (standing_of s item.entry)) result }
 {
     match seek(alloc, way, Sought::Event, item, machine)? {
-        Some(found) => write_told(alloc, holes, way, found, machine, sink),
+        Some(found) => write_told(alloc, holes, way, found, machine, page),
         None => Ok(()),
     }
 }
@@ -182,13 +182,13 @@ pub fn write_from<S: Page>(
     at: Spot,
     naming: Naming,
     machine: &mut LoaderMachine,
-    sink: &mut S,
+    page: &mut S,
 ) -> Result<(), TextStop>
     requires few { length rest.now ≤ 2 ^ 30 }
     requires heap { length machine.old.state.heap ≤ 2 ^ 30 }
     requires offset { at.offset ≤ 2 ^ 30 }
     requires place { at.place ≤ 2 ^ 30 }
-    ensures { PutsText (S.told sink.old) (S.told sink.new) (text_from holes.now way (standing machine.old.state rest.now at naming)) result }
+    ensures { PutsText (S.told page.old) (S.told page.new) (text_from holes.now way (standing machine.old.state rest.now at naming)) result }
 {
     let gone = go(alloc, way, rest, at, machine)?;
     let item = Visited {
@@ -197,7 +197,7 @@ pub fn write_from<S: Page>(
         naming,
         gone,
     };
-    write_visited(alloc, holes, way, item, machine, sink)
+    write_visited(alloc, holes, way, item, machine, page)
 }
 
 /// Writes what loaders may do from the first item on whose reading loses bytes, where it or one behind it has an event. The machine has
@@ -209,11 +209,11 @@ pub fn write_found<S: Page>(
     way: Way,
     bytes: &[u8],
     machine: &mut LoaderMachine,
-    sink: &mut S,
+    page: &mut S,
 ) -> Result<(), TextStop>
     requires few { length bytes.now ≤ 2 ^ 30 }
     requires heap { length machine.old.state.heap ≤ 2 ^ 30 }
-    ensures { PutsText (S.told sink.old) (S.told sink.new) (found_text holes.now way (search_from Sought.Lost way (standing machine.old.state bytes.now (record { offset = 0; place = 0; left = 0 }) (begin detail 0)))) result }
+    ensures { PutsText (S.told page.old) (S.told page.new) (found_text holes.now way (search_from Sought.Lost way (standing machine.old.state bytes.now (record { offset = 0; place = 0; left = 0 }) (begin detail 0)))) result }
 {
     let at = Spot {
         offset: 0,
@@ -229,7 +229,7 @@ pub fn write_found<S: Page>(
         gone,
     };
     match seek(alloc, way, Sought::Lost, first, machine)? {
-        Some(found) => write_visited(alloc, holes, way, found, machine, sink),
+        Some(found) => write_visited(alloc, holes, way, found, machine, page),
         None => Ok(()),
     }
 }

@@ -51,13 +51,13 @@ fn write_lost<S: Page>(
     holes: &Holes,
     way: Way,
     bytes: &[u8],
-    sink: &mut S,
+    page: &mut S,
 ) -> Result<(), TextStop>
     requires { length bytes.now ≤ size_limit }
-    ensures { PutsText (S.told sink.old) (S.told sink.new) (lost_by (manner detail holes.now) way bytes.now) result }
+    ensures { PutsText (S.told page.old) (S.told page.new) (lost_by (manner detail holes.now) way bytes.now) result }
 {
     let mut machine = LoaderMachine::new(alloc, Machine::start(alloc, are_many(way.pickles)));
-    write_found(alloc, detail, holes, way, bytes, &mut machine, sink)
+    write_found(alloc, detail, holes, way, bytes, &mut machine, page)
 }
 
 /// Writes what loaders may do behind the end of the lines.
@@ -69,13 +69,13 @@ fn write_parts<S: Page>(
     bytes: &[u8],
     ran: Ran,
     machine: Machine,
-    sink: &mut S,
+    page: &mut S,
 ) -> Result<(), TextStop>
     requires small { length bytes.now ≤ size_limit }
     requires offset { ran.offset ≤ length bytes.now }
     requires place { ran.place ≤ length bytes.now }
     requires heap { length machine.state.heap ≤ ran.place }
-    ensures { (a b : Told) → (w : IsRun (manner detail holes.now) (are_many pickles) bytes.now a b machine.state ran) → PutsText (S.told sink.old) (S.told sink.new) (parts (manner detail holes.now) pickles w.d) result }
+    ensures { (a b : Told) → (w : IsRun (manner detail holes.now) (are_many pickles) bytes.now a b machine.state ran) → PutsText (S.told page.old) (S.told page.new) (parts (manner detail holes.now) pickles w.d) result }
 {
     if !is_open(ran.ending) {
         return Ok(());
@@ -99,13 +99,13 @@ fn write_parts<S: Page>(
         at,
         ran.course.naming,
         &mut machine,
-        sink,
+        page,
     )?;
     let way = Way {
         pickles,
         frames: Frames::Buffered,
     };
-    write_lost(alloc, detail, holes, way, bytes, sink)
+    write_lost(alloc, detail, holes, way, bytes, page)
 }
 
 /// Writes the text of the document that the bytes read as.
@@ -115,11 +115,11 @@ fn write_document<S: Page>(
     holes: &Holes,
     pickles: Pickles,
     bytes: &[u8],
-    sink: &mut S,
+    page: &mut S,
 ) -> Result<u8, TextStop>
     requires { length bytes.now ≤ size_limit }
-    ensures ok { IfOk result (CompletesDocument (manner detail holes.now) pickles bytes.now (S.told sink.old) (S.told sink.new)) }
-    ensures err { IfErr result (CutsDocument (manner detail holes.now) pickles bytes.now (S.told sink.old) (S.told sink.new)) }
+    ensures ok { IfOk result (CompletesDocument (manner detail holes.now) pickles bytes.now (S.told page.old) (S.told page.new)) }
+    ensures err { IfErr result (CutsDocument (manner detail holes.now) pickles bytes.now (S.told page.old) (S.told page.new)) }
 {
     let many = are_many(pickles);
     let mut machine = Machine::start(alloc, many);
@@ -130,10 +130,10 @@ fn write_document<S: Page>(
         many,
         Items::new(bytes),
         &mut machine,
-        sink,
+        page,
     )?;
-    let status = write_end(holes, bytes, ran.course, ran.ending, sink)?;
-    write_parts(alloc, detail, holes, pickles, bytes, ran, machine, sink)?;
+    let status = write_end(holes, bytes, ran.course, ran.ending, page)?;
+    write_parts(alloc, detail, holes, pickles, bytes, ran, machine, page)?;
     Ok(status)
 }
 
@@ -161,12 +161,12 @@ fn loss_words() -> &'static str
 
 /// Writes that bytes are lost at this offset.
 #[tactic(auto, using(pickle_io::proofs::Devices::text_steps), unfolding(crate::specs::CallsText::loss_line))]
-fn write_loss_line<S: Page>(offset: u64, sink: &mut S) -> Result<(), Failed>
-    ensures { Writes (S.told sink.old) (S.told sink.new) result (loss_line offset) }
+fn write_loss_line<S: Page>(offset: u64, page: &mut S) -> Result<(), Failed>
+    ensures { Writes (S.told page.old) (S.told page.new) result (loss_line offset) }
 {
-    write_all(sink, loss_words().as_bytes())?;
-    write_decimal(offset, sink)?;
-    write_all(sink, b"\n")
+    write_all(page, loss_words().as_bytes())?;
+    write_decimal(offset, page)?;
+    write_all(page, b"\n")
 }
 
 /// Writes what one unpickler may do that loses bytes, first at this offset.
@@ -176,22 +176,22 @@ fn write_losses<S: Page>(
     holes: &Holes,
     bytes: &[u8],
     offset: u64,
-    sink: &mut S,
+    page: &mut S,
 ) -> Result<(), TextStop>
     requires { length bytes.now ≤ size_limit }
-    ensures { PutsText (S.told sink.old) (S.told sink.new) (loss_text (manner detail holes.now) bytes.now offset) result }
+    ensures { PutsText (S.told page.old) (S.told page.new) (loss_text (manner detail holes.now) bytes.now offset) result }
 {
-    write_loss_line(holes.in_file(offset), sink)?;
+    write_loss_line(holes.in_file(offset), page)?;
     let left = Way {
         pickles: Pickles::OneMemo,
         frames: Frames::Buffered,
     };
-    write_lost(alloc, detail, holes, left, bytes, sink)?;
+    write_lost(alloc, detail, holes, left, bytes, page)?;
     let held = Way {
         pickles: Pickles::OneMemo,
         frames: Frames::Held,
     };
-    write_lost(alloc, detail, holes, held, bytes, sink)
+    write_lost(alloc, detail, holes, held, bytes, page)
 }
 
 /// Writes what one unpickler may do that loses bytes, if they are lost anywhere.
@@ -201,14 +201,14 @@ fn write_behind<S: Page>(
     holes: &Holes,
     bytes: &[u8],
     loss: Option<u64>,
-    sink: &mut S,
+    page: &mut S,
 ) -> Result<(), TextStop>
     requires { length bytes.now ≤ size_limit }
-    ensures { PutsText (S.told sink.old) (S.told sink.new) (kept_behind (manner detail holes.now) bytes.now loss) result }
+    ensures { PutsText (S.told page.old) (S.told page.new) (kept_behind (manner detail holes.now) bytes.now loss) result }
 {
     match loss {
         None => Ok(()),
-        Some(offset) => write_losses(alloc, detail, holes, bytes, offset, sink),
+        Some(offset) => write_losses(alloc, detail, holes, bytes, offset, page),
     }
 }
 
@@ -228,11 +228,11 @@ fn write_kept<S: Page>(
     detail: Detail,
     holes: &Holes,
     bytes: &[u8],
-    sink: &mut S,
+    page: &mut S,
 ) -> Result<u8, TextStop>
     requires { length bytes.now ≤ size_limit }
-    ensures ok { IfOk result (CompletesText (manner detail holes.now) Pickles.OneMemo bytes.now (S.told sink.old) (S.told sink.new)) }
-    ensures err { IfErr result (CutsCallsText (manner detail holes.now) Pickles.OneMemo bytes.now (S.told sink.old) (S.told sink.new)) }
+    ensures ok { IfOk result (CompletesText (manner detail holes.now) Pickles.OneMemo bytes.now (S.told page.old) (S.told page.new)) }
+    ensures err { IfErr result (CutsCallsText (manner detail holes.now) Pickles.OneMemo bytes.now (S.told page.old) (S.told page.new)) }
 {
     let loss = first_loss(alloc, detail, bytes)?;
     let mut machine = LoaderMachine::new(alloc, Machine::start(alloc, false));
@@ -255,16 +255,16 @@ fn write_kept<S: Page>(
         Naming::begin(detail, 0),
         first,
         &mut machine,
-        sink,
+        page,
     )?;
     let status = write_end(
         holes,
         bytes,
         end.course,
         Ending::Closed(0, end.closing),
-        sink,
+        page,
     )?;
-    write_behind(alloc, detail, holes, bytes, loss, sink)?;
+    write_behind(alloc, detail, holes, bytes, loss, page)?;
     Ok(kept_status(loss, status))
 }
 
@@ -280,15 +280,15 @@ pub fn calls<S: Page>(
     holes: &Holes,
     pickles: Pickles,
     bytes: &[u8],
-    sink: &mut S,
+    page: &mut S,
 ) -> Result<u8, TextStop>
     requires { length bytes.now ≤ size_limit }
-    ensures ok { IfOk result (CompletesText (manner detail holes.now) pickles bytes.now (S.told sink.old) (S.told sink.new)) }
-    ensures err { IfErr result (CutsCallsText (manner detail holes.now) pickles bytes.now (S.told sink.old) (S.told sink.new)) }
+    ensures ok { IfOk result (CompletesText (manner detail holes.now) pickles bytes.now (S.told page.old) (S.told page.new)) }
+    ensures err { IfErr result (CutsCallsText (manner detail holes.now) pickles bytes.now (S.told page.old) (S.told page.new)) }
 {
     match pickles {
-        Pickles::First => write_document(alloc, detail, holes, Pickles::First, bytes, sink),
-        Pickles::All => write_document(alloc, detail, holes, Pickles::All, bytes, sink),
-        Pickles::OneMemo => write_kept(alloc, detail, holes, bytes, sink),
+        Pickles::First => write_document(alloc, detail, holes, Pickles::First, bytes, page),
+        Pickles::All => write_document(alloc, detail, holes, Pickles::All, bytes, page),
+        Pickles::OneMemo => write_kept(alloc, detail, holes, bytes, page),
     }
 }

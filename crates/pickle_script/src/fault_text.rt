@@ -11,23 +11,23 @@ use pickle_show::{write_fault_at, write_fault_text};
 
 /// Writes why a document ends.
 #[tactic(auto, unfolding(crate::specs::FaultText::end_text))]
-pub(crate) fn write_end<S: Page>(end: End, sink: &mut S) -> Result<(), Failed>
-    ensures { Writes (S.told sink.old) (S.told sink.new) result (end_text end) }
+pub(crate) fn write_end<S: Page>(end: End, page: &mut S) -> Result<(), Failed>
+    ensures { Writes (S.told page.old) (S.told page.new) result (end_text end) }
 {
     match end {
-        End::Stopped => write_all(sink, b"stopped"),
-        End::Fault(fault, offset) => write_fault_at(fault, offset, sink),
+        End::Stopped => write_all(page, b"stopped"),
+        End::Fault(fault, offset) => write_fault_at(fault, offset, page),
     }
 }
 
 /// Writes why bytes are no opcode, or no argument of an opcode.
 #[tactic(auto, unfolding(crate::specs::FaultText::op_fault_text))]
-pub(crate) fn write_op_fault<S: Page>(fault: OpFault, sink: &mut S) -> Result<(), Failed>
-    ensures { Writes (S.told sink.old) (S.told sink.new) result (op_fault_text fault) }
+pub(crate) fn write_op_fault<S: Page>(fault: OpFault, page: &mut S) -> Result<(), Failed>
+    ensures { Writes (S.told page.old) (S.told page.new) result (op_fault_text fault) }
 {
     match fault {
-        OpFault::Front(fault) => write_fault_text(TailFault::Front(fault), sink),
-        OpFault::TooLong => write_all(sink, b"F9 too long"),
-        OpFault::Memory => write_all(sink, b"M out of memory"),
+        OpFault::Front(fault) => write_fault_text(TailFault::Front(fault), page),
+        OpFault::TooLong => write_all(page, b"F9 too long"),
+        OpFault::Memory => write_all(page, b"M out of memory"),
     }
 }

@@ -17,13 +17,13 @@ use std::alloc::Global;
 
 /// Writes a hole.
 #[tactic(auto, using(pickle_io::proofs::Devices::text_steps), unfolding(crate::specs::Output::hole_text))]
-fn write_hole<S: Page>(hole: Hole, sink: &mut S) -> Result<(), Failed>
-    ensures { Writes (S.told sink.old) (S.told sink.new) result (hole_text hole) }
+fn write_hole<S: Page>(hole: Hole, page: &mut S) -> Result<(), Failed>
+    ensures { Writes (S.told page.old) (S.told page.new) result (hole_text hole) }
 {
-    write_all(sink, b"hole ")?;
-    write_decimal(hole.offset, sink)?;
-    write_all(sink, b":")?;
-    write_decimal(hole.size, sink)
+    write_all(page, b"hole ")?;
+    write_decimal(hole.offset, page)?;
+    write_all(page, b":")?;
+    write_decimal(hole.size, page)
 }
 
 /// Words of a line.
@@ -36,15 +36,15 @@ fn outside_words() -> &'static str
 
 /// Writes the line of a hole that does not lie within so many bytes.
 #[tactic(auto, using(pickle_io::proofs::Devices::text_steps), unfolding(crate::specs::Output::outside_line))]
-fn write_outside<S: Page>(hole: Hole, size: usize, sink: &mut S) -> Result<(), Failed>
-    ensures { Writes (S.told sink.old) (S.told sink.new) result (outside_line hole size) }
+fn write_outside<S: Page>(hole: Hole, size: usize, page: &mut S) -> Result<(), Failed>
+    ensures { Writes (S.told page.old) (S.told page.new) result (outside_line hole size) }
 {
-    write_all(sink, b"refused: ")?;
-    write_hole(hole, sink)?;
-    write_all(sink, outside_words().as_bytes())?;
-    write_decimal(size as u64, sink)?;
-    write_all(sink, b" bytes")?;
-    write_all(sink, b"\n")
+    write_all(page, b"refused: ")?;
+    write_hole(hole, page)?;
+    write_all(page, outside_words().as_bytes())?;
+    write_decimal(size as u64, page)?;
+    write_all(page, b" bytes")?;
+    write_all(page, b"\n")
 }
 
 /// Answers that a hole does not lie within the bytes.
@@ -54,14 +54,14 @@ fn answer_outside<S: Page>(
     holes: &Holes,
     bytes: &[u8],
     hole: Hole,
-    sink: &mut S,
+    page: &mut S,
 ) -> Result<u8, Stop>
     requires { first_outside (length bytes.now) holes.now ≡ Some hole }
-    ensures ok { IfOk result (CompletesFile (manner detail holes.now) pickles bytes.now (S.told sink.old) (S.told sink.new)) }
-    ensures err { IfErr result (StopsFile (manner detail holes.now) pickles bytes.now (S.told sink.old) (S.told sink.new)) }
+    ensures ok { IfOk result (CompletesFile (manner detail holes.now) pickles bytes.now (S.told page.old) (S.told page.new)) }
+    ensures err { IfErr result (StopsFile (manner detail holes.now) pickles bytes.now (S.told page.old) (S.told page.new)) }
     ensures no_other { result ≢ Err Stop.TooLarge }
 {
-    write_outside(hole, bytes.len(), sink)?;
+    write_outside(hole, bytes.len(), page)?;
     Ok(1)
 }
 
@@ -72,17 +72,17 @@ fn write_left<S: Page>(
     detail: Detail,
     holes: &Holes,
     bytes: &mut [u8],
-    sink: &mut S,
+    page: &mut S,
 ) -> Result<u8, Stop>
     requires small { length bytes.old ≤ size_limit }
     requires within { first_outside (length bytes.old) holes.now ≡ None }
-    ensures ok { IfOk result (CompletesFile (manner detail holes.now) pickles bytes.old (S.told sink.old) (S.told sink.new)) }
-    ensures err { IfErr result (StopsFile (manner detail holes.now) pickles bytes.old (S.told sink.old) (S.told sink.new)) }
+    ensures ok { IfOk result (CompletesFile (manner detail holes.now) pickles bytes.old (S.told page.old) (S.told page.new)) }
+    ensures err { IfErr result (StopsFile (manner detail holes.now) pickles bytes.old (S.told page.old) (S.told page.new)) }
     ensures no_other { result ≢ Err Stop.TooLarge }
 {
     let count = holes.cut(bytes);
     let left = bytes.split_at(count).0;
-    Ok(pickle_further::calls(alloc, detail, holes, pickles, left, sink)?)
+    Ok(pickle_further::calls(alloc, detail, holes, pickles, left, page)?)
 }
 
 /// Writes what the pickles would import and call that are left of the bytes of a file without these holes, in this reading, with arguments
@@ -96,15 +96,15 @@ pub fn calls_of_file<S: Page>(
     detail: Detail,
     holes: &Holes,
     bytes: &mut [u8],
-    sink: &mut S,
+    page: &mut S,
 ) -> Result<u8, Stop>
-    ensures { AnswersCalls (manner detail holes.now) pickles bytes.old S.told sink.old sink.new result }
+    ensures { AnswersCalls (manner detail holes.now) pickles bytes.old S.told page.old page.new result }
 {
     if bytes.len() > LIMIT {
         return Err(Stop::TooLarge);
     }
     match holes.first_outside(bytes.len()) {
-        Some(hole) => answer_outside(pickles, detail, holes, bytes, hole, sink),
-        None => write_left(alloc, pickles, detail, holes, bytes, sink),
+        Some(hole) => answer_outside(pickles, detail, holes, bytes, hole, page),
+        None => write_left(alloc, pickles, detail, holes, bytes, page),
     }
 }

@@ -13,14 +13,14 @@ use std::alloc::Global;
 
 /// Writes the place of an opcode.
 #[tactic(auto, using(pickle_io::proofs::Devices::text_steps), unfolding(crate::specs::FormText::place_text))]
-fn write_place<S: Page>(place: usize, offset: u64, sink: &mut S) -> Result<(), Failed>
-    ensures { Writes (S.told sink.old) (S.told sink.new) result (place_text place offset) }
+fn write_place<S: Page>(place: usize, offset: u64, page: &mut S) -> Result<(), Failed>
+    ensures { Writes (S.told page.old) (S.told page.new) result (place_text place offset) }
 {
-    write_all(sink, b"item ")?;
-    write_decimal(place as u64, sink)?;
-    write_all(sink, b" at ")?;
-    write_decimal(offset, sink)?;
-    write_all(sink, b": ")
+    write_all(page, b"item ")?;
+    write_decimal(place as u64, page)?;
+    write_all(page, b" at ")?;
+    write_decimal(offset, page)?;
+    write_all(page, b": ")
 }
 
 /// Words of a line.
@@ -33,22 +33,22 @@ fn other_words() -> &'static str
 
 /// Writes the line of the first place.
 #[tactic(auto, using(pickle_io::proofs::Devices::text_steps), unfolding(crate::specs::FormText::other_line))]
-fn write_other<S: Page>(other: Other, sink: &mut S) -> Result<(), Failed>
-    ensures { Writes (S.told sink.old) (S.told sink.new) result (other_line other) }
+fn write_other<S: Page>(other: Other, page: &mut S) -> Result<(), Failed>
+    ensures { Writes (S.told page.old) (S.told page.new) result (other_line other) }
 {
-    write_all(sink, other_words().as_bytes())?;
-    write_place(other.place, other.offset, sink)?;
-    write_all(sink, other.reason.sentence().as_bytes())?;
-    write_all(sink, b"\n")
+    write_all(page, other_words().as_bytes())?;
+    write_place(other.place, other.offset, page)?;
+    write_all(page, other.reason.sentence().as_bytes())?;
+    write_all(page, b"\n")
 }
 
 /// Writes the first place, or that there is none.
-fn write_first<S: Page>(first: Option<Other>, sink: &mut S) -> Result<(), Failed>
-    ensures { Writes (S.told sink.old) (S.told sink.new) result (form_text first) }
+fn write_first<S: Page>(first: Option<Other>, page: &mut S) -> Result<(), Failed>
+    ensures { Writes (S.told page.old) (S.told page.new) result (form_text first) }
 {
     match first {
-        Some(other) => write_other(other, sink),
-        None => write_all(sink, b"in form\n"),
+        Some(other) => write_other(other, page),
+        None => write_all(page, b"in form\n"),
     }
 }
 
@@ -66,12 +66,12 @@ fn form_status(first: Option<Other>) -> u8
 /// Answers the status: 0 where it is, else 1. There are to be no more bytes than the limit.
 ///
 /// `Memory` (M) where memory runs out: nothing was written. `Failed` where the sink fails: what was written then is a beginning of the text.
-pub(crate) fn write_form<S: Page>(alloc: Global, bytes: &[u8], sink: &mut S) -> Result<u8, TextStop>
+pub(crate) fn write_form<S: Page>(alloc: Global, bytes: &[u8], page: &mut S) -> Result<u8, TextStop>
     requires { length bytes.now ≤ size_limit }
-    ensures ok { IfOk result (Completes form_output false false bytes.now (S.told sink.old) (S.told sink.new)) }
-    ensures err { IfErr result (Cuts form_output false false bytes.now (S.told sink.old) (S.told sink.new)) }
+    ensures ok { IfOk result (Completes form_output false false bytes.now (S.told page.old) (S.told page.new)) }
+    ensures err { IfErr result (Cuts form_output false false bytes.now (S.told page.old) (S.told page.new)) }
 {
     let first = first_other(alloc, bytes)?;
-    write_first(first, sink)?;
+    write_first(first, page)?;
     Ok(form_status(first))
 }

@@ -27,25 +27,25 @@ fn signs(at_cursor: bool, breaks: bool) -> [u8; 2]
 
 /// Writes a place and an offset, each at the right of a column.
 #[tactic(auto, using(pickle_io::proofs::Devices::text_steps), unfolding(crate::specs::PlaceText::place_columns))]
-fn write_columns<S: Page>(place: usize, offset: u64, sink: &mut S) -> Result<(), Failed>
-    ensures { Writes (S.told sink.old) (S.told sink.new) result (place_columns place offset) }
+fn write_columns<S: Page>(place: usize, offset: u64, page: &mut S) -> Result<(), Failed>
+    ensures { Writes (S.told page.old) (S.told page.new) result (place_columns place offset) }
 {
-    write_right(place as u64, sink)?;
-    write_all(sink, b" ")?;
-    write_right(offset, sink)
+    write_right(place as u64, page)?;
+    write_all(page, b" ")?;
+    write_right(offset, page)
 }
 
 /// Writes the name of an opcode, and after a blank the text of its argument where there is one.
 #[tactic(auto, using(pickle_io::proofs::Devices::text_steps, crate::proofs::PlaceLemmas::name_steps), unfolding(crate::specs::PlaceText::op_text))]
-fn write_op<S: Page>(op: &Op, sink: &mut S) -> Result<(), Failed>
-    ensures { Writes (S.told sink.old) (S.told sink.new) result (op_text op.now) }
+fn write_op<S: Page>(op: &Op, page: &mut S) -> Result<(), Failed>
+    ensures { Writes (S.told page.old) (S.told page.new) result (op_text op.now) }
 {
     if op.has_arg_text() {
-        write_all(sink, op.opcode().name().as_bytes())?;
-        write_all(sink, b" ")?;
-        write_arg_text(op, sink)
+        write_all(page, op.opcode().name().as_bytes())?;
+        write_all(page, b" ")?;
+        write_arg_text(op, page)
     } else {
-        write_all(sink, op.opcode().name().as_bytes())
+        write_all(page, op.opcode().name().as_bytes())
     }
 }
 
@@ -56,17 +56,17 @@ fn write_item<P: Past, S: Page>(
     place: usize,
     offset: u64,
     op: &Op,
-    sink: &mut S,
+    page: &mut S,
 ) -> Result<(), Failed>
     requires { offset ≡ offset_of session.now.session.document place }
-    ensures { Writes (S.told sink.old) (S.told sink.new) result (session_line session.now.session place op.now) }
+    ensures { Writes (S.told page.old) (S.told page.new) result (session_line session.now.session place op.now) }
 {
     let at_cursor = place == session.cursor();
-    write_all(sink, &signs(at_cursor, session.has_break(place)))?;
-    write_columns(place, offset, sink)?;
-    write_all(sink, b": ")?;
-    write_op(op, sink)?;
-    write_all(sink, b"\n")
+    write_all(page, &signs(at_cursor, session.has_break(place)))?;
+    write_columns(place, offset, page)?;
+    write_all(page, b": ")?;
+    write_op(op, page)?;
+    write_all(page, b"\n")
 }
 
 /// Writes the line of the item at a place, and answers the offset of the place after it.
@@ -75,18 +75,18 @@ fn write_line_at<P: Past, S: Page>(
     session: &Session<P>,
     place: usize,
     offset: u64,
-    sink: &mut S,
+    page: &mut S,
 ) -> Result<u64, Failed>
     requires small { length (document_bytes session.now.session.document) ≤ size_limit }
     requires offset { offset ≡ offset_of session.now.session.document place }
-    ensures line { Writes (S.told sink.old) (S.told sink.new) result (session_line_at session.now.session place) }
+    ensures line { Writes (S.told page.old) (S.told page.new) result (session_line_at session.now.session place) }
     ensures offset { IfOk result (λ next. next ≡ offset_of session.now.session.document (place + 1)) }
 {
     match session.document().item(place) {
         None => Ok(offset),
         Some(op) => {
             let next = offset + op.size() as u64;
-            write_item(session, place, offset, op, sink)?;
+            write_item(session, place, offset, op, page)?;
             Ok(next)
         }
     }
@@ -96,13 +96,13 @@ fn write_line_at<P: Past, S: Page>(
 /// its argument where there is one. It takes no memory, and time linear in the items. Where the sink fails, a beginning of the
 /// lines was written.
 #[tactic(auto, using(pickle_io::proofs::Devices::below_steps), unfolding(crate::specs::PlaceText::items_text))]
-pub fn write_items<P: Past, S: Page>(session: &Session<P>, sink: &mut S) -> Result<(), Failed>
-    ensures { Writes (S.told sink.old) (S.told sink.new) result (items_text session.now.session) }
+pub fn write_items<P: Past, S: Page>(session: &Session<P>, page: &mut S) -> Result<(), Failed>
+    ensures { Writes (S.told page.old) (S.told page.new) result (items_text session.now.session) }
 {
     let mut offset: u64 = 0;
     let len = session.document().len();
     for place in 0..len {
-        offset = write_line_at(session, place, offset, sink)?;
+        offset = write_line_at(session, place, offset, page)?;
     }
     Ok(())
 }

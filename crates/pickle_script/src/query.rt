@@ -30,12 +30,12 @@ fn object_of<P: Past>(session: &Session<P>, number: u64) -> Option<ObjId>
 fn write_missing<P: Past, K: Page>(
     session: &Session<P>,
     number: u64,
-    sink: &mut K,
+    page: &mut K,
 ) -> Result<Outcome, Failed>
     requires { length session.now.machine.state.heap ≤ number }
-    ensures { WritesQuery (Query.Show number) session.now.session session.now.machine.state (K.told sink.old) (K.told sink.new) result }
+    ensures { WritesQuery (Query.Show number) session.now.session session.now.machine.state (K.told page.old) (K.told page.new) result }
 {
-    write_no_such_object(sink)?;
+    write_no_such_object(page)?;
     Ok(Outcome::Refused)
 }
 
@@ -45,16 +45,16 @@ fn write_object_of<P: Past, K: Page>(
     alloc: Global,
     session: &Session<P>,
     id: ObjId,
-    sink: &mut K,
+    page: &mut K,
 ) -> Result<Outcome, Failed>
     requires { id < length session.now.machine.state.heap }
-    ensures { WritesQuery (Query.Show id) session.now.session session.now.machine.state (K.told sink.old) (K.told sink.new) result }
+    ensures { WritesQuery (Query.Show id) session.now.session session.now.machine.state (K.told page.old) (K.told page.new) result }
 {
-    match write_show(alloc, session.machine(), id, sink) {
+    match write_show(alloc, session.machine(), id, page) {
         Ok(()) => Ok(Outcome::Accepted),
         Err(TextStop::Failed) => Err(Failed),
         Err(TextStop::Memory) => {
-            write_syntax(Syntax::Memory, sink)?;
+            write_syntax(Syntax::Memory, page)?;
             Ok(Outcome::Refused)
         }
     }
@@ -65,13 +65,13 @@ fn write_shown<P: Past, K: Page>(
     alloc: Global,
     session: &Session<P>,
     number: u64,
-    sink: &mut K,
+    page: &mut K,
 ) -> Result<Outcome, Failed>
-    ensures { WritesQuery (Query.Show number) session.now.session session.now.machine.state (K.told sink.old) (K.told sink.new) result }
+    ensures { WritesQuery (Query.Show number) session.now.session session.now.machine.state (K.told page.old) (K.told page.new) result }
 {
     match object_of(session, number) {
-        Some(id) => write_object_of(alloc, session, id, sink),
-        None => write_missing(session, number, sink),
+        Some(id) => write_object_of(alloc, session, id, page),
+        None => write_missing(session, number, page),
     }
 }
 
@@ -81,31 +81,31 @@ pub fn write_query<P: Past, K: Page>(
     alloc: Global,
     session: &Session<P>,
     query: Query,
-    sink: &mut K,
+    page: &mut K,
 ) -> Result<Outcome, Failed>
-    ensures { WritesLine (Ok (Line.Query query)) session.now session.now (K.told sink.old) (K.told sink.new) result }
+    ensures { WritesLine (Ok (Line.Query query)) session.now session.now (K.told page.old) (K.told page.new) result }
 {
     let machine = session.machine();
     match query {
         Query::Items => {
-            write_items(session, sink)?;
+            write_items(session, page)?;
             Ok(Outcome::Accepted)
         }
         Query::Objects => {
-            write_objects(machine, sink)?;
+            write_objects(machine, page)?;
             Ok(Outcome::Accepted)
         }
         Query::Stack => {
-            write_stack(machine, sink)?;
+            write_stack(machine, page)?;
             Ok(Outcome::Accepted)
         }
         Query::Memo => {
-            write_memo(machine, sink)?;
+            write_memo(machine, page)?;
             Ok(Outcome::Accepted)
         }
-        Query::Show(number) => write_shown(alloc, session, number, sink),
+        Query::Show(number) => write_shown(alloc, session, number, page),
         Query::Where => {
-            write_where(session, sink)?;
+            write_where(session, page)?;
             Ok(Outcome::Accepted)
         }
     }

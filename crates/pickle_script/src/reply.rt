@@ -57,17 +57,17 @@ fn behind_words() -> &'static str
 
 /// Writes what comes after the words of a fault.
 #[tactic(auto, using(pickle_io::proofs::Devices::text_steps), unfolding(crate::specs::ReplyText::fault_rest))]
-fn write_fault_rest<S: Page>(fault: Fault, sink: &mut S) -> Result<(), Failed>
-    ensures { Writes (S.told sink.old) (S.told sink.new) result (fault_rest fault) }
+fn write_fault_rest<S: Page>(fault: Fault, page: &mut S) -> Result<(), Failed>
+    ensures { Writes (S.told page.old) (S.told page.new) result (fault_rest fault) }
 {
     match fault {
-        Fault::AtEnd(end) => write_end(end, sink),
-        Fault::Item(place, refusal) => write_item_refusal(place, refusal, sink),
+        Fault::AtEnd(end) => write_end(end, page),
+        Fault::Item(place, refusal) => write_item_refusal(place, refusal, page),
         Fault::EditBehindCursor(place) => {
-            write_decimal(place as u64, sink)?;
-            write_all(sink, behind_words().as_bytes())
+            write_decimal(place as u64, page)?;
+            write_all(page, behind_words().as_bytes())
         }
-        Fault::Edit(edit) => write_all(sink, words_of_edit(edit).as_bytes()),
+        Fault::Edit(edit) => write_all(page, words_of_edit(edit).as_bytes()),
         Fault::AtStart => Ok(()),
         Fault::NoSuchPlace => Ok(()),
         Fault::BehindCursor => Ok(()),
@@ -79,68 +79,68 @@ fn write_fault_rest<S: Page>(fault: Fault, sink: &mut S) -> Result<(), Failed>
 
 /// Writes the line of a command that is refused.
 #[tactic(auto, using(pickle_io::proofs::Devices::text_steps), unfolding(crate::specs::ReplyText::refused_command))]
-fn write_refused_command<S: Page>(fault: Fault, sink: &mut S) -> Result<(), Failed>
-    ensures { Writes (S.told sink.old) (S.told sink.new) result (refused_command fault) }
+fn write_refused_command<S: Page>(fault: Fault, page: &mut S) -> Result<(), Failed>
+    ensures { Writes (S.told page.old) (S.told page.new) result (refused_command fault) }
 {
-    write_all(sink, b"refused: ")?;
-    write_all(sink, words_of_fault(fault).as_bytes())?;
-    write_fault_rest(fault, sink)?;
-    write_all(sink, b"\n")
+    write_all(page, b"refused: ")?;
+    write_all(page, words_of_fault(fault).as_bytes())?;
+    write_fault_rest(fault, page)?;
+    write_all(page, b"\n")
 }
 
 /// Writes why a run stopped in a document that ends so.
 #[tactic(auto, using(pickle_io::proofs::Devices::text_steps), unfolding(crate::specs::ReplyText::why_text))]
-fn write_why<S: Page>(end: End, why: Why, sink: &mut S) -> Result<(), Failed>
-    ensures { Writes (S.told sink.old) (S.told sink.new) result (why_text end why) }
+fn write_why<S: Page>(end: End, why: Why, page: &mut S) -> Result<(), Failed>
+    ensures { Writes (S.told page.old) (S.told page.new) result (why_text end why) }
 {
     match why {
         Why::End => {
-            write_all(sink, b": end, ")?;
-            write_end(end, sink)
+            write_all(page, b": end, ")?;
+            write_end(end, page)
         }
-        Why::Breakpoint => write_all(sink, b": breakpoint"),
+        Why::Breakpoint => write_all(page, b": breakpoint"),
         Why::Refused(refusal) => {
-            write_all(sink, b": refused, ")?;
-            write_refusal(refusal, sink)
+            write_all(page, b": refused, ")?;
+            write_refusal(refusal, page)
         }
     }
 }
 
 /// Writes where a run stopped, and why.
 #[tactic(auto, using(pickle_io::proofs::Devices::text_steps), unfolding(crate::specs::ReplyText::ran_text))]
-fn write_ran<S: Page>(end: End, place: usize, why: Why, sink: &mut S) -> Result<(), Failed>
-    ensures { Writes (S.told sink.old) (S.told sink.new) result (ran_text end place why) }
+fn write_ran<S: Page>(end: End, place: usize, why: Why, page: &mut S) -> Result<(), Failed>
+    ensures { Writes (S.told page.old) (S.told page.new) result (ran_text end place why) }
 {
-    write_all(sink, b"at ")?;
-    write_decimal(place as u64, sink)?;
-    write_why(end, why, sink)?;
-    write_all(sink, b"\n")
+    write_all(page, b"at ")?;
+    write_decimal(place as u64, page)?;
+    write_why(end, why, page)?;
+    write_all(page, b"\n")
 }
 
 /// Writes a word and the place that it is about.
 #[tactic(auto, using(pickle_io::proofs::Devices::text_steps), unfolding(crate::specs::ReplyText::placed_text))]
-fn write_placed<S: Page>(word: &str, place: usize, sink: &mut S) -> Result<(), Failed>
-    ensures { Writes (S.told sink.old) (S.told sink.new) result (placed_text word.now place) }
+fn write_placed<S: Page>(word: &str, place: usize, page: &mut S) -> Result<(), Failed>
+    ensures { Writes (S.told page.old) (S.told page.new) result (placed_text word.now place) }
 {
-    write_all(sink, word.as_bytes())?;
-    write_decimal(place as u64, sink)?;
-    write_all(sink, b"\n")
+    write_all(page, word.as_bytes())?;
+    write_decimal(place as u64, page)?;
+    write_all(page, b"\n")
 }
 
 /// Writes the line of a reply of a session whose document ends so. It takes no memory. Where the sink fails, a beginning of the
 /// line was written.
 #[tactic(auto, unfolding(crate::specs::ReplyText::reply_text))]
-pub fn write_reply<S: Page>(end: End, reply: Reply, sink: &mut S) -> Result<(), Failed>
-    ensures { Writes (S.told sink.old) (S.told sink.new) result (reply_text end reply) }
+pub fn write_reply<S: Page>(end: End, reply: Reply, page: &mut S) -> Result<(), Failed>
+    ensures { Writes (S.told page.old) (S.told page.new) result (reply_text end reply) }
 {
     match reply {
-        Reply::At(place) => write_placed("at ", place, sink),
-        Reply::Ran(place, why) => write_ran(end, place, why, sink),
-        Reply::Broke(place) => write_placed("break ", place, sink),
-        Reply::Cleared(place) => write_placed("clear ", place, sink),
-        Reply::Edited(place) => write_placed("edited ", place, sink),
-        Reply::Undone(place) => write_placed("undone ", place, sink),
-        Reply::Redone(place) => write_placed("redone ", place, sink),
-        Reply::Refused(fault) => write_refused_command(fault, sink),
+        Reply::At(place) => write_placed("at ", place, page),
+        Reply::Ran(place, why) => write_ran(end, place, why, page),
+        Reply::Broke(place) => write_placed("break ", place, page),
+        Reply::Cleared(place) => write_placed("clear ", place, page),
+        Reply::Edited(place) => write_placed("edited ", place, page),
+        Reply::Undone(place) => write_placed("undone ", place, page),
+        Reply::Redone(place) => write_placed("redone ", place, page),
+        Reply::Refused(fault) => write_refused_command(fault, page),
     }
 }

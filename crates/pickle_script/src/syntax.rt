@@ -29,11 +29,11 @@ fn words_of_syntax(syntax: Syntax) -> &'static str
 
 /// Writes the fault of an opcode after the words.
 #[tactic(auto, using(pickle_io::proofs::Devices::text_steps), unfolding(crate::specs::ReplyText::syntax_rest))]
-fn write_syntax_rest<S: Page>(syntax: Syntax, sink: &mut S) -> Result<(), Failed>
-    ensures { Writes (S.told sink.old) (S.told sink.new) result (syntax_rest syntax) }
+fn write_syntax_rest<S: Page>(syntax: Syntax, page: &mut S) -> Result<(), Failed>
+    ensures { Writes (S.told page.old) (S.told page.new) result (syntax_rest syntax) }
 {
     match syntax {
-        Syntax::BadOp(fault) => write_op_fault(fault, sink),
+        Syntax::BadOp(fault) => write_op_fault(fault, page),
         _ => Ok(()),
     }
 }
@@ -41,13 +41,13 @@ fn write_syntax_rest<S: Page>(syntax: Syntax, sink: &mut S) -> Result<(), Failed
 /// Writes the line that a line is answered with which says nothing. It takes no memory. Where the sink fails, a beginning of the
 /// line was written.
 #[tactic(auto, using(pickle_io::proofs::Devices::text_steps), unfolding(crate::specs::ReplyText::syntax_line))]
-pub fn write_syntax<S: Page>(syntax: Syntax, sink: &mut S) -> Result<(), Failed>
-    ensures { Writes (S.told sink.old) (S.told sink.new) result (syntax_line syntax) }
+pub fn write_syntax<S: Page>(syntax: Syntax, page: &mut S) -> Result<(), Failed>
+    ensures { Writes (S.told page.old) (S.told page.new) result (syntax_line syntax) }
 {
-    write_all(sink, b"refused: ")?;
-    write_all(sink, words_of_syntax(syntax).as_bytes())?;
-    write_syntax_rest(syntax, sink)?;
-    write_all(sink, b"\n")
+    write_all(page, b"refused: ")?;
+    write_all(page, words_of_syntax(syntax).as_bytes())?;
+    write_syntax_rest(syntax, page)?;
+    write_all(page, b"\n")
 }
 
 /// What `show` is answered with where there is no such object.
@@ -60,10 +60,10 @@ fn no_such_object() -> &'static str
 
 /// Writes the line that `show` is answered with where there is no such object. It takes no memory. Where the sink fails, a
 /// beginning of the line was written.
-pub fn write_no_such_object<S: Page>(sink: &mut S) -> Result<(), Failed>
-    ensures { Writes (S.told sink.old) (S.told sink.new) result no_object_line }
+pub fn write_no_such_object<S: Page>(page: &mut S) -> Result<(), Failed>
+    ensures { Writes (S.told page.old) (S.told page.new) result no_object_line }
 {
-    write_all(sink, no_such_object().as_bytes())
+    write_all(page, no_such_object().as_bytes())
 }
 
 /// What comes before an offset that no place has.
@@ -77,11 +77,11 @@ fn no_item_words() -> &'static str
 /// Writes the line that a command is answered with whose place is named by an offset that no place has. It takes no memory. Where
 /// the sink fails, a beginning of the line was written.
 #[tactic(auto, using(pickle_io::proofs::Devices::text_steps), unfolding(crate::specs::ReplyText::no_item_line))]
-pub fn write_no_item_at<S: Page>(offset: u64, sink: &mut S) -> Result<(), Failed>
-    ensures { Writes (S.told sink.old) (S.told sink.new) result (no_item_line offset) }
+pub fn write_no_item_at<S: Page>(offset: u64, page: &mut S) -> Result<(), Failed>
+    ensures { Writes (S.told page.old) (S.told page.new) result (no_item_line offset) }
 {
-    write_all(sink, b"refused: ")?;
-    write_all(sink, no_item_words().as_bytes())?;
-    write_decimal(offset, sink)?;
-    write_all(sink, b"\n")
+    write_all(page, b"refused: ")?;
+    write_all(page, no_item_words().as_bytes())?;
+    write_decimal(offset, page)?;
+    write_all(page, b"\n")
 }

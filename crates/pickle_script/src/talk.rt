@@ -27,11 +27,11 @@ const BLOCK: usize = 65_536;
 fn refuse<P: Past, K: Page>(
     session: &Session<P>,
     syntax: Syntax,
-    sink: &mut K,
+    page: &mut K,
 ) -> Result<Outcome, Failed>
-    ensures { WritesLine (Err syntax) session.now session.now (K.told sink.old) (K.told sink.new) result }
+    ensures { WritesLine (Err syntax) session.now session.now (K.told page.old) (K.told page.new) result }
 {
-    write_syntax(syntax, sink)?;
+    write_syntax(syntax, page)?;
     Ok(Outcome::Refused)
 }
 
@@ -57,12 +57,12 @@ fn obey_command<P: Past, K: Page>(
     alloc: Global,
     session: &mut Session<P>,
     command: &Command,
-    sink: &mut K,
+    page: &mut K,
 ) -> Result<Outcome, Failed>
-    ensures { WritesLine (Ok (Line.Command command.now)) session.old session.new (K.told sink.old) (K.told sink.new) result }
+    ensures { WritesLine (Ok (Line.Command command.now)) session.old session.new (K.told page.old) (K.told page.new) result }
 {
     let reply = session.obey(alloc, command);
-    write_reply(session.document().end(), reply, sink)?;
+    write_reply(session.document().end(), reply, page)?;
     Ok(outcome_of(reply))
 }
 
@@ -73,21 +73,21 @@ fn obey_at<P: Past, K: Page>(
     session: &mut Session<P>,
     place: Place,
     action: Action,
-    sink: &mut K,
+    page: &mut K,
 ) -> Result<Outcome, Failed>
-    ensures { WritesLine (Ok (Line.At place action)) session.old session.new (K.told sink.old) (K.told sink.new) result }
+    ensures { WritesLine (Ok (Line.At place action)) session.old session.new (K.told page.old) (K.told page.new) result }
 {
     let k = match place {
         Place::Number(k) => k,
         Place::Offset(offset) => match session.place_at(offset) {
             Some(k) => k,
             None => {
-                write_no_item_at(offset, sink)?;
+                write_no_item_at(offset, page)?;
                 return Ok(Outcome::Refused);
             }
         },
     };
-    obey_command(alloc, session, &action.at(k), sink)
+    obey_command(alloc, session, &action.at(k), page)
 }
 
 /// Obeys a line and writes its text.
@@ -95,17 +95,17 @@ fn obey_line<P: Past, K: Page>(
     alloc: Global,
     session: &mut Session<P>,
     says: Result<Line, Syntax>,
-    sink: &mut K,
+    page: &mut K,
 ) -> Result<Outcome, Failed>
-    ensures { WritesLine says session.old session.new (K.told sink.old) (K.told sink.new) result }
+    ensures { WritesLine says session.old session.new (K.told page.old) (K.told page.new) result }
 {
     match says {
         Ok(Line::Nothing) => Ok(Outcome::Accepted),
-        Ok(Line::Command(command)) => obey_command(alloc, session, &command, sink),
-        Ok(Line::At(place, action)) => obey_at(alloc, session, place, action, sink),
-        Ok(Line::Query(query)) => write_query(alloc, session, query, sink),
+        Ok(Line::Command(command)) => obey_command(alloc, session, &command, page),
+        Ok(Line::At(place, action)) => obey_at(alloc, session, place, action, page),
+        Ok(Line::Query(query)) => write_query(alloc, session, query, page),
         Ok(Line::Quit) => Ok(Outcome::Accepted),
-        Err(syntax) => refuse(session, syntax, sink),
+        Err(syntax) => refuse(session, syntax, page),
     }
 }
 
@@ -128,16 +128,16 @@ fn end_line<P: Past, K: Page>(
     alloc: Global,
     session: &mut Session<P>,
     pending: &mut Pending,
-    sink: &mut K,
+    page: &mut K,
 ) -> Result<Flow, Failed>
-    ensures feeds { Feeds (10 ∷ []) session.old (K.told sink.old) pending.old session.new (K.told sink.new) pending.new result }
-    ensures writes { WritesSome (K.told sink.old) (K.told sink.new) result }
+    ensures feeds { Feeds (10 ∷ []) session.old (K.told page.old) pending.old session.new (K.told page.new) pending.new result }
+    ensures writes { WritesSome (K.told page.old) (K.told page.new) result }
 {
     let says = pending.says(alloc);
     if quits(&says) {
         return Ok(Flow::Quits);
     }
-    let outcome = obey_line(alloc, session, says, sink)?;
+    let outcome = obey_line(alloc, session, says, page)?;
     pending.end_line(outcome);
     Ok(Flow::GoesOn)
 }
@@ -148,14 +148,14 @@ fn feed_byte<P: Past, K: Page>(
     session: &mut Session<P>,
     pending: &mut Pending,
     byte: u8,
-    sink: &mut K,
+    page: &mut K,
 ) -> Result<Flow, Failed>
-    ensures feeds { Feeds (byte ∷ []) session.old (K.told sink.old) pending.old session.new (K.told sink.new) pending.new result }
-    ensures writes { WritesSome (K.told sink.old) (K.told sink.new) result }
-    ensures calm { byte ≢ 10 → sink.new ≡ sink.old }
+    ensures feeds { Feeds (byte ∷ []) session.old (K.told page.old) pending.old session.new (K.told page.new) pending.new result }
+    ensures writes { WritesSome (K.told page.old) (K.told page.new) result }
+    ensures calm { byte ≢ 10 → page.new ≡ page.old }
 {
     if byte == b'\n' {
-        return end_line(alloc, session, pending, sink);
+        return end_line(alloc, session, pending, page);
     }
     pending.push(byte);
     Ok(Flow::GoesOn)
@@ -168,17 +168,17 @@ fn feed<P: Past, K: Page>(
     session: &mut Session<P>,
     pending: &mut Pending,
     bytes: &[u8],
-    sink: &mut K,
+    page: &mut K,
 ) -> Result<Flow, Failed>
-    ensures feeds { Feeds bytes.now session.old (K.told sink.old) pending.old session.new (K.told sink.new) pending.new result }
-    ensures writes { WritesSome (K.told sink.old) (K.told sink.new) result }
-    ensures handed { OnOk result ((K.told sink.old).held ≡ 0 → (K.told sink.new).held ≡ 0) }
+    ensures feeds { Feeds bytes.now session.old (K.told page.old) pending.old session.new (K.told page.new) pending.new result }
+    ensures writes { WritesSome (K.told page.old) (K.told page.new) result }
+    ensures handed { OnOk result ((K.told page.old).held ≡ 0 → (K.told page.new).held ≡ 0) }
 {
     for byte in bytes {
-        match feed_byte(alloc, session, pending, *byte, sink)? {
+        match feed_byte(alloc, session, pending, *byte, page)? {
             Flow::GoesOn => {}
             Flow::Quits => {
-                sink.flush()?;
+                page.flush()?;
                 return Ok(Flow::Quits);
             }
         }
@@ -186,7 +186,7 @@ fn feed<P: Past, K: Page>(
     if !bytes.contains(&b'\n') {
         return Ok(Flow::GoesOn);
     }
-    sink.flush()?;
+    page.flush()?;
     Ok(Flow::GoesOn)
 }
 
@@ -195,18 +195,18 @@ fn finish<P: Past, K: Page>(
     alloc: Global,
     session: &mut Session<P>,
     pending: &mut Pending,
-    sink: &mut K,
+    page: &mut K,
 ) -> Result<u8, Failed>
-    ensures ends { Ends session.old (K.told sink.old) pending.old session.new (K.told sink.new) result }
-    ensures writes { WritesSome (K.told sink.old) (K.told sink.new) result }
-    ensures handed { OnOk result ((K.told sink.old).held ≡ 0 → (K.told sink.new).held ≡ 0) }
+    ensures ends { Ends session.old (K.told page.old) pending.old session.new (K.told page.new) result }
+    ensures writes { WritesSome (K.told page.old) (K.told page.new) result }
+    ensures handed { OnOk result ((K.told page.old).held ≡ 0 → (K.told page.new).held ≡ 0) }
 {
     if pending.is_empty() {
         return Ok(pending.status());
     }
-    let outcome = obey_line(alloc, session, pending.says(alloc), sink)?;
+    let outcome = obey_line(alloc, session, pending.says(alloc), page)?;
     pending.end_line(outcome);
-    sink.flush()?;
+    page.flush()?;
     Ok(pending.status())
 }
 
@@ -216,27 +216,27 @@ fn go_on<P: Past, S: Asker<K>, K: Page>(
     session: &mut Session<P>,
     pending: &mut Pending,
     source: &mut S,
-    sink: &mut K,
+    page: &mut K,
 ) -> Result<u8, Stop>
     requires pending { pending.old ≡ record { line = []; refused = false } }
-    requires handed { (K.told sink.old).held ≡ 0 }
-    ensures finishes { IfOk result (λ status. Finishes session.old session.new status (S.remaining source.old) (S.remaining source.new) (K.told sink.old) (K.told sink.new)) }
-    ensures reading { result ≡ Err Stop.Read → StopsReading session.old session.new (S.remaining source.old) (S.remaining source.new) (K.told sink.old) (K.told sink.new) }
+    requires handed { (K.told page.old).held ≡ 0 }
+    ensures finishes { IfOk result (λ status. Finishes session.old session.new status (S.remaining source.old) (S.remaining source.new) (K.told page.old) (K.told page.new)) }
+    ensures reading { result ≡ Err Stop.Read → StopsReading session.old session.new (S.remaining source.old) (S.remaining source.new) (K.told page.old) (K.told page.new) }
     ensures read { result ≡ Err Stop.Read → HasFailed (S.failures source.old) (S.failures source.new) }
     ensures calm { result ≢ Err Stop.Read → S.failures source.new ≡ S.failures source.old }
-    ensures writing { result ≡ Err Stop.Write → StopsWriting session.old session.new (S.remaining source.old) (S.remaining source.new) (K.told sink.old) (K.told sink.new) }
+    ensures writing { result ≡ Err Stop.Write → StopsWriting session.old session.new (S.remaining source.old) (S.remaining source.new) (K.told page.old) (K.told page.new) }
     ensures others { (result ≢ Err Stop.Memory) × (result ≢ Err Stop.TooLarge) }
-    ensures handed { result ≢ Err Stop.Write → (K.told sink.new).held ≡ 0 }
+    ensures handed { result ≢ Err Stop.Write → (K.told page.new).held ≡ 0 }
 {
     let mut block = [0u8; BLOCK];
     'turns: loop {
-        let Ok(count) = source.read_after(sink, &mut block) else {
+        let Ok(count) = source.read_after(page, &mut block) else {
             return Err(Stop::Read);
         };
         if count == 0 {
-            return Ok(finish(alloc, session, pending, sink)?);
+            return Ok(finish(alloc, session, pending, page)?);
         }
-        match feed(alloc, session, pending, &block[..count], sink)? {
+        match feed(alloc, session, pending, &block[..count], page)? {
             Flow::GoesOn => {}
             // What this block has after `quit` is lost: a source cannot take it back.
             Flow::Quits => return Ok(pending.status()),
@@ -256,24 +256,24 @@ pub fn converse<P: Past, S: Asker<K>, K: Page>(
     alloc: Global,
     session: &mut Session<P>,
     source: &mut S,
-    sink: &mut K,
+    page: &mut K,
 ) -> Result<u8, Stop>
-    requires handed { (K.told sink.old).held ≡ 0 }
-    ensures finishes { IfOk result (λ status. Finishes session.old session.new status (S.remaining source.old) (S.remaining source.new) (K.told sink.old) (K.told sink.new)) }
+    requires handed { (K.told page.old).held ≡ 0 }
+    ensures finishes { IfOk result (λ status. Finishes session.old session.new status (S.remaining source.old) (S.remaining source.new) (K.told page.old) (K.told page.new)) }
 
     // Read and Write come only where that device has failed.
-    ensures reading { result ≡ Err Stop.Read → StopsReading session.old session.new (S.remaining source.old) (S.remaining source.new) (K.told sink.old) (K.told sink.new) }
+    ensures reading { result ≡ Err Stop.Read → StopsReading session.old session.new (S.remaining source.old) (S.remaining source.new) (K.told page.old) (K.told page.new) }
     ensures read { result ≡ Err Stop.Read → HasFailed (S.failures source.old) (S.failures source.new) }
     ensures calm { result ≢ Err Stop.Read → S.failures source.new ≡ S.failures source.old }
-    ensures writing { result ≡ Err Stop.Write → StopsWriting session.old session.new (S.remaining source.old) (S.remaining source.new) (K.told sink.old) (K.told sink.new) }
+    ensures writing { result ≡ Err Stop.Write → StopsWriting session.old session.new (S.remaining source.old) (S.remaining source.new) (K.told page.old) (K.told page.new) }
 
     // Without memory nothing is read, obeyed or written.
-    ensures memory { result ≡ Err Stop.Memory → (session.new ≡ session.old) × (source.new ≡ source.old) × (sink.new ≡ sink.old) }
+    ensures memory { result ≡ Err Stop.Memory → (session.new ≡ session.old) × (source.new ≡ source.old) × (page.new ≡ page.old) }
     ensures no_other { result ≢ Err Stop.TooLarge }
 
     // At the end nothing is held back.
-    ensures handed { result ≢ Err Stop.Write → (K.told sink.new).held ≡ 0 }
+    ensures handed { result ≢ Err Stop.Write → (K.told page.new).held ≡ 0 }
 {
     let mut pending = Pending::new(alloc)?;
-    go_on(alloc, session, &mut pending, source, sink)
+    go_on(alloc, session, &mut pending, source, page)
 }

@@ -42,57 +42,57 @@ pub fn write_text<S: Page>(
     many: bool,
     loose: bool,
     bytes: &[u8],
-    sink: &mut S,
+    page: &mut S,
 ) -> Result<u8, Stop>
-    ensures { AnswersText text many loose bytes.now S.told sink.old sink.new result }
+    ensures { AnswersText text many loose bytes.now S.told page.old page.new result }
 {
     if bytes.len() > LIMIT {
         return Err(Stop::TooLarge);
     }
     match text {
-        Text::Listing => Ok(list_bytes(alloc, many, loose, bytes, sink)?),
-        Text::Objects => Ok(report_of_bytes(alloc, many, loose, bytes, sink)?),
-        Text::Form => Ok(write_form(alloc, bytes, sink)?),
+        Text::Listing => Ok(list_bytes(alloc, many, loose, bytes, page)?),
+        Text::Objects => Ok(report_of_bytes(alloc, many, loose, bytes, page)?),
+        Text::Form => Ok(write_form(alloc, bytes, page)?),
         Text::Calls(pickles, detail) => {
             let holes = Holes::new(alloc);
-            Ok(pickle_further::calls(alloc, detail, &holes, pickles, bytes, sink)?)
+            Ok(pickle_further::calls(alloc, detail, &holes, pickles, bytes, page)?)
         }
     }
 }
 
 /// Writes the listing of the pickle, as `write_text` does.
-pub fn list<S: Page>(alloc: Global, bytes: &[u8], sink: &mut S) -> Result<u8, Stop>
-    ensures { AnswersText Text.Listing false false bytes.now S.told sink.old sink.new result }
+pub fn list<S: Page>(alloc: Global, bytes: &[u8], page: &mut S) -> Result<u8, Stop>
+    ensures { AnswersText Text.Listing false false bytes.now S.told page.old page.new result }
 {
-    write_text(alloc, Text::Listing, false, false, bytes, sink)
+    write_text(alloc, Text::Listing, false, false, bytes, page)
 }
 
 /// Writes the listing of several pickles, one after another, as `write_text` does.
-pub fn list_many<S: Page>(alloc: Global, bytes: &[u8], sink: &mut S) -> Result<u8, Stop>
-    ensures { AnswersText Text.Listing true false bytes.now S.told sink.old sink.new result }
+pub fn list_many<S: Page>(alloc: Global, bytes: &[u8], page: &mut S) -> Result<u8, Stop>
+    ensures { AnswersText Text.Listing true false bytes.now S.told page.old page.new result }
 {
-    write_text(alloc, Text::Listing, true, false, bytes, sink)
+    write_text(alloc, Text::Listing, true, false, bytes, page)
 }
 
 /// Writes the report of the objects that the pickle makes, as `write_text` does.
-pub fn objects<S: Page>(alloc: Global, bytes: &[u8], sink: &mut S) -> Result<u8, Stop>
-    ensures { AnswersText Text.Objects false false bytes.now S.told sink.old sink.new result }
+pub fn objects<S: Page>(alloc: Global, bytes: &[u8], page: &mut S) -> Result<u8, Stop>
+    ensures { AnswersText Text.Objects false false bytes.now S.told page.old page.new result }
 {
-    write_text(alloc, Text::Objects, false, false, bytes, sink)
+    write_text(alloc, Text::Objects, false, false, bytes, page)
 }
 
 /// Writes the report of the objects that several pickles make, one after another, as `write_text` does.
-pub fn objects_many<S: Page>(alloc: Global, bytes: &[u8], sink: &mut S) -> Result<u8, Stop>
-    ensures { AnswersText Text.Objects true false bytes.now S.told sink.old sink.new result }
+pub fn objects_many<S: Page>(alloc: Global, bytes: &[u8], page: &mut S) -> Result<u8, Stop>
+    ensures { AnswersText Text.Objects true false bytes.now S.told page.old page.new result }
 {
-    write_text(alloc, Text::Objects, true, false, bytes, sink)
+    write_text(alloc, Text::Objects, true, false, bytes, page)
 }
 
 /// Writes whether the pickle is in the form that picklers write, as `write_text` does.
-pub fn form<S: Page>(alloc: Global, bytes: &[u8], sink: &mut S) -> Result<u8, Stop>
-    ensures { AnswersText Text.Form false false bytes.now S.told sink.old sink.new result }
+pub fn form<S: Page>(alloc: Global, bytes: &[u8], page: &mut S) -> Result<u8, Stop>
+    ensures { AnswersText Text.Form false false bytes.now S.told page.old page.new result }
 {
-    write_text(alloc, Text::Form, false, false, bytes, sink)
+    write_text(alloc, Text::Form, false, false, bytes, page)
 }
 
 /// Writes what the pickles would import and call in this reading, as `write_text` does: the lines of all of them, with arguments cut or in
@@ -102,9 +102,9 @@ pub fn calls<S: Page>(
     pickles: Pickles,
     detail: Detail,
     bytes: &[u8],
-    sink: &mut S,
+    page: &mut S,
 ) -> Result<u8, Stop>
-    ensures { AnswersText (Text.Calls pickles detail) false false bytes.now S.told sink.old sink.new result }
+    ensures { AnswersText (Text.Calls pickles detail) false false bytes.now S.told page.old page.new result }
 {
     write_text(
         alloc,
@@ -112,6 +112,6 @@ pub fn calls<S: Page>(
         false,
         false,
         bytes,
-        sink,
+        page,
     )
 }

@@ -72,22 +72,22 @@ fn words_of_begins() -> &'static str
 
 /// Writes what the bytes begin like.
 #[tactic(auto, using(pickle_io::proofs::Devices::text_steps), unfolding(crate::specs::Begins::begins_line))]
-fn write_begins_line<S: Page>(name: &str, sink: &mut S) -> Result<(), Failed>
-    ensures { Writes (S.told sink.old) (S.told sink.new) result (begins_line name.now) }
+fn write_begins_line<S: Page>(name: &str, page: &mut S) -> Result<(), Failed>
+    ensures { Writes (S.told page.old) (S.told page.new) result (begins_line name.now) }
 {
-    write_all(sink, b"begins like ")?;
-    write_all(sink, name.as_bytes())?;
-    write_all(sink, words_of_begins().as_bytes())?;
-    write_all(sink, b"\n")
+    write_all(page, b"begins like ")?;
+    write_all(page, name.as_bytes())?;
+    write_all(page, words_of_begins().as_bytes())?;
+    write_all(page, b"\n")
 }
 
 /// Writes what the bytes begin like, if they begin like a file that holds pickles inside. `Failed` where the sink fails; a beginning of
 /// the line was written then.
-pub fn write_begins<S: Page>(bytes: &[u8], sink: &mut S) -> Result<(), Failed>
-    ensures { Writes (S.told sink.old) (S.told sink.new) result (begins_text bytes.now) }
+pub fn write_begins<S: Page>(bytes: &[u8], page: &mut S) -> Result<(), Failed>
+    ensures { Writes (S.told page.old) (S.told page.new) result (begins_text bytes.now) }
 {
     match begins_like(bytes) {
-        Some(name) => write_begins_line(name, sink),
+        Some(name) => write_begins_line(name, page),
         None => Ok(()),
     }
 }

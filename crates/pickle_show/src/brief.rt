@@ -24,32 +24,32 @@ const MOST_OBJECTS: usize = 16;
 
 /// Writes how many bytes more there are, if any.
 #[tactic(auto, using(pickle_io::proofs::Devices::text_steps), unfolding(crate::specs::Brief::over_text))]
-fn write_over<S: Page>(count: usize, sink: &mut S) -> Result<(), Failed>
-    ensures { Writes (S.told sink.old) (S.told sink.new) result (over_text count) }
+fn write_over<S: Page>(count: usize, page: &mut S) -> Result<(), Failed>
+    ensures { Writes (S.told page.old) (S.told page.new) result (over_text count) }
 {
     if count == 0 {
         Ok(())
     } else {
-        write_with_number(b"+", count as u64, sink)
+        write_with_number(b"+", count as u64, page)
     }
 }
 
 /// Writes the first bytes of a payload in quotes, and how many more there are.
 #[tactic(auto, using(pickle_io::proofs::Devices::text_steps), unfolding(crate::specs::Brief::cut_quoted))]
-fn write_cut<S: Page>(text: &[u8], sink: &mut S) -> Result<(), Failed>
-    ensures { Writes (S.told sink.old) (S.told sink.new) result (cut_quoted text.now) }
+fn write_cut<S: Page>(text: &[u8], page: &mut S) -> Result<(), Failed>
+    ensures { Writes (S.told page.old) (S.told page.new) result (cut_quoted text.now) }
 {
-    write_quoted(front(text, MOST_BYTES), sink)?;
-    write_over(text.len().saturating_sub(MOST_BYTES), sink)
+    write_quoted(front(text, MOST_BYTES), page)?;
+    write_over(text.len().saturating_sub(MOST_BYTES), page)
 }
 
 /// Writes a keyword, and the first bytes of a payload in quotes with how many more there are.
 #[tactic(auto, using(pickle_io::proofs::Devices::text_steps), unfolding(crate::specs::Brief::cut_after))]
-fn write_cut_after<S: Page>(keyword: &[u8], text: &[u8], sink: &mut S) -> Result<(), Failed>
-    ensures { Writes (S.told sink.old) (S.told sink.new) result (cut_after keyword.now text.now) }
+fn write_cut_after<S: Page>(keyword: &[u8], text: &[u8], page: &mut S) -> Result<(), Failed>
+    ensures { Writes (S.told page.old) (S.told page.new) result (cut_after keyword.now text.now) }
 {
-    write_all(sink, keyword)?;
-    write_cut(text, sink)
+    write_all(page, keyword)?;
+    write_cut(text, page)
 }
 
 /// At how many characters a text is cut.
@@ -61,44 +61,44 @@ fn write_cut_value<S: Page>(
     reading: Reading,
     coding: Coding,
     text: &[u8],
-    sink: &mut S,
+    page: &mut S,
 ) -> Result<(), Failed>
     requires { IsReading coding 64 text.now reading }
-    ensures { Writes (S.told sink.old) (S.told sink.new) result (quoted (decode coding 64 text.now).value ⧺ over_text (length (decode coding 64 text.now).rest)) }
+    ensures { Writes (S.told page.old) (S.told page.new) result (quoted (decode coding 64 text.now).value ⧺ over_text (length (decode coding 64 text.now).rest)) }
 {
-    write_text_value(reading, coding, MOST_CHARACTERS, text, sink)?;
-    write_over(reading.left, sink)
+    write_text_value(reading, coding, MOST_CHARACTERS, text, page)?;
+    write_over(reading.left, page)
 }
 
 /// Writes the first characters of a text by their value, or where one of them cannot be read, the first bytes.
-fn write_cut_text<S: Page>(coding: Coding, text: &[u8], sink: &mut S) -> Result<(), Failed>
-    ensures { Writes (S.told sink.old) (S.told sink.new) result (cut_text coding text.now) }
+fn write_cut_text<S: Page>(coding: Coding, text: &[u8], page: &mut S) -> Result<(), Failed>
+    ensures { Writes (S.told page.old) (S.told page.new) result (cut_text coding text.now) }
 {
     let reading = read(coding, MOST_CHARACTERS, text);
     if reading.good {
-        write_cut_value(reading, coding, text, sink)
+        write_cut_value(reading, coding, text, page)
     } else {
-        write_cut_after(b"raw ", text, sink)
+        write_cut_after(b"raw ", text, page)
     }
 }
 
 /// Writes a long number by its first bytes, and how many more there are.
 #[tactic(auto, using(pickle_io::proofs::Devices::text_steps), unfolding(crate::specs::Brief::cut_long))]
-fn write_cut_long<S: Page>(bytes: &[u8], sink: &mut S) -> Result<(), Failed>
-    ensures { Writes (S.told sink.old) (S.told sink.new) result (cut_long bytes.now) }
+fn write_cut_long<S: Page>(bytes: &[u8], page: &mut S) -> Result<(), Failed>
+    ensures { Writes (S.told page.old) (S.told page.new) result (cut_long bytes.now) }
 {
-    write_long(front(bytes, MOST_BYTES), sink)?;
-    write_over(bytes.len().saturating_sub(MOST_BYTES), sink)
+    write_long(front(bytes, MOST_BYTES), page)?;
+    write_over(bytes.len().saturating_sub(MOST_BYTES), page)
 }
 
 /// Writes a payload in quotes, cut or in full.
 #[tactic(auto, unfolding(crate::specs::Brief::shown_quoted))]
-fn write_shown<S: Page>(detail: Detail, text: &[u8], sink: &mut S) -> Result<(), Failed>
-    ensures { Writes (S.told sink.old) (S.told sink.new) result (shown_quoted detail text.now) }
+fn write_shown<S: Page>(detail: Detail, text: &[u8], page: &mut S) -> Result<(), Failed>
+    ensures { Writes (S.told page.old) (S.told page.new) result (shown_quoted detail text.now) }
 {
     match detail {
-        Detail::Cut => write_cut(text, sink),
-        Detail::Full => write_quoted(text, sink),
+        Detail::Cut => write_cut(text, page),
+        Detail::Full => write_quoted(text, page),
     }
 }
 
@@ -108,12 +108,12 @@ fn write_payload_after<S: Page>(
     detail: Detail,
     keyword: &[u8],
     text: &[u8],
-    sink: &mut S,
+    page: &mut S,
 ) -> Result<(), Failed>
-    ensures { Writes (S.told sink.old) (S.told sink.new) result (payload_after detail keyword.now text.now) }
+    ensures { Writes (S.told page.old) (S.told page.new) result (payload_after detail keyword.now text.now) }
 {
-    write_all(sink, keyword)?;
-    write_shown(detail, text, sink)
+    write_all(page, keyword)?;
+    write_shown(detail, text, page)
 }
 
 /// Writes a text by its value, cut or in full.
@@ -122,13 +122,13 @@ fn write_shown_text<S: Page>(
     detail: Detail,
     coding: Coding,
     text: &[u8],
-    sink: &mut S,
+    page: &mut S,
 ) -> Result<(), Failed>
-    ensures { Writes (S.told sink.old) (S.told sink.new) result (shown_text detail coding text.now) }
+    ensures { Writes (S.told page.old) (S.told page.new) result (shown_text detail coding text.now) }
 {
     match detail {
-        Detail::Cut => write_cut_text(coding, text, sink),
-        Detail::Full => write_text(coding, text, sink),
+        Detail::Cut => write_cut_text(coding, text, page),
+        Detail::Full => write_text(coding, text, page),
     }
 }
 
@@ -139,32 +139,32 @@ fn write_text_after<S: Page>(
     keyword: &[u8],
     coding: Coding,
     text: &[u8],
-    sink: &mut S,
+    page: &mut S,
 ) -> Result<(), Failed>
-    ensures { Writes (S.told sink.old) (S.told sink.new) result (text_after detail keyword.now coding text.now) }
+    ensures { Writes (S.told page.old) (S.told page.new) result (text_after detail keyword.now coding text.now) }
 {
-    write_all(sink, keyword)?;
-    write_shown_text(detail, coding, text, sink)
+    write_all(page, keyword)?;
+    write_shown_text(detail, coding, text, page)
 }
 
 /// Writes a long number, cut or in full.
 #[tactic(auto, unfolding(crate::specs::Brief::shown_long))]
-fn write_shown_long<S: Page>(detail: Detail, bytes: &[u8], sink: &mut S) -> Result<(), Failed>
-    ensures { Writes (S.told sink.old) (S.told sink.new) result (shown_long detail bytes.now) }
+fn write_shown_long<S: Page>(detail: Detail, bytes: &[u8], page: &mut S) -> Result<(), Failed>
+    ensures { Writes (S.told page.old) (S.told page.new) result (shown_long detail bytes.now) }
 {
     match detail {
-        Detail::Cut => write_cut_long(bytes, sink),
-        Detail::Full => write_long(bytes, sink),
+        Detail::Cut => write_cut_long(bytes, page),
+        Detail::Full => write_long(bytes, page),
     }
 }
 
 /// Writes a keyword, and a long number, cut or in full.
 #[tactic(auto, using(pickle_io::proofs::Devices::text_steps), unfolding(crate::specs::Brief::long_after))]
-fn write_long_after<S: Page>(detail: Detail, bytes: &[u8], sink: &mut S) -> Result<(), Failed>
-    ensures { Writes (S.told sink.old) (S.told sink.new) result (long_after detail bytes.now) }
+fn write_long_after<S: Page>(detail: Detail, bytes: &[u8], page: &mut S) -> Result<(), Failed>
+    ensures { Writes (S.told page.old) (S.told page.new) result (long_after detail bytes.now) }
 {
-    write_all(sink, b"int ")?;
-    write_shown_long(detail, bytes, sink)
+    write_all(page, b"int ")?;
+    write_shown_long(detail, bytes, page)
 }
 
 /// Writes an object of this kind with these parts in brief.
@@ -175,23 +175,23 @@ fn write_kind_brief<S: Page>(
     id: ObjId,
     kind: &Kind,
     parts: &[ObjId],
-    sink: &mut S,
+    page: &mut S,
 ) -> Result<(), Failed>
-    ensures { Writes (S.told sink.old) (S.told sink.new) result (kind_brief naming heap.now id kind.now parts.now) }
+    ensures { Writes (S.told page.old) (S.told page.new) result (kind_brief naming heap.now id kind.now parts.now) }
 {
     let detail = naming.detail;
     match kind {
-        Kind::None => write_kind(kind, sink),
-        Kind::True => write_kind(kind, sink),
-        Kind::False => write_kind(kind, sink),
-        Kind::Int(_) => write_kind(kind, sink),
-        Kind::Long(bytes) => write_long_after(detail, bytes.as_slice(), sink),
-        Kind::IntLine(text) => write_payload_after(detail, b"int-line ", text.as_slice(), sink),
-        Kind::LongLine(text) => write_payload_after(detail, b"long-line ", text.as_slice(), sink),
-        Kind::FloatLine(text) => write_payload_after(detail, b"float-line ", text.as_slice(), sink),
-        Kind::Float(_) => write_kind(kind, sink),
+        Kind::None => write_kind(kind, page),
+        Kind::True => write_kind(kind, page),
+        Kind::False => write_kind(kind, page),
+        Kind::Int(_) => write_kind(kind, page),
+        Kind::Long(bytes) => write_long_after(detail, bytes.as_slice(), page),
+        Kind::IntLine(text) => write_payload_after(detail, b"int-line ", text.as_slice(), page),
+        Kind::LongLine(text) => write_payload_after(detail, b"long-line ", text.as_slice(), page),
+        Kind::FloatLine(text) => write_payload_after(detail, b"float-line ", text.as_slice(), page),
+        Kind::Float(_) => write_kind(kind, page),
         Kind::LegacyString(text) => {
-            write_text_after(detail, b"string ", Coding::Ascii, text.as_slice(), sink)
+            write_text_after(detail, b"string ", Coding::Ascii, text.as_slice(), page)
         }
         Kind::LegacyLine(text) => {
             write_text_after(
@@ -199,17 +199,17 @@ fn write_kind_brief<S: Page>(
                 b"string ",
                 Coding::StringEscape,
                 inner(text.as_slice()),
-                sink,
+                page,
             )
         }
-        Kind::Text(text) => write_shown_text(detail, Coding::AnyUtf8, text.as_slice(), sink),
-        Kind::TextLine(text) => write_shown_text(detail, Coding::RawEscape, text.as_slice(), sink),
-        Kind::Bytes(bytes) => write_payload_after(detail, b"bytes ", bytes.as_slice(), sink),
+        Kind::Text(text) => write_shown_text(detail, Coding::AnyUtf8, text.as_slice(), page),
+        Kind::TextLine(text) => write_shown_text(detail, Coding::RawEscape, text.as_slice(), page),
+        Kind::Bytes(bytes) => write_payload_after(detail, b"bytes ", bytes.as_slice(), page),
         Kind::ByteArray(bytes) => write_payload_after(
             detail,
             b"bytearray ",
             bytes.as_slice(),
-            sink,
+            page,
         ),
         Kind::Global(names) => {
             write_global_after(
@@ -218,12 +218,12 @@ fn write_kind_brief<S: Page>(
                 Some(id),
                 names.first(),
                 names.second(),
-                sink,
+                page,
             )
         }
-        Kind::StackGlobal => write_stack_after(b"global ", naming, Some(id), heap, parts, sink),
-        Kind::Ext(_) => write_kind(kind, sink),
-        _ => write_id(u64::from(id), sink),
+        Kind::StackGlobal => write_stack_after(b"global ", naming, Some(id), heap, parts, page),
+        Kind::Ext(_) => write_kind(kind, page),
+        _ => write_id(u64::from(id), page),
     }
 }
 
@@ -233,13 +233,13 @@ fn write_brief<S: Page>(
     naming: Naming,
     heap: &[Object],
     id: ObjId,
-    sink: &mut S,
+    page: &mut S,
 ) -> Result<(), Failed>
-    ensures { Writes (S.told sink.old) (S.told sink.new) result (brief_text naming heap.now id) }
+    ensures { Writes (S.told page.old) (S.told page.new) result (brief_text naming heap.now id) }
 {
     match heap.get(id as usize) {
-        Some(object) => write_kind_brief(naming, heap, id, object.kind(), object.parts(), sink),
-        None => write_id(u64::from(id), sink),
+        Some(object) => write_kind_brief(naming, heap, id, object.kind(), object.parts(), page),
+        None => write_id(u64::from(id), page),
     }
 }
 
@@ -249,12 +249,12 @@ fn write_next<S: Page>(
     naming: Naming,
     heap: &[Object],
     id: ObjId,
-    sink: &mut S,
+    page: &mut S,
 ) -> Result<(), Failed>
-    ensures { Writes (S.told sink.old) (S.told sink.new) result (next_brief naming heap.now id) }
+    ensures { Writes (S.told page.old) (S.told page.new) result (next_brief naming heap.now id) }
 {
-    write_all(sink, b", ")?;
-    write_brief(naming, heap, id, sink)
+    write_all(page, b", ")?;
+    write_brief(naming, heap, id, page)
 }
 
 /// Writes objects in brief, each after a comma.
@@ -263,12 +263,12 @@ fn write_all_next<S: Page>(
     naming: Naming,
     heap: &[Object],
     ids: &[ObjId],
-    sink: &mut S,
+    page: &mut S,
 ) -> Result<(), Failed>
-    ensures { Writes (S.told sink.old) (S.told sink.new) result (each (next_brief naming heap.now) ids.now) }
+    ensures { Writes (S.told page.old) (S.told page.new) result (each (next_brief naming heap.now) ids.now) }
 {
     for id in ids {
-        write_next(naming, heap, *id, sink)?;
+        write_next(naming, heap, *id, page)?;
     }
     Ok(())
 }
@@ -280,12 +280,12 @@ fn write_some<S: Page>(
     heap: &[Object],
     first: ObjId,
     rest: &[ObjId],
-    sink: &mut S,
+    page: &mut S,
 ) -> Result<(), Failed>
-    ensures { Writes (S.told sink.old) (S.told sink.new) result (brief_text naming heap.now first ⧺ each (next_brief naming heap.now) rest.now) }
+    ensures { Writes (S.told page.old) (S.told page.new) result (brief_text naming heap.now first ⧺ each (next_brief naming heap.now) rest.now) }
 {
-    write_brief(naming, heap, first, sink)?;
-    write_all_next(naming, heap, rest, sink)
+    write_brief(naming, heap, first, page)?;
+    write_all_next(naming, heap, rest, page)
 }
 
 /// Writes objects in brief with commas between them.
@@ -294,25 +294,25 @@ fn write_joined<S: Page>(
     naming: Naming,
     heap: &[Object],
     ids: &[ObjId],
-    sink: &mut S,
+    page: &mut S,
 ) -> Result<(), Failed>
-    ensures { Writes (S.told sink.old) (S.told sink.new) result (comma_list naming heap.now ids.now) }
+    ensures { Writes (S.told page.old) (S.told page.new) result (comma_list naming heap.now ids.now) }
 {
     match ids.split_first() {
         None => Ok(()),
-        Some((first, rest)) => write_some(naming, heap, *first, rest, sink),
+        Some((first, rest)) => write_some(naming, heap, *first, rest, page),
     }
 }
 
 /// Writes how many objects more there are, if any.
 #[tactic(auto, using(pickle_io::proofs::Devices::text_steps), unfolding(crate::specs::Brief::more_text))]
-fn write_more<S: Page>(count: usize, sink: &mut S) -> Result<(), Failed>
-    ensures { Writes (S.told sink.old) (S.told sink.new) result (more_text count) }
+fn write_more<S: Page>(count: usize, page: &mut S) -> Result<(), Failed>
+    ensures { Writes (S.told page.old) (S.told page.new) result (more_text count) }
 {
     if count == 0 {
         Ok(())
     } else {
-        write_with_number(b", +", count as u64, sink)
+        write_with_number(b", +", count as u64, page)
     }
 }
 
@@ -322,12 +322,12 @@ fn write_cut_list<S: Page>(
     naming: Naming,
     heap: &[Object],
     ids: &[ObjId],
-    sink: &mut S,
+    page: &mut S,
 ) -> Result<(), Failed>
-    ensures { Writes (S.told sink.old) (S.told sink.new) result (cut_list naming heap.now ids.now) }
+    ensures { Writes (S.told page.old) (S.told page.new) result (cut_list naming heap.now ids.now) }
 {
-    write_joined(naming, heap, front(ids, MOST_OBJECTS), sink)?;
-    write_more(ids.len().saturating_sub(MOST_OBJECTS), sink)
+    write_joined(naming, heap, front(ids, MOST_OBJECTS), page)?;
+    write_more(ids.len().saturating_sub(MOST_OBJECTS), page)
 }
 
 /// Writes the first objects, or all.
@@ -336,13 +336,13 @@ fn write_shown_list<S: Page>(
     naming: Naming,
     heap: &[Object],
     ids: &[ObjId],
-    sink: &mut S,
+    page: &mut S,
 ) -> Result<(), Failed>
-    ensures { Writes (S.told sink.old) (S.told sink.new) result (shown_list naming.detail naming heap.now ids.now) }
+    ensures { Writes (S.told page.old) (S.told page.new) result (shown_list naming.detail naming heap.now ids.now) }
 {
     match naming.detail {
-        Detail::Cut => write_cut_list(naming, heap, ids, sink),
-        Detail::Full => write_joined(naming, heap, ids, sink),
+        Detail::Cut => write_cut_list(naming, heap, ids, page),
+        Detail::Full => write_joined(naming, heap, ids, page),
     }
 }
 
@@ -352,13 +352,13 @@ pub fn write_briefs<S: Page>(
     naming: Naming,
     heap: &[Object],
     ids: &[ObjId],
-    sink: &mut S,
+    page: &mut S,
 ) -> Result<(), Failed>
-    ensures { Writes (S.told sink.old) (S.told sink.new) result (briefs_text naming heap.now ids.now) }
+    ensures { Writes (S.told page.old) (S.told page.new) result (briefs_text naming heap.now ids.now) }
 {
-    write_all(sink, b"(")?;
-    write_shown_list(naming, heap, ids, sink)?;
-    write_all(sink, b")")
+    write_all(page, b"(")?;
+    write_shown_list(naming, heap, ids, page)?;
+    write_all(page, b")")
 }
 
 /// Writes an object of this kind with these parts as a value.
@@ -369,13 +369,13 @@ fn write_kind_value<S: Page>(
     id: ObjId,
     kind: &Kind,
     parts: &[ObjId],
-    sink: &mut S,
+    page: &mut S,
 ) -> Result<(), Failed>
-    ensures { Writes (S.told sink.old) (S.told sink.new) result (kind_value naming heap.now id kind.now parts.now) }
+    ensures { Writes (S.told page.old) (S.told page.new) result (kind_value naming heap.now id kind.now parts.now) }
 {
     match kind {
-        Kind::Tuple => write_briefs(naming, heap, parts, sink),
-        _ => write_kind_brief(naming, heap, id, kind, parts, sink),
+        Kind::Tuple => write_briefs(naming, heap, parts, page),
+        _ => write_kind_brief(naming, heap, id, kind, parts, page),
     }
 }
 
@@ -385,12 +385,12 @@ pub fn write_value<S: Page>(
     naming: Naming,
     heap: &[Object],
     id: ObjId,
-    sink: &mut S,
+    page: &mut S,
 ) -> Result<(), Failed>
-    ensures { Writes (S.told sink.old) (S.told sink.new) result (value_text naming heap.now id) }
+    ensures { Writes (S.told page.old) (S.told page.new) result (value_text naming heap.now id) }
 {
     match heap.get(id as usize) {
-        Some(object) => write_kind_value(naming, heap, id, object.kind(), object.parts(), sink),
-        None => write_id(u64::from(id), sink),
+        Some(object) => write_kind_value(naming, heap, id, object.kind(), object.parts(), page),
+        None => write_id(u64::from(id), page),
     }
 }

@@ -56,11 +56,11 @@ fn run_part<'a, I: ItemSource<'a>, S: Page>(
     many: bool,
     from: SoFar<I>,
     machine: &mut Machine,
-    sink: &mut S,
+    page: &mut S,
 ) -> Result<Part<SoFar<I>, Ran>, TextStop>
-    requires { (begun : Begun) × HasWalked holes.now many begun I.unread (S.told sink.old) machine.old.state from }
-    ensures ok { (begun : Begun) → HasWalked holes.now many begun I.unread (S.told sink.old) machine.old.state from → IfOk result (IsPart (HasWalked holes.now many begun I.unread (S.told sink.new) machine.new.state) (IsRun (manner begun.detail holes.now) many begun.rest begun.told (S.told sink.new) machine.new.state)) }
-    ensures err { (begun : Begun) → HasWalked holes.now many begun I.unread (S.told sink.old) machine.old.state from → IfErr result (CutsCalls (manner begun.detail holes.now) many begun.rest begun.told (S.told sink.new)) }
+    requires { (begun : Begun) × HasWalked holes.now many begun I.unread (S.told page.old) machine.old.state from }
+    ensures ok { (begun : Begun) → HasWalked holes.now many begun I.unread (S.told page.old) machine.old.state from → IfOk result (IsPart (HasWalked holes.now many begun I.unread (S.told page.new) machine.new.state) (IsRun (manner begun.detail holes.now) many begun.rest begun.told (S.told page.new) machine.new.state)) }
+    ensures err { (begun : Begun) → HasWalked holes.now many begun I.unread (S.told page.old) machine.old.state from → IfErr result (CutsCalls (manner begun.detail holes.now) many begun.rest begun.told (S.told page.new)) }
     ensures less { IfOk result (IsPart (λ far. length (I.unread far.reader).rest < length (I.unread from.reader).rest) (λ _. ⊤)) }
 {
     let SoFar {
@@ -98,7 +98,7 @@ fn run_part<'a, I: ItemSource<'a>, S: Page>(
                     }));
                 }
                 let event = event_of(row, before, machine);
-                write_line(holes, offset, course.naming, machine.heap(), event, sink)?;
+                write_line(holes, offset, course.naming, machine.heap(), event, page)?;
                 course = course.over(&op, row, machine.heap(), event);
                 let at = offset;
                 offset += op.size() as u64;
@@ -146,13 +146,13 @@ pub fn run_items<'a, I: ItemSource<'a>, S: Page>(
     many: bool,
     source: I,
     machine: &mut Machine,
-    sink: &mut S,
+    page: &mut S,
 ) -> Result<Ran, TextStop>
     requires source { GivesDocument many (I.unread source) }
     requires framed { (I.unread source).loose ≡ false }
     requires fresh { machine.old.state ≡ start many }
-    ensures ok { IfOk result (IsRun (manner detail holes.now) many (I.unread source).rest (S.told sink.old) (S.told sink.new) machine.new.state) }
-    ensures err { IfErr result (CutsCalls (manner detail holes.now) many (I.unread source).rest (S.told sink.old) (S.told sink.new)) }
+    ensures ok { IfOk result (IsRun (manner detail holes.now) many (I.unread source).rest (S.told page.old) (S.told page.new) machine.new.state) }
+    ensures err { IfErr result (CutsCalls (manner detail holes.now) many (I.unread source).rest (S.told page.old) (S.told page.new)) }
 {
     let mut far = SoFar {
         reader: source,
@@ -162,7 +162,7 @@ pub fn run_items<'a, I: ItemSource<'a>, S: Page>(
         stop: false,
     };
     'parts: loop {
-        match run_part(alloc, holes, many, far, machine, sink)? {
+        match run_part(alloc, holes, many, far, machine, page)? {
             Part::More(next) => far = next,
             Part::End(ran) => return Ok(ran),
         }

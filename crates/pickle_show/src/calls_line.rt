@@ -30,13 +30,13 @@ fn write_inst<S: Page>(
     first: &[u8],
     second: &[u8],
     parts: &[ObjId],
-    sink: &mut S,
+    page: &mut S,
 ) -> Result<(), Failed>
-    ensures { Writes (S.told sink.old) (S.told sink.new) result (inst_text naming heap.now first.now second.now parts.now) }
+    ensures { Writes (S.told page.old) (S.told page.new) result (inst_text naming heap.now first.now second.now parts.now) }
 {
-    write_names_after(b"inst ", naming, None, inst_pair(first, second), sink)?;
-    write_all(sink, b" ")?;
-    write_briefs(naming, heap, parts, sink)
+    write_names_after(b"inst ", naming, None, inst_pair(first, second), page)?;
+    write_all(page, b" ")?;
+    write_briefs(naming, heap, parts, page)
 }
 
 /// Writes a call, or a new instance, after a keyword.
@@ -46,15 +46,15 @@ fn write_call<S: Page>(
     naming: Naming,
     heap: &[Object],
     parts: &[ObjId],
-    sink: &mut S,
+    page: &mut S,
 ) -> Result<(), Failed>
-    ensures { Writes (S.told sink.old) (S.told sink.new) result (call_text naming keyword.now heap.now parts.now) }
+    ensures { Writes (S.told page.old) (S.told page.new) result (call_text naming keyword.now heap.now parts.now) }
 {
     let called = part(0, parts);
-    write_all(sink, keyword)?;
-    write_name(naming, heap, called, sink)?;
-    write_all(sink, b" ")?;
-    write_value(naming, heap, part(1, parts), sink)
+    write_all(page, keyword)?;
+    write_name(naming, heap, called, page)?;
+    write_all(page, b" ")?;
+    write_value(naming, heap, part(1, parts), page)
 }
 
 /// Writes a new instance that is given arguments with names.
@@ -63,13 +63,13 @@ fn write_call_with<S: Page>(
     naming: Naming,
     heap: &[Object],
     parts: &[ObjId],
-    sink: &mut S,
+    page: &mut S,
 ) -> Result<(), Failed>
-    ensures { Writes (S.told sink.old) (S.told sink.new) result (call_with_text naming heap.now parts.now) }
+    ensures { Writes (S.told page.old) (S.told page.new) result (call_with_text naming heap.now parts.now) }
 {
-    write_call(b"new ", naming, heap, parts, sink)?;
-    write_all(sink, b" ")?;
-    write_value(naming, heap, part(2, parts), sink)
+    write_call(b"new ", naming, heap, parts, page)?;
+    write_all(page, b" ")?;
+    write_value(naming, heap, part(2, parts), page)
 }
 
 /// The parts but the first.
@@ -88,14 +88,14 @@ fn write_obj<S: Page>(
     naming: Naming,
     heap: &[Object],
     parts: &[ObjId],
-    sink: &mut S,
+    page: &mut S,
 ) -> Result<(), Failed>
-    ensures { Writes (S.told sink.old) (S.told sink.new) result (obj_text naming heap.now parts.now) }
+    ensures { Writes (S.told page.old) (S.told page.new) result (obj_text naming heap.now parts.now) }
 {
-    write_all(sink, b"call ")?;
-    write_name(naming, heap, part(0, parts), sink)?;
-    write_all(sink, b" ")?;
-    write_briefs(naming, heap, after_first(parts), sink)
+    write_all(page, b"call ")?;
+    write_name(naming, heap, part(0, parts), page)?;
+    write_all(page, b" ")?;
+    write_briefs(naming, heap, after_first(parts), page)
 }
 
 /// Writes a keyword and an object as a value.
@@ -105,21 +105,21 @@ fn write_value_after<S: Page>(
     naming: Naming,
     heap: &[Object],
     id: ObjId,
-    sink: &mut S,
+    page: &mut S,
 ) -> Result<(), Failed>
-    ensures { Writes (S.told sink.old) (S.told sink.new) result (keyword.now ⧺ value_text naming heap.now id) }
+    ensures { Writes (S.told page.old) (S.told page.new) result (keyword.now ⧺ value_text naming heap.now id) }
 {
-    write_all(sink, keyword)?;
-    write_value(naming, heap, id, sink)
+    write_all(page, keyword)?;
+    write_value(naming, heap, id, page)
 }
 
 /// Writes a keyword and a text of ASCII.
 #[tactic(auto, using(pickle_io::proofs::Devices::text_steps))]
-fn write_ascii_after<S: Page>(keyword: &[u8], text: &[u8], sink: &mut S) -> Result<(), Failed>
-    ensures { Writes (S.told sink.old) (S.told sink.new) result (keyword.now ⧺ whole_text Coding.Ascii text.now) }
+fn write_ascii_after<S: Page>(keyword: &[u8], text: &[u8], page: &mut S) -> Result<(), Failed>
+    ensures { Writes (S.told page.old) (S.told page.new) result (keyword.now ⧺ whole_text Coding.Ascii text.now) }
 {
-    write_all(sink, keyword)?;
-    write_text(Coding::Ascii, text, sink)
+    write_all(page, keyword)?;
+    write_text(Coding::Ascii, text, page)
 }
 
 /// Writes what made an object of this kind with these parts.
@@ -129,9 +129,9 @@ fn write_made_words<S: Page>(
     heap: &[Object],
     kind: &Kind,
     parts: &[ObjId],
-    sink: &mut S,
+    page: &mut S,
 ) -> Result<(), Failed>
-    ensures { Writes (S.told sink.old) (S.told sink.new) result (made_words naming heap.now kind.now parts.now) }
+    ensures { Writes (S.told page.old) (S.told page.new) result (made_words naming heap.now kind.now parts.now) }
 {
     match kind {
         Kind::Global(names) => {
@@ -141,20 +141,20 @@ fn write_made_words<S: Page>(
                 None,
                 names.first(),
                 names.second(),
-                sink,
+                page,
             )
         }
-        Kind::StackGlobal => write_stack_after(b"import ", naming, None, heap, parts, sink),
-        Kind::Ext(code) => write_with_signed(b"import ext ", *code, sink),
-        Kind::Inst(names) => write_inst(naming, heap, names.first(), names.second(), parts, sink),
-        Kind::Call => write_call(b"call ", naming, heap, parts, sink),
-        Kind::New => write_call(b"new ", naming, heap, parts, sink),
-        Kind::NewEx => write_call_with(naming, heap, parts, sink),
-        Kind::Obj => write_obj(naming, heap, parts, sink),
-        Kind::PersistentLine(text) => write_ascii_after(b"persistent ", text.as_slice(), sink),
-        Kind::Persistent => write_value_after(b"persistent ", naming, heap, part(0, parts), sink),
-        Kind::Buffer(number) => write_with_number(b"buffer ", *number, sink),
-        Kind::ReadOnly => write_with_id(b"readonly ", u64::from(part(0, parts)), sink),
+        Kind::StackGlobal => write_stack_after(b"import ", naming, None, heap, parts, page),
+        Kind::Ext(code) => write_with_signed(b"import ext ", *code, page),
+        Kind::Inst(names) => write_inst(naming, heap, names.first(), names.second(), parts, page),
+        Kind::Call => write_call(b"call ", naming, heap, parts, page),
+        Kind::New => write_call(b"new ", naming, heap, parts, page),
+        Kind::NewEx => write_call_with(naming, heap, parts, page),
+        Kind::Obj => write_obj(naming, heap, parts, page),
+        Kind::PersistentLine(text) => write_ascii_after(b"persistent ", text.as_slice(), page),
+        Kind::Persistent => write_value_after(b"persistent ", naming, heap, part(0, parts), page),
+        Kind::Buffer(number) => write_with_number(b"buffer ", *number, page),
+        Kind::ReadOnly => write_with_id(b"readonly ", u64::from(part(0, parts)), page),
         _ => Ok(()),
     }
 }
@@ -166,13 +166,13 @@ fn write_made_object<S: Page>(
     heap: &[Object],
     id: ObjId,
     object: &Object,
-    sink: &mut S,
+    page: &mut S,
 ) -> Result<(), Failed>
-    ensures { Writes (S.told sink.old) (S.told sink.new) result (made_text naming heap.now id object.now) }
+    ensures { Writes (S.told page.old) (S.told page.new) result (made_text naming heap.now id object.now) }
 {
-    write_made_words(naming, heap, object.kind(), object.parts(), sink)?;
-    write_all(sink, b" as ")?;
-    write_id(u64::from(id), sink)
+    write_made_words(naming, heap, object.kind(), object.parts(), page)?;
+    write_all(page, b" as ")?;
+    write_id(u64::from(id), page)
 }
 
 /// Writes what made the object of this number.
@@ -181,12 +181,12 @@ fn write_made<S: Page>(
     naming: Naming,
     heap: &[Object],
     id: ObjId,
-    sink: &mut S,
+    page: &mut S,
 ) -> Result<(), Failed>
-    ensures { Writes (S.told sink.old) (S.told sink.new) result (made_at naming heap.now id) }
+    ensures { Writes (S.told page.old) (S.told page.new) result (made_at naming heap.now id) }
 {
     match heap.get(id as usize) {
-        Some(object) => write_made_object(naming, heap, id, object, sink),
+        Some(object) => write_made_object(naming, heap, id, object, page),
         None => Ok(()),
     }
 }
@@ -198,13 +198,13 @@ fn write_state<S: Page>(
     heap: &[Object],
     value: ObjId,
     target: ObjId,
-    sink: &mut S,
+    page: &mut S,
 ) -> Result<(), Failed>
-    ensures { Writes (S.told sink.old) (S.told sink.new) result (state_text naming heap.now value target) }
+    ensures { Writes (S.told page.old) (S.told page.new) result (state_text naming heap.now value target) }
 {
-    write_value_after(b"state ", naming, heap, value, sink)?;
-    write_all(sink, b" to ")?;
-    write_id(u64::from(target), sink)
+    write_value_after(b"state ", naming, heap, value, page)?;
+    write_all(page, b" to ")?;
+    write_id(u64::from(target), page)
 }
 
 /// The keyword of what goes into an object.
@@ -239,13 +239,13 @@ fn write_filled<S: Page>(
     filling: Filling,
     count: usize,
     target: ObjId,
-    sink: &mut S,
+    page: &mut S,
 ) -> Result<(), Failed>
-    ensures { Writes (S.told sink.old) (S.told sink.new) result (filled_text filling count target) }
+    ensures { Writes (S.told page.old) (S.told page.new) result (filled_text filling count target) }
 {
-    write_with_number(fill_keyword(filling).as_bytes(), count as u64, sink)?;
-    write_all(sink, fill_link(filling).as_bytes())?;
-    write_id(u64::from(target), sink)
+    write_with_number(fill_keyword(filling).as_bytes(), count as u64, page)?;
+    write_all(page, fill_link(filling).as_bytes())?;
+    write_id(u64::from(target), page)
 }
 
 /// Writes an event, by the objects after the step.
@@ -254,14 +254,14 @@ fn write_event<S: Page>(
     naming: Naming,
     heap: &[Object],
     event: Event,
-    sink: &mut S,
+    page: &mut S,
 ) -> Result<(), Failed>
-    ensures { Writes (S.told sink.old) (S.told sink.new) result (event_text naming heap.now event) }
+    ensures { Writes (S.told page.old) (S.told page.new) result (event_text naming heap.now event) }
 {
     match event {
-        Event::Made(id) => write_made(naming, heap, id, sink),
-        Event::State(value, target) => write_state(naming, heap, value, target, sink),
-        Event::Filled(filling, count, target) => write_filled(filling, count, target, sink),
+        Event::Made(id) => write_made(naming, heap, id, page),
+        Event::State(value, target) => write_state(naming, heap, value, target, page),
+        Event::Filled(filling, count, target) => write_filled(filling, count, target, page),
     }
 }
 
@@ -273,14 +273,14 @@ fn write_event_line<S: Page>(
     naming: Naming,
     heap: &[Object],
     event: Event,
-    sink: &mut S,
+    page: &mut S,
 ) -> Result<(), Failed>
-    ensures { Writes (S.told sink.old) (S.told sink.new) result (event_line offset naming heap.now event) }
+    ensures { Writes (S.told page.old) (S.told page.new) result (event_line offset naming heap.now event) }
 {
-    write_right(offset, sink)?;
-    write_all(sink, b": ")?;
-    write_event(naming, heap, event, sink)?;
-    write_all(sink, b"\n")
+    write_right(offset, page)?;
+    write_all(page, b": ")?;
+    write_event(naming, heap, event, page)?;
+    write_all(page, b"\n")
 }
 
 /// Writes the line of a step, if it has an event. The offset is that without the holes of the file, and the line has that in the file.
@@ -292,12 +292,12 @@ pub fn write_line<S: Page>(
     naming: Naming,
     heap: &[Object],
     event: Option<Event>,
-    sink: &mut S,
+    page: &mut S,
 ) -> Result<(), Failed>
-    ensures { Writes (S.told sink.old) (S.told sink.new) result (line_of (in_file holes.now offset) naming heap.now event) }
+    ensures { Writes (S.told page.old) (S.told page.new) result (line_of (in_file holes.now offset) naming heap.now event) }
 {
     match event {
-        Some(event) => write_event_line(holes.in_file(offset), naming, heap, event, sink),
+        Some(event) => write_event_line(holes.in_file(offset), naming, heap, event, page),
         None => Ok(()),
     }
 }

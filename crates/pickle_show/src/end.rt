@@ -27,14 +27,14 @@ pub enum Ending {
 
 /// Writes how many imports and calls the lines are. `Failed` where the sink fails; a beginning of the line was written then.
 #[tactic(auto, using(pickle_io::proofs::Devices::text_steps), unfolding(crate::specs::CallsLine::totals_line))]
-pub fn write_totals<S: Page>(course: Course, sink: &mut S) -> Result<(), Failed>
-    ensures { Writes (S.told sink.old) (S.told sink.new) result (totals_line course.imports course.calls) }
+pub fn write_totals<S: Page>(course: Course, page: &mut S) -> Result<(), Failed>
+    ensures { Writes (S.told page.old) (S.told page.new) result (totals_line course.imports course.calls) }
 {
-    write_decimal(course.imports, sink)?;
-    write_all(sink, b" imports, ")?;
-    write_decimal(course.calls, sink)?;
-    write_all(sink, b" calls")?;
-    write_all(sink, b"\n")
+    write_decimal(course.imports, page)?;
+    write_all(page, b" imports, ")?;
+    write_decimal(course.calls, page)?;
+    write_all(page, b" calls")?;
+    write_all(page, b"\n")
 }
 
 /// Words of a line.
@@ -47,31 +47,31 @@ fn words_of_unsure() -> &'static str
 
 /// Writes that a frame goes on behind the STOP at this offset.
 #[tactic(auto, using(pickle_io::proofs::Devices::text_steps), unfolding(crate::specs::CallsLine::unsure_line))]
-fn write_unsure_line<S: Page>(offset: u64, sink: &mut S) -> Result<(), Failed>
-    ensures { Writes (S.told sink.old) (S.told sink.new) result (unsure_line offset) }
+fn write_unsure_line<S: Page>(offset: u64, page: &mut S) -> Result<(), Failed>
+    ensures { Writes (S.told page.old) (S.told page.new) result (unsure_line offset) }
 {
-    write_all(sink, words_of_unsure().as_bytes())?;
-    write_decimal(offset, sink)?;
-    write_all(sink, b"\n")
+    write_all(page, words_of_unsure().as_bytes())?;
+    write_decimal(offset, page)?;
+    write_all(page, b"\n")
 }
 
 /// Writes how many bytes STOP left, if any, and how the run ended.
 #[tactic(auto, using(pickle_io::proofs::Devices::text_steps))]
-fn write_closed<S: Page>(kept: u64, closing: Closing, sink: &mut S) -> Result<(), Failed>
-    ensures { Writes (S.told sink.old) (S.told sink.new) result (kept_line kept ⧺ closing_line closing) }
+fn write_closed<S: Page>(kept: u64, closing: Closing, page: &mut S) -> Result<(), Failed>
+    ensures { Writes (S.told page.old) (S.told page.new) result (kept_line kept ⧺ closing_line closing) }
 {
-    write_kept_line(kept, sink)?;
-    write_closing(closing, sink)
+    write_kept_line(kept, page)?;
+    write_closing(closing, page)
 }
 
 /// Writes how the lines end.
 #[tactic(auto, unfolding(crate::specs::CallsLine::ending_lines))]
-fn write_ending<S: Page>(ending: Ending, sink: &mut S) -> Result<(), Failed>
-    ensures { Writes (S.told sink.old) (S.told sink.new) result (ending_lines ending) }
+fn write_ending<S: Page>(ending: Ending, page: &mut S) -> Result<(), Failed>
+    ensures { Writes (S.told page.old) (S.told page.new) result (ending_lines ending) }
 {
     match ending {
-        Ending::Closed(kept, closing) => write_closed(kept, closing, sink),
-        Ending::Unsure(offset) => write_unsure_line(offset, sink),
+        Ending::Closed(kept, closing) => write_closed(kept, closing, page),
+        Ending::Unsure(offset) => write_unsure_line(offset, page),
     }
 }
 
@@ -92,13 +92,13 @@ fn write_last_lines<S: Page>(
     bytes: &[u8],
     course: Course,
     ending: Ending,
-    sink: &mut S,
+    page: &mut S,
 ) -> Result<(), Failed>
-    ensures { Writes (S.told sink.old) (S.told sink.new) result (calls_end_text bytes.now course.imports course.calls ending) }
+    ensures { Writes (S.told page.old) (S.told page.new) result (calls_end_text bytes.now course.imports course.calls ending) }
 {
-    write_begins(bytes, sink)?;
-    write_totals(course, sink)?;
-    write_ending(ending, sink)
+    write_begins(bytes, page)?;
+    write_totals(course, page)?;
+    write_ending(ending, page)
 }
 
 /// How a run ended, with its offset in the file that has these holes.
@@ -132,12 +132,12 @@ pub fn write_end<S: Page>(
     bytes: &[u8],
     course: Course,
     ending: Ending,
-    sink: &mut S,
+    page: &mut S,
 ) -> Result<u8, TextStop>
-    ensures text { Writes (S.told sink.old) (S.told sink.new) result (calls_end_text bytes.now course.imports course.calls (ending_in holes.now ending)) }
+    ensures text { Writes (S.told page.old) (S.told page.new) result (calls_end_text bytes.now course.imports course.calls (ending_in holes.now ending)) }
     ensures status { IfOk result (λ status. status ≡ ending_status ending) }
     ensures failed { IfErr result (λ e. e ≡ TextStop.Failed) }
 {
-    write_last_lines(bytes, course, ending_in(holes, ending), sink)?;
+    write_last_lines(bytes, course, ending_in(holes, ending), page)?;
     Ok(ending_status(ending))
 }

@@ -10,48 +10,48 @@ use pickle_machine::Refusal;
 
 /// Writes the line of a refused step.
 #[tactic(auto, using(pickle_io::proofs::Devices::text_steps), unfolding(crate::specs::Line::refused_line))]
-pub fn write_refused<S: Page>(refusal: Refusal, sink: &mut S) -> Result<(), Failed>
-    ensures { Writes (S.told sink.old) (S.told sink.new) result (refused_line refusal) }
+pub fn write_refused<S: Page>(refusal: Refusal, page: &mut S) -> Result<(), Failed>
+    ensures { Writes (S.told page.old) (S.told page.new) result (refused_line refusal) }
 {
-    write_all(sink, b"refused: ")?;
-    write_refusal(refusal, sink)?;
-    write_all(sink, b"\n")
+    write_all(page, b"refused: ")?;
+    write_refusal(refusal, page)?;
+    write_all(page, b"\n")
 }
 
 /// Writes how many objects and marks STOP left on the stack.
 #[tactic(auto, using(pickle_io::proofs::Devices::text_steps), unfolding(crate::specs::Line::left_text))]
-fn write_left_text<S: Page>(objects: usize, marks: usize, sink: &mut S) -> Result<(), Failed>
-    ensures { Writes (S.told sink.old) (S.told sink.new) result (left_text objects marks) }
+fn write_left_text<S: Page>(objects: usize, marks: usize, page: &mut S) -> Result<(), Failed>
+    ensures { Writes (S.told page.old) (S.told page.new) result (left_text objects marks) }
 {
-    write_all(sink, b"left: ")?;
-    write_decimal(objects as u64, sink)?;
-    write_all(sink, b" objects, ")?;
-    write_decimal(marks as u64, sink)?;
-    write_all(sink, b" marks")?;
-    write_all(sink, b"\n")
+    write_all(page, b"left: ")?;
+    write_decimal(objects as u64, page)?;
+    write_all(page, b" objects, ")?;
+    write_decimal(marks as u64, page)?;
+    write_all(page, b" marks")?;
+    write_all(page, b"\n")
 }
 
 /// Writes what STOP left on the stack, if anything.
 #[tactic(auto, using(pickle_io::proofs::Devices::text_steps), unfolding(crate::specs::Line::left_line))]
-pub fn write_left_line<S: Page>(objects: usize, marks: usize, sink: &mut S) -> Result<(), Failed>
-    ensures { Writes (S.told sink.old) (S.told sink.new) result (left_line objects marks) }
+pub fn write_left_line<S: Page>(objects: usize, marks: usize, page: &mut S) -> Result<(), Failed>
+    ensures { Writes (S.told page.old) (S.told page.new) result (left_line objects marks) }
 {
     if objects == 0 && marks == 0 {
         Ok(())
     } else {
-        write_left_text(objects, marks, sink)
+        write_left_text(objects, marks, page)
     }
 }
 
 /// Writes how many bytes are after STOP.
 #[tactic(auto, using(pickle_io::proofs::Devices::text_steps), unfolding(crate::specs::Line::kept_text, crate::specs::Line::kept_words))]
-fn write_kept_text<S: Page>(count: u64, sink: &mut S) -> Result<(), Failed>
-    ensures { Writes (S.told sink.old) (S.told sink.new) result (kept_text count) }
+fn write_kept_text<S: Page>(count: u64, page: &mut S) -> Result<(), Failed>
+    ensures { Writes (S.told page.old) (S.told page.new) result (kept_text count) }
 {
-    write_all(sink, b"kept: ")?;
-    write_decimal(count, sink)?;
-    write_all(sink, words_after_stop().as_bytes())?;
-    write_all(sink, b"\n")
+    write_all(page, b"kept: ")?;
+    write_decimal(count, page)?;
+    write_all(page, words_after_stop().as_bytes())?;
+    write_all(page, b"\n")
 }
 
 /// Words of a line.
@@ -64,13 +64,13 @@ fn words_after_stop() -> &'static str
 
 /// Writes how many bytes are after STOP, if any.
 #[tactic(auto, using(pickle_io::proofs::Devices::text_steps), unfolding(crate::specs::Line::kept_line))]
-pub fn write_kept_line<S: Page>(count: u64, sink: &mut S) -> Result<(), Failed>
-    ensures { Writes (S.told sink.old) (S.told sink.new) result (kept_line count) }
+pub fn write_kept_line<S: Page>(count: u64, page: &mut S) -> Result<(), Failed>
+    ensures { Writes (S.told page.old) (S.told page.new) result (kept_line count) }
 {
     if count == 0 {
         Ok(())
     } else {
-        write_kept_text(count, sink)
+        write_kept_text(count, page)
     }
 }
 
@@ -84,21 +84,21 @@ fn words_of_protocol() -> &'static str
 
 /// Writes the line of a protocol.
 #[tactic(auto, using(pickle_io::proofs::Devices::text_steps), unfolding(crate::specs::Line::protocol_text))]
-fn write_protocol_text<S: Page>(protocol: u32, sink: &mut S) -> Result<(), Failed>
-    ensures { Writes (S.told sink.old) (S.told sink.new) result (protocol_text protocol) }
+fn write_protocol_text<S: Page>(protocol: u32, page: &mut S) -> Result<(), Failed>
+    ensures { Writes (S.told page.old) (S.told page.new) result (protocol_text protocol) }
 {
-    write_all(sink, words_of_protocol().as_bytes())?;
-    write_decimal(u64::from(protocol), sink)?;
-    write_all(sink, b"\n")
+    write_all(page, words_of_protocol().as_bytes())?;
+    write_decimal(u64::from(protocol), page)?;
+    write_all(page, b"\n")
 }
 
 /// Writes the greatest protocol of the items that were listed, if any was.
 #[tactic(auto, using(pickle_io::proofs::Devices::text_steps), unfolding(crate::specs::Line::protocol_line))]
-pub fn write_protocol<S: Page>(highest: Option<u32>, sink: &mut S) -> Result<(), Failed>
-    ensures { Writes (S.told sink.old) (S.told sink.new) result (protocol_line highest) }
+pub fn write_protocol<S: Page>(highest: Option<u32>, page: &mut S) -> Result<(), Failed>
+    ensures { Writes (S.told page.old) (S.told page.new) result (protocol_line highest) }
 {
     match highest {
         None => Ok(()),
-        Some(protocol) => write_protocol_text(protocol, sink),
+        Some(protocol) => write_protocol_text(protocol, page),
     }
 }

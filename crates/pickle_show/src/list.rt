@@ -176,11 +176,11 @@ fn end_pickle<P: Page>(lean: &mut Lean, opened: &mut Vec<u64>, page: &mut P) -> 
 fn list_part<'a, I: ItemSource<'a>, S: Page>(
     many: bool,
     from: SoFar<I>,
-    sink: &mut S,
+    page: &mut S,
 ) -> Result<Part<SoFar<I>, u8>, TextStop>
-    requires { (begun : Begun) × HasListed many begun I.unread (S.told sink.old) from }
-    ensures ok { (begun : Begun) → HasListed many begun I.unread (S.told sink.old) from → IfOk result (IsPart (HasListed many begun I.unread (S.told sink.new)) (IsListed many begun.unread.loose begun.unread.rest begun.told (S.told sink.new))) }
-    ensures err { (begun : Begun) → HasListed many begun I.unread (S.told sink.old) from → IfErr result (CutsListing many begun.unread.loose begun.unread.rest begun.told (S.told sink.new)) }
+    requires { (begun : Begun) × HasListed many begun I.unread (S.told page.old) from }
+    ensures ok { (begun : Begun) → HasListed many begun I.unread (S.told page.old) from → IfOk result (IsPart (HasListed many begun I.unread (S.told page.new)) (IsListed many begun.unread.loose begun.unread.rest begun.told (S.told page.new))) }
+    ensures err { (begun : Begun) → HasListed many begun I.unread (S.told page.old) from → IfErr result (CutsListing many begun.unread.loose begun.unread.rest begun.told (S.told page.new)) }
     ensures less { IfOk result (IsPart (λ far. length (I.unread far.reader).rest < length (I.unread from.reader).rest) (λ _. ⊤)) }
 {
     let SoFar {
@@ -196,7 +196,7 @@ fn list_part<'a, I: ItemSource<'a>, S: Page>(
         match reader.next() {
             NextRef::Tail(fault) => {
                 let at = offset.number();
-                return answer(write_fault_end(fault, at, highest.get(), sink), 1);
+                return answer(write_fault_end(fault, at, highest.get(), page), 1);
             }
             NextRef::Item(op) => {
                 let row = Row::of_ref(&op);
@@ -207,11 +207,11 @@ fn list_part<'a, I: ItemSource<'a>, S: Page>(
                     highest.raise(op.opcode().protocol());
                     let most = highest.get();
                     return answer(
-                        write_refused_item(&op.again(), &offset, marks, refusal, most, sink),
+                        write_refused_item(&op.again(), &offset, marks, refusal, most, page),
                         1,
                     );
                 }
-                write_item(&op, &offset, row, &lean, &opened, sink)?;
+                write_item(&op, &offset, row, &lean, &opened, page)?;
                 // After the line: next to the row the compiler makes it a jump of its own.
                 highest.raise(op.opcode().protocol());
                 let class = Class::of(op.opcode());
@@ -220,10 +220,10 @@ fn list_part<'a, I: ItemSource<'a>, S: Page>(
                 if !is_stop(op.opcode()) {
                     continue;
                 }
-                end_pickle(&mut lean, &mut opened, sink)?;
+                end_pickle(&mut lean, &mut opened, page)?;
                 let kept = reader.unread_len();
                 if is_last(many, kept) {
-                    return answer(write_last_end(kept, highest.get(), sink), 0);
+                    return answer(write_last_end(kept, highest.get(), page), 0);
                 }
             }
         }
@@ -247,11 +247,11 @@ pub fn list_items<'a, I: ItemSource<'a>, S: Page>(
     alloc: Global,
     many: bool,
     source: I,
-    sink: &mut S,
+    page: &mut S,
 ) -> Result<u8, TextStop>
     requires { GivesDocument many (I.unread source) }
-    ensures ok { IfOk result (IsListed many (I.unread source).loose (I.unread source).rest (S.told sink.old) (S.told sink.new)) }
-    ensures err { IfErr result (CutsListing many (I.unread source).loose (I.unread source).rest (S.told sink.old) (S.told sink.new)) }
+    ensures ok { IfOk result (IsListed many (I.unread source).loose (I.unread source).rest (S.told page.old) (S.told page.new)) }
+    ensures err { IfErr result (CutsListing many (I.unread source).loose (I.unread source).rest (S.told page.old) (S.told page.new)) }
 {
     let mut far = SoFar {
         reader: source,
@@ -262,7 +262,7 @@ pub fn list_items<'a, I: ItemSource<'a>, S: Page>(
         place: 0,
     };
     'parts: loop {
-        match list_part(many, far, sink)? {
+        match list_part(many, far, page)? {
             Part::More(next) => far = next,
             Part::End(status) => return Ok(status),
         }
@@ -276,13 +276,13 @@ pub fn list_bytes<S: Page>(
     many: bool,
     loose: bool,
     bytes: &[u8],
-    sink: &mut S,
+    page: &mut S,
 ) -> Result<u8, TextStop>
     requires { length bytes.now ≤ size_limit }
-    ensures ok { IfOk result (IsListed many loose bytes.now (S.told sink.old) (S.told sink.new)) }
-    ensures err { IfErr result (CutsListing many loose bytes.now (S.told sink.old) (S.told sink.new)) }
+    ensures ok { IfOk result (IsListed many loose bytes.now (S.told page.old) (S.told page.new)) }
+    ensures err { IfErr result (CutsListing many loose bytes.now (S.told page.old) (S.told page.new)) }
 {
-    list_items(alloc, many, Items::new_as(loose, bytes), sink)
+    list_items(alloc, many, Items::new_as(loose, bytes), page)
 }
 
 /// Writes the listing of a document, in its mode, and answers its status: 1 where an item is refused or the tail has a fault, else 0.
@@ -292,11 +292,11 @@ pub fn list_bytes<S: Page>(
 pub fn write_listing<S: Page>(
     alloc: Global,
     document: &Document,
-    sink: &mut S,
+    page: &mut S,
 ) -> Result<u8, TextStop>
-    ensures listed { IfOk result (WroteListing document.now.contents (S.told sink.old) (S.told sink.new)) }
-    ensures stopped { IfErr result (CutListing document.now.contents (S.told sink.old) (S.told sink.new)) }
+    ensures listed { IfOk result (WroteListing document.now.contents (S.told page.old) (S.told page.new)) }
+    ensures stopped { IfErr result (CutListing document.now.contents (S.told page.old) (S.told page.new)) }
 {
     let items = DocumentItems::new(document);
-    list_items(alloc, document.is_many(), items, sink)
+    list_items(alloc, document.is_many(), items, page)
 }

@@ -150,24 +150,24 @@ pub fn stack_pair<'a>(heap: &'a [Object], parts: &[ObjId]) -> NamePair<'a>
 fn write_said<S: Page>(
     spelled: Option<SpelledText<'_>>,
     id: ObjId,
-    sink: &mut S,
+    page: &mut S,
 ) -> Result<(), Failed>
-    ensures { Writes (S.told sink.old) (S.told sink.new) result (said_text (option_map spelled_view spelled.entry) id) }
+    ensures { Writes (S.told page.old) (S.told page.new) result (said_text (option_map spelled_view spelled.entry) id) }
 {
     match spelled {
-        Some(text) => write_text(text.coding, text.bytes, sink),
-        None => write_id(u64::from(id), sink),
+        Some(text) => write_text(text.coding, text.bytes, page),
+        None => write_id(u64::from(id), page),
     }
 }
 
 /// Writes both names as they are said.
 #[tactic(auto, using(pickle_io::proofs::Devices::text_steps), unfolding(crate::specs::Naming::pair_text))]
-fn write_pair<S: Page>(pair: NamePair<'_>, sink: &mut S) -> Result<(), Failed>
-    ensures { Writes (S.told sink.old) (S.told sink.new) result (pair_text (pair_view pair.entry)) }
+fn write_pair<S: Page>(pair: NamePair<'_>, page: &mut S) -> Result<(), Failed>
+    ensures { Writes (S.told page.old) (S.told page.new) result (pair_text (pair_view pair.entry)) }
 {
-    write_said(pair.from, pair.from_id, sink)?;
-    write_all(sink, b" ")?;
-    write_said(pair.name, pair.name_id, sink)
+    write_said(pair.from, pair.from_id, page)?;
+    write_all(page, b" ")?;
+    write_said(pair.name, pair.name_id, page)
 }
 
 /// Whether both names are texts.
@@ -181,17 +181,17 @@ fn are_texts(pair: NamePair<'_>) -> bool
 fn write_said_names<S: Page>(
     object: Option<ObjId>,
     pair: NamePair<'_>,
-    sink: &mut S,
+    page: &mut S,
 ) -> Result<(), Failed>
-    ensures { Writes (S.told sink.old) (S.told sink.new) result (said_names object (pair_view pair.entry)) }
+    ensures { Writes (S.told page.old) (S.told page.new) result (said_names object (pair_view pair.entry)) }
 {
     match object {
-        None => write_pair(pair, sink),
+        None => write_pair(pair, page),
         Some(id) => {
             if are_texts(pair) {
-                write_pair(pair, sink)
+                write_pair(pair, page)
             } else {
-                write_id(u64::from(id), sink)
+                write_id(u64::from(id), page)
             }
         }
     }
@@ -263,24 +263,24 @@ fn by_module(from: &[u8], named: bool) -> Option<Imported<'static>>
 fn write_member<S: Page>(
     name: Option<&[u8]>,
     pair: NamePair<'_>,
-    sink: &mut S,
+    page: &mut S,
 ) -> Result<(), Failed>
-    ensures { Writes (S.told sink.old) (S.told sink.new) result (member_text (option_map (λ n. n.now) name.entry) (pair_view pair.entry)) }
+    ensures { Writes (S.told page.old) (S.told page.new) result (member_text (option_map (λ n. n.now) name.entry) (pair_view pair.entry)) }
 {
     match name {
-        Some(name) => write_quoted(name, sink),
-        None => write_said(pair.name, pair.name_id, sink),
+        Some(name) => write_quoted(name, page),
+        None => write_said(pair.name, pair.name_id, page),
     }
 }
 
 /// Writes what is imported.
 #[tactic(auto, using(pickle_io::proofs::Devices::text_steps), unfolding(crate::specs::Naming::import_text))]
-fn write_import<S: Page>(new: Imported<'_>, pair: NamePair<'_>, sink: &mut S) -> Result<(), Failed>
-    ensures { Writes (S.told sink.old) (S.told sink.new) result (import_text (new_view new.entry) (pair_view pair.entry)) }
+fn write_import<S: Page>(new: Imported<'_>, pair: NamePair<'_>, page: &mut S) -> Result<(), Failed>
+    ensures { Writes (S.told page.old) (S.told page.new) result (import_text (new_view new.entry) (pair_view pair.entry)) }
 {
-    write_quoted(new.from, sink)?;
-    write_all(sink, b" ")?;
-    write_member(new.name, pair, sink)
+    write_quoted(new.from, page)?;
+    write_all(page, b" ")?;
+    write_member(new.name, pair, page)
 }
 
 /// Writes what is imported, and for which names.
@@ -288,13 +288,13 @@ fn write_import<S: Page>(new: Imported<'_>, pair: NamePair<'_>, sink: &mut S) ->
 fn write_import_for<S: Page>(
     new: Imported<'_>,
     pair: NamePair<'_>,
-    sink: &mut S,
+    page: &mut S,
 ) -> Result<(), Failed>
-    ensures { Writes (S.told sink.old) (S.told sink.new) result (import_for (new_view new.entry) (pair_view pair.entry)) }
+    ensures { Writes (S.told page.old) (S.told page.new) result (import_for (new_view new.entry) (pair_view pair.entry)) }
 {
-    write_import(new, pair, sink)?;
-    write_all(sink, b" for ")?;
-    write_pair(pair, sink)
+    write_import(new, pair, page)?;
+    write_all(page, b" for ")?;
+    write_pair(pair, page)
 }
 
 /// Writes what was imported as an object of that number: what it is, or what its names say.
@@ -303,14 +303,14 @@ fn write_known<S: Page>(
     id: ObjId,
     new: Imported<'_>,
     pair: NamePair<'_>,
-    sink: &mut S,
+    page: &mut S,
 ) -> Result<(), Failed>
-    ensures { Writes (S.told sink.old) (S.told sink.new) result (if old then import_text (new_view new.entry) (pair_view pair.entry) else said_names (Some id) (pair_view pair.entry)) }
+    ensures { Writes (S.told page.old) (S.told page.new) result (if old then import_text (new_view new.entry) (pair_view pair.entry) else said_names (Some id) (pair_view pair.entry)) }
 {
     if old {
-        write_import(new, pair, sink)
+        write_import(new, pair, page)
     } else {
-        write_said_names(Some(id), pair, sink)
+        write_said_names(Some(id), pair, page)
     }
 }
 
@@ -319,14 +319,14 @@ fn write_now<S: Page>(
     old: bool,
     new: Imported<'_>,
     pair: NamePair<'_>,
-    sink: &mut S,
+    page: &mut S,
 ) -> Result<(), Failed>
-    ensures { Writes (S.told sink.old) (S.told sink.new) result (if old then import_for (new_view new.entry) (pair_view pair.entry) else said_names None (pair_view pair.entry)) }
+    ensures { Writes (S.told page.old) (S.told page.new) result (if old then import_for (new_view new.entry) (pair_view pair.entry) else said_names None (pair_view pair.entry)) }
 {
     if old {
-        write_import_for(new, pair, sink)
+        write_import_for(new, pair, page)
     } else {
-        write_pair(pair, sink)
+        write_pair(pair, page)
     }
 }
 
@@ -336,17 +336,17 @@ fn write_renamed<S: Page>(
     object: Option<ObjId>,
     new: Imported<'_>,
     pair: NamePair<'_>,
-    sink: &mut S,
+    page: &mut S,
 ) -> Result<(), Failed>
-    ensures { Writes (S.told sink.old) (S.told sink.new) result (renamed_text naming object (new_view new.entry) (pair_view pair.entry)) }
+    ensures { Writes (S.told page.old) (S.told page.new) result (renamed_text naming object (new_view new.entry) (pair_view pair.entry)) }
 {
     match object {
-        None => write_now(naming.old, new, pair, sink),
+        None => write_now(naming.old, new, pair, page),
         Some(id) => {
             if naming.since <= id && pair.name.is_some() {
-                write_known(naming.old, id, new, pair, sink)
+                write_known(naming.old, id, new, pair, page)
             } else {
-                write_id(u64::from(id), sink)
+                write_id(u64::from(id), page)
             }
         }
     }
@@ -358,13 +358,13 @@ fn write_names_by<S: Page>(
     object: Option<ObjId>,
     new: Option<Imported<'_>>,
     pair: NamePair<'_>,
-    sink: &mut S,
+    page: &mut S,
 ) -> Result<(), Failed>
-    ensures { Writes (S.told sink.old) (S.told sink.new) result (names_by naming object (option_map new_view new.entry) (pair_view pair.entry)) }
+    ensures { Writes (S.told page.old) (S.told page.new) result (names_by naming object (option_map new_view new.entry) (pair_view pair.entry)) }
 {
     match new {
-        Some(new) => write_renamed(naming, object, new, pair, sink),
-        None => write_said_names(object, pair, sink),
+        Some(new) => write_renamed(naming, object, new, pair, page),
+        None => write_said_names(object, pair, page),
     }
 }
 
@@ -374,18 +374,18 @@ fn write_decoded_of<S: Page>(
     object: Option<ObjId>,
     from: &[u8],
     pair: NamePair<'_>,
-    sink: &mut S,
+    page: &mut S,
 ) -> Result<(), Failed>
-    ensures { Writes (S.told sink.old) (S.told sink.new) result (names_by naming object (renamed_by (Some from.now) (short_of (option_map spelled_view pair.entry.name)) (may_be_name (option_map spelled_view pair.entry.name))) (pair_view pair.entry)) }
+    ensures { Writes (S.told page.old) (S.told page.new) result (names_by naming object (renamed_by (Some from.now) (short_of (option_map spelled_view pair.entry.name)) (may_be_name (option_map spelled_view pair.entry.name))) (pair_view pair.entry)) }
 {
     match short_of(pair.name) {
         Some(name) => {
             let new = by_both(renamed(from, name.as_slice()));
-            write_names_by(naming, object, new, pair, sink)
+            write_names_by(naming, object, new, pair, page)
         }
         None => {
             let new = by_module(from, may_be_name(pair.name));
-            write_names_by(naming, object, new, pair, sink)
+            write_names_by(naming, object, new, pair, page)
         }
     }
 }
@@ -396,13 +396,13 @@ fn write_names_of<S: Page>(
     object: Option<ObjId>,
     from: &[u8],
     pair: NamePair<'_>,
-    sink: &mut S,
+    page: &mut S,
 ) -> Result<(), Failed>
-    ensures { Writes (S.told sink.old) (S.told sink.new) result (names_by naming object (renamed_by (Some from.now) (short_of (option_map spelled_view pair.entry.name)) (may_be_name (option_map spelled_view pair.entry.name))) (pair_view pair.entry)) }
+    ensures { Writes (S.told page.old) (S.told page.new) result (names_by naming object (renamed_by (Some from.now) (short_of (option_map spelled_view pair.entry.name)) (may_be_name (option_map spelled_view pair.entry.name))) (pair_view pair.entry)) }
 {
     match plain_of(pair.name) {
-        Some(name) => write_names_by(naming, object, by_both(renamed(from, name)), pair, sink),
-        None => write_decoded_of(naming, object, from, pair, sink),
+        Some(name) => write_names_by(naming, object, by_both(renamed(from, name)), pair, page),
+        None => write_decoded_of(naming, object, from, pair, page),
     }
 }
 
@@ -412,13 +412,13 @@ fn write_decoded<S: Page>(
     naming: Naming,
     object: Option<ObjId>,
     pair: NamePair<'_>,
-    sink: &mut S,
+    page: &mut S,
 ) -> Result<(), Failed>
-    ensures { Writes (S.told sink.old) (S.told sink.new) result (names_text naming object (pair_view pair.entry)) }
+    ensures { Writes (S.told page.old) (S.told page.new) result (names_text naming object (pair_view pair.entry)) }
 {
     match short_of(pair.from) {
-        Some(from) => write_names_of(naming, object, from.as_slice(), pair, sink),
-        None => write_said_names(object, pair, sink),
+        Some(from) => write_names_of(naming, object, from.as_slice(), pair, page),
+        None => write_said_names(object, pair, page),
     }
 }
 
@@ -428,13 +428,13 @@ fn write_names_by_rows<S: Page>(
     naming: Naming,
     object: Option<ObjId>,
     pair: NamePair<'_>,
-    sink: &mut S,
+    page: &mut S,
 ) -> Result<(), Failed>
-    ensures { Writes (S.told sink.old) (S.told sink.new) result (names_text naming object (pair_view pair.entry)) }
+    ensures { Writes (S.told page.old) (S.told page.new) result (names_text naming object (pair_view pair.entry)) }
 {
     match plain_of(pair.from) {
-        Some(from) => write_names_of(naming, object, from, pair, sink),
-        None => write_decoded(naming, object, pair, sink),
+        Some(from) => write_names_of(naming, object, from, pair, page),
+        None => write_decoded(naming, object, pair, page),
     }
 }
 
@@ -454,14 +454,14 @@ fn write_names<S: Page>(
     naming: Naming,
     object: Option<ObjId>,
     pair: NamePair<'_>,
-    sink: &mut S,
+    page: &mut S,
 ) -> Result<(), Failed>
-    ensures { Writes (S.told sink.old) (S.told sink.new) result (names_text naming object (pair_view pair.entry)) }
+    ensures { Writes (S.told page.old) (S.told page.new) result (names_text naming object (pair_view pair.entry)) }
 {
     if is_as_said(naming, object) {
-        write_said_names(object, pair, sink)
+        write_said_names(object, pair, page)
     } else {
-        write_names_by_rows(naming, object, pair, sink)
+        write_names_by_rows(naming, object, pair, page)
     }
 }
 
@@ -472,12 +472,12 @@ pub fn write_names_after<S: Page>(
     naming: Naming,
     object: Option<ObjId>,
     pair: NamePair<'_>,
-    sink: &mut S,
+    page: &mut S,
 ) -> Result<(), Failed>
-    ensures { Writes (S.told sink.old) (S.told sink.new) result (keyword.now ⧺ names_text naming object (pair_view pair.entry)) }
+    ensures { Writes (S.told page.old) (S.told page.new) result (keyword.now ⧺ names_text naming object (pair_view pair.entry)) }
 {
-    write_all(sink, keyword)?;
-    write_names(naming, object, pair, sink)
+    write_all(page, keyword)?;
+    write_names(naming, object, pair, page)
 }
 
 /// Writes the names of GLOBAL after a keyword.
@@ -487,11 +487,11 @@ pub fn write_global_after<S: Page>(
     object: Option<ObjId>,
     first: &[u8],
     second: &[u8],
-    sink: &mut S,
+    page: &mut S,
 ) -> Result<(), Failed>
-    ensures { Writes (S.told sink.old) (S.told sink.new) result (keyword.now ⧺ names_text naming object (global_pair first.now second.now)) }
+    ensures { Writes (S.told page.old) (S.told page.new) result (keyword.now ⧺ names_text naming object (global_pair first.now second.now)) }
 {
-    write_names_after(keyword, naming, object, global_pair(first, second), sink)
+    write_names_after(keyword, naming, object, global_pair(first, second), page)
 }
 
 /// Writes the names of STACK_GLOBAL after a keyword.
@@ -501,11 +501,11 @@ pub fn write_stack_after<S: Page>(
     object: Option<ObjId>,
     heap: &[Object],
     parts: &[ObjId],
-    sink: &mut S,
+    page: &mut S,
 ) -> Result<(), Failed>
-    ensures { Writes (S.told sink.old) (S.told sink.new) result (keyword.now ⧺ names_text naming object (stack_pair heap.now parts.now)) }
+    ensures { Writes (S.told page.old) (S.told page.new) result (keyword.now ⧺ names_text naming object (stack_pair heap.now parts.now)) }
 {
-    write_names_after(keyword, naming, object, stack_pair(heap, parts), sink)
+    write_names_after(keyword, naming, object, stack_pair(heap, parts), page)
 }
 
 /// Writes the names of GLOBAL.
@@ -514,11 +514,11 @@ fn write_global<S: Page>(
     id: ObjId,
     first: &[u8],
     second: &[u8],
-    sink: &mut S,
+    page: &mut S,
 ) -> Result<(), Failed>
-    ensures { Writes (S.told sink.old) (S.told sink.new) result (names_text naming (Some id) (global_pair first.now second.now)) }
+    ensures { Writes (S.told page.old) (S.told page.new) result (names_text naming (Some id) (global_pair first.now second.now)) }
 {
-    write_names(naming, Some(id), global_pair(first, second), sink)
+    write_names(naming, Some(id), global_pair(first, second), page)
 }
 
 /// Writes the names of STACK_GLOBAL.
@@ -527,11 +527,11 @@ fn write_stack<S: Page>(
     id: ObjId,
     heap: &[Object],
     parts: &[ObjId],
-    sink: &mut S,
+    page: &mut S,
 ) -> Result<(), Failed>
-    ensures { Writes (S.told sink.old) (S.told sink.new) result (names_text naming (Some id) (stack_pair heap.now parts.now)) }
+    ensures { Writes (S.told page.old) (S.told page.new) result (names_text naming (Some id) (stack_pair heap.now parts.now)) }
 {
-    write_names(naming, Some(id), stack_pair(heap, parts), sink)
+    write_names(naming, Some(id), stack_pair(heap, parts), page)
 }
 
 /// Writes the name of an object of this kind with these parts.
@@ -542,15 +542,15 @@ fn write_kind_name<S: Page>(
     id: ObjId,
     kind: &Kind,
     parts: &[ObjId],
-    sink: &mut S,
+    page: &mut S,
 ) -> Result<(), Failed>
-    ensures { Writes (S.told sink.old) (S.told sink.new) result (kind_name naming heap.now id kind.now parts.now) }
+    ensures { Writes (S.told page.old) (S.told page.new) result (kind_name naming heap.now id kind.now parts.now) }
 {
     match kind {
-        Kind::Global(names) => write_global(naming, id, names.first(), names.second(), sink),
-        Kind::StackGlobal => write_stack(naming, id, heap, parts, sink),
-        Kind::Ext(_) => write_kind(kind, sink),
-        _ => write_id(u64::from(id), sink),
+        Kind::Global(names) => write_global(naming, id, names.first(), names.second(), page),
+        Kind::StackGlobal => write_stack(naming, id, heap, parts, page),
+        Kind::Ext(_) => write_kind(kind, page),
+        _ => write_id(u64::from(id), page),
     }
 }
 
@@ -560,12 +560,12 @@ pub fn write_name<S: Page>(
     naming: Naming,
     heap: &[Object],
     id: ObjId,
-    sink: &mut S,
+    page: &mut S,
 ) -> Result<(), Failed>
-    ensures { Writes (S.told sink.old) (S.told sink.new) result (name_text naming heap.now id) }
+    ensures { Writes (S.told page.old) (S.told page.new) result (name_text naming heap.now id) }
 {
     match heap.get(id as usize) {
-        Some(object) => write_kind_name(naming, heap, id, object.kind(), object.parts(), sink),
-        None => write_id(u64::from(id), sink),
+        Some(object) => write_kind_name(naming, heap, id, object.kind(), object.parts(), page),
+        None => write_id(u64::from(id), page),
     }
 }

@@ -11,77 +11,77 @@ use pickle_ops::{Change, ObjId, Object};
 
 /// Writes one object more, by its number after a blank.
 #[tactic(auto, using(pickle_io::proofs::Devices::text_steps), unfolding(crate::specs::ObjectText::next_text))]
-pub(crate) fn write_next<S: Page>(id: ObjId, sink: &mut S) -> Result<(), Failed>
-    ensures { Writes (S.told sink.old) (S.told sink.new) result (next_text id) }
+pub(crate) fn write_next<S: Page>(id: ObjId, page: &mut S) -> Result<(), Failed>
+    ensures { Writes (S.told page.old) (S.told page.new) result (next_text id) }
 {
-    write_all(sink, b" ")?;
-    write_id(u64::from(id), sink)
+    write_all(page, b" ")?;
+    write_id(u64::from(id), page)
 }
 
 /// Writes objects by their numbers, each after a blank.
 #[tactic(auto, using(pickle_io::proofs::Devices::each_steps))]
-pub fn write_all_next<S: Page>(ids: &[ObjId], sink: &mut S) -> Result<(), Failed>
-    ensures { Writes (S.told sink.old) (S.told sink.new) result (each next_text ids.now) }
+pub fn write_all_next<S: Page>(ids: &[ObjId], page: &mut S) -> Result<(), Failed>
+    ensures { Writes (S.told page.old) (S.told page.new) result (each next_text ids.now) }
 {
     for id in ids {
-        write_next(*id, sink)?;
+        write_next(*id, page)?;
     }
     Ok(())
 }
 
 /// Writes the parts of an object that has some.
 #[tactic(auto, using(pickle_io::proofs::Devices::text_steps), unfolding(crate::specs::ObjectText::some_parts))]
-fn write_some_parts<S: Page>(first: ObjId, rest: &[ObjId], sink: &mut S) -> Result<(), Failed>
-    ensures { Writes (S.told sink.old) (S.told sink.new) result (some_parts first rest.now) }
+fn write_some_parts<S: Page>(first: ObjId, rest: &[ObjId], page: &mut S) -> Result<(), Failed>
+    ensures { Writes (S.told page.old) (S.told page.new) result (some_parts first rest.now) }
 {
-    write_all(sink, b" (")?;
-    write_id(u64::from(first), sink)?;
-    write_all_next(rest, sink)?;
-    write_all(sink, b")")
+    write_all(page, b" (")?;
+    write_id(u64::from(first), page)?;
+    write_all_next(rest, page)?;
+    write_all(page, b")")
 }
 
 /// Writes the parts of an object, if it has any.
 #[tactic(auto, using(pickle_io::proofs::Devices::text_steps))]
-fn write_parts<S: Page>(parts: &[ObjId], sink: &mut S) -> Result<(), Failed>
-    ensures { Writes (S.told sink.old) (S.told sink.new) result (parts_text parts.now) }
+fn write_parts<S: Page>(parts: &[ObjId], page: &mut S) -> Result<(), Failed>
+    ensures { Writes (S.told page.old) (S.told page.new) result (parts_text parts.now) }
 {
     match parts.split_first() {
         None => Ok(()),
-        Some((first, rest)) => write_some_parts(*first, rest, sink),
+        Some((first, rest)) => write_some_parts(*first, rest, page),
     }
 }
 
 /// Writes that a key was mapped to a value.
 #[tactic(auto, using(pickle_io::proofs::Devices::text_steps), unfolding(crate::specs::ObjectText::set_text))]
-fn write_set<S: Page>(key: ObjId, value: ObjId, sink: &mut S) -> Result<(), Failed>
-    ensures { Writes (S.told sink.old) (S.told sink.new) result (set_text key value) }
+fn write_set<S: Page>(key: ObjId, value: ObjId, page: &mut S) -> Result<(), Failed>
+    ensures { Writes (S.told page.old) (S.told page.new) result (set_text key value) }
 {
-    write_all(sink, b" [")?;
-    write_id(u64::from(key), sink)?;
-    write_all(sink, b"]=")?;
-    write_id(u64::from(value), sink)
+    write_all(page, b" [")?;
+    write_id(u64::from(key), page)?;
+    write_all(page, b"]=")?;
+    write_id(u64::from(value), page)
 }
 
 /// Writes what was done to an object.
 #[tactic(auto, using(pickle_io::proofs::Devices::text_steps), unfolding(crate::specs::ObjectText::change_text))]
-fn write_change<S: Page>(change: Change, sink: &mut S) -> Result<(), Failed>
-    ensures { Writes (S.told sink.old) (S.told sink.new) result (change_text change) }
+fn write_change<S: Page>(change: Change, page: &mut S) -> Result<(), Failed>
+    ensures { Writes (S.told page.old) (S.told page.new) result (change_text change) }
 {
     match change {
-        Change::Append(id) => write_with_id(b" +", u64::from(id), sink),
-        Change::SetItem(key, value) => write_set(key, value, sink),
-        Change::Add(id) => write_with_id(b" &", u64::from(id), sink),
-        Change::Build(id) => write_with_id(b" !", u64::from(id), sink),
+        Change::Append(id) => write_with_id(b" +", u64::from(id), page),
+        Change::SetItem(key, value) => write_set(key, value, page),
+        Change::Add(id) => write_with_id(b" &", u64::from(id), page),
+        Change::Build(id) => write_with_id(b" !", u64::from(id), page),
     }
 }
 
 /// Writes all that was done to an object, the earliest first.
 #[tactic(auto, using(pickle_io::proofs::Devices::each_steps))]
-fn write_changes<S: Page>(changes: &[Change], sink: &mut S) -> Result<(), Failed>
-    ensures { Writes (S.told sink.old) (S.told sink.new) result (each change_text changes.now) }
+fn write_changes<S: Page>(changes: &[Change], page: &mut S) -> Result<(), Failed>
+    ensures { Writes (S.told page.old) (S.told page.new) result (each change_text changes.now) }
 {
     for change in changes {
-        write_change(*change, sink)?;
+        write_change(*change, page)?;
     }
     Ok(())
 }
@@ -90,33 +90,33 @@ fn write_changes<S: Page>(changes: &[Change], sink: &mut S) -> Result<(), Failed
 /// done to it: ` +#v` for an item put after the others, ` [#k]=#v` for a key mapped to a value, ` &#v` for a member of a set,
 /// ` !#s` for a state. It takes no memory. `Failed` where the sink fails; a beginning of the text was written then.
 #[tactic(auto, using(pickle_io::proofs::Devices::text_steps), unfolding(crate::specs::ObjectText::object_text))]
-pub fn write_object<S: Page>(id: u64, object: &Object, sink: &mut S) -> Result<(), Failed>
-    ensures { Writes (S.told sink.old) (S.told sink.new) result (object_text id object.now) }
+pub fn write_object<S: Page>(id: u64, object: &Object, page: &mut S) -> Result<(), Failed>
+    ensures { Writes (S.told page.old) (S.told page.new) result (object_text id object.now) }
 {
-    write_id(id, sink)?;
-    write_all(sink, b" ")?;
-    write_kind(object.kind(), sink)?;
-    write_parts(object.parts(), sink)?;
-    write_changes(object.changes(), sink)
+    write_id(id, page)?;
+    write_all(page, b" ")?;
+    write_kind(object.kind(), page)?;
+    write_parts(object.parts(), page)?;
+    write_changes(object.changes(), page)
 }
 
 /// Writes the line of an object.
 #[tactic(auto, using(pickle_io::proofs::Devices::text_steps), unfolding(crate::specs::ObjectText::object_line))]
-fn write_object_line<S: Page>(id: u64, object: &Object, sink: &mut S) -> Result<(), Failed>
-    ensures { Writes (S.told sink.old) (S.told sink.new) result (object_line id object.now) }
+fn write_object_line<S: Page>(id: u64, object: &Object, page: &mut S) -> Result<(), Failed>
+    ensures { Writes (S.told page.old) (S.told page.new) result (object_line id object.now) }
 {
-    write_object(id, object, sink)?;
-    write_all(sink, b"\n")
+    write_object(id, object, page)?;
+    write_all(page, b"\n")
 }
 
 /// Writes the lines of all objects of a machine, by rising number. It takes no memory. `Failed` where the sink fails; a beginning
 /// of the lines was written then.
 #[tactic(auto, unfolding(crate::specs::ObjectText::objects_text))]
-pub fn write_objects<S: Page>(machine: &Machine, sink: &mut S) -> Result<(), Failed>
-    ensures { Writes (S.told sink.old) (S.told sink.new) result (objects_text machine.now.state.heap) }
+pub fn write_objects<S: Page>(machine: &Machine, page: &mut S) -> Result<(), Failed>
+    ensures { Writes (S.told page.old) (S.told page.new) result (objects_text machine.now.state.heap) }
 {
     for (id, object) in machine.heap().iter().enumerate() {
-        write_object_line(id as u64, object, sink)?;
+        write_object_line(id as u64, object, page)?;
     }
     Ok(())
 }

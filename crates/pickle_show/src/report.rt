@@ -38,45 +38,45 @@ pub enum Closing {
 
 /// Writes the line of a result.
 #[tactic(auto, using(pickle_io::proofs::Devices::text_steps), unfolding(crate::specs::Report::result_line))]
-fn write_result<S: Page>(id: ObjId, sink: &mut S) -> Result<(), Failed>
-    ensures { Writes (S.told sink.old) (S.told sink.new) result (result_line id) }
+fn write_result<S: Page>(id: ObjId, page: &mut S) -> Result<(), Failed>
+    ensures { Writes (S.told page.old) (S.told page.new) result (result_line id) }
 {
-    write_all(sink, b"result")?;
-    write_next(id, sink)?;
-    write_all(sink, b"\n")
+    write_all(page, b"result")?;
+    write_next(id, page)?;
+    write_all(page, b"\n")
 }
 
 /// Writes the lines of results.
 #[tactic(auto, using(pickle_io::proofs::Devices::each_steps))]
-fn write_results<S: Page>(ids: &[ObjId], sink: &mut S) -> Result<(), Failed>
-    ensures { Writes (S.told sink.old) (S.told sink.new) result (each result_line ids.now) }
+fn write_results<S: Page>(ids: &[ObjId], page: &mut S) -> Result<(), Failed>
+    ensures { Writes (S.told page.old) (S.told page.new) result (each result_line ids.now) }
 {
     for id in ids {
-        write_result(*id, sink)?;
+        write_result(*id, page)?;
     }
     Ok(())
 }
 
 /// Writes the line of an item that is refused. Where the sink fails, a beginning of the line was written.
 #[tactic(auto, using(pickle_io::proofs::Devices::text_steps), unfolding(crate::specs::Report::refused_item_line))]
-fn write_refused<S: Page>(place: usize, refusal: Refusal, sink: &mut S) -> Result<(), Failed>
-    ensures { Writes (S.told sink.old) (S.told sink.new) result (refused_item_line place refusal) }
+fn write_refused<S: Page>(place: usize, refusal: Refusal, page: &mut S) -> Result<(), Failed>
+    ensures { Writes (S.told page.old) (S.told page.new) result (refused_item_line place refusal) }
 {
-    write_all(sink, b"refused: ")?;
-    write_item_refused(place, refusal, sink)?;
-    write_all(sink, b"\n")
+    write_all(page, b"refused: ")?;
+    write_item_refused(place, refusal, page)?;
+    write_all(page, b"\n")
 }
 
 /// Writes how a run ended: nothing where it stopped, else the line of the refused item or of the fault. It takes no memory.
 /// `Failed` where the sink fails; a beginning of the line was written then.
 #[tactic(auto, unfolding(crate::specs::Report::closing_line))]
-pub fn write_closing<S: Page>(closing: Closing, sink: &mut S) -> Result<(), Failed>
-    ensures { Writes (S.told sink.old) (S.told sink.new) result (closing_line closing) }
+pub fn write_closing<S: Page>(closing: Closing, page: &mut S) -> Result<(), Failed>
+    ensures { Writes (S.told page.old) (S.told page.new) result (closing_line closing) }
 {
     match closing {
         Closing::Stopped => Ok(()),
-        Closing::Refused(place, refusal) => write_refused(place, refusal, sink),
-        Closing::Fault(fault, offset) => write_fault(fault, offset, sink),
+        Closing::Refused(place, refusal) => write_refused(place, refusal, page),
+        Closing::Fault(fault, offset) => write_fault(fault, offset, page),
     }
 }
 
@@ -93,22 +93,22 @@ pub fn status_of(closing: Closing) -> u8
 
 /// Writes all objects, the results, and how the run that made them ended.
 #[tactic(auto, using(pickle_io::proofs::Devices::text_steps), unfolding(crate::specs::Report::report_text))]
-fn write_lines<S: Page>(machine: &Machine, closing: Closing, sink: &mut S) -> Result<(), Failed>
-    ensures { Writes (S.told sink.old) (S.told sink.new) result (report_text machine.now.state.heap machine.now.state.results closing) }
+fn write_lines<S: Page>(machine: &Machine, closing: Closing, page: &mut S) -> Result<(), Failed>
+    ensures { Writes (S.told page.old) (S.told page.new) result (report_text machine.now.state.heap machine.now.state.results closing) }
 {
-    write_objects(machine, sink)?;
-    write_results(machine.results(), sink)?;
-    write_closing(closing, sink)
+    write_objects(machine, page)?;
+    write_results(machine.results(), page)?;
+    write_closing(closing, page)
 }
 
 /// Writes the lines of all objects of a machine, one for each result, and a closing line where something is refused or at fault, and
 /// answers the status: 1 with such a line, else 0. It takes no memory. `Failed` where the sink fails; a beginning of the lines was
 /// written then.
-fn write_report<S: Page>(machine: &Machine, closing: Closing, sink: &mut S) -> Result<u8, Failed>
-    ensures text { Writes (S.told sink.old) (S.told sink.new) result (report_text machine.now.state.heap machine.now.state.results closing) }
+fn write_report<S: Page>(machine: &Machine, closing: Closing, page: &mut S) -> Result<u8, Failed>
+    ensures text { Writes (S.told page.old) (S.told page.new) result (report_text machine.now.state.heap machine.now.state.results closing) }
     ensures status { IfOk result (λ status. status ≡ closing_status closing) }
 {
-    write_lines(machine, closing, sink)?;
+    write_lines(machine, closing, page)?;
     Ok(status_of(closing))
 }
 
@@ -240,16 +240,16 @@ pub fn report_of_items<'a, I: ItemSource<'a>, S: Page>(
     alloc: Global,
     many: bool,
     source: I,
-    sink: &mut S,
+    page: &mut S,
 ) -> Result<u8, TextStop>
     requires { GivesDocument many (I.unread source) }
-    ensures ok { IfOk result (IsReported many (I.unread source).loose (I.unread source).rest (S.told sink.old) (S.told sink.new)) }
-    ensures failed { result ≡ Err TextStop.Failed → BreaksReport many (I.unread source).loose (I.unread source).rest (S.told sink.old) (S.told sink.new) }
-    ensures memory { result ≡ Err TextStop.Memory → sink.new ≡ sink.old }
+    ensures ok { IfOk result (IsReported many (I.unread source).loose (I.unread source).rest (S.told page.old) (S.told page.new)) }
+    ensures failed { result ≡ Err TextStop.Failed → BreaksReport many (I.unread source).loose (I.unread source).rest (S.told page.old) (S.told page.new) }
+    ensures memory { result ≡ Err TextStop.Memory → page.new ≡ page.old }
 {
     let mut machine = Machine::start(alloc, many);
     let closing = run_items(alloc, many, source, &mut machine)?;
-    let status = write_report(&machine, closing, sink)?;
+    let status = write_report(&machine, closing, page)?;
     Ok(status)
 }
 
@@ -261,14 +261,14 @@ pub fn report_of_bytes<S: Page>(
     many: bool,
     loose: bool,
     bytes: &[u8],
-    sink: &mut S,
+    page: &mut S,
 ) -> Result<u8, TextStop>
     requires { length bytes.now ≤ size_limit }
-    ensures ok { IfOk result (IsReported many loose bytes.now (S.told sink.old) (S.told sink.new)) }
-    ensures failed { result ≡ Err TextStop.Failed → BreaksReport many loose bytes.now (S.told sink.old) (S.told sink.new) }
-    ensures memory { result ≡ Err TextStop.Memory → sink.new ≡ sink.old }
+    ensures ok { IfOk result (IsReported many loose bytes.now (S.told page.old) (S.told page.new)) }
+    ensures failed { result ≡ Err TextStop.Failed → BreaksReport many loose bytes.now (S.told page.old) (S.told page.new) }
+    ensures memory { result ≡ Err TextStop.Memory → page.new ≡ page.old }
 {
-    report_of_items(alloc, many, Items::new_as(loose, bytes), sink)
+    report_of_items(alloc, many, Items::new_as(loose, bytes), page)
 }
 
 /// Writes the report of a document, in its mode, and answers its status, as `report_of_items` does.
@@ -278,12 +278,12 @@ pub fn report_of_bytes<S: Page>(
 pub fn write_document_report<S: Page>(
     alloc: Global,
     document: &Document,
-    sink: &mut S,
+    page: &mut S,
 ) -> Result<u8, TextStop>
-    ensures ok { IfOk result (WroteReport document.now.contents (S.told sink.old) (S.told sink.new)) }
-    ensures failed { result ≡ Err TextStop.Failed → BrokeReport document.now.contents (S.told sink.old) (S.told sink.new) }
-    ensures memory { result ≡ Err TextStop.Memory → sink.new ≡ sink.old }
+    ensures ok { IfOk result (WroteReport document.now.contents (S.told page.old) (S.told page.new)) }
+    ensures failed { result ≡ Err TextStop.Failed → BrokeReport document.now.contents (S.told page.old) (S.told page.new) }
+    ensures memory { result ≡ Err TextStop.Memory → page.new ≡ page.old }
 {
     let items = DocumentItems::new(document);
-    report_of_items(alloc, document.is_many(), items, sink)
+    report_of_items(alloc, document.is_many(), items, page)
 }

@@ -32,32 +32,32 @@ fn words_of_refusal(refusal: Refusal) -> &'static str
 
 /// Writes the number after the words of a refusal, if it has one.
 #[tactic(auto, using(pickle_io::proofs::Devices::text_steps), unfolding(crate::specs::ReportLine::refusal_number))]
-fn write_refusal_number<S: Page>(refusal: Refusal, sink: &mut S) -> Result<(), Failed>
-    ensures { Writes (S.told sink.old) (S.told sink.new) result (refusal_number refusal) }
+fn write_refusal_number<S: Page>(refusal: Refusal, page: &mut S) -> Result<(), Failed>
+    ensures { Writes (S.told page.old) (S.told page.new) result (refusal_number refusal) }
 {
     match refusal {
         Refusal::NoMark => Ok(()),
         Refusal::Underflow => Ok(()),
-        Refusal::NoMemoEntry(key) => write_decimal(key, sink),
+        Refusal::NoMemoEntry(key) => write_decimal(key, page),
         Refusal::OddItems => Ok(()),
-        Refusal::WrongKind(id) => write_decimal(u64::from(id), sink),
-        Refusal::BadProtocol(protocol) => write_decimal(protocol, sink),
-        Refusal::BadExtension(code) => write_signed(i128::from(code), sink),
-        Refusal::NotText(id) => write_decimal(u64::from(id), sink),
-        Refusal::NotCallable(id) => write_decimal(u64::from(id), sink),
-        Refusal::NotArguments(id) => write_decimal(u64::from(id), sink),
-        Refusal::NotKeywords(id) => write_decimal(u64::from(id), sink),
+        Refusal::WrongKind(id) => write_decimal(u64::from(id), page),
+        Refusal::BadProtocol(protocol) => write_decimal(protocol, page),
+        Refusal::BadExtension(code) => write_signed(i128::from(code), page),
+        Refusal::NotText(id) => write_decimal(u64::from(id), page),
+        Refusal::NotCallable(id) => write_decimal(u64::from(id), page),
+        Refusal::NotArguments(id) => write_decimal(u64::from(id), page),
+        Refusal::NotKeywords(id) => write_decimal(u64::from(id), page),
         Refusal::Memory => Ok(()),
     }
 }
 
 /// Writes why an item is refused: S1 to S11, or M. Where the sink fails, a beginning of the text was written.
 #[tactic(auto, using(pickle_io::proofs::Devices::text_steps), unfolding(crate::specs::ReportLine::refusal_text))]
-pub fn write_refusal<S: Page>(refusal: Refusal, sink: &mut S) -> Result<(), Failed>
-    ensures { Writes (S.told sink.old) (S.told sink.new) result (refusal_text refusal) }
+pub fn write_refusal<S: Page>(refusal: Refusal, page: &mut S) -> Result<(), Failed>
+    ensures { Writes (S.told page.old) (S.told page.new) result (refusal_text refusal) }
 {
-    write_all(sink, words_of_refusal(refusal).as_bytes())?;
-    write_refusal_number(refusal, sink)
+    write_all(page, words_of_refusal(refusal).as_bytes())?;
+    write_refusal_number(refusal, page)
 }
 
 /// Writes the place of an item that is refused, and why. Where the sink fails, a beginning of the text was written.
@@ -65,13 +65,13 @@ pub fn write_refusal<S: Page>(refusal: Refusal, sink: &mut S) -> Result<(), Fail
 pub fn write_item_refusal<S: Page>(
     place: usize,
     refusal: Refusal,
-    sink: &mut S,
+    page: &mut S,
 ) -> Result<(), Failed>
-    ensures { Writes (S.told sink.old) (S.told sink.new) result (item_text place refusal) }
+    ensures { Writes (S.told page.old) (S.told page.new) result (item_text place refusal) }
 {
-    write_decimal(place as u64, sink)?;
-    write_all(sink, b": ")?;
-    write_refusal(refusal, sink)
+    write_decimal(place as u64, page)?;
+    write_all(page, b": ")?;
+    write_refusal(refusal, page)
 }
 
 /// Writes which item is refused, by its place, and why. Where the sink fails, a beginning of the text was written.
@@ -79,12 +79,12 @@ pub fn write_item_refusal<S: Page>(
 pub(crate) fn write_item_refused<S: Page>(
     place: usize,
     refusal: Refusal,
-    sink: &mut S,
+    page: &mut S,
 ) -> Result<(), Failed>
-    ensures { Writes (S.told sink.old) (S.told sink.new) result (item_refused place refusal) }
+    ensures { Writes (S.told page.old) (S.told page.new) result (item_refused place refusal) }
 {
-    write_all(sink, b"item ")?;
-    write_item_refusal(place, refusal, sink)
+    write_all(page, b"item ")?;
+    write_item_refusal(place, refusal, page)
 }
 
 /// The words of a fault.
@@ -106,41 +106,41 @@ fn words_of_fault(fault: TailFault) -> &'static str
 
 /// Writes the byte that is no opcode's code, where that is the fault.
 #[tactic(auto, using(pickle_io::proofs::Devices::text_steps), unfolding(crate::specs::ReportLine::fault_byte))]
-fn write_fault_byte<S: Page>(fault: TailFault, sink: &mut S) -> Result<(), Failed>
-    ensures { Writes (S.told sink.old) (S.told sink.new) result (fault_byte fault) }
+fn write_fault_byte<S: Page>(fault: TailFault, page: &mut S) -> Result<(), Failed>
+    ensures { Writes (S.told page.old) (S.told page.new) result (fault_byte fault) }
 {
     match fault {
-        TailFault::Front(FrontFault::UnknownOpcode(byte)) => write_hex(&[byte], sink),
+        TailFault::Front(FrontFault::UnknownOpcode(byte)) => write_hex(&[byte], page),
         _ => Ok(()),
     }
 }
 
 /// Writes the fault of a tail, F1 to F8. Where the sink fails, a beginning of the text was written.
 #[tactic(auto, using(pickle_io::proofs::Devices::text_steps), unfolding(crate::specs::ReportLine::fault_text))]
-pub fn write_fault_text<S: Page>(fault: TailFault, sink: &mut S) -> Result<(), Failed>
-    ensures { Writes (S.told sink.old) (S.told sink.new) result (fault_text fault) }
+pub fn write_fault_text<S: Page>(fault: TailFault, page: &mut S) -> Result<(), Failed>
+    ensures { Writes (S.told page.old) (S.told page.new) result (fault_text fault) }
 {
-    write_all(sink, words_of_fault(fault).as_bytes())?;
-    write_fault_byte(fault, sink)
+    write_all(page, words_of_fault(fault).as_bytes())?;
+    write_fault_byte(fault, page)
 }
 
 /// Writes the fault of a tail, and the offset in bytes where the tail begins. Where the sink fails, a beginning of the text was written.
 #[tactic(auto, using(pickle_io::proofs::Devices::text_steps), unfolding(crate::specs::ReportLine::fault_at))]
-pub fn write_fault_at<S: Page>(fault: TailFault, offset: u64, sink: &mut S) -> Result<(), Failed>
-    ensures { Writes (S.told sink.old) (S.told sink.new) result (fault_at fault offset) }
+pub fn write_fault_at<S: Page>(fault: TailFault, offset: u64, page: &mut S) -> Result<(), Failed>
+    ensures { Writes (S.told page.old) (S.told page.new) result (fault_at fault offset) }
 {
-    write_fault_text(fault, sink)?;
-    write_all(sink, b" at ")?;
-    write_decimal(offset, sink)
+    write_fault_text(fault, page)?;
+    write_all(page, b" at ")?;
+    write_decimal(offset, page)
 }
 
 /// Writes the line of the fault of a tail that begins at this offset, in bytes. Where the sink fails, a beginning of the line was
 /// written.
 #[tactic(auto, using(pickle_io::proofs::Devices::text_steps), unfolding(crate::specs::ReportLine::fault_line))]
-pub fn write_fault<S: Page>(fault: TailFault, offset: u64, sink: &mut S) -> Result<(), Failed>
-    ensures { Writes (S.told sink.old) (S.told sink.new) result (fault_line fault offset) }
+pub fn write_fault<S: Page>(fault: TailFault, offset: u64, page: &mut S) -> Result<(), Failed>
+    ensures { Writes (S.told page.old) (S.told page.new) result (fault_line fault offset) }
 {
-    write_all(sink, b"fault: ")?;
-    write_fault_at(fault, offset, sink)?;
-    write_all(sink, b"\n")
+    write_all(page, b"fault: ")?;
+    write_fault_at(fault, offset, page)?;
+    write_all(page, b"\n")
 }

@@ -17,12 +17,12 @@ use std::alloc::Global;
 
 /// Writes the line of an object that is shown elsewhere.
 #[tactic(auto, using(pickle_io::proofs::Devices::text_steps), unfolding(crate::specs::Show::again_line))]
-fn write_again<S: Page>(depth: usize, id: ObjId, sink: &mut S) -> Result<(), Failed>
-    ensures { Writes (S.told sink.old) (S.told sink.new) result (again_line depth id) }
+fn write_again<S: Page>(depth: usize, id: ObjId, page: &mut S) -> Result<(), Failed>
+    ensures { Writes (S.told page.old) (S.told page.new) result (again_line depth id) }
 {
-    write_decimal(depth as u64, sink)?;
-    write_next(id, sink)?;
-    write_all(sink, b"\n")
+    write_decimal(depth as u64, page)?;
+    write_next(id, page)?;
+    write_all(page, b"\n")
 }
 
 /// Writes the line of an object at its first place.
@@ -31,14 +31,14 @@ fn write_first<S: Page>(
     depth: usize,
     id: ObjId,
     object: &Object,
-    sink: &mut S,
+    page: &mut S,
 ) -> Result<(), Failed>
-    ensures { Writes (S.told sink.old) (S.told sink.new) result (first_line depth id object.now) }
+    ensures { Writes (S.told page.old) (S.told page.new) result (first_line depth id object.now) }
 {
-    write_decimal(depth as u64, sink)?;
-    write_all(sink, b" ")?;
-    write_object(u64::from(id), object, sink)?;
-    write_all(sink, b"\n")
+    write_decimal(depth as u64, page)?;
+    write_all(page, b" ")?;
+    write_object(u64::from(id), object, page)?;
+    write_all(page, b"\n")
 }
 
 /// Whether an object was seen; a number that names no object was not.
@@ -69,20 +69,20 @@ fn visit<'a, S: Page>(
     id: ObjId,
     stack: &mut Vec<RemainingContent<'a>>,
     seen: &mut Vec<bool>,
-    sink: &mut S,
+    page: &mut S,
 ) -> Result<(), Failed>
     requires seen { length seen.old.items ≡ length machine.now.state.heap }
     requires room { length stack.old.items + unseen seen.old.items ≤ vec_capacity stack.old }
-    ensures line { Writes (S.told sink.old) (S.told sink.new) result (place_line depth id (found machine.now.state.heap seen.old.items id)) }
+    ensures line { Writes (S.told page.old) (S.told page.new) result (place_line depth id (found machine.now.state.heap seen.old.items id)) }
     ensures seen { OnOk result (seen.new.items ≡ seen_after seen.old.items id (found machine.now.state.heap seen.old.items id)) }
     ensures stack { OnOk result (stack.new.items ≡ stack.old.items ++ entered (found machine.now.state.heap seen.old.items id)) }
     ensures length { OnOk result (length seen.new.items ≡ length seen.old.items) }
     ensures fits { OnOk result (length stack.new.items + unseen seen.new.items ≤ vec_capacity stack.new) }
 {
     match find(machine, seen.as_slice(), id) {
-        None => write_again(depth, id, sink),
+        None => write_again(depth, id, page),
         Some(object) => {
-            write_first(depth, id, object, sink)?;
+            write_first(depth, id, object, page)?;
             seen[id as usize] = true;
             stack.push_reserved(RemainingContent::of(object));
             Ok(())
@@ -95,16 +95,16 @@ fn go_on<'a, S: Page>(
     machine: &'a Machine,
     stack: &mut Vec<RemainingContent<'a>>,
     seen: &mut Vec<bool>,
-    sink: &mut S,
+    page: &mut S,
 ) -> Result<(), Failed>
     requires seen { length seen.old.items ≡ length machine.now.state.heap }
     requires room { length stack.old.items + unseen seen.old.items ≤ vec_capacity stack.old }
-    ensures { Writes (S.told sink.old) (S.told sink.new) result (unwritten_text machine.now.state.heap seen.old.items stack.old.items) }
+    ensures { Writes (S.told page.old) (S.told page.new) result (unwritten_text machine.now.state.heap seen.old.items stack.old.items) }
 {
     while let Some(content) = stack.pop() {
         if let Some((id, rest)) = content.next() {
             stack.push_reserved(rest);
-            visit(machine, stack.len(), id, stack, seen, sink)?;
+            visit(machine, stack.len(), id, stack, seen, page)?;
         }
     }
     Ok(())
@@ -117,15 +117,15 @@ fn walk_from<'a, S: Page>(
     id: ObjId,
     stack: &mut Vec<RemainingContent<'a>>,
     seen: &mut Vec<bool>,
-    sink: &mut S,
+    page: &mut S,
 ) -> Result<(), Failed>
     requires seen { length seen.old.items ≡ length machine.now.state.heap }
     requires room { unseen seen.old.items ≤ vec_capacity stack.old }
     requires empty { stack.old.items ≡ [] }
-    ensures { Writes (S.told sink.old) (S.told sink.new) result (walk_text machine.now.state.heap seen.old.items id) }
+    ensures { Writes (S.told page.old) (S.told page.new) result (walk_text machine.now.state.heap seen.old.items id) }
 {
-    visit(machine, 0, id, stack, seen, sink)?;
-    go_on(machine, stack, seen, sink)
+    visit(machine, 0, id, stack, seen, page)?;
+    go_on(machine, stack, seen, page)
 }
 
 /// The marks of this many objects, of which none was seen. An error where memory runs out.
@@ -150,14 +150,14 @@ pub fn write_show<S: Page>(
     alloc: Global,
     machine: &Machine,
     id: ObjId,
-    sink: &mut S,
+    page: &mut S,
 ) -> Result<(), TextStop>
-    ensures ok { OnOk result (Wrote (S.told sink.old) (S.told sink.new) (show_text machine.now.state.heap id)) }
-    ensures failed { result ≡ Err TextStop.Failed → Broke (S.told sink.old) (S.told sink.new) (show_text machine.now.state.heap id) }
-    ensures memory { result ≡ Err TextStop.Memory → sink.new ≡ sink.old }
+    ensures ok { OnOk result (Wrote (S.told page.old) (S.told page.new) (show_text machine.now.state.heap id)) }
+    ensures failed { result ≡ Err TextStop.Failed → Broke (S.told page.old) (S.told page.new) (show_text machine.now.state.heap id) }
+    ensures memory { result ≡ Err TextStop.Memory → page.new ≡ page.old }
 {
     let mut stack = Vec::with_capacity(alloc, machine.objects())?;
     let mut seen = none_seen(alloc, machine.objects())?;
-    walk_from(machine, id, &mut stack, &mut seen, sink)?;
+    walk_from(machine, id, &mut stack, &mut seen, page)?;
     Ok(())
 }

@@ -14,19 +14,19 @@ use pickle_machine::Machine;
 
 /// Writes a mark, by the place of its item.
 #[tactic(auto, using(pickle_io::proofs::Devices::text_steps), unfolding(crate::specs::StackText::stack_mark_text))]
-fn write_mark<S: Page>(place: usize, sink: &mut S) -> Result<(), Failed>
-    ensures { Writes (S.told sink.old) (S.told sink.new) result (stack_mark_text place) }
+fn write_mark<S: Page>(place: usize, page: &mut S) -> Result<(), Failed>
+    ensures { Writes (S.told page.old) (S.told page.new) result (stack_mark_text place) }
 {
-    write_all(sink, b" (")?;
-    write_decimal(place as u64, sink)
+    write_all(page, b" (")?;
+    write_decimal(place as u64, page)
 }
 
 /// Writes the object that has this many below it on the stack, if there is one.
-fn write_at<S: Page>(machine: &Machine, below: usize, sink: &mut S) -> Result<(), Failed>
-    ensures { Writes (S.told sink.old) (S.told sink.new) result (each next_text (option_to_list (slice_get (stack_of machine.now.state) below))) }
+fn write_at<S: Page>(machine: &Machine, below: usize, page: &mut S) -> Result<(), Failed>
+    ensures { Writes (S.told page.old) (S.told page.new) result (each next_text (option_to_list (slice_get (stack_of machine.now.state) below))) }
 {
     match machine.stack_at(below) {
-        Some(id) => write_next(id, sink),
+        Some(id) => write_next(id, page),
         None => Ok(()),
     }
 }
@@ -36,12 +36,12 @@ fn write_between<S: Page>(
     machine: &Machine,
     from: usize,
     to: usize,
-    sink: &mut S,
+    page: &mut S,
 ) -> Result<(), Failed>
-    ensures { Writes (S.told sink.old) (S.told sink.new) result (each next_text (between from to (stack_of machine.now.state))) }
+    ensures { Writes (S.told page.old) (S.told page.new) result (each next_text (between from to (stack_of machine.now.state))) }
 {
     for below in from..to {
-        write_at(machine, below, sink)?;
+        write_at(machine, below, page)?;
     }
     Ok(())
 }
@@ -53,17 +53,17 @@ fn write_section<S: Page>(
     from: usize,
     to: usize,
     mark: usize,
-    sink: &mut S,
+    page: &mut S,
 ) -> Result<(), Failed>
-    ensures { Writes (S.told sink.old) (S.told sink.new) result (section_text (between from to (stack_of machine.now.state)) mark) }
+    ensures { Writes (S.told page.old) (S.told page.new) result (section_text (between from to (stack_of machine.now.state)) mark) }
 {
-    write_between(machine, from, to, sink)?;
-    write_mark(mark, sink)
+    write_between(machine, from, to, page)?;
+    write_mark(mark, page)
 }
 
 /// Writes the sections of the stack under the top one, from the lowest, and answers how many objects they have.
-fn write_marked<S: Page>(machine: &Machine, sink: &mut S) -> Result<usize, Failed>
-    ensures text { Writes (S.told sink.old) (S.told sink.new) result (marked_text machine.now.state.marked) }
+fn write_marked<S: Page>(machine: &Machine, page: &mut S) -> Result<usize, Failed>
+    ensures text { Writes (S.told page.old) (S.told page.new) result (marked_text machine.now.state.marked) }
     ensures below { IfOk result (λ n. n ≡ length (objects_below machine.now.state.marked)) }
 {
     let mut from = 0;
@@ -71,28 +71,28 @@ fn write_marked<S: Page>(machine: &Machine, sink: &mut S) -> Result<usize, Faile
         let Some((mark, to)) = machine.mark(i) else {
             unreachable!();
         };
-        write_section(machine, from, to, mark, sink)?;
+        write_section(machine, from, to, mark, page)?;
         from = to;
     }
     Ok(from)
 }
 
 /// Writes the objects of the top section, below which there are this many.
-fn write_top<S: Page>(machine: &Machine, below: usize, sink: &mut S) -> Result<(), Failed>
+fn write_top<S: Page>(machine: &Machine, below: usize, page: &mut S) -> Result<(), Failed>
     requires { below ≡ length (objects_below machine.now.state.marked) }
-    ensures { Writes (S.told sink.old) (S.told sink.new) result (each next_text machine.now.state.top) }
+    ensures { Writes (S.told page.old) (S.told page.new) result (each next_text machine.now.state.top) }
 {
-    write_between(machine, below, machine.stack_len(), sink)
+    write_between(machine, below, machine.stack_len(), page)
 }
 
 /// Writes the stack of a machine: `stack`, and from the bottom ` #n` for an object and ` (k` for a mark of item k. It takes no
 /// memory. `Failed` where the sink fails; a beginning of the line was written then.
 #[tactic(auto, using(pickle_io::proofs::Devices::text_steps), unfolding(crate::specs::StackText::stack_text))]
-pub fn write_stack<S: Page>(machine: &Machine, sink: &mut S) -> Result<(), Failed>
-    ensures { Writes (S.told sink.old) (S.told sink.new) result (stack_text machine.now.state) }
+pub fn write_stack<S: Page>(machine: &Machine, page: &mut S) -> Result<(), Failed>
+    ensures { Writes (S.told page.old) (S.told page.new) result (stack_text machine.now.state) }
 {
-    write_all(sink, b"stack")?;
-    let below = write_marked(machine, sink)?;
-    write_top(machine, below, sink)?;
-    write_all(sink, b"\n")
+    write_all(page, b"stack")?;
+    let below = write_marked(machine, page)?;
+    write_top(machine, below, page)?;
+    write_all(page, b"\n")
 }

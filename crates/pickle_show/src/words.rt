@@ -13,29 +13,29 @@ use pickle_ops::{write_float, write_long};
 
 /// Writes an object by its number: `#n`.
 #[tactic(auto, using(pickle_io::proofs::Devices::text_steps), unfolding(crate::specs::ObjectText::id_text))]
-pub fn write_id<S: Page>(id: u64, sink: &mut S) -> Result<(), Failed>
-    ensures { Writes (S.told sink.old) (S.told sink.new) result (id_text id) }
+pub fn write_id<S: Page>(id: u64, page: &mut S) -> Result<(), Failed>
+    ensures { Writes (S.told page.old) (S.told page.new) result (id_text id) }
 {
-    write_all(sink, b"#")?;
-    write_decimal(id, sink)
+    write_all(page, b"#")?;
+    write_decimal(id, page)
 }
 
 /// Writes a word and an object by its number.
 #[tactic(auto, using(pickle_io::proofs::Devices::text_steps))]
-pub fn write_with_id<S: Page>(word: &[u8], id: u64, sink: &mut S) -> Result<(), Failed>
-    ensures { Writes (S.told sink.old) (S.told sink.new) result (word.now ⧺ id_text id) }
+pub fn write_with_id<S: Page>(word: &[u8], id: u64, page: &mut S) -> Result<(), Failed>
+    ensures { Writes (S.told page.old) (S.told page.new) result (word.now ⧺ id_text id) }
 {
-    write_all(sink, word)?;
-    write_id(id, sink)
+    write_all(page, word)?;
+    write_id(id, page)
 }
 
 /// Writes a word and a text in quotes.
 #[tactic(auto, using(pickle_io::proofs::Devices::text_steps))]
-pub fn write_with_text<S: Page>(word: &[u8], text: &[u8], sink: &mut S) -> Result<(), Failed>
-    ensures { Writes (S.told sink.old) (S.told sink.new) result (word.now ⧺ quoted text.now) }
+pub fn write_with_text<S: Page>(word: &[u8], text: &[u8], page: &mut S) -> Result<(), Failed>
+    ensures { Writes (S.told page.old) (S.told page.new) result (word.now ⧺ quoted text.now) }
 {
-    write_all(sink, word)?;
-    write_quoted(text, sink)
+    write_all(page, word)?;
+    write_quoted(text, page)
 }
 
 /// Writes a word and two texts in quotes.
@@ -44,32 +44,32 @@ pub fn write_with_texts<S: Page>(
     word: &[u8],
     first: &[u8],
     second: &[u8],
-    sink: &mut S,
+    page: &mut S,
 ) -> Result<(), Failed>
-    ensures { Writes (S.told sink.old) (S.told sink.new) result (word.now ⧺ quoted first.now ⧺ codes " " ⧺ quoted second.now) }
+    ensures { Writes (S.told page.old) (S.told page.new) result (word.now ⧺ quoted first.now ⧺ codes " " ⧺ quoted second.now) }
 {
-    write_all(sink, word)?;
-    write_quoted(first, sink)?;
-    write_all(sink, b" ")?;
-    write_quoted(second, sink)
+    write_all(page, word)?;
+    write_quoted(first, page)?;
+    write_all(page, b" ")?;
+    write_quoted(second, page)
 }
 
 /// Writes a word and a number with its sign.
 #[tactic(auto, using(pickle_io::proofs::Devices::text_steps))]
-pub fn write_with_signed<S: Page>(word: &[u8], number: i64, sink: &mut S) -> Result<(), Failed>
-    ensures { Writes (S.told sink.old) (S.told sink.new) result (word.now ⧺ signed_decimal number) }
+pub fn write_with_signed<S: Page>(word: &[u8], number: i64, page: &mut S) -> Result<(), Failed>
+    ensures { Writes (S.told page.old) (S.told page.new) result (word.now ⧺ signed_decimal number) }
 {
-    write_all(sink, word)?;
-    write_signed(i128::from(number), sink)
+    write_all(page, word)?;
+    write_signed(i128::from(number), page)
 }
 
 /// Writes a word and a number.
 #[tactic(auto, using(pickle_io::proofs::Devices::text_steps))]
-pub fn write_with_number<S: Page>(word: &[u8], number: u64, sink: &mut S) -> Result<(), Failed>
-    ensures { Writes (S.told sink.old) (S.told sink.new) result (word.now ⧺ decimal number) }
+pub fn write_with_number<S: Page>(word: &[u8], number: u64, page: &mut S) -> Result<(), Failed>
+    ensures { Writes (S.told page.old) (S.told page.new) result (word.now ⧺ decimal number) }
 {
-    write_all(sink, word)?;
-    write_decimal(number, sink)
+    write_all(page, word)?;
+    write_decimal(number, page)
 }
 
 /// Writes a word and a long number, whose bytes are given as its opcode has them.
@@ -77,12 +77,12 @@ pub fn write_with_number<S: Page>(word: &[u8], number: u64, sink: &mut S) -> Res
 pub(crate) fn write_with_long<S: Page>(
     word: &[u8],
     bytes: &[u8],
-    sink: &mut S,
+    page: &mut S,
 ) -> Result<(), Failed>
-    ensures { Writes (S.told sink.old) (S.told sink.new) result (word.now ⧺ long_text bytes.now) }
+    ensures { Writes (S.told page.old) (S.told page.new) result (word.now ⧺ long_text bytes.now) }
 {
-    write_all(sink, word)?;
-    write_long(bytes, sink)
+    write_all(page, word)?;
+    write_long(bytes, page)
 }
 
 /// Writes a word and a floating point number, whose eight bytes are given.
@@ -90,10 +90,10 @@ pub(crate) fn write_with_long<S: Page>(
 pub(crate) fn write_with_float<S: Page>(
     word: &[u8],
     bytes: &[u8],
-    sink: &mut S,
+    page: &mut S,
 ) -> Result<(), Failed>
-    ensures { Writes (S.told sink.old) (S.told sink.new) result (word.now ⧺ float_text bytes.now) }
+    ensures { Writes (S.told page.old) (S.told page.new) result (word.now ⧺ float_text bytes.now) }
 {
-    write_all(sink, word)?;
-    write_float(bytes, sink)
+    write_all(page, word)?;
+    write_float(bytes, page)
 }

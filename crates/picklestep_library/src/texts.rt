@@ -78,12 +78,12 @@ fn write_whole<S: Page>(
     pickles: Pickles,
     detail: Detail,
     bytes: &[u8],
-    sink: &mut S,
+    page: &mut S,
 ) -> Result<u8, Stop>
-    ensures { IfOk result (CompletesFile (manner detail []) pickles bytes.now (S.told sink.old) (S.told sink.new)) }
+    ensures { IfOk result (CompletesFile (manner detail []) pickles bytes.now (S.told page.old) (S.told page.new)) }
 {
     let text = Text::Calls(pickles, detail);
-    write_text(alloc, text, false, false, bytes, sink)
+    write_text(alloc, text, false, false, bytes, page)
 }
 
 /// Writes what is imported and called by what is left of an input without its holes. Where it has none it is not copied.
@@ -93,16 +93,16 @@ fn write_left<S: Page>(
     detail: Detail,
     holes: &Holes,
     bytes: &[u8],
-    sink: &mut S,
+    page: &mut S,
 ) -> Result<u8, Stop>
-    ensures { IfOk result (CompletesFile (manner detail holes.now) pickles bytes.now (S.told sink.old) (S.told sink.new)) }
+    ensures { IfOk result (CompletesFile (manner detail holes.now) pickles bytes.now (S.told page.old) (S.told page.new)) }
 {
     match holes.as_slice() {
-        [] => write_whole(alloc, pickles, detail, bytes, sink),
+        [] => write_whole(alloc, pickles, detail, bytes, page),
         _ => {
             let mut file = Vec::from_slice(alloc, bytes)?;
             let left = file.as_mut_slice();
-            calls_of_file(alloc, pickles, detail, holes, left, sink)
+            calls_of_file(alloc, pickles, detail, holes, left, page)
         }
     }
 }

@@ -5,38 +5,38 @@ use pickle_io::{Failed, Page, write_all, write_decimal};
 use pickle_session::{Past, Session};
 
 /// Writes a blank and a number.
-fn write_number<S: Page>(number: usize, sink: &mut S) -> Result<(), Failed> {
-    write_all(sink, b" ")?;
-    write_decimal(number as u64, sink)
+fn write_number<S: Page>(number: usize, page: &mut S) -> Result<(), Failed> {
+    write_all(page, b" ")?;
+    write_decimal(number as u64, page)
 }
 
 /// Writes what a session shows, but for its bytes, records and counters: the cursor and the number of items, how many edits
 /// can be undone and made again, the places with a breakpoint, and the state of the machine.
-pub fn write_session<P: Past, S: Page>(session: &Session<P>, sink: &mut S) -> Result<(), Failed> {
-    write_all(sink, b"at")?;
-    write_number(session.cursor(), sink)?;
-    write_all(sink, b" of")?;
-    write_number(session.document().len(), sink)?;
+pub fn write_session<P: Past, S: Page>(session: &Session<P>, page: &mut S) -> Result<(), Failed> {
+    write_all(page, b"at")?;
+    write_number(session.cursor(), page)?;
+    write_all(page, b" of")?;
+    write_number(session.document().len(), page)?;
     if session.undos() > 0 || session.redos() > 0 {
-        write_all(sink, b", edits")?;
-        write_number(session.undos(), sink)?;
-        write_number(session.redos(), sink)?;
+        write_all(page, b", edits")?;
+        write_number(session.undos(), page)?;
+        write_number(session.redos(), page)?;
     }
-    write_breaks(session, sink)?;
-    write_all(sink, b": ")?;
-    write_state(session.machine(), sink)
+    write_breaks(session, page)?;
+    write_all(page, b": ")?;
+    write_state(session.machine(), page)
 }
 
 /// Writes the places with a breakpoint. There is none at the end.
-fn write_breaks<P: Past, S: Page>(session: &Session<P>, sink: &mut S) -> Result<(), Failed> {
+fn write_breaks<P: Past, S: Page>(session: &Session<P>, page: &mut S) -> Result<(), Failed> {
     let mut is_first = true;
     for place in 0..=session.document().len() {
         if session.has_break(place) {
             if is_first {
-                write_all(sink, b", breaks")?;
+                write_all(page, b", breaks")?;
             }
             is_first = false;
-            write_number(place, sink)?;
+            write_number(place, page)?;
         }
     }
     Ok(())

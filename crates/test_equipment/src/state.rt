@@ -10,9 +10,9 @@ use pickle_machine::{Change, Kind, Machine, ObjId, Object};
 use pickle_ops::Payload;
 
 /// Writes signs and the number of an object after them.
-fn write_id<S: Page>(signs: &str, id: ObjId, sink: &mut S) -> Result<(), Failed> {
-    write_all(sink, signs.as_bytes())?;
-    write_decimal(u64::from(id), sink)
+fn write_id<S: Page>(signs: &str, id: ObjId, page: &mut S) -> Result<(), Failed> {
+    write_all(page, signs.as_bytes())?;
+    write_decimal(u64::from(id), page)
 }
 
 /// The word of a kind, after a blank.
@@ -54,90 +54,90 @@ fn word_of(kind: &Kind) -> &'static str {
 }
 
 /// Writes a text in quotes, after a blank.
-fn write_text<S: Page>(text: &[u8], sink: &mut S) -> Result<(), Failed> {
-    write_all(sink, b" ")?;
-    write_quoted(text, sink)
+fn write_text<S: Page>(text: &[u8], page: &mut S) -> Result<(), Failed> {
+    write_all(page, b" ")?;
+    write_quoted(text, page)
 }
 
 /// Writes a payload in quotes, after a blank.
-fn write_payload<S: Page>(payload: &Payload, sink: &mut S) -> Result<(), Failed> {
-    write_text(payload.as_slice(), sink)
+fn write_payload<S: Page>(payload: &Payload, page: &mut S) -> Result<(), Failed> {
+    write_text(payload.as_slice(), page)
 }
 
 /// Writes the bytes of a number in hexadecimal digits, after a blank and an `x`.
-fn write_bytes<S: Page>(payload: &Payload, sink: &mut S) -> Result<(), Failed> {
-    write_all(sink, b" x")?;
-    write_hex(payload.as_slice(), sink)
+fn write_bytes<S: Page>(payload: &Payload, page: &mut S) -> Result<(), Failed> {
+    write_all(page, b" x")?;
+    write_hex(payload.as_slice(), page)
 }
 
 /// Writes what a kind holds.
-fn write_content<S: Page>(kind: &Kind, sink: &mut S) -> Result<(), Failed> {
+fn write_content<S: Page>(kind: &Kind, page: &mut S) -> Result<(), Failed> {
     match kind {
         Kind::Int(number) | Kind::Ext(number) => {
-            write_all(sink, b" ")?;
-            write_signed(i128::from(*number), sink)
+            write_all(page, b" ")?;
+            write_signed(i128::from(*number), page)
         }
         Kind::Buffer(number) => {
-            write_all(sink, b" ")?;
-            write_decimal(*number, sink)
+            write_all(page, b" ")?;
+            write_decimal(*number, page)
         }
-        Kind::Long(bytes) | Kind::Float(bytes) => write_bytes(bytes, sink),
+        Kind::Long(bytes) | Kind::Float(bytes) => write_bytes(bytes, page),
         Kind::IntLine(text) | Kind::LongLine(text) | Kind::FloatLine(text) => {
-            write_payload(text, sink)
+            write_payload(text, page)
         }
-        Kind::LegacyString(text) | Kind::LegacyLine(text) => write_payload(text, sink),
-        Kind::Text(text) | Kind::TextLine(text) => write_payload(text, sink),
-        Kind::Bytes(text) | Kind::ByteArray(text) => write_payload(text, sink),
-        Kind::PersistentLine(text) => write_payload(text, sink),
+        Kind::LegacyString(text) | Kind::LegacyLine(text) => write_payload(text, page),
+        Kind::Text(text) | Kind::TextLine(text) => write_payload(text, page),
+        Kind::Bytes(text) | Kind::ByteArray(text) => write_payload(text, page),
+        Kind::PersistentLine(text) => write_payload(text, page),
         Kind::Global(texts) | Kind::Inst(texts) => {
-            write_text(texts.first(), sink)?;
-            write_text(texts.second(), sink)
+            write_text(texts.first(), page)?;
+            write_text(texts.second(), page)
         }
         _ => Ok(()),
     }
 }
 
 /// Writes what was done to an object.
-fn write_change<S: Page>(change: Change, sink: &mut S) -> Result<(), Failed> {
+fn write_change<S: Page>(change: Change, page: &mut S) -> Result<(), Failed> {
     match change {
-        Change::Append(id) => write_id(" +#", id, sink),
+        Change::Append(id) => write_id(" +#", id, page),
         Change::SetItem(key, value) => {
-            write_id(" [#", key, sink)?;
-            write_id("]=#", value, sink)
+            write_id(" [#", key, page)?;
+            write_id("]=#", value, page)
         }
-        Change::Add(id) => write_id(" &#", id, sink),
-        Change::Build(id) => write_id(" !#", id, sink),
+        Change::Add(id) => write_id(" &#", id, page),
+        Change::Build(id) => write_id(" !#", id, page),
     }
 }
 
 /// Writes an object: its kind, its parts, and what was done to it.
-fn write_object<S: Page>(object: &Object, sink: &mut S) -> Result<(), Failed> {
-    write_all(sink, word_of(object.kind()).as_bytes())?;
-    write_content(object.kind(), sink)?;
+fn write_object<S: Page>(object: &Object, page: &mut S) -> Result<(), Failed> {
+    write_all(page, word_of(object.kind()).as_bytes())?;
+    write_content(object.kind(), page)?;
     for (k, part) in object.parts().iter().enumerate() {
-        write_id(if k == 0 { " (#" } else { " #" }, *part, sink)?;
+        write_id(if k == 0 { " (#" } else { " #" }, *part, page)?;
     }
     if !object.parts().is_empty() {
-        write_all(sink, b")")?;
+        write_all(page, b")")?;
     }
     for change in object.changes() {
-        write_change(*change, sink)?;
+        write_change(*change, page)?;
     }
     Ok(())
 }
 
 /// Writes all objects.
-fn write_objects<S: Page>(machine: &Machine, sink: &mut S) -> Result<(), Failed> {
+fn write_objects<S: Page>(machine: &Machine, page: &mut S) -> Result<(), Failed> {
     for k in 0..machine.objects() {
         let id = u32::try_from(k).unwrap_or(u32::MAX);
-        write_id(if k == 0 { "#" } else { "; #" }, id, sink)?;
+        write_id(if k == 0 { "#" } else { "; #" }, id, page)?;
         match machine.object(id) {
-            Some(object) => write_object(object, sink)?,
-            None => write_all(sink, b" is not there")?,
+            Some(object) => write_object(object, page)?,
+            None => write_all(page, b" is not there")?,
         }
     }
     if machine.objects() > 0 {
-        write_all(sink, b"; ")?;
+        write_all(page, b"; ")?;
     }
     Ok(())
 }
@@ -147,13 +147,13 @@ fn write_marks<S: Page>(
     machine: &Machine,
     from: usize,
     height: usize,
-    sink: &mut S,
+    page: &mut S,
 ) -> Result<usize, Failed> {
     for k in from..machine.marks_len() {
         match machine.mark(k) {
             Some((place, below)) if below == height => {
-                write_all(sink, b" (")?;
-                write_decimal(place as u64, sink)?;
+                write_all(page, b" (")?;
+                write_decimal(place as u64, page)?;
             }
             _ => return Ok(k),
         }
@@ -162,18 +162,18 @@ fn write_marks<S: Page>(
 }
 
 /// Writes the stack from the bottom, with each mark by its place.
-fn write_stack<S: Page>(machine: &Machine, sink: &mut S) -> Result<(), Failed> {
-    write_all(sink, b"stack")?;
-    let mut mark = write_marks(machine, 0, 0, sink)?;
+fn write_stack<S: Page>(machine: &Machine, page: &mut S) -> Result<(), Failed> {
+    write_all(page, b"stack")?;
+    let mut mark = write_marks(machine, 0, 0, page)?;
     for k in 0..machine.stack_len() {
         match machine.stack_at(k) {
-            Some(id) => write_id(" #", id, sink)?,
-            None => write_all(sink, b" is not there")?,
+            Some(id) => write_id(" #", id, page)?,
+            None => write_all(page, b" is not there")?,
         }
-        mark = write_marks(machine, mark, k.saturating_add(1), sink)?;
+        mark = write_marks(machine, mark, k.saturating_add(1), page)?;
     }
     if mark < machine.marks_len() {
-        write_all(sink, b" and marks out of order")?;
+        write_all(page, b" and marks out of order")?;
     }
     Ok(())
 }
@@ -183,47 +183,47 @@ fn write_entry<S: Page>(
     machine: &Machine,
     key: u64,
     id: ObjId,
-    sink: &mut S,
+    page: &mut S,
 ) -> Result<(), Failed> {
-    write_all(sink, b" ")?;
-    write_decimal(key, sink)?;
-    write_id("=#", id, sink)?;
+    write_all(page, b" ")?;
+    write_decimal(key, page)?;
+    write_id("=#", id, page)?;
     if machine.memo(key) != Some(id) {
-        write_all(sink, b" by one reader alone")?;
+        write_all(page, b" by one reader alone")?;
     }
     Ok(())
 }
 
 /// Writes the memo by rising key.
-fn write_memo<S: Page>(machine: &Machine, sink: &mut S) -> Result<(), Failed> {
+fn write_memo<S: Page>(machine: &Machine, page: &mut S) -> Result<(), Failed> {
     if machine.memo_len() > 0 {
-        write_all(sink, b"; memo")?;
+        write_all(page, b"; memo")?;
     }
     let (slots, map) = machine.memo_entries().parts();
     for key in 0..slots.len() {
         if let Some(id) = slots[key] {
-            write_entry(machine, key as u64, id, sink)?;
+            write_entry(machine, key as u64, id, page)?;
         }
     }
     for (key, id) in map {
-        write_entry(machine, *key, *id, sink)?;
+        write_entry(machine, *key, *id, page)?;
     }
     Ok(())
 }
 
 /// Writes the latest result, and where there are several, all of them.
-fn write_results<S: Page>(machine: &Machine, sink: &mut S) -> Result<(), Failed> {
+fn write_results<S: Page>(machine: &Machine, page: &mut S) -> Result<(), Failed> {
     if let Some(id) = machine.result() {
-        write_id("; result #", id, sink)?;
+        write_id("; result #", id, page)?;
     }
     if machine.results().len() > 1 {
-        write_all(sink, b"; results")?;
+        write_all(page, b"; results")?;
         for id in machine.results() {
-            write_id(" #", *id, sink)?;
+            write_id(" #", *id, page)?;
         }
     }
     if machine.results().last().copied() != machine.result() {
-        write_all(sink, b"; and another is the latest")?;
+        write_all(page, b"; and another is the latest")?;
     }
     Ok(())
 }
@@ -239,17 +239,17 @@ fn ends(machine: &Machine) -> bool {
 }
 
 /// Writes the whole state of a machine.
-pub fn write_state<S: Page>(machine: &Machine, sink: &mut S) -> Result<(), Failed> {
-    write_objects(machine, sink)?;
-    write_stack(machine, sink)?;
-    write_memo(machine, sink)?;
+pub fn write_state<S: Page>(machine: &Machine, page: &mut S) -> Result<(), Failed> {
+    write_objects(machine, page)?;
+    write_stack(machine, page)?;
+    write_memo(machine, page)?;
     if machine.buffers() > 0 {
-        write_all(sink, b"; buffers ")?;
-        write_decimal(machine.buffers(), sink)?;
+        write_all(page, b"; buffers ")?;
+        write_decimal(machine.buffers(), page)?;
     }
-    write_results(machine, sink)?;
+    write_results(machine, page)?;
     if !ends(machine) {
-        write_all(sink, b"; and readers past the end")?;
+        write_all(page, b"; and readers past the end")?;
     }
     Ok(())
 }

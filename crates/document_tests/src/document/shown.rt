@@ -147,32 +147,32 @@ fn code_of(fault: TailFault) -> &'static str {
 }
 
 /// Writes how reading ended.
-fn write_end<S: Page>(end: End, sink: &mut S) -> Result<(), Failed> {
+fn write_end<S: Page>(end: End, page: &mut S) -> Result<(), Failed> {
     let End::Fault(fault, offset) = end else {
-        return write_all(sink, b"stopped");
+        return write_all(page, b"stopped");
     };
-    write_all(sink, code_of(fault).as_bytes())?;
+    write_all(page, code_of(fault).as_bytes())?;
     if let TailFault::Front(FrontFault::UnknownOpcode(byte)) = fault {
-        write_all(sink, b" of ")?;
-        write_decimal(u64::from(byte), sink)?;
+        write_all(page, b" of ")?;
+        write_decimal(u64::from(byte), page)?;
     }
-    write_all(sink, b" at ")?;
-    write_decimal(offset, sink)
+    write_all(page, b" at ")?;
+    write_decimal(offset, page)
 }
 
 /// Writes item k, which is there, and signs after it.
-fn write_item<S: Page>(document: &Document, k: usize, sink: &mut S) -> Result<(), Failed> {
-    write_decimal(document.offset(k).unwrap_or(u64::MAX), sink)?;
-    write_all(sink, b" ")?;
+fn write_item<S: Page>(document: &Document, k: usize, page: &mut S) -> Result<(), Failed> {
+    write_decimal(document.offset(k).unwrap_or(u64::MAX), page)?;
+    write_all(page, b" ")?;
     let name = document.item(k).map_or("", |op| op.opcode().name());
-    write_all(sink, name.as_bytes())?;
-    write_all(sink, b" #")?;
-    write_decimal(u64::from(document.id(k).unwrap_or(u32::MAX)), sink)?;
+    write_all(page, name.as_bytes())?;
+    write_all(page, b" #")?;
+    write_decimal(u64::from(document.id(k).unwrap_or(u32::MAX)), page)?;
     if let Some(frame) = document.frame_of(k) {
-        write_all(sink, b" in ")?;
-        write_decimal(frame as u64, sink)?;
+        write_all(page, b" in ")?;
+        write_decimal(frame as u64, page)?;
     }
-    write_all(sink, b"; ")
+    write_all(page, b"; ")
 }
 
 /// What a document shows, as a table has it.

@@ -26,19 +26,19 @@ fn write_report_of<S: Page>(
     alloc: Global,
     many: bool,
     bytes: &[u8],
-    sink: &mut S,
+    page: &mut S,
 ) -> Result<(), TextStop> {
     let Ok(document) = opened(alloc, many, bytes) else {
         return Err(TextStop::Memory);
     };
-    write_document_report(alloc, &document, sink)?;
+    write_document_report(alloc, &document, page)?;
     Ok(())
 }
 
 /// Writes an object that is there.
-fn write_one<S: Page>(machine: &Machine, id: u32, sink: &mut S) -> Result<(), Failed> {
+fn write_one<S: Page>(machine: &Machine, id: u32, page: &mut S) -> Result<(), Failed> {
     match machine.object(id) {
-        Some(object) => write_object(u64::from(id), object, sink),
+        Some(object) => write_object(u64::from(id), object, page),
         None => Ok(()),
     }
 }
@@ -48,15 +48,15 @@ fn write_text<S: Page>(
     alloc: Global,
     machine: &Machine,
     text: Text<'_>,
-    sink: &mut S,
+    page: &mut S,
 ) -> Result<(), TextStop> {
     match text {
-        Text::Objects => write_objects(machine, sink)?,
-        Text::Object(id) => write_one(machine, id, sink)?,
-        Text::Stack => write_stack(machine, sink)?,
-        Text::Memo => write_memo(machine, sink)?,
-        Text::Show(id) => write_show(alloc, machine, id, sink)?,
-        Text::Report { bytes, many } => write_report_of(alloc, many, bytes, sink)?,
+        Text::Objects => write_objects(machine, page)?,
+        Text::Object(id) => write_one(machine, id, page)?,
+        Text::Stack => write_stack(machine, page)?,
+        Text::Memo => write_memo(machine, page)?,
+        Text::Show(id) => write_show(alloc, machine, id, page)?,
+        Text::Report { bytes, many } => write_report_of(alloc, many, bytes, page)?,
     }
     Ok(())
 }

@@ -8,12 +8,12 @@ use std::test::Fail;
 use test_equipment::{page_over, paper, taken, written_out};
 
 /// Calls each writer.
-fn write_pieces<S: Page>(sink: &mut S) -> Result<(), Failed> {
-    write_decimal(7, sink)?;
-    write_signed(-7, sink)?;
-    write_hex(b"\x0f", sink)?;
-    write_quoted(b"it's", sink)?;
-    write_all(sink, b".")
+fn write_pieces<S: Page>(page: &mut S) -> Result<(), Failed> {
+    write_decimal(7, page)?;
+    write_signed(-7, page)?;
+    write_hex(b"\x0f", page)?;
+    write_quoted(b"it's", page)?;
+    write_all(page, b".")
 }
 
 /// What a sink takes that has room for a part of the text: a beginning of it, and then it is not called again.

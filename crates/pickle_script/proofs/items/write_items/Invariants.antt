@@ -8,6 +8,6 @@ use Rattle.pickle_script.proofs.items.write_items.Given as goal
 -- the lines of the places so far were written, and the offset is that of the next
 abbrev pub invariant-loop-place : goal.invariant-loop-place
 invariant-loop-place g l = record {
-  wrote : Wrote (g.S.Sink.told l.initial.sink) (g.S.Sink.told l.sink) (each_below (session_line_at l.session.session) l.place);
+  wrote : Wrote (g.S.Sink.told l.initial.page) (g.S.Sink.told l.page) (each_below (session_line_at l.session.session) l.place);
   offset : l.offset ≡ offset_of l.session.session.document l.place;
 }

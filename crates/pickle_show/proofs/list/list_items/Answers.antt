@@ -7,10 +7,10 @@ pub parts-init : goal.parts-init
 parts-init g c = rw (c.requires.first, c.new.ensures, c.new-2.ensures.items, c.none.ensures, c.at.ensures) (refl, listed_none _ _ _ c.requires.document c.requires.small, c.requires.small)
 
 pub returns-in_err-next-clause-err : goal.returns-in_err-next-clause-err
-returns-in_err-next-clause-err g c = passed_on _ _ _ c.from_residual.ensures.1 (c.in_err-next.ensures.err (record { unread = g.I.ItemSource.unread c.args.source; told = g.S.Sink.told c.args.sink.now }) c.parts.invariant)
+returns-in_err-next-clause-err g c = passed_on _ _ _ c.from_residual.ensures.1 (c.in_err-next.ensures.err (record { unread = g.I.ItemSource.unread c.args.source; told = g.S.Sink.told c.args.page.now }) c.parts.invariant)
 
 pub parts-preserved : goal.parts-preserved
-parts-preserved g c = rw c.in-More.is at (c.in_ok-next.ensures.ok (record { unread = g.I.ItemSource.unread c.args.source; told = g.S.Sink.told c.args.sink.now }) c.parts.invariant)
+parts-preserved g c = rw c.in-More.is at (c.in_ok-next.ensures.ok (record { unread = g.I.ItemSource.unread c.args.source; told = g.S.Sink.told c.args.page.now }) c.parts.invariant)
 
 pub returns-in-End-clause-ok : goal.returns-in-End-clause-ok
-returns-in-End-clause-ok g c = rw c.in-End.is at (c.in_ok-next.ensures.ok (record { unread = g.I.ItemSource.unread c.args.source; told = g.S.Sink.told c.args.sink.now }) c.parts.invariant)
+returns-in-End-clause-ok g c = rw c.in-End.is at (c.in_ok-next.ensures.ok (record { unread = g.I.ItemSource.unread c.args.source; told = g.S.Sink.told c.args.page.now }) c.parts.invariant)

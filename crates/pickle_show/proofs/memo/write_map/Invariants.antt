@@ -5,7 +5,7 @@ use Rattle.pickle_show.specs.MemoText.{entry_text}
 use Rattle.pickle_show.proofs.memo.write_map.Given as goal
 
 abbrev pub invariant-loop-key : goal.invariant-loop-key
-invariant-loop-key g l = WroteAllBut (g.S.Sink.told l.initial.sink) (g.S.Sink.told l.sink) (each entry_text l.memo.entries) (each entry_text l.rest)
+invariant-loop-key g l = WroteAllBut (g.S.Sink.told l.initial.page) (g.S.Sink.told l.page) (each entry_text l.memo.entries) (each entry_text l.rest)
 
 abbrev pub decreases-loop-key : goal.decreases-loop-key
 decreases-loop-key g l = length l.rest

@@ -5,4 +5,4 @@ use Rattle.pickle_show.proofs.Memos.{slots_text}
 use Rattle.pickle_show.proofs.memo.write_slots.Given as goal
 
 abbrev pub invariant-loop-key : goal.invariant-loop-key
-invariant-loop-key g l = Wrote (g.S.Sink.told l.initial.sink) (g.S.Sink.told l.sink) (slots_text 0 (take l.key l.slots))
+invariant-loop-key g l = Wrote (g.S.Sink.told l.initial.page) (g.S.Sink.told l.page) (slots_text 0 (take l.key l.slots))

@@ -5,4 +5,4 @@ use Rattle.pickle_show.specs.ObjectText.{next_text}
 use Rattle.pickle_show.proofs.object.write_all_next.Given as goal
 
 abbrev pub invariant-loop-id : goal.invariant-loop-id
-invariant-loop-id g l = Wrote (g.S.Sink.told l.initial.sink) (g.S.Sink.told l.sink) (each next_text (take l.id-index l.ids))
+invariant-loop-id g l = Wrote (g.S.Sink.told l.initial.page) (g.S.Sink.told l.page) (each next_text (take l.id-index l.ids))

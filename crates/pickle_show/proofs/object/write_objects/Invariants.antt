@@ -5,4 +5,4 @@ use Rattle.pickle_show.specs.ObjectText.{lines_from}
 use Rattle.pickle_show.proofs.object.write_objects.Given as goal
 
 abbrev pub invariant-loop-id : goal.invariant-loop-id
-invariant-loop-id g l = Wrote (g.S.Sink.told l.initial.sink) (g.S.Sink.told l.sink) (lines_from 0 (take l.id l.machine.state.heap))
+invariant-loop-id g l = Wrote (g.S.Sink.told l.initial.page) (g.S.Sink.told l.page) (lines_from 0 (take l.id l.machine.state.heap))

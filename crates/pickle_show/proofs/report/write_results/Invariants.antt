@@ -5,4 +5,4 @@ use Rattle.pickle_show.specs.Report.{result_line}
 use Rattle.pickle_show.proofs.report.write_results.Given as goal
 
 abbrev pub invariant-loop-id : goal.invariant-loop-id
-invariant-loop-id g l = Wrote (g.S.Sink.told l.initial.sink) (g.S.Sink.told l.sink) (each result_line (take l.id-index l.ids))
+invariant-loop-id g l = Wrote (g.S.Sink.told l.initial.page) (g.S.Sink.told l.page) (each result_line (take l.id-index l.ids))

@@ -7,7 +7,7 @@ use Rattle.pickle_show.proofs.show.go_on.Given as goal
 
 abbrev pub invariant-loop-content : goal.invariant-loop-content
 invariant-loop-content g l = record {
-  wrote : WroteAllBut (g.S.Sink.told l.initial.sink) (g.S.Sink.told l.sink) (unwritten_text l.machine.state.heap l.initial.seen.items l.initial.stack.items) (unwritten_text l.machine.state.heap l.seen.items l.stack.items);
+  wrote : WroteAllBut (g.S.Sink.told l.initial.page) (g.S.Sink.told l.page) (unwritten_text l.machine.state.heap l.initial.seen.items l.initial.stack.items) (unwritten_text l.machine.state.heap l.seen.items l.stack.items);
   seen : length l.seen.items ≡ length l.machine.state.heap;
   room : length l.stack.items + unseen l.seen.items ≤ vec_capacity l.stack;
 }

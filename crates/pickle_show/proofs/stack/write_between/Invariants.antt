@@ -8,6 +8,6 @@ use Rattle.pickle_show.proofs.stack.write_between.Given as goal
 
 abbrev pub invariant-loop-below : goal.invariant-loop-below
 invariant-loop-below g l = record {
-  wrote : Wrote (g.S.Sink.told l.initial.sink) (g.S.Sink.told l.sink) (each next_text (between l.from l.below (stack_of l.machine.state)));
+  wrote : Wrote (g.S.Sink.told l.initial.page) (g.S.Sink.told l.page) (each next_text (between l.from l.below (stack_of l.machine.state)));
   stays : l.to ≤ l.from → l.below ≤ l.from;
 }

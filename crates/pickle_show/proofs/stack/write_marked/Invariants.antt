@@ -8,6 +8,6 @@ use Rattle.pickle_show.proofs.stack.write_marked.Given as goal
 
 abbrev pub invariant-loop-i : goal.invariant-loop-i
 invariant-loop-i g l = record {
-  wrote : Wrote (g.S.Sink.told l.initial.sink) (g.S.Sink.told l.sink) (marked_text (lowest l.i l.machine.state.marked));
+  wrote : Wrote (g.S.Sink.told l.initial.page) (g.S.Sink.told l.page) (marked_text (lowest l.i l.machine.state.marked));
   from : l.from ≡ length (objects_below (lowest l.i l.machine.state.marked));
 }
