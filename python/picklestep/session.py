@@ -422,9 +422,7 @@ class Session(contextlib.AbstractContextManager['Session']):
         ...     session.replace(0, 'BININT1', 5), session.bytes()
         (0, b'K\\x05.')
         """
-        with OwnFile() as file:
-            self._save(file.path, file.files)
-            return file.content()
+        return self._bytes_after(self._talk.edits())
 
     def listing(self) -> Listing:
         """The opcodes of the pickle with the edits that are not undone, as `picklestep.listing` shows them.
@@ -465,17 +463,22 @@ class Session(contextlib.AbstractContextManager['Session']):
         """
         name = os.path.join(os.getcwd(), os.fsdecode(path))
         if is_word(name):
-            self._save(name, [])
+            self._save(name, [], self._talk.edits())
         else:
             content = self.bytes()
             with open(name, 'wb') as file:
                 file.write(content)
 
-    def _save(self, path: str, files: List[int]) -> None:
-        """Makes the edits in a second run of the program, so that this one goes on."""
+    def _bytes_after(self, edits: List[_Bytes]) -> _Bytes:
+        """The pickle with edits."""
+        with OwnFile() as file:
+            self._save(file.path, file.files, edits)
+            return file.content()
+
+    def _save(self, path: str, files: List[int], edits: List[_Bytes]) -> None:
+        """Makes edits in a second run of the program, so that this one goes on."""
         if not self._finalizer.alive:
             raise ValueError('the session is closed')
-        edits = self._talk.edits()
         answer = run_program([*self._words, '--save', path], [*self._input.files, *files], b''.join(edits), *self._limits)
         if answer.count(b'edited ') != len(edits):
             raise ProgramError(f'an edit was not made again: {answer.decode("ascii")[-_SHOWN:]}')

@@ -8,7 +8,7 @@ from fnmatch import fnmatchcase
 from typing import Callable, Dict, Iterator, Optional
 
 from ..records import Extension, Global, Name, Ref
-from ..view.lines import Line
+from ..view.lines import CODE_BY_NAME, Line
 from .opened import Opened
 
 __all__ = ['Break', 'BREAKS', 'next_break']
@@ -49,8 +49,10 @@ def _at_place(pickle: Opened, text: str, place: int, step: int) -> Iterator[int]
 
 
 def _opcode(pickle: Opened, text: str, place: int, step: int) -> Iterator[int]:
-    found = _around(pickle, b' ' + text.encode('ascii', 'replace'), place, step)
-    return (at for at in found if pickle.lines.at(at).name == text)
+    codes, code = pickle.lines.makers.codes, CODE_BY_NAME[text]
+    at = place - step
+    while (at := codes.find(code, at + 1) if step > 0 else codes.rfind(code, 0, max(0, at))) >= 0:
+        yield at
 
 
 def _text(pickle: Opened, text: str, place: int, step: int) -> Iterator[int]:

@@ -8,11 +8,9 @@ from ast import literal_eval
 from typing import Dict, Sequence
 
 from ..arguments import ArgumentValue, encoded
-from ..tasks import listing
-from ..view.lines import lines_of
 from .opened import Edit, Opened
 
-__all__ = ['EditError', 'line_put', 'of_object', 'of_value', 'of_words', 'unquoted']
+__all__ = ['EditError', 'of_object', 'of_value', 'of_words', 'unquoted']
 
 OPCODES: Dict[str, pickletools.OpcodeInfo] = {opcode.name: opcode for opcode in pickletools.opcodes}
 
@@ -117,13 +115,6 @@ def _protocol(pickle: Opened) -> int:
     """The protocol of the pickle, by its first opcode."""
     first = pickle.lines.at(0) if len(pickle.lines) else None
     return int(first.argument) if first is not None and first.name == 'PROTO' else 1
-
-
-def line_put(edit: Edit) -> str:
-    """The opcode that `replace` or `insert` puts, with its argument, as a listing shows it."""
-    code = OPCODES[edit.name].code.encode('latin-1')
-    argument = encoded(edit.name, edit.values) if edit.raw is None else edit.raw
-    return lines_of(listing(code + argument).text).raw(0)
 
 
 def of_object(pickle: Opened, number: int, text: str) -> Edit:

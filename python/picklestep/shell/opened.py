@@ -4,6 +4,7 @@ from __future__ import annotations
 
 import contextlib
 import re
+import threading
 from bisect import bisect_left
 from typing import Any, Callable, Dict, Iterator, List, NamedTuple, Optional, Sequence, Set, Tuple
 
@@ -12,10 +13,12 @@ from ..comparing import shown_value
 from ..errors import Refused
 from ..python_source.shapes import BRACKETS
 from ..records import Global, Object, Reach, Ref
+from ..sources import Input, Source
 from ..texts import LinesError, object_of
 from ..values import PLAIN_KINDS, kind_value
-from ..view.document import Document, Done, places_edited
-from ..view.lines import CODE_BY_NAME, Lines
+from ..view.document import Document, Done, Reaches, places_edited
+from ..view.lines import CODE_BY_NAME, Line, Lines, OpcodeLines
+from .between import MOST_EDITS, Between, Objects, Put, Unknown, can_tell
 from .history import History
 from .later import Later
 
@@ -35,20 +38,54 @@ class Edit(NamedTuple):
     members: int = 0
 
 
+class _Base(NamedTuple):
+    """What was read last: its lists, and the edits up to then."""
+
+    lists: Dict[str, Any]
+    edits: List[Done]
+    undone: List[Done]
+
+
+class _Read(NamedTuple):
+    """What was read beside the prompt."""
+
+    content: bytes
+    lines: OpcodeLines
+    final: Lines
+    reaches: Reaches
+    listed: int
+    history: Optional[Later[History]]
+
+
+class _Stale(Exception):
+    """Nobody wants to know any more."""
+
+
 class Opened(Document):
     """A document whose objects can be described by their values, and that is edited at any place.
 
-    After an edit the pickle is read while the prompt waits for a line: call `settle` before anything else. What was read before an edit is kept:
-    where that is undone, the pickle is the same again.
+    After an edit the pickle is read while the prompt waits for a line: call `settle` before anything else, or within `unread` make do with what is
+    known before. What was read before an edit is kept: where that is undone, the pickle is the same again.
     """
 
-    _reading: Optional[Later[None]] = None
+    _reading: Optional[Later[Any]] = None
+    _moving: Optional[Later[None]] = None  # the cursor goes back, and reading goes on without the session
+    _base: Optional[_Base] = None  # what was read before edits of which a little is known
+    _between: Optional[Between] = None
+    _shown: Optional[Between] = None  # that, while it is shown
+    _most_waited = 100_000  # opcodes that are read before the next line is answered
     _here = 0  # where the cursor goes back to after an edit
     _history: Later[History]
     _edition = 0
     _edited_codes = bytearray()  # the codes of all opcodes, as they are after the edits
     _known: Optional[Dict[str, Any]] = None  # what was read before the latest change
     _turn = ''  # the word of that: '' is an edit
+
+    def __init__(self, source: Source, name: str, many: bool = False, *, unframed: bool = False) -> None:
+        """Reads a pickle."""
+        self._free = threading.Event()  # whoever reads beside the prompt may go on
+        self._free.set()
+        super().__init__(source, name, many, unframed=unframed)
 
     # --- The pickle ---
 
@@ -61,23 +98,118 @@ class Opened(Document):
 
     def _follow(self) -> None:
         """Finds out what the opcodes change, as long as nothing is edited."""
-        lines, until, edition = self.lines, self.listed - any(line.startswith('refused') for line in self.lines.closing), self._edition
-        self._history = Later(lambda: History(lines, until, lambda: self._edition == edition))
+        self._history = self._later_history(self.lines, self.listed, self._edition)
 
     def close(self) -> None:
         """Ends the session, which nobody uses any more then."""
-        if self._reading is not None:
-            self._reading.wait()
         self._edition += 1
+        for work in (self._moving, self._reading):
+            if work is not None:
+                work.wait()
         super().close()
 
     def settle(self) -> None:
         """Waits until the pickle is read after an edit. Where that failed, the edits were taken back, and it is raised why."""
-        reading = self._reading
+        moving, reading = self._moving, self._reading
         if reading is not None:
+            if moving is not None:
+                moving.wait()
             reading.wait()
-            self._reading = None
-            reading.result()
+            self._reading = self._moving = None
+            if self._base is None:
+                reading.result()
+            else:
+                self._take(reading, self._base)
+
+    def _take(self, reading: Later[_Read], base: _Base) -> None:
+        """Takes what was read beside the prompt. Where that failed, the edits since the last reading are taken back."""
+        self._base = self._between = None
+        try:
+            read = reading.result()
+        except BaseException:
+            here, count = self.session.where().place, len(self._edits) - len(base.edits)
+            self.session.goto(0)
+            for _ in range(count):
+                self.session.undo()
+            self._edits, self._undone, self._known = base.edits, base.undone, None
+            self._return(here)
+            self._follow()
+            raise
+        self.lines, self._final, self.reaches, self.listed, self._makers = read.lines, read.final, read.reaches, read.listed, read.lines.makers
+        self.version += 1
+        self._content, self._heap, self.edited = (self.version, read.content), None, places_edited(self._edits)
+        if read.history is not None:
+            self._history = read.history
+        else:
+            here = self.session.where().place
+            self._makers.finish(self._final, self._makes_object)
+            self.session.goto(here)
+            self._follow()
+
+    @property
+    def is_unread(self) -> bool:
+        """Whether the pickle is being read, and a little of it is known before."""
+        return self._between is not None
+
+    @contextlib.contextmanager
+    def unread(self) -> Iterator[None]:
+        """Within it there is only what is known before the pickle is read; all else raises Unknown. Reading waits meanwhile."""
+        between, lists = self._between, {name: vars(self)[name] for name in _READ}
+        assert between is not None
+        self._free.clear()
+        try:
+            if self._moving is not None:
+                self._moving.result()
+            between.sure = max(between.sure, self.session.where().place)
+            self._shown, self.lines, self._final, self._makers = between, between, Objects(between), between.makers  # type: ignore[assignment]
+            self.reaches = between.calls  # type: ignore[assignment]
+            yield
+        finally:
+            self._shown = None
+            vars(self).update(lists)
+            self._free.set()
+
+    def _reach(self, place: int) -> int:
+        """Lets the session step over the opcode at a place, and over those behind it that are shown with it. Answers the place behind them."""
+        here, end = self.session.where().place, min(place + _SHOWN_AFTER, len(self._codes or b''))
+        if place < here:
+            return here
+        if place >= here + _MOST_AHEAD:
+            raise Unknown
+        try:
+            self.session.goto(end)
+        except Refused:
+            raise Unknown from None
+        finally:
+            self.session.goto(here)
+        return end
+
+    def _read_beside(self, edits: List[bytes], edition: int, codes: bytes) -> _Read:
+        """Reads the pickle as it is after edits, beside the prompt."""
+        def told(text: str) -> None:
+            self._free.wait()
+            if self._edition != edition:
+                raise _Stale
+
+        content = self.session._bytes_after(edits)
+        told('')
+        with Input(content) as given:
+            lines, final, reaches, listed = self._lists(given, len(codes), codes, told)
+            if len(lines) != len(codes):
+                lines, final, reaches, listed = self._lists(given, len(codes), None, told)
+        history = None
+        if _READONLY not in codes:
+            lines.makers.finish(final, lambda place, number: False)
+            history = self._later_history(lines, listed, edition)
+        return _Read(content, lines, final, reaches, listed, history)
+
+    def _later_history(self, lines: OpcodeLines, listed: int, edition: int) -> Later[History]:
+        def is_wanted() -> bool:
+            self._free.wait()
+            return self._edition == edition
+
+        until = listed - any(line.startswith('refused') for line in lines.closing)
+        return Later(lambda: History(lines, until, is_wanted))
 
     def content(self) -> bytes:
         """The bytes of the pickle as it is."""
@@ -85,14 +217,27 @@ class Opened(Document):
         return super().content()
 
     def _changed(self, edits: List[Done], undone: List[Done], back: Callable[[], object], turn: str = '') -> None:
-        here = self._here
+        here, base, was_unread = self._here, self._base, self._base is not None
         self._edition += 1
         self._codes = bytes(self._edited_codes)
-        known = self._known if turn == ('redo' if self._turn == 'undo' else 'undo') else None
-        is_kept = len(self.lines.text) + len(self._final.text) <= _MOST_KEPT
-        self._known, self._turn = {name: vars(self)[name] for name in _READ} if is_kept else None, turn
+        if base is None:
+            base = _Base({name: vars(self)[name] for name in _READ}, self._edits, self._undone)
+            known = self._known if turn == ('redo' if self._turn == 'undo' else 'undo') else None
+            is_kept = len(self.lines.text) + len(self._final.text) <= _MOST_KEPT
+            self._known, self._turn = base.lists if is_kept else None, turn
+        else:
+            known = base.lists if edits == base.edits else None
+            self._known, self._turn = None, turn
+        self._base = self._between = None
         if known is not None:
             self._read_known(known, edits, undone, here)
+            return
+        between = self._told_of(base, edits)
+        if between is not None or was_unread:
+            self._base, self._between, self._edits, self._undone = base, between, edits, undone
+            sent, edition, codes = self.session._talk.edits(), self._edition, self._codes
+            self._moving = Later(lambda: self._return(here))
+            self._reading = Later(lambda: self._read_beside(sent, edition, codes))
             return
 
         def back_and_return() -> None:
@@ -106,6 +251,19 @@ class Opened(Document):
             self._return(here)
             Document._changed(self, edits, undone, back_and_return)
         self._reading = Later(read)
+
+    def _told_of(self, base: _Base, edits: List[Done]) -> Optional[Between]:
+        """What is known after edits before the pickle is read anew, if something is."""
+        more, lists = edits[len(base.edits):], base.lists
+        if edits[:len(base.edits)] != base.edits or not all(edit.put for edit in more) or len(more) > MOST_EDITS:
+            return None
+        codes = self._codes or b''
+        if not Between.can_tell_of(lists['lines'], lists['listed'], lists['reaches'], more, codes):
+            return None
+        try:
+            return Between(lists['lines'], lists['_final'], lists['reaches'], more, codes, self._reach)
+        except Unknown:
+            return None
 
     def _read_known(self, known: Dict[str, Any], edits: List[Done], undone: List[Done], here: int) -> None:
         """The pickle is again what it was as this was read."""
@@ -142,6 +300,8 @@ class Opened(Document):
 
     def maker(self, number: int) -> Optional[int]:
         """The place of the opcode that makes an object, if there is such an object."""
+        if self._shown is not None and not self._shown.has_made(number):
+            raise Unknown
         return self._makers.place(number) if 0 <= number < len(self._final) else None
 
     def changers(self, number: int) -> List[int]:
@@ -154,7 +314,7 @@ class Opened(Document):
     @property
     def is_followed(self) -> bool:
         """Whether it is known what the opcodes change, for which a large pickle is not waited for."""
-        return self._history.is_done or len(self.lines) <= _MOST_WAITED
+        return self._shown is None and (self._history.is_done or len(self.lines) <= self._most_waited)
 
     def changed(self, begin: int, end: int) -> Sequence[int]:
         """The objects that the opcodes from a place on before another change, the latest last."""
@@ -169,13 +329,9 @@ class Opened(Document):
         """What is imported, in its order."""
         return (self.reaches.answer[at] for at, kind in enumerate(self.reaches.kinds) if kind in ('import', 'inst'))
 
-    def reaches_at(self, offset: int) -> List[str]:
-        """What `calls` says of the opcode at an offset."""
-        at, found = bisect_left(self.reaches.offsets, offset), []
-        while at < len(self.reaches.offsets) and self.reaches.offsets[at] == offset:
-            found.append(self.reaches.answer[at].text)
-            at += 1
-        return found
+    def reached(self, place: int, line: Line) -> List[str]:
+        """What `calls` says of the opcode at a place, of which this is the line."""
+        return self.reaches.texts_at(line.offset) if self._shown is None else self._shown.reached(place, line)
 
     def edit_all(self, edits: Sequence[Edit]) -> List[int]:
         """Makes edits, all or none, with the cursor before them, and goes back to the opcode where it was. Answers their places."""
@@ -188,11 +344,14 @@ class Opened(Document):
         first = min((edit.place for edit in edits), default=here)
         if first < here:
             self.session.goto(first)
-        self._edited_codes = bytearray(self.lines.makers.codes)
+        self._edited_codes = self._codes_now()
+        is_told = len(self._edited_codes) > self._most_waited and len(edits) <= MOST_EDITS
         try:
             for edit in edits:
+                code = self._edited_codes[edit.place] if edit.place < len(self._edited_codes) else 0
+                put = Put.of(*edit[:1], *edit[2:5]) if is_told and can_tell(code, edit.word, edit.name) else None
                 place = self._edit_one(edit)
-                done.append(Done(edit.word, place, edit.name, bool(done), self._put_code(edit.word, place, CODE_BY_NAME.get(edit.name, 0))))
+                done.append(Done(edit.word, place, edit.name, bool(done), self._put_code(edit.word, place, CODE_BY_NAME.get(edit.name, 0)), put))
                 self._here += SHIFTS.get(edit.word, 0) if edit.place < self._here else 0
         except BaseException:
             back()
@@ -200,6 +359,10 @@ class Opened(Document):
             raise
         self._changed([*self._edits, *done], [], back)
         return [edit.place for edit in done]
+
+    def _codes_now(self) -> bytearray:
+        """The codes of all opcodes."""
+        return bytearray(self.lines.makers.codes if self._base is None else self._codes or b'')
 
     def _put_code(self, word: str, place: int, code: int) -> int:
         """Edits the codes of all opcodes, and answers the code that was at the place."""
@@ -231,6 +394,10 @@ class Opened(Document):
     def run_to(self, place: int) -> str:
         """Steps to a place, or to the opcode before it that is refused. Answers why it is not at the place, or nothing."""
         where = self.session.where()
+        if where.place < place:
+            with contextlib.suppress(Refused):  # (an opcode on the way is refused)
+                self.session.goto(min(place, where.places))
+                return ''
         if place >= where.places:
             ran = self.session.run()
             return '' if ran.why == 'end' else ran.text
@@ -240,6 +407,9 @@ class Opened(Document):
         finally:
             self.session.clear_break(place)
         return '' if ran.place == place else ran.text
+
+    def _is_exact(self) -> bool:
+        return super()._is_exact() if self._shown is None else self._shown.is_exact(self._made())
 
     @contextlib.contextmanager
     def before(self, place: int) -> Iterator[bool]:
@@ -274,6 +444,8 @@ class Opened(Document):
         self._here = self.session.where().place
         step, back = (self.session.redo, self.session.undo) if is_redo else (self.session.undo, self.session.redo)
         edits = _together(self._undone, is_redo) if is_redo else _together(self._edits, is_redo)
+        if self._shown is not None and (is_redo or self._base is None or self._edits[:len(self._edits) - len(edits)] != self._base.edits):
+            raise Unknown
         self.session.goto(min([self._here, *(edit.place for edit in edits)]))
         try:
             for _ in range(len(edits) or 1):
@@ -281,7 +453,7 @@ class Opened(Document):
         except Refused:
             self._return(self._here)
             raise
-        self._edited_codes = bytearray(self.lines.makers.codes)
+        self._edited_codes = self._codes_now()
         for edit in edits:
             if is_redo:
                 self._put_code(edit.what, edit.place, CODE_BY_NAME.get(edit.name, 0))
@@ -378,8 +550,11 @@ _MOST_KEPT = 1 << 28
 _MOST_LINE = 400
 _CALL = '(', ')'
 _FRAME = CODE_BY_NAME['FRAME']
-_MOST_WAITED = 100_000
+_READONLY = CODE_BY_NAME['READONLY_BUFFER']
 _MOST_WALKED = 100_000
+# So many opcodes behind the cursor are shown before the pickle is read, and so many behind one are shown with it.
+_MOST_AHEAD = 20_000
+_SHOWN_AFTER = 3
 _KEY = re.compile('[0-9]+')
 # How many opcodes more there are after an edit.
 SHIFTS = {'insert': 1, 'frame': 1, 'delete': -1, 'unframe': -1}

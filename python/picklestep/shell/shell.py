@@ -2,6 +2,7 @@
 
 from __future__ import annotations
 
+import contextlib
 import re
 import shlex
 from bisect import bisect_right
@@ -18,7 +19,8 @@ from ..texts import LinesError, opcode_of, stored_under
 from ..view.document import Done
 from ..view.lines import line_of
 from .breaks import BREAKS, Break, next_break
-from .edits import OPCODES, EditError, line_put, of_object, of_value, of_words, unquoted
+from .between import Unknown, line_put
+from .edits import OPCODES, EditError, of_object, of_value, of_words, unquoted
 from .explain import EFFECTS, EXPLAINED, taken
 from .opened import SHIFTS, Edit, Opened
 from .renames import Renaming, names_of, renaming
@@ -34,6 +36,8 @@ _MOST_BYTES = 256
 _TAKES = {'opcode': 'the name of one', 'import': 'a pattern, as os.*', 'call': 'a pattern, as os.*'}
 # Words that do nothing without what comes after them.
 _NEED = frozenset('goto until go clear off on find who show replace insert set rename frame'.split())
+# Words that may do with what is known before the pickle is read after an edit.
+_UNREAD = frozenset('where step back goto until list stack insert replace delete set undo'.split())
 _OF_FRAMES = ('F6', 'F7', 'F8')
 
 
@@ -106,6 +110,9 @@ class Shell:
         if not text and name in _NEED or text and WORDS[name].usage == name:
             raise WordError(f'it is: {WORDS[name].usage}')
         try:
+            if name in _UNREAD and self.pickle.is_unread and self._unchecked is None:
+                with contextlib.suppress(Unknown):
+                    return self._obey_unread(name, text)
             self._settle()
             self._check_names()  # (of a rename that was interrupted)
             return self._words[name](text)
@@ -113,6 +120,17 @@ class Shell:
             raise WordError(f'refused: {error.text}') from error
         except (EditError, ValueError, TypeError, OverflowError, OSError, PicklestepError) as error:
             raise WordError(str(error)) from error
+
+    def _obey_unread(self, name: str, text: str) -> str:
+        """Does what a word says by what is known before the pickle is read after an edit. Where that does not do, nothing is done."""
+        listed, here = self._listed, self.pickle.session.where().place
+        with self.pickle.unread():
+            try:
+                return self._words[name](text)
+            except Unknown:
+                self._listed = listed
+                self.pickle.session.goto(here)
+                raise
 
     def _settle(self) -> None:
         """Waits until the pickle is read after an edit. Where that fails, the edit was taken back, and breaks are where they were."""
@@ -157,7 +175,7 @@ class Shell:
         """An opcode in a line, with what it imports or calls."""
         line = self.pickle.lines.at(place)
         marks = '>' if place == here else ' ', '*' if any(point.is_on and point.what == 'at' and int(point.text) == place for point in self._breaks) else ' '
-        reached = ''.join(f'   <- {text}' for text in self.pickle.reaches_at(line.offset))
+        reached = ''.join(f'   <- {text}' for text in self.pickle.reached(place, line))
         argument = f' {_argument(self.pickle.lines.raw(place), line.argument)}' if line.argument else ''
         return f'{"".join(marks)} {place:>6} {line.offset:>5}: {"  " * line.marks}{line.name}{argument}{reached}'
 
@@ -364,7 +382,7 @@ class Shell:
         if place >= len(self.pickle.lines):
             return '\n'.join([f'the end: {self.pickle.session.where().end.text}', *self.pickle.kept])
         line = self.pickle.lines.at(place)
-        rows = [f'{line.name}: {EXPLAINED[line.name]}', *(f'here: {reached}' for reached in self.pickle.reaches_at(line.offset))]
+        rows = [f'{line.name}: {EXPLAINED[line.name]}', *(f'here: {reached}' for reached in self.pickle.reached(place, line))]
         if place == self._now()[0]:
             rows.append(f'the stack before it: {self._top()}')
         number = self.pickle.makes(place)
@@ -463,9 +481,11 @@ class Shell:
         for edit in known:
             moved.append(edit._replace(place=edit.place + shift))
             shift += SHIFTS.get(edit.word, 0)
+        before = self._moved[0] if self.pickle.is_unread else []
         done = self.pickle.edit_all(moved)
-        self._moved = [(edit.place, SHIFTS.get(edit.word, 0)) for edit in moved], [], self._hidden
-        self._move_breaks(*self._moved)
+        moves = [(edit.place, SHIFTS.get(edit.word, 0)) for edit in moved]
+        self._moved = [*before, *moves], [], self._hidden
+        self._move_breaks(moves, [], self._hidden)
         self._hidden_back.clear()
         return '\n'.join(self._echo(edit, place, old) for edit, place, old in zip(known, done, was))
 
@@ -474,7 +494,7 @@ class Shell:
             return f'{place}: {old} is gone'
         if edit.word == 'frame':
             self._settle()
-        now = self._was(place) if edit.word == 'frame' else edit.name if OPCODES[edit.name].arg is None else _shown(line_put(edit))
+        now = self._was(place) if edit.word == 'frame' else edit.name if OPCODES[edit.name].arg is None else _shown(line_put(edit.name, edit.values, edit.raw))
         return f'{place}: {now}' + (f' (was {old})' if old else ' is new')
 
     def _move_breaks(self, moves: Sequence[Tuple[int, int]], shown: List[List[Break]], hidden: List[List[Break]]) -> None:

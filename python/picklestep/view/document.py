@@ -17,16 +17,16 @@ from ..session import Session
 from ..sources import Input, Source
 from ..tasks import modes
 from ..texts import as_made, broken_places, held_in, holding
-from .lines import Lines, add_items, cut_text, lines_of, read_all, silent
+from .lines import Lines, OpcodeLines, add_items, cut_text, lines_of, read_all, silent
 
-__all__ = ['Document', 'Done', 'Fields', 'places_edited']
+__all__ = ['MOST_EXACT', 'MOST_TEXT', 'Document', 'Done', 'Fields', 'Reaches', 'places_edited']
 
 Fields = Dict[str, Any]
 
 # Up to this many objects, with texts of this many bytes, are asked of the session at each step. Above that the page shows them as they
 # are at the end.
-_MOST_EXACT = 20_000
-_MOST_TEXT = 1 << 24
+MOST_EXACT = 20_000
+MOST_TEXT = 1 << 24
 _MOST_LINES = 2000
 _MOST_PARTS = 500
 _MOST_ENTRIES = 500
@@ -96,6 +96,10 @@ class Reaches:
         start = self._places[at]
         return cut_text(self.answer.text[start:self.answer.text.index('\n', start)], _MOST_SAID)
 
+    def texts_at(self, offset: int) -> List[str]:
+        """What `calls` says of the opcode at an offset."""
+        return [self.answer[at].text for at in range(bisect_left(self.offsets, offset), bisect_right(self.offsets, offset))]
+
     def text_at(self, offset: int) -> str:
         """What the opcode at an offset imports or calls, or ''."""
         at = bisect_left(self.offsets, offset)
@@ -126,13 +130,14 @@ def _counted(kinds: List[str]) -> Tuple[int, int]:
 
 class Done(NamedTuple):
     """An edit that was made: its word, its place, and the opcode that was put there. `is_joined` says that it belongs to the one before, `was` is
-    the code of the opcode that was there, where it is known."""
+    the code of the opcode that was there, where it is known, `put` what is known of the one that was put there."""
 
     what: str
     place: int
     name: str = ''
     is_joined: bool = False
     was: int = 0
+    put: Any = None
 
     def __str__(self) -> str:
         return f'{self.what}{self.name and " " + self.name} at {self.place}'
@@ -183,16 +188,22 @@ class Document:
             self.breaks = broken_places(self.session.items().text)
 
     def _read_from(self, given: Input) -> None:
-        self.lines, self._final, calls, is_part = read_all(given, self._options, self._told, self._codes)
-        self.listed = len(self.lines)
-        if self.listed < self.session.where().places:
-            add_items(self.lines, given, self._options)
-        self.reaches = Reaches(Calls(calls), is_part)
-        self.lines.closing += self.reaches.behind
+        self.lines, self._final, self.reaches, self.listed = self._lists(given, self.session.where().places, self._codes, self._told)
         here = self.session.where().place
         self._makers = self.lines.makers
         self._makers.finish(self._final, self._makes_object)
         self.session.goto(here)
+
+    def _lists(self, given: Input, places: int, codes: Optional[bytes], told: Callable[[str], None]) -> 'Tuple[OpcodeLines, Lines, Reaches, int]':
+        """The opcodes, the objects and what is reached, of an input of so many opcodes, and of how many opcodes `list` tells. It leaves the session
+        alone."""
+        lines, final, calls, is_part = read_all(given, self._options, told, codes)
+        listed = len(lines)
+        if listed < places:
+            add_items(lines, given, self._options)
+        reaches = Reaches(Calls(calls), is_part)
+        lines.closing += reaches.behind
+        return lines, final, reaches, listed
 
     def _makes_object(self, place: int, number: int) -> bool:
         """Whether the opcode at a place makes the object of this number. It moves the session."""
@@ -236,7 +247,7 @@ class Document:
         return self.made_before(self.place)[0]
 
     def _is_exact(self) -> bool:
-        return self._final.whole <= _MOST_TEXT and self._made() <= _MOST_EXACT
+        return self._final.whole <= MOST_TEXT and self._made() <= MOST_EXACT
 
     def _objects(self) -> Lines:
         """The objects at the cursor; where they are many, as they are at the end."""

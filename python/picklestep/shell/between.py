@@ -1,0 +1,309 @@
+"""The pickle right after edits, before it is read anew: what can be told of it from what was read before them, and nothing else.
+
+It is told of edits that put, replace or take away opcodes which push one plain value each. These leave what is before them as it is. Behind them
+no mark is set or taken otherwise and nothing else is stored, where no POP comes: lines have other offsets, and objects other numbers. Whether an
+opcode is refused only the session knows, so what is shown of those behind an edit it has to have stepped over. All else is unknown, and waits.
+"""
+
+from __future__ import annotations
+
+import re
+from bisect import bisect_right
+from typing import Any, Callable, List, NamedTuple, Optional, Sequence, Tuple
+
+from ..arguments import ArgumentValue, encoded
+from ..tasks import listing, objects
+from ..texts import line_of
+from ..values import PLAIN_KINDS
+from ..view.document import MOST_EXACT, MOST_TEXT, Done, Reaches
+from ..view.lines import CODE_BY_NAME, Line, Lines, Makers, OpcodeLines, lines_of
+
+__all__ = ['MOST_EDITS', 'Between', 'Objects', 'Put', 'Unknown', 'can_tell', 'line_put']
+
+# So many edits are looked at.
+MOST_EDITS = 100
+_LONGEST = 400
+_VALUES = frozenset(
+    'NONE NEWTRUE NEWFALSE INT BININT BININT1 BININT2 LONG LONG1 LONG4 FLOAT BINFLOAT STRING BINSTRING SHORT_BINSTRING UNICODE BINUNICODE '
+    'SHORT_BINUNICODE BINUNICODE8 BINBYTES SHORT_BINBYTES BINBYTES8 BYTEARRAY8'.split())
+_QUIET = _VALUES | frozenset(
+    'PROTO FRAME MARK PUT BINPUT LONG_BINPUT MEMOIZE GET BINGET LONG_BINGET DUP POP_MARK EMPTY_TUPLE TUPLE TUPLE1 TUPLE2 TUPLE3 EMPTY_LIST LIST '
+    'EMPTY_DICT DICT EMPTY_SET FROZENSET STOP'.split())  # (they reach out of nothing)
+_FILLS = frozenset(('APPENDS', 'SETITEMS', 'ADDITEMS'))
+_PUTS = {'insert': 1, 'replace': 1, 'delete': 0}
+_POP, _FRAME, _READONLY = (CODE_BY_NAME[name] for name in ('POP', 'FRAME', 'READONLY_BUFFER'))
+_MARK = re.compile(r'\(MARK at ([0-9]+)\)$')
+_OF_CODE = 7  # (letters from the colon of a line to its name)
+
+
+class Unknown(Exception):
+    """It is not known before the pickle is read."""
+
+
+class Put(NamedTuple):
+    """What an edit puts: its line in a listing of it alone, its bytes, and the line of its object alone. Of what goes all are empty."""
+
+    line: str
+    data: bytes
+    object: str
+
+    @classmethod
+    def of(cls, word: str, name: str, values: Sequence[ArgumentValue], raw: Optional[bytes]) -> Put:
+        """What an edit puts that pushes a plain value."""
+        if word == 'delete':
+            return cls('', b'', '')
+        data = bytes_put(name, values, raw)
+        return cls(line_put(name, values, raw), data, lines_of(objects(data).text).raw(0))
+
+
+def bytes_put(name: str, values: Sequence[ArgumentValue], raw: Optional[bytes]) -> bytes:
+    """The opcode that an edit puts, by the values of its argument or its bytes."""
+    return bytes([CODE_BY_NAME[name]]) + (encoded(name, values) if raw is None else raw)
+
+
+def line_put(name: str, values: Sequence[ArgumentValue], raw: Optional[bytes]) -> str:
+    """The same, as a listing shows it."""
+    return lines_of(listing(bytes_put(name, values, raw)).text).raw(0)
+
+
+class _Piece(NamedTuple):
+    """Places that follow one another: from one on of those that were read, or the one that was put there; and how far offsets moved."""
+
+    place: int
+    offset: int
+    old: int
+    count: int
+    shift: int
+    put: Optional[Put]
+
+
+def can_tell(code: int, edit: str, name: str) -> bool:
+    """Whether an edit is one of those of which something is known: where it puts an opcode of a name, where there is one of a code."""
+    return edit in _PUTS and (edit == 'delete' or name in _VALUES) and (edit == 'insert' or code in _VALUE_CODES)
+
+
+_VALUE_CODES = frozenset(CODE_BY_NAME[name] for name in _VALUES)
+
+
+class Between:
+    """What is known after edits of a pickle that was read before them: its opcodes as a listing has them, and its objects. `reach` is given a place
+    that the session has to step over, and answers up to which place it has stepped."""
+
+    def __init__(self, lines: OpcodeLines, final: Lines, reaches: Reaches, edits: Sequence[Done], codes: bytes, reach: Callable[[int], int]) -> None:
+        self._lines, self._final, self._reaches, self._reach = lines, final, reaches, reach
+        self._pieces = _pieces_after(lines, edits)
+        if not self._pieces:
+            raise Unknown
+        self._places = [piece.place for piece in self._pieces]
+        begins = self._pieces[0].put is None and not self._pieces[0].old
+        self._first = self._pieces[0].count if begins else 0
+        old = [piece for piece in self._pieces if piece.put is None]
+        ends = {0, *(piece.old for piece in old), *(piece.old + piece.count for piece in old), len(lines)} - {0, len(lines)}
+        self._edited = sorted(ends if begins else {0, *ends})
+        self.makers = Makers(codes)
+        self.makers.finish(final, lambda place, number: False)
+        self._codes = codes
+        self._is_same = _are_same(lines, final, edits)
+        self._made = lines.makers.before(self._first)
+        self.calls = _Nothing()
+        self.sure = 0
+
+    def __len__(self) -> int:
+        return len(self._codes)
+
+    def __getattr__(self, name: str) -> Any:
+        raise Unknown(name)
+
+    @staticmethod
+    def can_tell_of(lines: OpcodeLines, listed: int, reaches: Reaches, edits: Sequence[Done], codes: bytes) -> bool:
+        """Whether something is known after these edits."""
+        return (listed == len(lines) and not any(line.startswith('refused') for line in lines.closing) and not reaches.is_part
+                and len(edits) <= MOST_EDITS and _READONLY not in codes
+                and codes.find(_POP, min(edit.place for edit in edits)) < 0)
+
+    # --- Opcodes ---
+
+    def _piece(self, place: int) -> _Piece:
+        if not 0 <= place < len(self._codes):
+            raise Unknown
+        return self._pieces[bisect_right(self._places, place) - 1]
+
+    def offset(self, place: int) -> int:
+        """The offset of an opcode."""
+        piece = self._piece(place)
+        return piece.offset if piece.put is not None else self._lines.offset(piece.old + place - piece.place) + piece.shift
+
+    def raw(self, place: int) -> str:
+        """The line of an opcode."""
+        piece = self._piece(place)
+        if place >= max(self.sure, self._first):
+            self.sure = self._reach(place)
+        if piece.put is not None:
+            rest = piece.put.line[piece.put.line.index(':'):]
+            return f'{piece.offset:>5}{rest[:_OF_CODE]}{"    " * self._marks(place)}{rest[_OF_CODE:]}'
+        line = self._lines.raw(piece.old + place - piece.place)
+        offset, _, rest = line.partition(':')
+        if self._codes[place] == _FRAME:
+            self._frame(int(offset), int(rest.rpartition(' ')[2]))
+        mark = _MARK.search(rest) if self._codes[place] not in _VALUE_CODES else None
+        if mark is not None:
+            rest = f'{rest[:mark.start(1)]}{self._moved(int(mark[1]))})'
+        return f'{int(offset) + piece.shift:>5}:{rest}'
+
+    def at(self, place: int) -> Line:
+        """An opcode."""
+        return line_of(self.raw(place))
+
+    def _marks(self, place: int) -> int:
+        """The marks that are open before an opcode that was put: as many as before the next one that was there."""
+        at = bisect_right(self._places, place)
+        while at < len(self._pieces) and self._pieces[at].put is not None:
+            at += 1
+        if at == len(self._pieces):
+            raise Unknown
+        return line_of(self._lines.raw(self._pieces[at].old)).marks
+
+    def _moved(self, offset: int) -> int:
+        """The offset of an opcode that was at one."""
+        place = self._lines.place_of(offset)
+        for piece in reversed(self._pieces):
+            if piece.put is None and piece.old <= place < piece.old + piece.count:
+                return offset + piece.shift
+        raise Unknown
+
+    def _frame(self, offset: int, length: int) -> None:
+        """Raises Unknown for a FRAME in which something was edited."""
+        if any(offset <= self._lines.offset(old) <= offset + 9 + length for old in self._edited):
+            raise Unknown
+
+    def reached(self, place: int, line: Line) -> List[str]:
+        """What `calls` says of an opcode."""
+        piece = self._piece(place)
+        if piece.put is not None:
+            return []
+        found = self._reaches.texts_at(line.offset - piece.shift)
+        if place < self._first or line.name in _QUIET and not found:
+            return found
+        mark = _MARK.search(line.argument)
+        if line.name in _FILLS and not found and mark is not None and int(mark[1]) < self._lines.offset(self._first):
+            return found
+        raise Unknown
+
+    # --- Objects ---
+
+    def has_made(self, number: int) -> bool:
+        """Whether an object is among those that the session has made."""
+        return number < self.makers.before(self.sure)
+
+    def object_line(self, number: int) -> str:
+        """The line of an object as it is at the end, of one that was made before the cursor."""
+        old = number
+        if not self.has_made(number):
+            raise Unknown
+        if number >= self._made:
+            place = self.makers.place(number)
+            piece = self._piece(place)
+            if piece.put is not None:
+                return f'#{number}{piece.put.object[2:]}'
+            old = self._lines.makers.before(piece.old + place - piece.place)
+        if old >= len(self._final):
+            raise Unknown
+        begin, end = self._final.span(old)
+        head = self._final.text[begin:begin + 40].decode('ascii').split('\n')[0].split(' ')
+        if not (self._is_same or head[1] in PLAIN_KINDS or head[1] == 'tuple' and number < self._made):
+            raise Unknown
+        line = self._final.brief(old) if end - begin > _LONGEST else self._final.raw(old)
+        return f'#{number}{line[len(head[0]):]}'
+
+    def is_exact(self, made: int) -> bool:
+        """Whether the objects are shown as they are at the cursor: where there are few, and their texts are short."""
+        if made <= MOST_EXACT and self._final.whole >= MOST_TEXT // 2:
+            raise Unknown
+        return made <= MOST_EXACT
+
+
+class _Nothing:
+    """Nothing is known of it."""
+
+    def __getattr__(self, name: str) -> Any:
+        raise Unknown(name)
+
+
+class Objects:
+    """The objects that are known, as they are at the end."""
+
+    whole = 0
+
+    def __init__(self, between: Between) -> None:
+        self._between = between
+
+    def __len__(self) -> int:
+        return 1 << 60
+
+    def __getattr__(self, name: str) -> Any:
+        raise Unknown(name)
+
+    def raw(self, number: int) -> str:
+        """The line of an object."""
+        return self._between.object_line(number)
+
+    def brief(self, number: int) -> str:
+        """The same."""
+        return self._between.object_line(number)
+
+    def span(self, number: int) -> Tuple[int, int]:
+        """Where the line begins and ends."""
+        return 0, len(self._between.object_line(number))
+
+
+def _pieces_after(lines: OpcodeLines, edits: Sequence[Done]) -> List[_Piece]:
+    """The places after edits."""
+    parts: List[Tuple[int, int, Optional[Put]]] = [(0, len(lines), None)]
+    for edit in edits:
+        at, begin = 0, 0
+        while at < len(parts) and begin + parts[at][1] <= edit.place:
+            begin += parts[at][1]
+            at += 1
+        new: List[Tuple[int, int, Optional[Put]]] = []
+        if at < len(parts):
+            old, count, was = parts[at]
+            before, gone = edit.place - begin, int(edit.what != 'insert')
+            new = [(old, before, None)] * bool(before)
+            after = (old + before + gone, count - before - gone, was if not gone and was is not None else None)
+            rest = [after] * bool(after[1])
+        else:  # (behind the end)
+            raise Unknown
+        new += [(-1, 1, edit.put)] * (edit.what != 'delete')
+        parts[at:at + 1] = new + rest
+    return _placed(lines, parts)
+
+
+def _placed(lines: OpcodeLines, parts: Sequence[Tuple[int, int, Optional[Put]]]) -> List[_Piece]:
+    pieces: List[_Piece] = []
+    place = offset = 0
+    for at, (old, count, put) in enumerate(parts):
+        if put is not None:
+            pieces.append(_Piece(place, offset, old, 1, 0, put))
+            offset += len(put.data)
+        else:
+            begin = lines.offset(old)
+            pieces.append(_Piece(place, offset, old, count, offset - begin, None))
+            if at + 1 < len(parts):
+                offset += (lines.offset(old + count) if old + count < len(lines) else begin) - begin
+        place += count
+    return pieces
+
+
+def _are_same(lines: OpcodeLines, final: Lines, edits: Sequence[Done]) -> bool:
+    """Whether each edit replaces a value by one of the same kind: the machine goes on as before."""
+    for edit in edits:
+        if edit.what != 'replace':
+            return False
+        number = lines.makers.before(edit.place)
+        if number >= len(final) or _kind(final.brief(number)) != _kind(edit.put.object):
+            return False
+    return True
+
+
+def _kind(line: str) -> str:
+    return line[:40].split(' ')[1]
