@@ -68,6 +68,7 @@ class Unread(unittest.TestCase):
     def test_it_is_what_a_fresh_shell_shows(self) -> None:
         """Objects are shown as they are at the cursor, or in large pickles as they are at the end."""
         rng, seen = random.Random(50), Counter()  # type: ignore[var-annotated]
+        self._enter(Opened, 'is_read', False)
         real = [data for data in real_pickles().values() if len(data) < 5000]
         for at, data in enumerate([*pickles(), *pickles(), *rng.sample(real, 8)]):
             modes = {'many': at % 3 == 0, 'unframed': at % 7 == 0}
@@ -148,6 +149,7 @@ class Unread(unittest.TestCase):
     def test_reading_fails(self) -> None:
         """All edits since the last reading are taken back, and breaks are at their opcodes."""
         data = pickle.dumps(list(range(300)), 4)
+        self._enter(Opened, 'is_read', False)
         with Shell(data, '') as shell, mock.patch.object(Opened, '_read_beside', side_effect=ValueError('not read')):
             for line in ('goto 50', 'break 60', 'insert 50 NONE', 'insert 50 NONE', 'delete 61', 'where'):
                 shell.obey(line)

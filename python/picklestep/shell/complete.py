@@ -37,6 +37,8 @@ def completions(pickle: Opened, before: str) -> List[str]:
 
 def _offsets(pickle: Opened, begun: str) -> List[str]:
     """The offsets near the cursor, and those that begin so."""
+    if not pickle.take_read():
+        return []
     here = pickle.place
     near = [f'@{pickle.lines.offset(place)}' for place in range(max(0, here - _MOST_NAMES), min(len(pickle.lines), here + _MOST_NAMES))]
     return [offset for offset in near if offset.startswith(begun)][:_MOST]

@@ -35,6 +35,11 @@ class Later(Generic[Answer]):
         """Whether the work has ended."""
         return not self._thread.is_alive()
 
+    @property
+    def is_good(self) -> bool:
+        """Whether the work has ended well."""
+        return self.is_done and self._error is None
+
     def wait(self) -> None:
         """Waits until the work has ended."""
         self._thread.join()

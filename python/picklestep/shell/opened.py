@@ -121,6 +121,12 @@ class Opened(Document):
             else:
                 self._take(reading, self._base)
 
+    def take_read(self) -> bool:
+        """Takes what was read after an edit, if it has been read by now. Answers whether the pickle is read."""
+        if self.is_unread and all(work is not None and work.is_good for work in (self._moving, self._reading)):
+            self.settle()
+        return not self.is_unread
+
     def _take(self, reading: Later[_Read], base: _Base) -> None:
         """Takes what was read beside the prompt. Where that failed, the edits since the last reading are taken back."""
         self._base = self._between = None
@@ -148,8 +154,13 @@ class Opened(Document):
 
     @property
     def is_unread(self) -> bool:
-        """Whether the pickle is being read, and a little of it is known before."""
+        """Whether the pickle is still being read after edits, and a little of it is known before."""
         return self._between is not None
+
+    @property
+    def is_read(self) -> bool:
+        """Whether `settle` has nothing to wait for."""
+        return all(work is None or work.is_done for work in (self._moving, self._reading))
 
     @contextlib.contextmanager
     def unread(self) -> Iterator[None]:

@@ -110,7 +110,7 @@ class Shell:
         if not text and name in _NEED or text and WORDS[name].usage == name:
             raise WordError(f'it is: {WORDS[name].usage}')
         try:
-            if name in _UNREAD and self.pickle.is_unread and self._unchecked is None:
+            if name in _UNREAD and self.pickle.is_unread and not self.pickle.is_read and self._unchecked is None:
                 with contextlib.suppress(Unknown):
                     return self._obey_unread(name, text)
             self._settle()
@@ -205,7 +205,7 @@ class Shell:
         rows = _latest('made:  ', made - known, named)
         if not self.pickle.is_followed:
             return [*rows, 'changed: (this is still being found out)']
-        changed = [number for number in self.pickle.changed(begin, end) if number < known]
+        changed = [number for number in self.pickle.changed(begin, end) if number < known] if known else []
         rows += _latest('changed: ', len(changed), [f'#{number} {self.pickle.described(number)}' for number in changed[-_MOST_STACK:]])
         count, stored = self.pickle.stored(begin, end, _MOST_STACK)
         return rows + _latest('stored: ', count, [f'{key}: #{number} {self.pickle.described(number)}' for key, number in stored])
