@@ -24,6 +24,7 @@ __all__ = ['Session']
 
 _Bytes = bytes  # (a session has a method of this name)
 _SHOWN = 1000
+_LARGE = 1 << 20
 
 
 # The words whose answers have any number of lines.
@@ -168,7 +169,7 @@ class Session(contextlib.AbstractContextManager['Session']):
         self._words = ['debug', self._input.path, *modes(many, unframed)]
         try:
             talk = _Talk(Process([*self._words, *(['--window', str(index(window))] if window is not None else [])], self._input.files,
-                                 memory, stdin=True), timeout)
+                                 memory, stdin=True, is_large=self._input.size() >= _LARGE), timeout)
         except BaseException:
             self._input.close()
             raise
