@@ -7,9 +7,10 @@ opcode is refused only the session knows, so what is shown of those behind an ed
 
 from __future__ import annotations
 
+import pickletools
 import re
 from bisect import bisect_right
-from typing import Any, Callable, List, NamedTuple, Optional, Sequence, Tuple
+from typing import Any, Callable, Dict, List, NamedTuple, Optional, Protocol, Sequence, Tuple
 
 from ..arguments import ArgumentValue, encoded
 from ..tasks import listing, objects
@@ -31,7 +32,12 @@ _QUIET = _VALUES | frozenset(
     'EMPTY_DICT DICT EMPTY_SET FROZENSET STOP'.split())  # (they reach out of nothing)
 _FILLS = frozenset(('APPENDS', 'SETITEMS', 'ADDITEMS'))
 _PUTS = {'insert': 1, 'replace': 1, 'delete': 0}
+# What changes an object that is not right below a mark, or puts one on the stack that was below others; and what pushes an object and takes none.
+_NEAR = [CODE_BY_NAME[name] for name in ('APPEND', 'SETITEM', 'BUILD', 'POP', 'DUP')]
+_PUSHES = frozenset(ord(each.code) for each in pickletools.opcodes if not each.stack_before and [*each.stack_after] not in ([], [pickletools.markobject]))
+_GETS = [(CODE_BY_NAME[name], name.encode('ascii')) for name in ('GET', 'BINGET', 'LONG_BINGET')]
 _POP, _FRAME, _READONLY = (CODE_BY_NAME[name] for name in ('POP', 'FRAME', 'READONLY_BUFFER'))
+_KEYS = re.compile('[0-9]+')
 _MARK = re.compile(r'\(MARK at ([0-9]+)\)$')
 _OF_CODE = 7  # (letters from the colon of a line to its name)
 
@@ -85,12 +91,25 @@ def can_tell(code: int, edit: str, name: str) -> bool:
 _VALUE_CODES = frozenset(CODE_BY_NAME[name] for name in _VALUES)
 
 
-class Between:
-    """What is known after edits of a pickle that was read before them: its opcodes as a listing has them, and its objects. `reach` is given a place
-    that the session has to step over, and answers up to which place it has stepped."""
+class Stepped(Protocol):
+    """The session, as far as it is asked. It raises Unknown where that would take long, or an opcode is refused."""
 
-    def __init__(self, lines: OpcodeLines, final: Lines, reaches: Reaches, edits: Sequence[Done], codes: bytes, reach: Callable[[int], int]) -> None:
-        self._lines, self._final, self._reaches, self._reach = lines, final, reaches, reach
+    def reach(self, place: int) -> int:
+        """Steps over the opcode at a place, and answers up to which place it has stepped."""
+
+    def stack_at(self, place: int) -> List[str]:
+        """What is on the stack at a place, from the bottom."""
+
+    def stores_of(self, number: int) -> List[int]:
+        """The places at which an object was stored before the edits."""
+
+
+class Between:
+    """What is known after edits of a pickle that was read before them: its opcodes as a listing has them, and its objects."""
+
+    def __init__(self, lines: OpcodeLines, final: Lines, reaches: Reaches, edits: Sequence[Done], codes: bytes, session: Stepped) -> None:
+        self._lines, self._final, self._reaches, self._session = lines, final, reaches, session
+        self._stack: Optional[List[str]] = None
         self._pieces = _pieces_after(lines, edits)
         if not self._pieces:
             raise Unknown
@@ -105,6 +124,7 @@ class Between:
         self._codes = codes
         self._is_same = _are_same(lines, final, edits)
         self._made = lines.makers.before(self._first)
+        self._stays: Dict[int, bool] = {}
         self.calls = _Nothing()
         self.sure = 0
 
@@ -137,7 +157,7 @@ class Between:
         """The line of an opcode."""
         piece = self._piece(place)
         if place >= max(self.sure, self._first):
-            self.sure = self._reach(place)
+            self.sure = self._session.reach(place)
         if piece.put is not None:
             rest = piece.put.line[piece.put.line.index(':'):]
             return f'{piece.offset:>5}{rest[:_OF_CODE]}{"    " * self._marks(place)}{rest[_OF_CODE:]}'
@@ -210,10 +230,40 @@ class Between:
             raise Unknown
         begin, end = self._final.span(old)
         head = self._final.text[begin:begin + 40].decode('ascii').split('\n')[0].split(' ')
-        if not (self._is_same or head[1] in PLAIN_KINDS or head[1] == 'tuple' and number < self._made):
+        is_told = self._is_same or head[1] in PLAIN_KINDS or head[1] == 'tuple' and number < self._made
+        if not is_told and not (number < self._made and self._is_left(number)):
             raise Unknown
         line = self._final.brief(old) if end - begin > _LONGEST else self._final.raw(old)
         return f'#{number}{line[len(head[0]):]}'
+
+    def _is_left(self, number: int) -> bool:
+        """Whether an object that was made before the edits is surely not changed behind them, as it surely was not before there were any.
+
+        What is not right below a mark nothing changes where only what is above a mark is put into other objects. It stays so while another object
+        is right above it, and once it is taken, if nothing gets it from the memo.
+        """
+        if number not in self._stays:
+            is_near = any(self._codes.find(code, self._first) >= 0 for code in _NEAR)
+            self._stays[number] = not is_near and self._is_covered(f'#{number}') and not self._is_got(number)
+        return self._stays[number]
+
+    def _is_covered(self, word: str) -> bool:
+        """Whether another object is right above an object, wherever it is on the stack before the edits, or comes there by the next opcode."""
+        if self._stack is None:
+            self._stack = self._session.stack_at(self._first)
+        above = [self._stack[at + 1] if at + 1 < len(self._stack) else None for at, entry in enumerate(self._stack) if entry == word]
+        is_pushed = self._first < len(self._codes) and {self._codes[self._first], self._lines.makers.codes[self._first]} <= _PUSHES
+        return all(is_pushed if entry is None else entry[0] == '#' for entry in above)
+
+    def _is_got(self, number: int) -> bool:
+        """Whether an object may be got from the memo behind the edits, or is stored there."""
+        begin = self._lines.start(self._first)
+        for place in self._session.stores_of(number):
+            key = int(_KEYS.findall(self._lines.raw(place))[-1])
+            if place >= self._first or any(self._codes.find(code, self._first) >= 0 and self._lines.text.find(b'%-10b %d\n' % (name, key), begin) >= 0
+                                           for code, name in _GETS if key < 256 or name != b'BINGET'):
+                return True
+        return False
 
     def is_exact(self, made: int) -> bool:
         """Whether the objects are shown as they are at the cursor: where there are few, and their texts are short."""

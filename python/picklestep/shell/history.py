@@ -52,6 +52,7 @@ class History:
         self._targets = array('Q')
         self._stores = array('Q')
         self._stored = array('Q')
+        self.is_whole = True  # it was wanted to the end
         self._follow(lines, until, is_wanted)
 
     def changers(self, number: int) -> List[int]:
@@ -62,6 +63,10 @@ class History:
         """The objects that were changed from a place on before another, each once, the latest change last."""
         targets = self._targets[bisect_left(self._places, begin):bisect_left(self._places, end)]
         return list(dict.fromkeys(reversed(targets)))[::-1]
+
+    def stores_of(self, number: int) -> List[int]:
+        """The places of the opcodes that store an object."""
+        return list(compress(self._stores, map(number.__eq__, self._stored)))
 
     def stored(self, begin: int, end: int) -> Tuple[Sequence[int], Sequence[int]]:
         """The places from one on before another at which an object was stored, and these objects."""
@@ -79,6 +84,7 @@ class History:
             if place % _MOST_UNASKED == 0:
                 time.sleep(_PAUSE)
                 if not is_wanted():
+                    self.is_whole = False
                     return
             deed = deeds[code]
             if deed == _MAKE:

@@ -180,20 +180,39 @@ class Opened(Document):
             vars(self).update(lists)
             self._free.set()
 
-    def _reach(self, place: int) -> int:
+    def reach(self, place: int) -> int:
         """Lets the session step over the opcode at a place, and over those behind it that are shown with it. Answers the place behind them."""
         here, end = self.session.where().place, min(place + _SHOWN_AFTER, len(self._codes or b''))
         if place < here:
             return here
-        if place >= here + _MOST_AHEAD:
+        with self._at(end):
+            return end
+
+    def stack_at(self, place: int) -> List[str]:
+        """What is on the stack at a place, from the bottom."""
+        with self._at(place):
+            return self.session.ask('stack').split()[1:]
+
+    def stores_of(self, number: int) -> List[int]:
+        """The places at which an object is stored, as it was before edits that are not read yet."""
+        if not self._history.is_good or not self._history.result().is_whole:
+            raise Unknown
+        return self._history.result().stores_of(number)
+
+    @contextlib.contextmanager
+    def _at(self, place: int) -> Iterator[None]:
+        """For a while the cursor is at a place. Raises Unknown where that is far, or where an opcode is refused on the way."""
+        here = self.session.where().place
+        if abs(place - here) > _MOST_AHEAD:
             raise Unknown
         try:
-            self.session.goto(end)
+            self.session.goto(place)
         except Refused:
             raise Unknown from None
+        try:
+            yield
         finally:
             self.session.goto(here)
-        return end
 
     def _read_beside(self, edits: List[bytes], edition: int, codes: bytes) -> _Read:
         """Reads the pickle as it is after edits, beside the prompt."""
@@ -272,7 +291,7 @@ class Opened(Document):
         if not Between.can_tell_of(lists['lines'], lists['listed'], lists['reaches'], more, codes):
             return None
         try:
-            return Between(lists['lines'], lists['_final'], lists['reaches'], more, codes, self._reach)
+            return Between(lists['lines'], lists['_final'], lists['reaches'], more, codes, self)
         except Unknown:
             return None
 
@@ -360,7 +379,7 @@ class Opened(Document):
         try:
             for edit in edits:
                 code = self._edited_codes[edit.place] if edit.place < len(self._edited_codes) else 0
-                put = Put.of(*edit[:1], *edit[2:5]) if is_told and can_tell(code, edit.word, edit.name) else None
+                put = Put.of(edit.word, edit.name, edit.values, edit.raw) if is_told and can_tell(code, edit.word, edit.name) else None
                 place = self._edit_one(edit)
                 done.append(Done(edit.word, place, edit.name, bool(done), self._put_code(edit.word, place, CODE_BY_NAME.get(edit.name, 0)), put))
                 self._here += SHIFTS.get(edit.word, 0) if edit.place < self._here else 0
@@ -455,7 +474,7 @@ class Opened(Document):
         self._here = self.session.where().place
         step, back = (self.session.redo, self.session.undo) if is_redo else (self.session.undo, self.session.redo)
         edits = _together(self._undone, is_redo) if is_redo else _together(self._edits, is_redo)
-        if self._shown is not None and (is_redo or self._base is None or self._edits[:len(self._edits) - len(edits)] != self._base.edits):
+        if self._shown is not None and (is_redo or self._base is None or len(self._edits) - len(edits) < len(self._base.edits)):
             raise Unknown
         self.session.goto(min([self._here, *(edit.place for edit in edits)]))
         try:
@@ -563,7 +582,7 @@ _CALL = '(', ')'
 _FRAME = CODE_BY_NAME['FRAME']
 _READONLY = CODE_BY_NAME['READONLY_BUFFER']
 _MOST_WALKED = 100_000
-# So many opcodes behind the cursor are shown before the pickle is read, and so many behind one are shown with it.
+# So far from the cursor something is shown before the pickle is read, and so many opcodes are shown behind one.
 _MOST_AHEAD = 20_000
 _SHOWN_AFTER = 3
 _KEY = re.compile('[0-9]+')

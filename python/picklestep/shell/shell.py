@@ -585,10 +585,13 @@ class Shell:
         return self._undo(is_redo=True)
 
     def _undo(self, is_redo: bool) -> str:
+        unread = self._moved[0] if self.pickle.is_unread else None
         edits = self.pickle.undo_back(is_redo)
         moves = [(edit.place, SHIFTS.get(edit.what, 0) * (1 if is_redo else -1)) for edit in edits]
         self._moved = (moves, self._hidden_back, self._hidden) if is_redo else (moves, self._hidden, self._hidden_back)
         self._move_breaks(*self._moved)
+        if unread is not None:  # (the edits before these may have to be taken back, too)
+            self._moved = unread[:-len(edits)], [], self._hidden
         rows = [f'{"redone" if is_redo else "undone"} {edit.place}: {edit}' for edit in edits[:_MOST_LINES]]
         return '\n'.join(rows + ([f'.. {len(edits) - _MOST_LINES} more'] if len(edits) > _MOST_LINES else []))
 
