@@ -6,8 +6,9 @@ import sys
 from dataclasses import dataclass, field
 from typing import Any, Dict, List, Optional, Tuple, Union
 
+from .changes import changed
 from .errors import NoResult
-from .records import Change, Extension, Global, Object, Ref
+from .records import Extension, Global, Object, Ref
 from .sources import Source
 from .tasks import objects
 from .values import PLAIN_KINDS, kind_value
@@ -53,10 +54,8 @@ class Values:
             self._depths.append(1 + max([self._depths[part] for part in made.parts], default=0) if is_key else 0)
             self._sizes.append(min(_MOST_SIZE, sum([self._sizes[part] for part in made.parts])) + 1 if is_key else 1)
             self._values.append(self._made(made))
-            if made.kind in ('set', 'frozenset'):
-                self._members[id(self._values[-1])] = [*made.parts, *(change.value for change in made.changes if change.how == 'add')]
         for made in heap:
-            self._change(self._values[made.number], made.changes)
+            self._fill(self._values[made.number], made)
 
     def __len__(self) -> int:
         return len(self._values)
@@ -74,16 +73,16 @@ class Values:
         return list(dict.fromkeys(map(self._key, self._members[id(value)])))
 
     def _made(self, made: Object) -> Any:
-        """An object as it was made. What was done to it comes later."""
+        """An object as it was made. What goes into a list, a set or a dictionary comes later, as does what was done to an object."""
         if made.kind in PLAIN_KINDS:
             return kind_value(made.kind, made.text)
+        if made.kind in _FILLED:
+            return _FILLED[made.kind]()
         parts = [self._values[part] for part in made.parts]
-        if made.kind in ('list', 'tuple'):
-            return parts if made.kind == 'list' else tuple(parts)
-        if made.kind in ('set', 'frozenset'):
-            return (set if made.kind == 'set' else frozenset)(map(self._key, made.parts))
-        if made.kind == 'dict':
-            return {self._key(key): self._values[value] for key, value in zip(made.parts[::2], made.parts[1::2])}
+        if made.kind == 'tuple':
+            return tuple(parts)
+        if made.kind == 'frozenset':
+            return frozenset(map(self._key, made.parts))
         if made.kind in ('global', 'stack-global', 'ext'):
             imported = self._imported(made)
             return Call('import', made.number, imported) if made.changes else imported
@@ -124,26 +123,31 @@ class Values:
             return Ref(number)
         return value
 
-    def _change(self, value: Any, changes: Tuple[Change, ...]) -> None:
-        """Does to a value what was done to its object."""
-        for change in changes:
-            other = self._values[change.value]
-            if change.how == 'state':
-                value.states.append(other)
-            elif change.how == 'set':
-                self._set(value, change, other)
-            elif isinstance(value, set):
-                value.add(self._key(change.value))
+    def _fill(self, value: Any, made: Object) -> None:
+        """Puts into a value what its object holds, and does what was done to that."""
+        if isinstance(value, Call):
+            for change in made.changes:
+                other = self._values[change.value]
+                if change.key is not None:
+                    value.pairs.append((self._values[change.key], other))
+                else:
+                    (value.states if change.how == 'state' else value.items).append(other)
+        elif made.kind == 'bytearray':
+            changed(value, made, self.at, self.at)
+        elif made.kind == 'frozenset':
+            self._members[id(value)] = list(made.parts)
+        elif made.kind in _FILLED:
+            held = changed(list(made.parts), made, self.at)
+            if made.kind == 'list':
+                value += map(self.at, held)
+            elif made.kind == 'dict':
+                value.update(zip(map(self._key, held[::2]), map(self.at, held[1::2])))
             else:
-                (value if isinstance(value, list) else value.items).append(other)
+                value.update(map(self._key, held))
+                self._members[id(value)] = held
 
-    def _set(self, value: Any, change: Change, other: Any) -> None:
-        assert change.key is not None
-        if isinstance(value, dict):
-            value[self._key(change.key)] = other
-        else:
-            value.pairs.append((self._values[change.key], other))
 
+_FILLED: Dict[str, Any] = {'list': list, 'dict': dict, 'set': set}
 
 # (Python's hash of a tuple asks its items, which ask theirs, each time anew: too many levels would end the interpreter, and a tuple that has one
 # item twice, fifty levels deep, would never be done.)
@@ -158,7 +162,7 @@ def tree(pickle: Source, *, many: bool = False, unframed: bool = False, timeout:
     `Extension`, what comes from a call or from elsewhere a `Call`. A key or a member that has no hash is a `Ref` to its object.
     `unframed` is as for `objects`.
 
-    Raises NoResult where reading ended before the pickle's STOP.
+    Raises NoResult where reading ended before the pickle's STOP, or it is not known which item of a list was changed.
 
     >>> tree(b'(X\x01\x00\x00\x00aG@\x04\x00\x00\x00\x00\x00\x00X\x01\x00\x00\x00bcos\ngetcwd\nd.')
     {'a': 2.5, 'b': Global(module=b'os', name=b'getcwd')}

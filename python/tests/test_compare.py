@@ -19,7 +19,7 @@ from typing import Any, List
 import picklestep
 from harmless import Maker, Plain, canonical
 from picklestep.diff import main
-from pickles import HOSTILE, known_opcodes, real_pickles
+from pickles import HOSTILE, changed_pickles, known_opcodes, real_pickles
 
 
 def _paths(old: Any, new: Any) -> List[str]:
@@ -68,6 +68,31 @@ class Tree(unittest.TestCase):
                 self.assertEqual(canonical(picklestep.tree(data)), canonical(pickle.loads(data)), seed)
                 tried += 1
         self.assertGreater(tried, 150)
+
+    def test_changes(self) -> None:
+        """Whatever is done to plain data, the result is what loading gives; where loading fails there may be none."""
+        tried = 0
+        for data in changed_pickles():
+            if not picklestep.calls(data).end.is_stopped:
+                continue
+            with self.subTest(data):
+                try:
+                    loaded = pickle.loads(data)
+                except Exception:
+                    with contextlib.suppress(picklestep.NoResult):
+                        picklestep.tree(data)
+                    continue
+                self.assertEqual(canonical(picklestep.tree(data)), canonical(loaded))
+                self.assertEqual(picklestep.compare(data, pickle.dumps(loaded, 5)), [])
+                tried += 1
+        self.assertGreater(tried, 500)
+
+    def test_items_that_are_set_at_an_unknown_place(self) -> None:
+        """A call may give an index: nothing is known of the list then."""
+        for data in (b'](K\x05K\x06ecbuiltins\nint\n)RNs.', b'\x96\x01\0\0\0\0\0\0\0xcbuiltins\nint\n)RK\x01s.'):
+            self.assertEqual(pickle.loads(data)[0], [None, 1][data[:1] != b']'])
+            with self.assertRaisesRegex(picklestep.NoResult, 'how object #0 is changed'):
+                picklestep.tree(data)
 
     def test_calls(self) -> None:
         made = picklestep.tree(pickle.dumps(collections.OrderedDict(a=[1])))

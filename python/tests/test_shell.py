@@ -27,7 +27,7 @@ from picklestep.shell.opened import Opened
 from picklestep.shell.shell import Shell, WordError
 from picklestep.shell.words import SAMPLE, WORDS
 from picklestep.view.document import Document
-from pickles import real_pickles
+from pickles import changed_pickles, real_pickles
 from terminals import Terminal
 
 _QUESTION = '(yes/no) '
@@ -166,8 +166,8 @@ class AtATerminal(unittest.TestCase):
 class Words(unittest.TestCase):
     """What the words do."""
 
-    def shell(self, data: bytes, path: str = '') -> Shell:
-        shell = Shell(data, path)
+    def shell(self, data: bytes, path: str = '', many: bool = False) -> Shell:
+        shell = Shell(data, path, many)
         self.addCleanup(shell.pickle.close)
         return shell
 
@@ -446,6 +446,33 @@ class Words(unittest.TestCase):
             with self.subTest(line):
                 rows = shell.obey(line).split('\n')
                 self.assertEqual([row for row in rows if row.startswith(('made', 'changed', 'stored'))], wanted)
+
+    def test_results_are_what_loading_gives(self) -> None:
+        """Of plain data that is changed in each way, one pickle after another in one shell."""
+        wanted = {}
+        for data in changed_pickles():
+            with contextlib.suppress(Exception):
+                loaded = pickle.loads(data)
+                if not isinstance(loaded, (list, dict)) or len(loaded) <= 4:  # (of others the first are shown)
+                    wanted[data] = repr(loaded) if isinstance(loaded, tuple) else re.sub(r'\(\d,\)', 'tuple of 1', repr(loaded))
+        wanted = {data: text for data, text in wanted.items() if picklestep.calls(data).end.is_stopped}
+        self.assertGreater(len(wanted), 500)
+        shell = self.shell(b''.join(wanted), many=True)
+        shell.obey('run')
+        shown = [shell.pickle.described(number) for number in shell.pickle.session.where().results]
+        self.assertEqual(*[[sorted(text) if 'tuple of' in text else text for text in texts] for texts in (shown, wanted.values())])
+
+    def test_words_that_fail(self) -> None:
+        """The shell goes on, with its edits, whatever happens in a word."""
+        shell = self.shell(SAMPLE)
+        shell.obey("set 2 to 'x'")
+        for error in (AttributeError('no such thing'), IndexError('1'), KeyError(1), RecursionError('deep'), MemoryError(), AssertionError()):
+            with mock.patch.dict(shell._words, where=mock.Mock(side_effect=error)), self.assertRaisesRegex(WordError, type(error).__name__):
+                shell.obey('where')
+        self.assertIn('undone', shell.obey('undo'))
+        for data in (SAMPLE, b'N.'):
+            with self.assertRaisesRegex(WordError, 'calls counts from 1'):
+                self.shell(data).obey('calls 0')
 
     def test_completions(self) -> None:
         shell = self.shell(SAMPLE)

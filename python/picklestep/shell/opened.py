@@ -5,11 +5,13 @@ from __future__ import annotations
 import contextlib
 import re
 from bisect import bisect_left
+from itertools import islice
 from typing import Any, Callable, Dict, Iterator, List, NamedTuple, Optional, Sequence, Set, Tuple
 
 from ..arguments import ArgumentValue
+from ..changes import changed
 from ..comparing import shown_value
-from ..errors import Refused
+from ..errors import NoResult, Refused
 from ..python_source.shapes import BRACKETS
 from ..records import Global, Object, Reach, Ref
 from ..texts import LinesError, object_of
@@ -22,6 +24,7 @@ from .later import Later
 __all__ = ['SHIFTS', 'Edit', 'Opened']
 
 _MOST_ITEMS = 4
+_MOST_KEY = 4  # levels of tuples and frozen sets
 
 
 class Edit(NamedTuple):
@@ -323,11 +326,16 @@ class Opened(Document):
 
     def described(self, number: int, depth: int = 1) -> str:
         """An object in a few words: its value, or what is called."""
-        made = self.object_at(number)
-        if made is None:
-            return self.brief(number)[:120]
+        with contextlib.suppress(NoResult):  # (how it is changed is not known)
+            made = self.object_at(number)
+            if made is not None:
+                return self._described(made, depth)
+        return self.brief(number)[:120]
+
+    def _described(self, made: Object, depth: int) -> str:
         if made.kind in PLAIN_KINDS:
-            return shown_value(kind_value(made.kind, made.text))
+            value = kind_value(made.kind, made.text)
+            return shown_value(changed(value, made, self._key, self._key) if isinstance(value, bytearray) else value)
         if made.kind in ('global', 'stack-global', 'inst'):
             named = shown_value(self._named(made))
             return named if made.kind != 'inst' else named + self._inside(made.parts, depth, _CALL)
@@ -343,20 +351,38 @@ class Opened(Document):
         return Global(module, name)
 
     def _container(self, made: Object, depth: int) -> str:
-        pairs = [(change.key, change.value) for change in made.changes if change.key is not None]
+        held = changed(list(made.parts), made, self._key)
         if made.kind != 'dict':
-            return self._inside([*made.parts, *(change.value for change in made.changes)], depth, BRACKETS[made.kind], made.kind)
-        pairs = [*zip(made.parts[::2], made.parts[1::2]), *pairs]
-        if pairs and depth <= 0:
-            return f'dict of {len(pairs)}'
-        shown = [f'{self.described(key, 0)}: {self.described(value, depth - 1)}' for key, value in pairs[:_MOST_ITEMS]]
-        return '{' + ', '.join(shown + _more(len(pairs))) + '}'
+            members = list({self._key(number): number for number in reversed(held)}.values())[::-1] if 'set' in made.kind else held
+            return self._inside(members, depth, BRACKETS[made.kind], made.kind)
+        keys: Dict[Any, int] = {}
+        values: Dict[Any, int] = {}
+        for key, value in zip(held[::2], held[1::2]):
+            keys.setdefault(self._key(key), key)
+            values[self._key(key)] = value
+        if keys and depth <= 0:
+            return f'dict of {len(keys)}'
+        shown = [f'{self.described(key, 0)}: {self.described(value, depth - 1)}' for key, value in islice(zip(keys.values(), values.values()), _MOST_ITEMS)]
+        return '{' + ', '.join(shown + _more(len(keys))) + '}'
+
+    def _key(self, number: int, depth: int = _MOST_KEY) -> Any:
+        """An object as a key, a member or an index, so that those are the same that Python takes for the same: else a Ref."""
+        made = self.object_at(number)
+        value: Any = Ref(number)
+        if made is not None and made.kind in ('tuple', 'frozenset') and depth:
+            parts = [self._key(part, depth - 1) for part in made.parts]
+            return tuple(parts) if made.kind == 'tuple' else frozenset(parts)
+        if made is not None and made.kind == 'global':
+            value = self._named(made)
+        elif made is not None and made.kind in PLAIN_KINDS and made.kind != 'bytearray':
+            value = kind_value(made.kind, made.text)
+        return value if value == value else Ref(number)  # (NaN is itself alone)
 
     def _inside(self, numbers: Sequence[int], depth: int, brackets: Tuple[str, str], kind: str = '') -> str:
         if kind and numbers and depth <= 0:
             return f'{kind} of {len(numbers)}'
-        if kind == 'set' and not numbers:
-            return 'set()'
+        if 'set' in kind and not numbers:
+            return f'{kind}()'
         shown = [self.described(number, depth - 1) for number in numbers[:_MOST_ITEMS]] if depth > 0 else ['..'] * bool(numbers)
         comma = ',' if kind == 'tuple' and len(numbers) == 1 else ''
         return brackets[0] + ', '.join(shown + (_more(len(numbers)) if depth > 0 else [])) + comma + brackets[1]

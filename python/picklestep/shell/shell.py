@@ -113,6 +113,8 @@ class Shell:
             raise WordError(f'refused: {error.text}') from error
         except (EditError, ValueError, TypeError, OverflowError, OSError, PicklestepError) as error:
             raise WordError(str(error)) from error
+        except Exception as error:  # (edits are not lost for what went wrong in one word)
+            raise WordError(f'{name} failed: {type(error).__name__}: {error}') from error
 
     def _settle(self) -> None:
         """Waits until the pickle is read after an edit. Where that fails, the edit was taken back, and breaks are where they were."""
@@ -326,6 +328,8 @@ class Shell:
     def _do_calls(self, text: str) -> str:
         offsets, answer = self.pickle.reaches.offsets, self.pickle.reaches.answer
         first = self._count(text) - 1
+        if first < 0:
+            raise WordError('calls counts from 1')
         rows = [f'{offsets[at]:>7}: {answer[at].text}' for at in range(first, min(len(offsets), first + _MOST_LINES))]
         if first + _MOST_LINES < len(offsets):
             rows.append(f'.. {len(offsets) - first - _MOST_LINES} more: calls {first + _MOST_LINES + 1}')
@@ -596,7 +600,7 @@ class Shell:
         return f'saved {path}'
 
     def _do_quit(self, text: str) -> str:
-        if self.is_unsaved and self.ask is not None and not self.ask('There are unsaved edits. Quit without saving? (yes/no) '):
+        if self.ask is not None and self.is_open and self.is_unsaved and not self.ask('There are unsaved edits. Quit without saving? (yes/no) '):
             return 'not ended'
         self.is_over = True
         return ''
