@@ -14,14 +14,19 @@ import pickle
 import pkgutil
 import random
 import struct
+import subprocess
+import sys
 import tarfile
+import types
 import unittest
+import unittest.mock
 import zipfile
 import zlib
 from typing import Dict, Set
 
 import picklestep.scan
 from picklestep.scan import Options, look
+from picklestep.scan.canonical.standard import STANDARD_MODULES
 from picklestep.scan.containers import CONTAINERS, STORES
 from picklestep.scan.names import Names
 from picklestep.scan.results import from_json, to_json
@@ -212,6 +217,34 @@ class Containers(ScanCase):
         content = b'I\x00 and so on\n0cposix\ngetcwd\n(tR.'
         self.assertEqual(pickle.loads(content), os.getcwd())
         self.assertEqual(len(self.look('model.bin', content).pickles), 1)
+
+    def test_modules_that_are_imported_for_odd_members(self) -> None:
+        """Both unpicklers import the module first, and look then for what cannot be there."""
+        for content in (b'ccolorsys\n \n', b'ccolorsys\n \n\xff', b'N0ccolorsys\n\x01\n', b'(icolorsys\n \n', b'Vcolorsys\nV \n\x93.'):
+            for load in (pickle.loads, pickle._loads):  # type: ignore[attr-defined]
+                sys.modules.pop('colorsys', None)
+                self.assertRaises(AttributeError, load, content)
+                self.assertIn('colorsys', sys.modules)
+            for name in ('pytorch_model.bin', 'y.onnx', 'y.txt'):
+                self.assertEqual(len(self.look(name, content).pickles), 1, content)
+        self.assertLessEqual(getattr(sys, 'stdlib_module_names', set()), STANDARD_MODULES)
+        self.assertEqual(self.look('notes', b'cword\nwords and more\n').pickles, ())
+
+    def test_names_in_latin_1(self) -> None:
+        """A line of UNICODE is in Latin-1, with escapes."""
+        module = types.ModuleType('mod\xe9')
+        vars(module)['ma\xedn'] = os.getcwd
+        for content in (b'Vmod\xe9\nVma\xedn\n\x93)R.', b'Vmod\\u00e9\nVma\xedn\n\x93)R.'):
+            with unittest.mock.patch.dict(sys.modules, {module.__name__: module}):
+                self.assertEqual([load(content) for load in (pickle.loads, pickle._loads)], 2 * [os.getcwd()])  # type: ignore[attr-defined]
+            for name in ('x.bin', 'x.onnx', 'x.txt'):
+                self.assertEqual(len(self.look(name, content).pickles), 1, content)
+
+    def test_an_opcode_that_is_new(self) -> None:
+        """A Python that knows one more: for this package it is none."""
+        code = 'import pickletools, copy; new = copy.copy(pickletools.opcodes[0]); new.name, new.code = "BRAND_NEW", chr(0xf0);' \
+            'pickletools.opcodes.append(new); import picklestep.scan.command, picklestep.shell.command, picklestep.view.command, picklestep.python_source'
+        subprocess.run([sys.executable, '-c', code], check=True)
 
     def test_raw_numbers_are_no_pickles(self) -> None:
         # Numbers that begin like opcodes: an import by a number of copyreg's, an id, a frame, a text.

@@ -16,6 +16,7 @@ from dataclasses import dataclass, field, replace
 from typing import Any, Callable, Dict, List, Optional, Set, Tuple
 
 from ..blobs import CHUNK, STEPS, Blob, Budget, BytesBlob
+from .standard import STANDARD_MODULES
 
 __all__ = ['Imports', 'Reach', 'imports_of', 'may_lead_on', 'reach_of']
 
@@ -66,7 +67,7 @@ _NUMBER = re.compile(rb'[+-]?[0-9a-zA-Z_.+-]*')
 def _may_name(text: bytes, is_module: bool) -> bool:
     """Whether something may be imported by this name: printable, no blanks, and in a module's none of the signs of text and code."""
     try:
-        named = text.decode('raw-unicode-escape') if b'\\' in text else text.decode('utf-8')
+        named = text.decode('utf-8', 'backslashreplace' if b'\\' in text else 'strict')
     except UnicodeDecodeError:
         return False
     if b'\\' not in text and is_module and _NOT_IN_MODULES.search(named):
@@ -74,6 +75,19 @@ def _may_name(text: bytes, is_module: bool) -> bool:
     if not any(letter.isalnum() or letter == '_' for letter in named):
         return False
     return named.isprintable() and not any(letter.isspace() for letter in named)
+
+
+def _is_standard(module: bytes) -> bool:
+    """Whether there is such a module, which is imported before a member of it is looked for, however odd that is."""
+    return module.partition(b'.')[0].decode('latin-1') in STANDARD_MODULES
+
+
+def _unescaped(line: bytes) -> bytes:
+    """What UNICODE makes of its line, in UTF-8. A line that no loader reads stays as it is."""
+    try:
+        return line.decode('raw-unicode-escape').encode('utf-8', 'surrogatepass')
+    except UnicodeDecodeError:
+        return line
 
 
 def _is_utf8(text: bytes) -> bool:
@@ -336,7 +350,7 @@ class _Machine:
             self.push(_OPAQUE)
 
     def _imports(self, module: bytes, name: bytes) -> None:
-        if _may_name(module, True) and _may_name(name, False):
+        if _may_name(module, True) and (_may_name(name, False) or _is_standard(module)):
             if self.imported is not None:
                 self.imported.add((_shown(module), _shown(name)))
             self.reached(f'an import of {module.decode("latin-1")!a} {name.decode("latin-1")!a}')
@@ -446,7 +460,7 @@ _OPCODES: Dict[str, Callable[[_Machine], Any]] = {
     'BINFLOAT': _plain(8), 'INT': _Machine.number, 'LONG': _Machine.number, 'FLOAT': _Machine.number,
     'LONG1': lambda m: m.counted(1, _PLAIN), 'LONG4': lambda m: m.counted(4, _PLAIN, True),
     'STRING': _Machine.string, 'BINSTRING': lambda m: m.counted(4, _TEXT, True), 'SHORT_BINSTRING': lambda m: m.counted(1, _TEXT),
-    'UNICODE': lambda m: m.push(_TEXT, m.line()), 'BINUNICODE': lambda m: m.counted(4, _TEXT),
+    'UNICODE': lambda m: m.push(_TEXT, _unescaped(m.line())), 'BINUNICODE': lambda m: m.counted(4, _TEXT),
     'SHORT_BINUNICODE': lambda m: m.counted(1, _TEXT), 'BINUNICODE8': lambda m: m.counted(8, _TEXT),
     'BINBYTES': lambda m: m.counted(4, _BYTES), 'SHORT_BINBYTES': lambda m: m.counted(1, _BYTES), 'BINBYTES8': lambda m: m.counted(8, _BYTES),
     'BYTEARRAY8': lambda m: m.counted(8, _BYTES), 'NEXT_BUFFER': lambda m: m.push(_OPAQUE), 'READONLY_BUFFER': _Machine.readonly,
@@ -466,7 +480,7 @@ _OPCODES: Dict[str, Callable[[_Machine], Any]] = {
 
 _DO: List[Optional[Callable[[_Machine], Any]]] = [None] * 256
 for _each in pickletools.opcodes:
-    _DO[ord(_each.code)] = _OPCODES[_each.name]
+    _DO[ord(_each.code)] = _OPCODES.get(_each.name)
 
 # Opcodes that are one byte, and put something of their own on the stack; a row of each.
 _MARK = 0x28
