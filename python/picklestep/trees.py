@@ -11,7 +11,7 @@ from .errors import NoResult
 from .records import Extension, Global, Object, Ref
 from .sources import Source
 from .tasks import objects
-from .values import PLAIN_KINDS, kind_value
+from .values import PLAIN_KINDS, Argument, Unread, kind_value
 
 __all__ = ['Call', 'Values', 'tree', 'values']
 
@@ -75,7 +75,8 @@ class Values:
     def _made(self, made: Object) -> Any:
         """An object as it was made. What goes into a list, a set or a dictionary comes later, as does what was done to an object."""
         if made.kind in PLAIN_KINDS:
-            return kind_value(made.kind, made.text)
+            value = kind_value(made.kind, made.text)
+            return Unread(value, made.kind) if isinstance(value, bytes) and made.kind != 'bytes' else value
         if made.kind in _FILLED:
             return _FILLED[made.kind]()
         parts = [self._values[part] for part in made.parts]
@@ -100,12 +101,17 @@ class Values:
         value = self._values[number]
         return value.encode('utf-8', 'surrogatepass') if isinstance(value, str) else value if isinstance(value, bytes) else Ref(number)
 
+    @staticmethod
+    def _line(text: Argument) -> Union[Argument, str]:
+        """The number of a buffer, or what PERSID gives of its line: a text, where a loader reads it."""
+        return text.decode('ascii') if isinstance(text, bytes) and text.isascii() else text
+
     def _called(self, made: Object, parts: List[Any]) -> Call:
         if made.kind == 'inst':
             assert isinstance(made.text, tuple)
             return Call(made.kind, made.number, Global(*made.text), tuple(parts))
         if made.kind in ('persistent', 'buffer', 'readonly'):
-            given = parts if made.text is None else [made.text]
+            given = parts if made.text is None else [self._line(made.text)]
             return Call(made.kind, made.number, None, tuple(given))
         name, *given = parts
         if made.kind != 'obj' and isinstance(given[0], tuple):

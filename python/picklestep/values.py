@@ -11,7 +11,7 @@ import pickletools
 import re
 from typing import Any, Callable, Dict, Optional, Tuple, Union
 
-__all__ = ['Argument', 'PLAIN_KINDS', 'PlainValue', 'Unreadable', 'argument_value', 'kind_value', 'read_form', 'unescaped']
+__all__ = ['Argument', 'PLAIN_KINDS', 'PlainValue', 'Unread', 'Unreadable', 'argument_value', 'kind_value', 'read_form', 'unescaped']
 
 # The argument of an opcode as it is shown: a number, a text as its bytes, the two lines of GLOBAL and INST, or none.
 Argument = Union[None, int, float, bytes, Tuple[bytes, bytes]]
@@ -22,6 +22,17 @@ PlainValue = Union[None, bool, int, float, str, bytes, bytearray, Tuple[Union[st
 
 class Unreadable(ValueError):
     """An argument of which a loader makes no value."""
+
+
+class Unread(bytes):
+    """The bytes of a text or a number that no loader reads, or only one that is told an encoding. `kind` is that of its object."""
+
+    def __new__(cls, data: bytes, kind: str) -> Unread:
+        made = super().__new__(cls, data)
+        made.kind = kind
+        return made
+
+    kind: str
 
 
 def _text(data: bytes) -> str:

@@ -6,6 +6,7 @@ import collections
 import contextlib
 import datetime
 import io
+import itertools
 import os
 import pickle
 import pickletools
@@ -174,6 +175,39 @@ class Compare(unittest.TestCase):
         self.assertEqual(_paths(collections.OrderedDict(a=1), collections.OrderedDict(a=2)), ["['a']: 1 -> 2"])
         self.assertEqual(_paths(datetime.date(2020, 1, 1), datetime.timedelta(1))[0], 'result.name: datetime.date -> datetime.timedelta')
 
+    def test_order_of_pairs(self) -> None:
+        """It counts where a call makes what they are put into, as it does in Python for an OrderedDict, and for no dictionary."""
+        make = b'ccollections\nOrderedDict\n)R'
+        pairs = [b'K\x01K\x02s', b'K\x03K\x04s', b'K\x01K\x05s', b'cdecimal\nDecimal\n(U\x011tRK\x06s']
+        datas = [make + b''.join(some) + b'.' for count in range(5) for some in itertools.permutations(pairs, count)]
+        for one, other in itertools.combinations(datas, 2):
+            if pickle.loads(one) != pickle.loads(other):
+                self.assertTrue(picklestep.compare(one, other), (one, other))
+        self.assertEqual([str(each) for each in picklestep.compare(make + b'K\x01K\x02sK\x03K\x04s.', make + b'K\x03K\x04sK\x01K\x02s.')],
+                         ['result.pairs[0]: 1: 2 -> 3: 4'])
+        self.assertEqual(_paths(collections.OrderedDict(a=1, b=2, c=3), collections.OrderedDict(b=2, c=4)), ["['a']: removed 1", "['c']: 3 -> 4"])
+        self.assertEqual(_paths({1: 2, 3: 4}, {3: 4, 1: 2}), [])
+
+    def test_what_no_loader_reads(self) -> None:
+        """It is no bytes, and not the same of another opcode."""
+        same = [b'C\x01\xe9.', b'U\x01\xe9.', b"S'\xe9'\n.", b'X\x01\0\0\0\xe9.', b'F\xe9\n.', b'I\xe9\n.', b'L\xe9\n.']
+        for one, other in itertools.combinations(same, 2):
+            self.assertEqual(len(picklestep.compare(one, other)), 1)
+            self.assertEqual(picklestep.compare(b'}' + one[:-1] + b'Ns.', b'}' + one[:-1] + b'Ns.'), [])
+            self.assertTrue(picklestep.compare(b'}' + one[:-1] + b'Ns.', b'}' + other[:-1] + b'Ns.'))
+        self.assertEqual(str(picklestep.compare(b'U\x01\xe9.', b'C\x01\xe9.')[0]), "result: string b'\\xe9' -> b'\\xe9'")
+        self.assertEqual(picklestep.tree(b'U\x01\xe9.'), pickle.loads(b'U\x01\xe9.', encoding='bytes'))
+
+    def test_persistent_ids(self) -> None:
+        class Unpickler(pickle.Unpickler):
+            def persistent_load(self, pid: Any) -> Any:
+                return pid
+
+        for data in (b'P1\n.', b'Pa b\n.', b'U\x01aQ.', b'K\x01Q.'):
+            wanted = Unpickler(io.BytesIO(data)).load()
+            self.assertEqual(picklestep.tree(data).arguments, (wanted,))
+        self.assertEqual([str(each) for each in picklestep.compare(b'Pa\n.', b'U\x01aQ.')], [])
+
     def test_deep(self) -> None:
         depth = 20_000
         old, new = (b']' * depth + end + b'a' * depth + b'.' for end in (b'K\x01', b'K\x02'))
@@ -276,6 +310,10 @@ class Compare(unittest.TestCase):
 
     def test_words_of_what_is_not_in_the_results(self) -> None:
         call = b"cos\nsystem\n(S'id'\ntR"
+
+        def by_number(items: bytes) -> bytes:
+            return b'csubprocess\nPopen\n' + items + b'l\x85R0N.'
+
         lines = "{0} import 'os' 'system'\n{0} call 'os' 'system' (string 'id')\n"
         rows = ((b'N.', call + b'0N.', lines.format('+')), (call + b'0N.', b'N.', lines.format('-')),
                 (b'K\x02.', call + b'0K\x03.', 'result: 2 -> 3\n' + lines.format('+')),
@@ -285,6 +323,13 @@ class Compare(unittest.TestCase):
                 (b'cos\nsystem\n0cos\nremove\n0N.', b'cos\nremove\n0cos\nsystem\n0N.', 'imports and calls: in another order\n'),
                 (call.replace(b'id', b'#1') + b'0N.', b']0' + call.replace(b'id', b'#2') + b'0N.',
                  "- call 'os' 'system' (string '#1')\n+ call 'os' 'system' (string '#2')\n"),
+                (by_number(b'(U\x04true'), by_number(b'(U\x04true'), ''), (by_number(b'(U\x04true'), by_number(b']0(U\x04true'), ''),
+                (by_number(b'(U\x04true'), by_number(b'(U\x02rm'), "call subprocess.Popen at 27.arguments[0][0]: 'true' -> 'rm'\n"),
+                (b'cx\nX\n)RK\x01K\x02s0N.', b'cx\nX\n)RK\x05K\x02s0N.', 'call x.X at 6[1]: removed 2\ncall x.X at 6[5]: added 2\n'),
+                (b'cx\nX\n)RK\x01a0N.', b'cx\nX\n)RK\x02a0N.', 'call x.X at 6[0]: 1 -> 2\n'),
+                (b'cx\nX\n)R}K\x01Nsb0N.', b'cx\nX\n)R}K\x01K\x02sb0N.', 'call x.X at 6.state[1]: None -> 2\n'),
+                (b'cx\nX\nU\x01aNs0N.', b'cx\nX\nU\x01aK\x01s0N.', "import x.X at 0['a']: None -> 1\n"),
+                (b'cx\nX\n]K\x01aN.', b'cx\nX\n]K\x02aN.', ''),
                 (call + b'0N.', b']0' + call + b'0N.', ''), (b'\x80\x04N.', b'\x80\x02N.', ''), (b'N.\xff', b'N.\xff', ''))
         with tempfile.TemporaryDirectory() as folder:
             paths = [os.path.join(folder, name) for name in 'ab']
