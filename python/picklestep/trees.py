@@ -6,11 +6,13 @@ import sys
 from dataclasses import dataclass, field
 from typing import Any, Dict, List, Optional, Tuple, Union
 
+from _compat_pickle import IMPORT_MAPPING, NAME_MAPPING
+
 from .changes import changed
 from .errors import NoResult
-from .records import Extension, Global, Object, Ref
-from .sources import Source
-from .tasks import objects
+from .records import Extension, Global, Name, Object, Ref
+from .sources import Source, content_of
+from .tasks import calls, frames, objects
 from .values import PLAIN_KINDS, Argument, Unread, kind_value
 
 __all__ = ['Call', 'Values', 'tree', 'values']
@@ -44,7 +46,9 @@ class Call:
 class Values:
     """The values of objects, the parts of each before the object."""
 
-    def __init__(self, heap: List[Object]) -> None:
+    def __init__(self, heap: List[Object], names: Dict[int, Name]) -> None:
+        """`names` has what is imported for names of Python 2, by the numbers of their objects."""
+        self._names = names
         self._values: List[Any] = []
         self._depths: List[int] = []
         self._sizes: List[int] = []
@@ -89,7 +93,9 @@ class Values:
             return Call('import', made.number, imported) if made.changes else imported
         return self._called(made, parts)
 
-    def _imported(self, made: Object) -> Union[Global, Extension]:
+    def _imported(self, made: Object) -> Name:
+        if made.number in self._names:
+            return self._names[made.number]
         if isinstance(made.text, int):
             return Extension(made.text)
         if isinstance(made.text, tuple):
@@ -108,8 +114,7 @@ class Values:
 
     def _called(self, made: Object, parts: List[Any]) -> Call:
         if made.kind == 'inst':
-            assert isinstance(made.text, tuple)
-            return Call(made.kind, made.number, Global(*made.text), tuple(parts))
+            return Call(made.kind, made.number, self._imported(made), tuple(parts))
         if made.kind in ('persistent', 'buffer', 'readonly'):
             given = parts if made.text is None else [self._line(made.text)]
             return Call(made.kind, made.number, None, tuple(given))
@@ -164,9 +169,9 @@ _MOST_SIZE = 100_000
 def tree(pickle: Source, *, many: bool = False, unframed: bool = False, timeout: Optional[float] = None, memory: Optional[int] = None) -> Any:
     r"""The result of a pickle as nested Python data; with `many` the list of the results. Nothing is imported or called.
 
-    Lists, dictionaries, sets, tuples and plain values are themselves, and shared as in the pickle. What is imported is a `Global` or an
-    `Extension`, what comes from a call or from elsewhere a `Call`. A key or a member that has no hash is a `Ref` to its object.
-    `unframed` is as for `objects`.
+    Lists, dictionaries, sets, tuples and plain values are themselves, and shared as in the pickle; a text that no loader reads is its bytes. What is
+    imported is a `Global`, by the name that Python 3 imports, or an `Extension`, what comes from a call or from elsewhere a `Call`. A key or a member
+    that has no hash is a `Ref` to its object. `unframed` is as for `objects`.
 
     Raises NoResult where reading ended before the pickle's STOP, or it is not known which item of a list was changed.
 
@@ -178,10 +183,26 @@ def tree(pickle: Source, *, many: bool = False, unframed: bool = False, timeout:
 
 def values(pickle: Source, many: bool, unframed: bool, timeout: Optional[float], memory: Optional[int]) -> Tuple[Values, Any]:
     """The values of all objects, and what `tree` answers."""
+    if hasattr(pickle, 'read'):
+        pickle = content_of(pickle)
     answer = objects(pickle, many=many, unframed=unframed, timeout=timeout, memory=memory)
     if not answer.end.is_stopped or not answer.results:
         is_frame = answer.end.code in ('F6', 'F7', 'F8')
         raise NoResult(answer.end.text + (' (unframed=True reads that frame)' if is_frame else ''))
-    made = Values(list(answer))
+    heap = list(answer)
+    names: Dict[int, Name] = {}
+    if any(_is_renamed(made, heap) for made in heap):  # (it depends on the protocol there)
+        reaches = calls(pickle, first=not many, skip=frames(pickle, many) if unframed else (), timeout=timeout, memory=memory)
+        names = {reach.number: reach.name for reach in reaches if reach.said and reach.name and reach.number is not None}
+    made = Values(heap, names)
     results = [made.at(number) for number in answer.results]
     return made, results if many else results[0]
+
+
+_RENAMED = frozenset(module.encode('ascii') for module in (*IMPORT_MAPPING, *(module for module, _ in NAME_MAPPING)))
+
+
+def _is_renamed(made: Object, heap: List[Object]) -> bool:
+    """Whether an object is imported from a module some names of which Python 3 has elsewhere."""
+    module = made.text[0] if isinstance(made.text, tuple) else heap[made.parts[0]].text if made.kind == 'stack-global' else None
+    return module in _RENAMED

@@ -15,10 +15,11 @@ import tempfile
 import time
 import unittest
 from decimal import Decimal
-from typing import Any, List
+from typing import Any, List, Optional
 
 import picklestep
 from harmless import Maker, Plain, canonical
+from picklestep.comparing import shown_value
 from picklestep.diff import main
 from pickles import HOSTILE, changed_pickles, known_opcodes, real_pickles
 
@@ -102,6 +103,18 @@ class Tree(unittest.TestCase):
         self.assertEqual(picklestep.tree(HOSTILE).arguments, ('id',))
         self.assertEqual([value.code for value in picklestep.tree(b'\x82\x01.\x82\x02.', many=True)], [1, 2])
 
+    def test_names_of_python_2(self) -> None:
+        """They are what CPython imports, which depends on the protocol where they stand."""
+        loaded = [data for data in (before + name + after for before in (b'', b'\x80\x02', b'\x80\x03', b'\x80\x04') for name, after in (
+            (b'c__builtin__\nset\n', b'.'), (b'cbuiltins\nset\n', b'.'), (b'V__builtin__\nVset\n\x93', b'.'), (b'ccopy_reg\n_reconstructor\n', b'.'),
+            (b'(i__builtin__\nset\n', b'.'), (b'N0\x80\x04c__builtin__\nset\n', b'.'))) if fails(data) is None]
+        self.assertEqual(len(loaded), 12)
+        for one, other in itertools.product(loaded, loaded):
+            is_same = pickle.loads(one) == pickle.loads(other)
+            self.assertEqual(picklestep.compare(one, io.BytesIO(other)) == [], is_same, (one, other))
+        for data in loaded:
+            self.assertEqual(*map(shown_value, (picklestep.tree(data), picklestep.tree(b'N.' + data, many=True)[1])))
+
     def test_keys_without_a_hash(self) -> None:
         self.assertEqual(picklestep.tree(b'}]Ns.'), {picklestep.Ref(1): None})
         deep = b'}' + b'N' + b'\x85' * 100_000 + b'Ns.'
@@ -120,6 +133,15 @@ class Tree(unittest.TestCase):
             with self.assertRaisesRegex(picklestep.NoResult, 'F[78] .*unframed=True'):
                 picklestep.tree(data)
             self.assertEqual(picklestep.tree(data, unframed=True), pickle.loads(data[:2] + data[11:]))
+
+
+def fails(data: bytes) -> Optional[Exception]:
+    """Why it does not load, if it does not."""
+    try:
+        pickle.loads(data)
+    except Exception as error:
+        return error
+    return None
 
 
 def crooked(value: Any, length: int) -> bytes:

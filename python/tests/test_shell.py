@@ -462,6 +462,28 @@ class Words(unittest.TestCase):
         shown = [shell.pickle.described(number) for number in shell.pickle.session.where().results]
         self.assertEqual(*[[sorted(text) if 'tuple of' in text else text for text in texts] for texts in (shown, wanted.values())])
 
+    def test_texts_that_are_long_or_have_quotes(self) -> None:
+        """They are found in the whole argument, and as they are typed."""
+        texts = ["it's", 'a\\b', 'x' * 5000 + 'needle' + 'y' * 5000, 'x' * 5000, 'x' * 600 + "the'n", 'a needle']
+        data = pickle.dumps(texts, 3)
+        shell = self.shell(data)
+        places = {value: place for place, (_, value, _) in enumerate(pickletools.genops(data)) if isinstance(value, str)}
+        for wanted in ("it's", 'a\\b', 'needle', "the'n", 'y' * 100):
+            with self.subTest(wanted):
+                shell.obey('goto 0')
+                holders = [places[text] for text in texts if wanted in text]
+                found = [int(shell.obey(f'find {wanted}').rpartition(' ')[2]) for _ in range(len(holders) + 1)]
+                self.assertEqual(found, [*holders, holders[0]])
+                shell.obey(f'break text {wanted}')
+                shell.obey('goto 0')
+                stops = [self.place(shell) for _ in holders if shell.obey('run')]
+                self.assertEqual(stops, holders)
+                shell.obey('run')
+                self.assertEqual([self.place(shell) for _ in holders if shell.obey('run back')], holders[::-1])
+                shell.obey(f'clear {shell._breaks[-1].number}')
+        with self.assertRaisesRegex(WordError, 'is in no opcode'):
+            shell.obey('find nowhere')
+
     def test_words_that_fail(self) -> None:
         """The shell goes on, with its edits, whatever happens in a word."""
         shell = self.shell(SAMPLE)
