@@ -7,6 +7,7 @@ would not take (a text that is no UTF-8, a line that is no number) stays as the 
 from __future__ import annotations
 
 import codecs
+import math
 import pickletools
 import re
 from typing import Any, Callable, Dict, Optional, Tuple, Union
@@ -91,8 +92,16 @@ def _long(data: bytes) -> int:
     return int(_up_to_nul(data[:-1] if data.endswith(b'L') else data), 0)
 
 
+# What C's `PyOS_string_to_double` takes: no blanks, no underscores, and nothing that is too large.
+_C_FLOAT = re.compile(rb'[+-]?(?:([0-9]+\.?[0-9]*|\.[0-9]+)(?:e[+-]?[0-9]+)?|inf(?:inity)?|nan)', re.IGNORECASE)
+
+
 def _float(data: bytes) -> float:
-    return float(_up_to_nul(data))
+    found = _C_FLOAT.fullmatch(_up_to_nul(data))
+    value = float(found[0]) if found is not None else 0.0
+    if found is None or found[1] is not None and math.isinf(value):
+        raise ValueError('no float, or one that is too large')
+    return value
 
 
 _READERS: Dict[str, Callable[[bytes], Union[bool, int, float, str, bytes, bytearray]]] = {

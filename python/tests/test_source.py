@@ -305,6 +305,21 @@ class Shown(unittest.TestCase):
                     executed(source(data).text)
 
 
+    def test_floats_as_c_reads_them(self) -> None:
+        """What it refuses, which Python's own reading may take, fails; all else is the same."""
+        spelled = ['1', '1.', '.5', '-.5e3', '+1E5', '1e400', '-1e999', '1e-400', 'inf', '-INF', 'Infinity', '+nan', '-nan', '1_0', ' 1', '1 ', '1\r', '\t1', '1_0.5',
+                   '.', '', 'e5', '1e', '1e+', '0x10', '1.5\0x', '\0', 'infinit', 'nan(1)', '1' * 400, '0.' + '0' * 400 + '1', '\u0661', '1L', '1,5', '--1']
+        for text in spelled:
+            data = b'F' + text.encode() + b'\n.'
+            with self.subTest(text):
+                try:
+                    wanted = repr(pickle.loads(data))
+                except (ValueError, OverflowError, pickle.UnpicklingError):
+                    self.assertRaises((ValueError, OverflowError), executed, source(data).text)
+                    self.assertEqual(picklestep.tree(data), text.encode())
+                    continue
+                self.assertEqual((repr(executed(source(data).text)['result']), repr(picklestep.tree(data))), (wanted, wanted))
+
     def test_numbers_as_c_reads_them(self) -> None:
         """A number of INT with a 0 before it is octal, and one ends at a NUL byte."""
         for data in (b'I010\n.', b'I-0377\n.', b'I 010\n.', b'I001\n.', b'I-0\n.', b'I+1\n.', b'I7\0x\n.', b'I0x10\n.', b'I1_0\n.', b'L7\0x\n.',
