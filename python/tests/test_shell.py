@@ -484,6 +484,23 @@ class Words(unittest.TestCase):
         with self.assertRaisesRegex(WordError, 'is in no opcode'):
             shell.obey('find nowhere')
 
+    def test_many_objects(self) -> None:
+        """Where it is not known what they hold at the cursor, the shell says so."""
+        note = '(What objects hold is as it is at the end.)'
+        shell = self.shell(pickle.dumps({'a': list(range(15_000)), 'b': list(range(15_000)), 'c': {'x': 1}}))
+        for line, is_there in (('goto 10000', False), ('show 0', False), ('goto 30000', True), ('show 0', True), ('stack', True), ('memo', True),
+                               ('objects 5', True), ('explain', True), ('list', False), ('run', False), ('show 0', False)):
+            self.assertEqual(note in shell.obey(line), is_there, line)
+
+    def test_explained_where_it_is_refused(self) -> None:
+        for data, code in ((b'K\x01K\x02a.', 'S5'), (b'Nh\x05.', 'S3'), (b'K\x01K\x02R.', 'S9'), (b'N\x82\x00.', 'S7'), (b'N0a.', 'S2'), (b'Ne.', 'S1')):
+            self.assertEqual(picklestep.listing(data).end.code, code)
+            shell = self.shell(data)
+            shell.obey('run')
+            self.assertIn(f'it is refused here: {code} ', shell.obey('explain'))
+            self.assertNotIn('refused', shell.obey('explain 0'))
+        self.assertIn('it takes list #0 [], item #1 1', self.shell(b']K\x01a.').obey('explain 2'))
+
     def test_words_that_fail(self) -> None:
         """The shell goes on, with its edits, whatever happens in a word."""
         shell = self.shell(SAMPLE)
@@ -596,6 +613,15 @@ class Words(unittest.TestCase):
                 shell.obey(f"save '{path} 2'")
             self.assertEqual(Path(path).read_bytes(), SAMPLE.replace(b'K\x03', b'K\x04'))
             self.assertEqual(Path(path + ' 2').read_bytes(), SAMPLE.replace(b'K\x03', b'K\x04'))
+
+    def test_save_to_names_with_blanks(self) -> None:
+        with tempfile.TemporaryDirectory() as folder:
+            shell = self.shell(SAMPLE)
+            with self.assertRaisesRegex(WordError, 'in quotes'):
+                shell.obey(f'save {folder}/my file.pickle')
+            self.assertEqual(os.listdir(folder), [])
+            shell.obey(f"save '{folder}/my file.pickle'")
+            self.assertEqual(os.listdir(folder), ['my file.pickle'])
 
     def test_batch(self) -> None:
         with tempfile.TemporaryDirectory() as folder:

@@ -278,6 +278,20 @@ class Opened(Document):
             self.session.goto(here)
             self.place, self._heap = here, None
 
+    def refusal(self) -> str:
+        """Why the opcode at the cursor is refused; nothing where it is not."""
+        try:
+            self.session.step()
+        except Refused as error:
+            return error.text.partition(': ')[2]
+        self.session.back()
+        return ''
+
+    @property
+    def is_exact(self) -> bool:
+        """Whether objects are shown as they are at the cursor, and not as they are at the end."""
+        return self._is_exact()
+
     def _edit_one(self, edit: Edit) -> int:
         session = self.session
         if edit.word in ('replace', 'insert'):
