@@ -170,11 +170,13 @@ def is_refused(releases: Releases, at: pathlib.Path, says: str) -> str:
     check = releases.run("./release", "--check", at=at)
     if check.status != 1 or says not in check.errors or "run ./release" not in check.errors:
         return f"the check: status {check.status}, errors {check.errors[:200]!r}"
-    for words in (["./picklestep", "list", str(releases.folder / "hostile.pickle")], ["./install", str(releases.folder / "nowhere")]):
+    hostile = str(releases.folder / "hostile.pickle")
+    starts = [["./picklestep", *words, hostile] for words in (["list"], [], ["scan"], ["source"], ["shell"])]
+    for words in (*starts, ["./install", str(releases.folder / "nowhere")]):
         start = releases.run_stand_in(*words, at=at)
         told = start.errors.count("\n") == 1 and says in start.errors and "./build" in start.errors
         if start.status != 2 or start.output or not told or releases.called.exists():
-            return f"{words[0]}: status {start.status}, output {start.output[:60]!r}, errors {start.errors[:200]!r}"
+            return f"{' '.join(words)}: status {start.status}, output {start.output[:60]!r}, errors {start.errors[:200]!r}"
     gate = releases.run_stand_in("./test", at=at)
     if gate.status != 1 or not gate.output.endswith("\n0 passed, 1 failed\n") or "run ./release" not in gate.output:
         return f"./test: status {gate.status}, output {gate.output[-200:]!r}"

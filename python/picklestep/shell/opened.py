@@ -5,11 +5,13 @@ from __future__ import annotations
 import contextlib
 import re
 from bisect import bisect_left
+from itertools import islice
 from typing import Any, Callable, Dict, Iterator, List, NamedTuple, Optional, Sequence, Set, Tuple
 
 from ..arguments import ArgumentValue
+from ..changes import changed
 from ..comparing import shown_value
-from ..errors import Refused
+from ..errors import NoResult, Refused
 from ..python_source.shapes import BRACKETS
 from ..records import Global, Object, Reach, Ref
 from ..texts import LinesError, object_of
@@ -19,9 +21,27 @@ from ..view.lines import CODE_BY_NAME, Lines
 from .history import History
 from .later import Later
 
-__all__ = ['SHIFTS', 'Edit', 'Opened']
+__all__ = ['SHIFTS', 'Edit', 'Opened', 'around', 'in_a_line']
 
 _MOST_ITEMS = 4
+_MOST_KEY = 4  # levels of tuples and frozen sets
+
+
+def in_a_line(text: bytes) -> bytes:
+    """A text as it stands in a line."""
+    return b''.join(b'\\x%02x' % byte if not 32 <= byte < 127 else b'\\%c' % byte if byte in b"\\'" else b'%c' % byte for byte in text)
+
+
+def around(lines: Lines, text: bytes, place: int, step: int) -> Iterator[int]:
+    """The places whose lines hold a text, from a place on, forwards or backwards."""
+    if step > 0:
+        at = lines.start(min(place, len(lines))) - 1
+        while (at := lines.text.find(text, at + 1)) >= 0:
+            yield lines.number_at(at)
+    else:
+        at = lines.start(max(0, place + 1))
+        while (at := lines.text.rfind(text, 0, at)) >= 0:
+            yield lines.number_at(at)
 
 
 class Edit(NamedTuple):
@@ -258,6 +278,20 @@ class Opened(Document):
             self.session.goto(here)
             self.place, self._heap = here, None
 
+    def refusal(self) -> str:
+        """Why the opcode at the cursor is refused; nothing where it is not."""
+        try:
+            self.session.step()
+        except Refused as error:
+            return error.text.partition(': ')[2]
+        self.session.back()
+        return ''
+
+    @property
+    def is_exact(self) -> bool:
+        """Whether objects are shown as they are at the cursor, and not as they are at the end."""
+        return self._is_exact()
+
     def _edit_one(self, edit: Edit) -> int:
         session = self.session
         if edit.word in ('replace', 'insert'):
@@ -300,6 +334,26 @@ class Opened(Document):
         """The edits that are not undone."""
         return tuple(self._edits)
 
+    # --- What is looked for ---
+
+    def find(self, text: str, after: int) -> Optional[int]:
+        """The next place behind one that has an offset, or a text in its line or its argument; else the first from the start."""
+        found = super().find(text, after)
+        if not text or found is not None and text.isdecimal():
+            return found
+        data = text.encode('utf-8', 'surrogatepass')
+        cut = [next(self.cut_with(data, place, 1), None) for place in (after + 1, 0)]
+        places = [found, self.lines.find(in_a_line(data), after), *cut]
+        ahead = [(place - after - 1) % len(self.lines) for place in places if place is not None]
+        return (after + 1 + min(ahead)) % len(self.lines) if ahead else None
+
+    def cut_with(self, text: bytes, place: int, step: int) -> Iterator[int]:
+        """The places whose arguments are not whole in their lines and hold a text, from a place on, forwards or backwards."""
+        for at in around(self.lines, b' bytes more', place, step):
+            end = self.lines.offset(at + 1) if at + 1 < len(self.lines) else None
+            if self.content().find(text, self.lines.offset(at) + 1, end) >= 0:
+                yield at
+
     # --- Objects by their values ---
 
     def object_at(self, number: int) -> Optional[Object]:
@@ -323,11 +377,16 @@ class Opened(Document):
 
     def described(self, number: int, depth: int = 1) -> str:
         """An object in a few words: its value, or what is called."""
-        made = self.object_at(number)
-        if made is None:
-            return self.brief(number)[:120]
+        with contextlib.suppress(NoResult):  # (how it is changed is not known)
+            made = self.object_at(number)
+            if made is not None:
+                return self._described(made, depth)
+        return self.brief(number)[:120]
+
+    def _described(self, made: Object, depth: int) -> str:
         if made.kind in PLAIN_KINDS:
-            return shown_value(kind_value(made.kind, made.text))
+            value = kind_value(made.kind, made.text)
+            return shown_value(changed(value, made, self._key, self._key) if isinstance(value, bytearray) else value)
         if made.kind in ('global', 'stack-global', 'inst'):
             named = shown_value(self._named(made))
             return named if made.kind != 'inst' else named + self._inside(made.parts, depth, _CALL)
@@ -343,20 +402,38 @@ class Opened(Document):
         return Global(module, name)
 
     def _container(self, made: Object, depth: int) -> str:
-        pairs = [(change.key, change.value) for change in made.changes if change.key is not None]
+        held = changed(list(made.parts), made, self._key)
         if made.kind != 'dict':
-            return self._inside([*made.parts, *(change.value for change in made.changes)], depth, BRACKETS[made.kind], made.kind)
-        pairs = [*zip(made.parts[::2], made.parts[1::2]), *pairs]
-        if pairs and depth <= 0:
-            return f'dict of {len(pairs)}'
-        shown = [f'{self.described(key, 0)}: {self.described(value, depth - 1)}' for key, value in pairs[:_MOST_ITEMS]]
-        return '{' + ', '.join(shown + _more(len(pairs))) + '}'
+            members = list({self._key(number): number for number in reversed(held)}.values())[::-1] if 'set' in made.kind else held
+            return self._inside(members, depth, BRACKETS[made.kind], made.kind)
+        keys: Dict[Any, int] = {}
+        values: Dict[Any, int] = {}
+        for key, value in zip(held[::2], held[1::2]):
+            keys.setdefault(self._key(key), key)
+            values[self._key(key)] = value
+        if keys and depth <= 0:
+            return f'dict of {len(keys)}'
+        shown = [f'{self.described(key, 0)}: {self.described(value, depth - 1)}' for key, value in islice(zip(keys.values(), values.values()), _MOST_ITEMS)]
+        return '{' + ', '.join(shown + _more(len(keys))) + '}'
+
+    def _key(self, number: int, depth: int = _MOST_KEY) -> Any:
+        """An object as a key, a member or an index, so that those are the same that Python takes for the same: else a Ref."""
+        made = self.object_at(number)
+        value: Any = Ref(number)
+        if made is not None and made.kind in ('tuple', 'frozenset') and depth:
+            parts = [self._key(part, depth - 1) for part in made.parts]
+            return tuple(parts) if made.kind == 'tuple' else frozenset(parts)
+        if made is not None and made.kind == 'global':
+            value = self._named(made)
+        elif made is not None and made.kind in PLAIN_KINDS and made.kind != 'bytearray':
+            value = kind_value(made.kind, made.text)
+        return value if value == value else Ref(number)  # (NaN is itself alone)
 
     def _inside(self, numbers: Sequence[int], depth: int, brackets: Tuple[str, str], kind: str = '') -> str:
         if kind and numbers and depth <= 0:
             return f'{kind} of {len(numbers)}'
-        if kind == 'set' and not numbers:
-            return 'set()'
+        if 'set' in kind and not numbers:
+            return f'{kind}()'
         shown = [self.described(number, depth - 1) for number in numbers[:_MOST_ITEMS]] if depth > 0 else ['..'] * bool(numbers)
         comma = ',' if kind == 'tuple' and len(numbers) == 1 else ''
         return brackets[0] + ', '.join(shown + (_more(len(numbers)) if depth > 0 else [])) + comma + brackets[1]

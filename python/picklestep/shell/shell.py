@@ -34,6 +34,7 @@ _MOST_BYTES = 256
 _TAKES = {'opcode': 'the name of one', 'import': 'a pattern, as os.*', 'call': 'a pattern, as os.*'}
 # Words that do nothing without what comes after them.
 _NEED = frozenset('goto until go clear off on find who show replace insert set rename frame'.split())
+_SHOW_OBJECTS = frozenset('step back goto until run go where explain show stack memo objects'.split())
 _OF_FRAMES = ('F6', 'F7', 'F8')
 
 
@@ -108,11 +109,18 @@ class Shell:
         try:
             self._settle()
             self._check_names()  # (of a rename that was interrupted)
-            return self._words[name](text)
+            return self._words[name](text) + self._note(name)
         except Refused as error:
             raise WordError(f'refused: {error.text}') from error
         except (EditError, ValueError, TypeError, OverflowError, OSError, PicklestepError) as error:
             raise WordError(str(error)) from error
+        except Exception as error:  # (edits are not lost for what went wrong in one word)
+            raise WordError(f'{name} failed: {type(error).__name__}: {error}') from error
+
+    def _note(self, name: str) -> str:
+        """What is to be known of the objects that a word has shown: where there are many, they are not those at the cursor."""
+        is_other = name in _SHOW_OBJECTS and self.pickle.place < len(self.pickle.lines) and not self.pickle.is_exact
+        return '\n(What objects hold is as it is at the end.)' if is_other else ''
 
     def _settle(self) -> None:
         """Waits until the pickle is read after an edit. Where that fails, the edit was taken back, and breaks are where they were."""
@@ -326,6 +334,8 @@ class Shell:
     def _do_calls(self, text: str) -> str:
         offsets, answer = self.pickle.reaches.offsets, self.pickle.reaches.answer
         first = self._count(text) - 1
+        if first < 0:
+            raise WordError('calls counts from 1')
         rows = [f'{offsets[at]:>7}: {answer[at].text}' for at in range(first, min(len(offsets), first + _MOST_LINES))]
         if first + _MOST_LINES < len(offsets):
             rows.append(f'.. {len(offsets) - first - _MOST_LINES} more: calls {first + _MOST_LINES + 1}')
@@ -373,9 +383,10 @@ class Shell:
                 made = self.pickle.final_object(number)
                 takes = self._numbered([f'#{part}' for part in made.parts] if made is not None else [])
                 rows.append(f'it makes #{number}' + (f' of {takes}' if takes else ''))
-            elif EFFECTS[line.name][0]:
-                takes = self._taken(line.name) if is_there else EFFECTS[line.name][0]
-                rows.append(f'it takes {takes}' if takes else 'it is refused here')
+            else:
+                why = self.pickle.refusal() if is_there else ''
+                takes = EFFECTS[line.name][0] and (self._taken(line.name) if is_there and not why else EFFECTS[line.name][0])
+                rows += [f'it is refused here: {why}'] if why else [f'it takes {takes}'] if takes else []
         return '\n'.join(rows)
 
     def _taken(self, name: str) -> str:
@@ -588,7 +599,10 @@ class Shell:
         return '\n'.join([*rows, *differences[:_MOST_LINES], *more, *self.pickle.kept])
 
     def _do_save(self, text: str) -> str:
-        path = shlex.split(text)[0] if text else self._path
+        words = shlex.split(text)
+        if len(words) > 1:
+            raise WordError(f'it is: {WORDS["save"].usage}, in quotes where it has blanks')
+        path = words[0] if words else self._path
         if not path:
             raise WordError('it has no file: save FILE')
         self.pickle.save(path, True)
@@ -596,7 +610,7 @@ class Shell:
         return f'saved {path}'
 
     def _do_quit(self, text: str) -> str:
-        if self.is_unsaved and self.ask is not None and not self.ask('There are unsaved edits. Quit without saving? (yes/no) '):
+        if self.ask is not None and self.is_open and self.is_unsaved and not self.ask('There are unsaved edits. Quit without saving? (yes/no) '):
             return 'not ended'
         self.is_over = True
         return ''
