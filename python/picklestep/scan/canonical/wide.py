@@ -466,7 +466,7 @@ _OPCODES: Dict[str, Callable[[_Machine], Any]] = {
 
 _DO: List[Optional[Callable[[_Machine], Any]]] = [None] * 256
 for _each in pickletools.opcodes:
-    _DO[ord(_each.code)] = _OPCODES[_each.name]
+    _DO[ord(_each.code)] = _OPCODES.get(_each.name)
 
 # Opcodes that are one byte, and put something of their own on the stack; a row of each.
 _MARK = 0x28
