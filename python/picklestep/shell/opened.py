@@ -14,6 +14,7 @@ from ..comparing import shown_value
 from ..errors import NoResult, Refused
 from ..python_source.shapes import BRACKETS
 from ..records import Global, Object, Reach, Ref
+from ..session import SHIFTS
 from ..texts import LinesError, object_of
 from ..values import PLAIN_KINDS, kind_value
 from ..view.document import Document, Done, places_edited
@@ -21,7 +22,7 @@ from ..view.lines import CODE_BY_NAME, Lines
 from .history import History
 from .later import Later
 
-__all__ = ['SHIFTS', 'Edit', 'Opened', 'around', 'in_a_line']
+__all__ = ['Edit', 'Opened', 'around', 'in_a_line']
 
 _MOST_ITEMS = 4
 _MOST_KEY = 4  # levels of tuples and frozen sets
@@ -213,7 +214,7 @@ class Opened(Document):
             for edit in edits:
                 place = self._edit_one(edit)
                 done.append(Done(edit.word, place, edit.name, bool(done), self._put_code(edit.word, place, CODE_BY_NAME.get(edit.name, 0))))
-                self._here += SHIFTS.get(edit.word, 0) if edit.place < self._here else 0
+                self._here += SHIFTS[edit.word] if edit.place < self._here else 0
         except BaseException:
             back()
             self._return(here)
@@ -300,7 +301,7 @@ class Opened(Document):
         elif edit.word == 'frame':
             place = session.frame(edit.place, edit.members)
         else:
-            place = session.delete(edit.place) if edit.word == 'delete' else session.unframe(edit.place)
+            place = getattr(session, edit.word)(edit.place)
         return place
 
     def undo_back(self, is_redo: bool) -> List[Done]:
@@ -321,7 +322,7 @@ class Opened(Document):
                 self._put_code(edit.what, edit.place, CODE_BY_NAME.get(edit.name, 0))
             else:
                 self._put_back(edit)
-            shift = SHIFTS.get(edit.what, 0) if edit.place < self._here else 0
+            shift = SHIFTS[edit.what] if edit.place < self._here else 0
             self._here += shift if is_redo else -shift
         count, turned = len(edits), list(edits)
         left, more = (self._undone[:-count], self._edits) if is_redo else (self._edits[:-count], self._undone)
@@ -458,8 +459,6 @@ _FRAME = CODE_BY_NAME['FRAME']
 _MOST_WAITED = 100_000
 _MOST_WALKED = 100_000
 _KEY = re.compile('[0-9]+')
-# How many opcodes more there are after an edit.
-SHIFTS = {'insert': 1, 'frame': 1, 'delete': -1, 'unframe': -1}
 
 
 def _size(lines: Lines, number: int) -> int:

@@ -13,6 +13,7 @@ from ..diff import of_reaches
 from ..errors import NoResult, PicklestepError, Refused
 from ..records import Ref
 from ..python_source import source
+from ..session import SHIFTS
 from ..sources import Source
 from ..texts import LinesError, opcode_of, stored_under
 from ..view.document import Done
@@ -20,7 +21,7 @@ from ..view.lines import line_of
 from .breaks import BREAKS, Break, next_break
 from .edits import OPCODES, EditError, line_put, of_object, of_value, of_words, unquoted
 from .explain import EFFECTS, EXPLAINED, taken
-from .opened import SHIFTS, Edit, Opened
+from .opened import Edit, Opened
 from .renames import Renaming, names_of, renaming
 from .words import WORDS, help_page, help_pages, whole_word
 
@@ -473,15 +474,15 @@ class Shell:
         shift = 0
         for edit in known:
             moved.append(edit._replace(place=edit.place + shift))
-            shift += SHIFTS.get(edit.word, 0)
+            shift += SHIFTS[edit.word]
         done = self.pickle.edit_all(moved)
-        self._moved = [(edit.place, SHIFTS.get(edit.word, 0)) for edit in moved], [], self._hidden
+        self._moved = [(edit.place, SHIFTS[edit.word]) for edit in moved], [], self._hidden
         self._move_breaks(*self._moved)
         self._hidden_back.clear()
         return '\n'.join(self._echo(edit, place, old) for edit, place, old in zip(known, done, was))
 
     def _echo(self, edit: Edit, place: int, old: str) -> str:
-        if edit.word in ('delete', 'unframe'):
+        if SHIFTS[edit.word] < 0:
             return f'{place}: {old} is gone'
         if edit.word == 'frame':
             self._settle()
@@ -546,7 +547,7 @@ class Shell:
             ended = '' if end.is_stopped else f' before {end.text}'
             raise WordError('; '.join([f'nothing is imported from {words[0][:60]!r}{ended}', *self.pickle.kept]))
         places = [edit.place for edit in found.edits]
-        shifts = [0, *accumulate(SHIFTS.get(edit.word, 0) for edit in found.edits)]
+        shifts = [0, *accumulate(SHIFTS[edit.word] for edit in found.edits)]
         stays = [f'{place + shifts[bisect_right(places, place)]}: {self._was(place)} stays: it is data too' for place in found.stays]
         self._unchecked = found, self.pickle.edits_made
         rows = [self._edited(found.edits), *stays]
@@ -577,7 +578,7 @@ class Shell:
 
     def _undo(self, is_redo: bool) -> str:
         edits = self.pickle.undo_back(is_redo)
-        moves = [(edit.place, SHIFTS.get(edit.what, 0) * (1 if is_redo else -1)) for edit in edits]
+        moves = [(edit.place, SHIFTS[edit.what] * (1 if is_redo else -1)) for edit in edits]
         self._moved = (moves, self._hidden_back, self._hidden) if is_redo else (moves, self._hidden, self._hidden_back)
         self._move_breaks(*self._moved)
         rows = [f'{"redone" if is_redo else "undone"} {edit.place}: {edit}' for edit in edits[:_MOST_LINES]]

@@ -13,7 +13,7 @@ from ..answers import Calls
 from ..errors import Refused
 from ..python_source import source
 from ..reaches import made_by
-from ..session import Session
+from ..session import SHIFTS, Session
 from ..sources import Input, Source
 from ..tasks import modes
 from ..texts import as_made, broken_places, held_in, holding
@@ -43,7 +43,6 @@ _MOST_SOURCE_LINES = 1000
 _MOST_SAID = 4000
 _IMPORTS = ('import', 'inst')
 _CALLS = ('inst', 'call', 'new', 'state', 'append', 'set', 'add')
-_PLACES = {'replace': 0, 'insert': 1, 'delete': -1, 'frame': 1, 'unframe': -1}
 
 
 class Reaches:
@@ -408,8 +407,8 @@ class Document:
             done = put(place, name, raw=bytes.fromhex(raw))
         elif what == 'frame':
             done = self.session.frame(place, count)
-        elif what in ('delete', 'unframe'):
-            done = self.session.delete(place) if what == 'delete' else self.session.unframe(place)
+        elif what in SHIFTS:
+            done = getattr(self.session, what)(place)
         else:
             raise ValueError('this is no edit')
         self._changed([*self._edits, Done(what, done, name if puts else '')], [], self.session.undo)
@@ -489,7 +488,7 @@ def places_edited(edits: List[Done]) -> Set[int]:
     """The places that edits touched, each where it is after those that came later."""
     places: Set[int] = set()
     for what, at, *_ in edits:
-        shift = _PLACES[what]
+        shift = SHIFTS[what]
         if shift > 0:
             places = {place + 1 if place >= at else place for place in places}
         elif shift < 0:

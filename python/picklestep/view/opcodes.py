@@ -27,7 +27,7 @@ def opcode_table() -> Dict[str, Dict[str, Any]]:
     """
     return {opcode.name: {'code': shown_code(opcode.code), 'form': opcode.arg.name if opcode.arg else '',
                           'makes': opcode.name not in MAKE_NONE, 'says': EXPLAINED[opcode.name],
-                          'takes': EFFECTS[opcode.name][0], 'leaves': EFFECTS[opcode.name][1]} for opcode in pickletools.opcodes}
+                          'takes': EFFECTS[opcode.name][0], 'leaves': EFFECTS[opcode.name][1]} for opcode in pickletools.opcodes if opcode.name in EXPLAINED}
 
 
 def source_facts() -> Dict[str, Any]:
