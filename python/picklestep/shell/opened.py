@@ -5,7 +5,7 @@ from __future__ import annotations
 import contextlib
 import re
 from bisect import bisect_left
-from itertools import islice
+from itertools import chain, islice
 from typing import Any, Callable, Dict, Iterator, List, NamedTuple, Optional, Sequence, Set, Tuple
 
 from ..arguments import ArgumentValue
@@ -342,8 +342,8 @@ class Opened(Document):
         if not text or found is not None and text.isdecimal():
             return found
         data = text.encode('utf-8', 'surrogatepass')
-        cut = [next(self.cut_with(data, place, 1), None) for place in (after + 1, 0)]
-        places = [found, self.lines.find(in_a_line(data), after), *cut]
+        cut = next(chain(self.cut_with(data, after + 1, 1), self.cut_with(data, 0, 1)), None)
+        places = [found, self.lines.find(in_a_line(data), after), cut]
         ahead = [(place - after - 1) % len(self.lines) for place in places if place is not None]
         return (after + 1 + min(ahead)) % len(self.lines) if ahead else None
 
