@@ -8,6 +8,7 @@ import doctest
 import gzip
 import importlib
 import io
+import itertools
 import json
 import lzma
 import os
@@ -21,13 +22,16 @@ import tarfile
 import types
 import unittest
 import unittest.mock
+import warnings
 import zipfile
 import zlib
 from typing import Any, Dict, List, Set, Type
 
 import picklestep.scan
 from picklestep.scan import Judge, Options, look
+from picklestep.scan.blobs import BytesBlob
 from picklestep.scan.canonical.standard import STANDARD_MODULES
+from picklestep.scan.canonical.wide import reach_of
 from picklestep.scan.containers import CONTAINERS, STORES
 from picklestep.scan.names import Names
 from picklestep.scan.results import from_json, to_json
@@ -92,7 +96,8 @@ def asked_for(unpickler: Type[Any], content: bytes) -> List[str]:
         def persistent_load(self, pid: Any) -> Any:
             return pid
 
-    with contextlib.suppress(Exception):
+    with contextlib.suppress(Exception), warnings.catch_warnings():
+        warnings.simplefilter('ignore')  # (of escapes that are none)
         Unpickler(io.BytesIO(content)).load()
     return names
 
@@ -248,6 +253,21 @@ class Containers(ScanCase):
                 self.assertEqual(len(self.look(name, content).pickles), 1, content)
         self.assertLessEqual(getattr(sys, 'stdlib_module_names', set()), STANDARD_MODULES)
         self.assertEqual(self.look('notes', b'cword\nwords and more\n').pickles, ())
+
+    def test_lines_as_they_may_be_spelled(self) -> None:
+        """Before a call: a line of each opcode, of up to two of these letters. Each is gone over where one of Python's unpicklers goes over it."""
+        letters = [bytes([code]) for code in b'10 L_-x\t\r\0.e\'"\\na\x0b\x0c\x1c\x85\xa0\xe9+i'] + ['\xa0'.encode(), '\u0661'.encode()]
+        rest = b'cposix\nsystem\n(X\x04\0\0\0truetR.'
+        gone_over = 0
+        for begin, end in ((b'I', b'\n'), (b'L', b'\n'), (b'L', b'L\n'), (b'F', b'\n'), (b'S', b'\n'), (b"S'", b"'\n"), (b"S'", b'\n'), (b'V', b'\n'), (b'Np', b'\n'),
+                           (b'Np1\n0g', b'\n'), (b'Np\xd9\xa1\n0g', b'\n'), (b'P', b'\n')):
+            for count in range(3):
+                for some in itertools.product(letters, repeat=count):
+                    content = begin + b''.join(some) + end + b'0' + rest
+                    if any('system' in asked_for(kind, content) for kind in (pickle.Unpickler, pickle._Unpickler)):  # type: ignore[attr-defined]
+                        gone_over += 1
+                        self.assertIsNotNone(reach_of(BytesBlob(content))[0], content)
+        self.assertGreater(gone_over, 1500)
 
     def test_long_lines(self) -> None:
         """Before a call: each is gone over where one of Python's unpicklers is asked for the name of the call behind it, or goes to its end."""

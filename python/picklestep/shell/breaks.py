@@ -9,8 +9,9 @@ from heapq import merge
 from typing import Callable, Dict, Iterator, Optional
 
 from ..records import Extension, Global, Name, Ref
+from ..view.document import around, in_a_line
 from ..view.lines import Line
-from .opened import Opened, around, in_a_line
+from .opened import Opened
 
 __all__ = ['Break', 'BREAKS', 'next_break']
 

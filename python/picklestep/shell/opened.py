@@ -22,27 +22,10 @@ from ..view.lines import CODE_BY_NAME, Lines
 from .history import History
 from .later import Later
 
-__all__ = ['Edit', 'Opened', 'around', 'in_a_line']
+__all__ = ['Edit', 'Opened']
 
 _MOST_ITEMS = 4
 _MOST_KEY = 4  # levels of tuples and frozen sets
-
-
-def in_a_line(text: bytes) -> bytes:
-    """A text as it stands in a line."""
-    return b''.join(b'\\x%02x' % byte if not 32 <= byte < 127 else b'\\%c' % byte if byte in b"\\'" else b'%c' % byte for byte in text)
-
-
-def around(lines: Lines, text: bytes, place: int, step: int) -> Iterator[int]:
-    """The places whose lines hold a text, from a place on, forwards or backwards."""
-    if step > 0:
-        at = lines.start(min(place, len(lines))) - 1
-        while (at := lines.text.find(text, at + 1)) >= 0:
-            yield lines.number_at(at)
-    else:
-        at = lines.start(max(0, place + 1))
-        while (at := lines.text.rfind(text, 0, at)) >= 0:
-            yield lines.number_at(at)
 
 
 class Edit(NamedTuple):
@@ -334,26 +317,6 @@ class Opened(Document):
     def edits_made(self) -> Tuple[Done, ...]:
         """The edits that are not undone."""
         return tuple(self._edits)
-
-    # --- What is looked for ---
-
-    def find(self, text: str, after: int) -> Optional[int]:
-        """The next place behind one that has an offset, or a text in its line or its argument; else the first from the start."""
-        found = super().find(text, after)
-        if not text or found is not None and text.isdecimal():
-            return found
-        data = text.encode('utf-8', 'surrogatepass')
-        cut = [next(self.cut_with(data, place, 1), None) for place in (after + 1, 0)]
-        places = [found, self.lines.find(in_a_line(data), after), *cut]
-        ahead = [(place - after - 1) % len(self.lines) for place in places if place is not None]
-        return (after + 1 + min(ahead)) % len(self.lines) if ahead else None
-
-    def cut_with(self, text: bytes, place: int, step: int) -> Iterator[int]:
-        """The places whose arguments are not whole in their lines and hold a text, from a place on, forwards or backwards."""
-        for at in around(self.lines, b' bytes more', place, step):
-            end = self.lines.offset(at + 1) if at + 1 < len(self.lines) else None
-            if self.content().find(text, self.lines.offset(at) + 1, end) >= 0:
-                yield at
 
     # --- Objects by their values ---
 

@@ -5,9 +5,9 @@ from __future__ import annotations
 import os
 from array import array
 from bisect import bisect_left, bisect_right
-from itertools import islice
+from itertools import chain, islice
 from pathlib import Path
-from typing import Any, Callable, Dict, List, NamedTuple, Optional, Set, Tuple
+from typing import Any, Callable, Dict, Iterator, List, NamedTuple, Optional, Set, Tuple
 
 from ..answers import Calls
 from ..errors import Refused
@@ -19,7 +19,7 @@ from ..tasks import modes
 from ..texts import as_made, broken_places, held_in, holding
 from .lines import Lines, add_items, cut_text, lines_of, read_all, silent
 
-__all__ = ['Document', 'Done', 'Fields', 'places_edited']
+__all__ = ['Document', 'Done', 'Fields', 'around', 'in_a_line', 'places_edited']
 
 Fields = Dict[str, Any]
 
@@ -378,10 +378,23 @@ class Document:
         return f'break {place}'
 
     def find(self, text: str, after: int) -> Optional[int]:
-        """The place that a search finds: an offset, a name or a text."""
+        """The place that a search finds: an offset, a name or a text. What an argument holds is found, also where its line does not have it whole."""
         if text.isdecimal() and len(self.lines) and int(text) <= self.lines.offset(len(self.lines) - 1):
             return self.lines.place_of(int(text))
-        return self.lines.find(_written(text), after) if text else None
+        if not text:
+            return None
+        data = text.encode('utf-8', 'surrogatepass')
+        cut = next(chain(self.cut_with(data, after + 1, 1), self.cut_with(data, 0, 1)), None)
+        places = [self.lines.find(in_a_line(data), after), self.lines.find(in_a_line(data, b''), after), cut]
+        ahead = [(place - after - 1) % len(self.lines) for place in places if place is not None]
+        return (after + 1 + min(ahead)) % len(self.lines) if ahead else None
+
+    def cut_with(self, text: bytes, place: int, step: int) -> Iterator[int]:
+        """The places whose arguments are not whole in their lines and hold a text, from a place on, forwards or backwards."""
+        for at in around(self.lines, b' bytes more', place, step):
+            end = self.lines.offset(at + 1) if at + 1 < len(self.lines) else None
+            if self.content().find(text, self.lines.offset(at) + 1, end) >= 0:
+                yield at
 
     # --- Edits ---
 
@@ -472,9 +485,21 @@ def _latest(edits: List[Done]) -> str:
     return str(edits[-1]) if edits else ''
 
 
-def _written(text: str) -> bytes:
-    """A text as the program writes it: its bytes, with escapes for those that are no signs of ASCII."""
-    return b''.join(b'%c' % byte if 0x20 <= byte <= 0x7e else b'\\x%02x' % byte for byte in text.encode('utf-8', 'surrogatepass'))
+def in_a_line(text: bytes, escaped: bytes = b"\\'") -> bytes:
+    """A text as the program writes it in quotes; with nothing that is escaped as it is typed, but for what is no sign of ASCII."""
+    return b''.join(b'\\x%02x' % byte if not 0x20 <= byte <= 0x7e else b'\\%c' % byte if byte in escaped else b'%c' % byte for byte in text)
+
+
+def around(lines: Lines, text: bytes, place: int, step: int) -> Iterator[int]:
+    """The places whose lines hold a text, from a place on, forwards or backwards."""
+    if step > 0:
+        at = lines.start(min(place, len(lines))) - 1
+        while (at := lines.text.find(text, at + 1)) >= 0:
+            yield lines.number_at(at)
+    else:
+        at = lines.start(max(0, place + 1))
+        while (at := lines.text.rfind(text, 0, at)) >= 0:
+            yield lines.number_at(at)
 
 
 def _last(answer: str) -> Fields:

@@ -324,7 +324,7 @@ class _Machine:
     # --- Numbers and texts ---
 
     def number(self) -> None:
-        text = self.line().split(b'\0')[0].strip(_SPACE)
+        text = self.line().split(b'\0')[0].strip(_SPACE).rstrip(b'L').rstrip(_SPACE)  # (of LONG blanks may be before the L)
         if not _NUMBER.fullmatch(text) and text.isascii():
             raise _End
         self.push(_PLAIN)
