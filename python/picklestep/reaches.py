@@ -16,9 +16,10 @@ __all__ = ['Heading', 'LineKey', 'REACHES', 'before_headings', 'counts_in', 'hea
 _HEADING = re.compile(r'^(a loader(?: that buffers frames| that keeps its buffer)? may go on):$', re.MULTILINE)
 _IN_HEADINGS = ' may go on:\n'
 _COUNTS = re.compile(r'^([0-9]+) imports, ([0-9]+) calls$', re.MULTILINE)
-# A line of `calls`: its offset, its first word, and the name behind that where the module is in quotes; and the whole of it.
-_BEGIN = re.compile(rf" *([0-9]+): (\w+)(?: ((?:raw )?{QUOTED} (?:(?:raw )?{QUOTED}|#[0-9]+)))?")
-_REACHED = re.compile(rf'^{_BEGIN.pattern}.*$', re.MULTILINE)
+# A line of `calls`: its offset, its text and first word, and the name in it where the module is in quotes. Then its beginning, without the text.
+_NAMED = rf'(?: ((?:raw )?{QUOTED} (?:(?:raw )?{QUOTED}|#[0-9]+)))?'
+_REACHED = re.compile(rf'^ *([0-9]+): ((\w+){_NAMED}.*)$', re.MULTILINE)
+_BEGIN = re.compile(rf' *([0-9]+): (\w+){_NAMED}')
 _PERSISTENT = re.compile(r'^ *[0-9]+: persistent (.*)$', re.MULTILINE)
 # In a line so much is before the colon behind its offset, with the end of the line before. (Offsets from 100,000 on take more.)
 _OFFSET = 6
