@@ -1,9 +1,12 @@
-"""Tries the released programs, from outside: in a fresh clone, where something was changed, installed, and with nothing but the C library."""
+"""Tries the released programs, from outside: in a fresh clone, where something was changed, installed, and with nothing but the C library.
+
+Another program that is tried takes the place of the released one for this machine, as a commit of the clone."""
 
 from __future__ import annotations
 
 import filecmp
 import functools
+import hashlib
 import os
 import pathlib
 import re
@@ -41,6 +44,7 @@ else
 fi
 """
 SECONDS = 5.0
+COMMITTER = ("-c", "user.name=trials", "-c", "user.email=trials@localhost")
 
 
 @dataclass
@@ -54,6 +58,7 @@ class Run:
 @dataclass
 class Releases:
     root: pathlib.Path
+    program: pathlib.Path
     folder: pathlib.Path
     starts: int = 0
     called: pathlib.Path = field(init=False)
@@ -84,7 +89,19 @@ class Releases:
         done = self.run("git", "clone", "-q", str(self.root), str(at), at=self.folder)
         if done.status != 0:
             raise OSError(f"git clone: {done.errors[:200]}")
+        self.put_in(at)
         return at
+
+    def put_in(self, at: pathlib.Path) -> None:
+        """Lets the program that is tried be the released one of a clone."""
+        there, content = at / DIST / "picklestep", self.program.read_bytes()
+        if content == there.read_bytes():
+            return
+        there.write_bytes(content)
+        (at / DIST / "SHA256SUMS").write_text(f"{hashlib.sha256(content).hexdigest()}  picklestep\n")
+        done = self.run("git", *COMMITTER, "commit", "-q", "-a", "-m", "Another program", at=at)
+        if done.status != 0:
+            raise OSError(f"git commit: {done.errors[:200]}")
 
     def tried(self, attempt: Callable[[Releases], str]) -> str:
         if not self.folder.exists():

@@ -287,7 +287,7 @@ class Words(unittest.TestCase):
             shell.obey(f'break {place}')
         before = shell.obey('break')
         for line in ('delete 3', 'insert 1 NONE', 'rename oldapp newapp'):
-            with mock.patch.object(Opened, '_read_from', side_effect=picklestep.ProgramError('it fails')):
+            with mock.patch.object(Opened, '_take', side_effect=picklestep.ProgramError('it fails')):
                 with self.assertRaisesRegex(WordError, 'it fails'):
                     shell.obey(line)
                     shell.obey('where')

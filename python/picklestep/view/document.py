@@ -17,7 +17,7 @@ from ..session import SHIFTS, Session
 from ..sources import Input, Source
 from ..tasks import modes
 from ..texts import as_made, broken_places, held_in, holding
-from .lines import Lines, add_items, cut_text, lines_of, read_all, silent
+from .lines import Lines, OpcodeLines, add_items, cut_text, lines_of, read_all, read_answers, silent
 
 __all__ = ['Document', 'Done', 'Fields', 'around', 'in_a_line', 'places_edited']
 
@@ -169,23 +169,40 @@ class Document:
 
     def _read(self) -> None:
         """Reads the listing, the objects, and what is imported and called."""
-        if self._edits or self.version:
+        if not (self._edits or self.version):
+            self._read_from(self.session._input)
+        elif not self._read_at_once():
             self._content = self.version + 1, self.session.bytes()
             with Input(self._content[1]) as given:
                 self._read_from(given)
-        else:
-            self._read_from(self.session._input)
         self.version += 1
         self._heap: Optional[Lines] = None
         self.edited = places_edited(self._edits)
         if self._has_breaks:
             self.breaks = broken_places(self.session.items().text)
 
+    def _read_at_once(self) -> bool:
+        """Reads what the library says of a small pickle as the edits leave it. False where it is to be saved for the program: there is no library,
+        or the listing ends before its last opcode."""
+        with self.session._asked() as asked:
+            answers = read_answers(asked.in_process, self._options, self._codes)
+        if answers is None or len(answers[0]) < self.session.where().places:
+            return False
+        self._take(answers)
+        return True
+
     def _read_from(self, given: Input) -> None:
-        self.lines, self._final, calls, is_part = read_all(given, self._options, self._told, self._codes)
+        answers = read_all(given, self._options, self._told, self._codes)
+        listed = len(answers[0])
+        if listed < self.session.where().places:
+            add_items(answers[0], given, self._options)
+        self._take(answers)
+        self.listed = listed
+
+    def _take(self, answers: Tuple[OpcodeLines, Lines, str, bool]) -> None:
+        """Keeps what the program says."""
+        self.lines, self._final, calls, is_part = answers
         self.listed = len(self.lines)
-        if self.listed < self.session.where().places:
-            add_items(self.lines, given, self._options)
         self.reaches = Reaches(Calls(calls), is_part)
         self.lines.closing += self.reaches.behind
         here = self.session.where().place

@@ -509,6 +509,9 @@ def reach_of(blob: Blob, budget: Optional[Budget] = None, extends: bool = True) 
 
     Without `extends` no loader knows a number of copyreg.
     """
+    first = blob.read(0, 1)
+    if first and _DO[first[0]] is None:
+        return None, 0
     stops, framed = 0, True
     for way in _WAYS if extends else _WITHOUT_NUMBERS:
         # (Ways that differ in frames, or in the memo of a second pickle, read alike where there is none.)
@@ -543,6 +546,9 @@ def imports_of(blob: Blob, keeps: bool, budget: Optional[Budget] = None, known: 
     framed = True
     if budget is not None:
         budget.count(_STEPS_OF_A_READING)
+    first = blob.read(0, 1)
+    if first and _DO[first[0]] is None:
+        return found
     for way in _WAYS:
         if way.keeps != keeps or way.drops and not framed:
             continue
