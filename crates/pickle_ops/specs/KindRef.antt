@@ -61,6 +61,10 @@ parts_shown _ parts = []
 abbrev pub shown : Object → Object
 shown o = record { kind = o.kind; parts = parts_shown o.kind o.parts; changes = [] }
 
+-- what is looked at, as an object to which nothing was done
+abbrev pub looked : Look → Object
+looked l = record { kind = kind_view l.kind; parts = l.parts.now; changes = [] }
+
 -- what a look shows
 abbrev pub look_shown : Look → Object
-look_shown l = record { kind = kind_view l.kind; parts = parts_shown (kind_view l.kind) l.parts.now; changes = [] }
+look_shown l = shown (looked l)

@@ -98,8 +98,8 @@ fn run_part<'a, I: ItemSource<'a>, S: Page>(
                     }));
                 }
                 let event = event_of(row, before, machine);
-                write_line(holes, offset, course.naming, machine.heap(), event, page)?;
-                course = course.over(&op, row, machine.heap(), event);
+                write_line(holes, offset, course.naming, machine, event, page)?;
+                course = course.over(&op, row, machine, event);
                 let at = offset;
                 offset += op.size() as u64;
                 if ends_reading(many, op.opcode()) {

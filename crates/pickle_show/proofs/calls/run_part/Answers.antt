@@ -60,7 +60,7 @@ returns-in_err-write_line-in-Item-clause-err g c b h =
     let v = c.items.invariant.0 b h in
     let n : IsNextItem (g.I.ItemSource.unread c.items.reader).loose (g.I.ItemSource.unread c.items.reader).left (g.I.ItemSource.unread c.items.reader).rest c.in-Item.op (size_of c.in-Item.op)
     × (g.I.ItemSource.unread c.next.new.self ≡ record { loose = (g.I.ItemSource.unread c.items.reader).loose; rest = drop (size_of c.in-Item.op) (g.I.ItemSource.unread c.items.reader).rest; left = left_behind (g.I.ItemSource.unread c.items.reader).loose (g.I.ItemSource.unread c.items.reader).left c.in-Item.op }) = rw c.in-Item.is at c.next.ensures in
-    let line = rw (c.heap.ensures, c.event_of-event.ensures, c.of_ref-row.ensures, c.of-before.ensures) at c.in_err-write_line-in-Item.ensures in
+    let line = rw (c.event_of-event.ensures, c.of_ref-row.ensures, c.of-before.ensures) at c.in_err-write_line-in-Item.ensures in
     cut_failed _ _ _ _ _ c.from_residual.ensures.1 (line_breaks _ _ _ _ _ _ _ _ c.in-Item.op _ _ _ v.1 (rw v.0 at n.0) c.in_default.ensures.ok line)
 
 pub over-course-requires-clause-imports : goal.over-course-requires-clause-imports
@@ -95,10 +95,10 @@ returns-then-ends_reading-clause-ok g c b h =
     let v = c.items.invariant.0 b h in
     let n : IsNextItem (g.I.ItemSource.unread c.items.reader).loose (g.I.ItemSource.unread c.items.reader).left (g.I.ItemSource.unread c.items.reader).rest c.in-Item.op (size_of c.in-Item.op)
     × (g.I.ItemSource.unread c.next.new.self ≡ record { loose = (g.I.ItemSource.unread c.items.reader).loose; rest = drop (size_of c.in-Item.op) (g.I.ItemSource.unread c.items.reader).rest; left = left_behind (g.I.ItemSource.unread c.items.reader).loose (g.I.ItemSource.unread c.items.reader).left c.in-Item.op }) = rw c.in-Item.is at c.next.ensures in
-    let line = rw (c.heap.ensures, c.event_of-event.ensures, c.of_ref-row.ensures, c.of-before.ensures) at c.in_ok-write_line-in-Item.ensures in
-    let imports = rw (c.heap-in-Item.ensures, c.event_of-event.ensures, c.of_ref-row.ensures, c.of-before.ensures) at c.over-course.ensures.imports in
-    let calls = rw (c.heap-in-Item.ensures, c.event_of-event.ensures, c.of_ref-row.ensures, c.of-before.ensures) at c.over-course.ensures.calls in
-    let naming = rw (c.heap-in-Item.ensures, c.of_ref-row.ensures) at c.over-course.ensures.naming in
+    let line = rw (c.event_of-event.ensures, c.of_ref-row.ensures, c.of-before.ensures) at c.in_ok-write_line-in-Item.ensures in
+    let imports = rw (c.event_of-event.ensures, c.of_ref-row.ensures, c.of-before.ensures) at c.over-course.ensures.imports in
+    let calls = rw (c.event_of-event.ensures, c.of_ref-row.ensures, c.of-before.ensures) at c.over-course.ensures.calls in
+    let naming = rw c.of_ref-row.ensures at c.over-course.ensures.naming in
     let m = moved _ _ _ _ _ _ _ _ c.in-Item.op _ _ _ c.over-course.result v.1 (rw v.0 at n.0) c.in_default.ensures.ok line imports calls naming c.over-course.ensures.left in
     let hit : ends_reading c.args.many c.in-Item.op.opcode ≡ true = sym (rw c.opcode.ensures at c.ends_reading.ensures) ∙ c.if-ends_reading.true in
     let rest : c.unread_len-then-ends_reading.result ≡ length (drop (size_of c.in-Item.op) (g.I.ItemSource.unread c.items.reader).rest) = c.unread_len-then-ends_reading.ensures ∙ ap (λ (u : Unread). length u.rest) n.1 in
@@ -112,17 +112,17 @@ over-course-requires-clause-objects g c =
     × (g.I.ItemSource.unread c.next.new.self ≡ record { loose = (g.I.ItemSource.unread c.items.reader).loose; rest = drop (size_of c.in-Item.op) (g.I.ItemSource.unread c.items.reader).rest; left = left_behind (g.I.ItemSource.unread c.items.reader).loose (g.I.ItemSource.unread c.items.reader).left c.in-Item.op }) = rw c.in-Item.is at c.next.ensures in
     let b = bounds _ _ _ _ _ _ _ c.in-Item.op _ _ v.1 (rw v.0 at n.0) in
     let more = move_heap c.in-Item.op c.items.place c.items.machine.state c.step_over.new.machine.state c.in_default.ensures.ok in
-    rw c.heap-in-Item.ensures (omega (arith, b.heap, b.place, h.2, more))
+    omega (arith, b.heap, b.place, h.2, more)
 
 pub returns-then-leaves_frame-clause-ok : goal.returns-then-leaves_frame-clause-ok
 returns-then-leaves_frame-clause-ok g c b h =
     let v = c.items.invariant.0 b h in
     let n : IsNextItem (g.I.ItemSource.unread c.items.reader).loose (g.I.ItemSource.unread c.items.reader).left (g.I.ItemSource.unread c.items.reader).rest c.in-Item.op (size_of c.in-Item.op)
     × (g.I.ItemSource.unread c.next.new.self ≡ record { loose = (g.I.ItemSource.unread c.items.reader).loose; rest = drop (size_of c.in-Item.op) (g.I.ItemSource.unread c.items.reader).rest; left = left_behind (g.I.ItemSource.unread c.items.reader).loose (g.I.ItemSource.unread c.items.reader).left c.in-Item.op }) = rw c.in-Item.is at c.next.ensures in
-    let line = rw (c.heap.ensures, c.event_of-event.ensures, c.of_ref-row.ensures, c.of-before.ensures) at c.in_ok-write_line-in-Item.ensures in
-    let imports = rw (c.heap-in-Item.ensures, c.event_of-event.ensures, c.of_ref-row.ensures, c.of-before.ensures) at c.over-course.ensures.imports in
-    let calls = rw (c.heap-in-Item.ensures, c.event_of-event.ensures, c.of_ref-row.ensures, c.of-before.ensures) at c.over-course.ensures.calls in
-    let naming = rw (c.heap-in-Item.ensures, c.of_ref-row.ensures) at c.over-course.ensures.naming in
+    let line = rw (c.event_of-event.ensures, c.of_ref-row.ensures, c.of-before.ensures) at c.in_ok-write_line-in-Item.ensures in
+    let imports = rw (c.event_of-event.ensures, c.of_ref-row.ensures, c.of-before.ensures) at c.over-course.ensures.imports in
+    let calls = rw (c.event_of-event.ensures, c.of_ref-row.ensures, c.of-before.ensures) at c.over-course.ensures.calls in
+    let naming = rw c.of_ref-row.ensures at c.over-course.ensures.naming in
     let m = moved _ _ _ _ _ _ _ _ c.in-Item.op _ _ _ c.over-course.result v.1 (rw v.0 at n.0) c.in_default.ensures.ok line imports calls naming c.over-course.ensures.left in
     let miss : ends_reading c.args.many c.in-Item.op.opcode ≡ false = sym (rw c.opcode.ensures at c.ends_reading.ensures) ∙ c.if-ends_reading.false in
     let out : (is_stop c.in-Item.op.opcode && nat_lt 0 c.over-course.result.left) ≡ true = sym (rw c.opcode-in-Item.ensures at c.leaves_frame.ensures) ∙ c.if-leaves_frame.true in
@@ -135,10 +135,10 @@ items-preserved g c =
     let less : length (g.I.ItemSource.unread c.next.new.self).rest < length (g.I.ItemSource.unread c.items.reader).rest = rw n.1 (shorter _ _ _ c.in-Item.op n.0) in (
       (λ b h.
           let v = c.items.invariant.0 b h in
-          let line = rw (c.heap.ensures, c.event_of-event.ensures, c.of_ref-row.ensures, c.of-before.ensures) at c.in_ok-write_line-in-Item.ensures in
-          let imports = rw (c.heap-in-Item.ensures, c.event_of-event.ensures, c.of_ref-row.ensures, c.of-before.ensures) at c.over-course.ensures.imports in
-          let calls = rw (c.heap-in-Item.ensures, c.event_of-event.ensures, c.of_ref-row.ensures, c.of-before.ensures) at c.over-course.ensures.calls in
-          let naming = rw (c.heap-in-Item.ensures, c.of_ref-row.ensures) at c.over-course.ensures.naming in
+          let line = rw (c.event_of-event.ensures, c.of_ref-row.ensures, c.of-before.ensures) at c.in_ok-write_line-in-Item.ensures in
+          let imports = rw (c.event_of-event.ensures, c.of_ref-row.ensures, c.of-before.ensures) at c.over-course.ensures.imports in
+          let calls = rw (c.event_of-event.ensures, c.of_ref-row.ensures, c.of-before.ensures) at c.over-course.ensures.calls in
+          let naming = rw c.of_ref-row.ensures at c.over-course.ensures.naming in
           let m = moved _ _ _ _ _ _ _ _ c.in-Item.op _ _ _ c.over-course.result v.1 (rw v.0 at n.0) c.in_default.ensures.ok line imports calls naming c.over-course.ensures.left in
           let miss : ends_reading c.args.many c.in-Item.op.opcode ≡ false = sym (rw c.opcode.ensures at c.ends_reading.ensures) ∙ c.if-ends_reading.false in
           let out : (is_stop c.in-Item.op.opcode && nat_lt 0 c.over-course.result.left) ≡ false = sym (rw c.opcode-in-Item.ensures at c.leaves_frame.ensures) ∙ c.if-leaves_frame.false in

@@ -6,5 +6,5 @@ use Rattle.pickle_show.proofs.memo.write_entries.Goals as goal
 
 pub returns : goal.returns
 returns g c =
-    subst (λ (text : List ℕ). Writes (g.S.Sink.told c.args.page.now) (g.S.Sink.told c.write_parts.new.sink) c.write_parts.result text) (slots_then_map c.parts.result.0.now c.parts.result.1.now.entries _ c.parts.ensures)
+    subst (λ (text : List ℕ). Writes (g.S.Sink.told c.args.page.now) (g.S.Sink.told c.write_parts.new.page) c.write_parts.result text) (slots_then_map c.parts.result.0.now c.parts.result.1.now.entries _ c.parts.ensures)
     c.write_parts.ensures

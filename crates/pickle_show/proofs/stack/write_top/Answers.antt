@@ -7,5 +7,5 @@ use Rattle.pickle_show.proofs.stack.write_top.Goals as goal
 
 pub returns : goal.returns
 returns g c =
-    subst (λ (ids : List ℕ). Writes (g.S.Sink.told c.args.page.now) (g.S.Sink.told c.write_between.new.sink) c.write_between.result (each next_text ids)) (top_between c.args.machine.now.state c.args.below c.stack_len.result c.requires c.stack_len.ensures)
+    subst (λ (ids : List ℕ). Writes (g.S.Sink.told c.args.page.now) (g.S.Sink.told c.write_between.new.page) c.write_between.result (each next_text ids)) (top_between c.args.machine.now.state c.args.below c.stack_len.result c.requires c.stack_len.ensures)
     c.write_between.ensures
