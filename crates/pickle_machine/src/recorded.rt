@@ -19,7 +19,8 @@ impl Core {
     ghost use Rattle.pickle_machine.specs.Inside.Records.{recorded, filled, lost, stored_entry, record_of};
 
     /// The record of a step of this effect.
-    fn recorded(&self, effect: Effect) -> StepRecord
+    #[inline(always)]
+    pub(crate) fn recorded(&self, effect: Effect) -> StepRecord
         ensures { result ≡ recorded effect self.now.state }
     {
         StepRecord {
