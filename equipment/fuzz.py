@@ -47,6 +47,10 @@ from collections.abc import Callable, Mapping, Sequence
 from random import Random
 from typing import Any, Optional
 
+sys.path.insert(0, str(pathlib.Path(__file__).resolve().parents[1] / "python"))
+
+from picklestep.session import SHIFTS  # noqa: E402
+
 OPCODES = {opcode.name: opcode for opcode in pickletools.opcodes}
 WINDOWS = (1, 2, 3, 7, 1000)
 OPAQUE_LINE = re.compile(r"^#(\d+) (?:global|stack-global|ext|inst|call|new|new-ex|obj|persistent|buffer)(?: |$)", re.M)
@@ -124,12 +128,12 @@ def spelled(name: str, rng: Random) -> bytes:
 # What is put together: opcodes by what they ask of the stack, so that most of them are taken.
 PUSHES = [o.name for o in pickletools.opcodes if o.stack_before == [] and len(o.stack_after) == 1 and o.name not in ("MARK", "GET", "BINGET", "LONG_BINGET")]
 CALLS = ["GLOBAL EMPTY_TUPLE REDUCE", "GLOBAL EMPTY_TUPLE NEWOBJ", "GLOBAL EMPTY_TUPLE EMPTY_DICT NEWOBJ_EX", "MARK GLOBAL NONE OBJ"]
-GROUPS = [
-    "EMPTY_LIST NONE APPEND", "EMPTY_LIST MARK NONE BININT1 APPENDS", "EMPTY_DICT NONE NONE SETITEM", "EMPTY_DICT MARK NONE NONE SETITEMS",
-    "EMPTY_SET MARK NONE ADDITEMS", "MARK NONE FROZENSET", "MARK NONE NONE DICT", "MARK NONE LIST", "MARK TUPLE", "NONE TUPLE1", "NONE DUP TUPLE2",
-    "NONE DUP DUP TUPLE3", "EMPTY_LIST MEMOIZE DUP APPEND", "NONE POP", "MARK NONE POP_MARK", "MARK POP", "EMPTY_DICT DUP BUILD", "NEXT_BUFFER READONLY_BUFFER",
-    "NONE BINPUT BINGET", "NONE BINPERSID", "PERSID", "MARK INST", "PROTO", "SHORT_BINUNICODE SHORT_BINUNICODE STACK_GLOBAL", "EXT1",
-] + CALLS
+# What makes that which an opcode takes.
+MAKERS = {"any": "NONE", "list": "EMPTY_LIST", "dict": "EMPTY_DICT", "set": "EMPTY_SET", "str": "SHORT_BINUNICODE", "buffer": "NEXT_BUFFER", "mark": "MARK",
+          "stackslice": "NONE BININT1"}
+TAKERS = [" ".join([*(MAKERS[taken.name] for taken in o.stack_before), o.name]) for o in pickletools.opcodes
+          if o.stack_before and o.name not in ("STOP", *(group.split()[-1] for group in CALLS))]
+GROUPS = [*TAKERS, "EMPTY_LIST MEMOIZE DUP APPEND", "MARK TUPLE", "MARK POP", "EMPTY_DICT DUP BUILD", "NONE BINPUT BINGET", "MARK INST", "PROTO", *CALLS]
 
 
 def framed(body: bytes) -> bytes:
@@ -220,17 +224,19 @@ def make_several(rng: Random, pickles: Sequence[bytes]) -> bytes:
     return b"".join(parts)
 
 
-PLACED = ("goto", "goto", "break", "clear", "delete", "unframe")
+# The edits that name a place alone.
+TAKE_OUT = [word for word, shift in SHIFTS.items() if shift < 0]
+PLACED = ("goto", "goto", "break", "clear", *TAKE_OUT)
 MALFORMED = ("fly", "goto", "goto x", "step 1", "insert 0 NOPE", "insert 0 BININT1 0", "insert 0 BININT1", "insert 0 NONE 00", "frame 0", "STEP", "show",
              "goto 18446744073709551616", "goto @", "goto @18446744073709551615", "delete @18446744073709551616", "frame 0 @0", "show @0",
              "replace 0 STOP", "insert 0 FRAME 0000000000000000", "insert 0 GET 780A", "show 4294967296")
 
 
 def edit_line(rng: Random, place: int, items: int) -> str:
-    word = rng.choice(["replace", "insert", "insert", "delete", "frame", "unframe"])
+    word = rng.choice([*SHIFTS, "insert"])
     if word == "frame":
         return f"frame {place} {rng.choice([0, 1, 2, 3, items])}"
-    if word in ("delete", "unframe"):
+    if word in TAKE_OUT:
         return f"{word} {place}"
     name = rng.choice(list(OPCODES)) if rng.random() < 0.5 else rng.choice(PUSHES)
     return f"{word} {place} {name} {argument(name, rng).hex()}"

@@ -123,7 +123,7 @@ def main() -> int:
     words = parser.parse_args()
     with tempfile.TemporaryDirectory() as name:
         folder = Path(name)
-        interpreter = Path(wheels.Wheels(ROOT, folder).lesser())
+        interpreter = Path(wheels.Wheels(ROOT, ROOT / wheels.RELEASED, folder).lesser())
         failed = 0
         for told in run_classes(interpreter, words.system, words.names or classes(interpreter), folder):
             print(told, *told.faults, sep="\n    ", flush=True)

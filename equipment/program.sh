@@ -162,3 +162,17 @@ choose_program() {
     fi
     return 1
 }
+
+# Names the program for the words of the package too, where there is one for this machine. (Elsewhere Python may have what runs the module.)
+name_program() {
+    case ${1-} in
+    '' | -*) return ;; # (help, and which version it is)
+    esac
+    if [ -z "${PICKLESTEP_PROGRAM-}" ] && ! is_for_program "$@"; then
+        if find_program; then
+            export PICKLESTEP_PROGRAM=$chosen
+        elif find_fitting; then
+            choose_program
+        fi
+    fi
+}

@@ -1,9 +1,12 @@
-"""Tries the released programs, from outside: in a fresh clone, where something was changed, installed, and with nothing but the C library."""
+"""Tries the released programs, from outside: in a fresh clone, where something was changed, installed, and with nothing but the C library.
+
+Another program that is tried takes the place of the released one for this machine, as a commit of the clone."""
 
 from __future__ import annotations
 
 import filecmp
 import functools
+import hashlib
 import os
 import pathlib
 import re
@@ -41,6 +44,7 @@ else
 fi
 """
 SECONDS = 5.0
+COMMITTER = ("-c", "user.name=trials", "-c", "user.email=trials@localhost")
 
 
 @dataclass
@@ -54,6 +58,7 @@ class Run:
 @dataclass
 class Releases:
     root: pathlib.Path
+    program: pathlib.Path
     folder: pathlib.Path
     starts: int = 0
     called: pathlib.Path = field(init=False)
@@ -84,7 +89,19 @@ class Releases:
         done = self.run("git", "clone", "-q", str(self.root), str(at), at=self.folder)
         if done.status != 0:
             raise OSError(f"git clone: {done.errors[:200]}")
+        self.put_in(at)
         return at
+
+    def put_in(self, at: pathlib.Path) -> None:
+        """Lets the program that is tried be the released one of a clone."""
+        there, content = at / DIST / "picklestep", self.program.read_bytes()
+        if content == there.read_bytes():
+            return
+        there.write_bytes(content)
+        (at / DIST / "SHA256SUMS").write_text(f"{hashlib.sha256(content).hexdigest()}  picklestep\n")
+        done = self.run("git", *COMMITTER, "commit", "-q", "-a", "-m", "Another program", at=at)
+        if done.status != 0:
+            raise OSError(f"git commit: {done.errors[:200]}")
 
     def tried(self, attempt: Callable[[Releases], str]) -> str:
         if not self.folder.exists():
@@ -170,11 +187,13 @@ def is_refused(releases: Releases, at: pathlib.Path, says: str) -> str:
     check = releases.run("./release", "--check", at=at)
     if check.status != 1 or says not in check.errors or "run ./release" not in check.errors:
         return f"the check: status {check.status}, errors {check.errors[:200]!r}"
-    for words in (["./picklestep", "list", str(releases.folder / "hostile.pickle")], ["./install", str(releases.folder / "nowhere")]):
+    hostile = str(releases.folder / "hostile.pickle")
+    starts = [["./picklestep", *words, hostile] for words in (["list"], [], ["scan"], ["source"], ["shell"])]
+    for words in (*starts, ["./install", str(releases.folder / "nowhere")]):
         start = releases.run_stand_in(*words, at=at)
         told = start.errors.count("\n") == 1 and says in start.errors and "./build" in start.errors
         if start.status != 2 or start.output or not told or releases.called.exists():
-            return f"{words[0]}: status {start.status}, output {start.output[:60]!r}, errors {start.errors[:200]!r}"
+            return f"{' '.join(words)}: status {start.status}, output {start.output[:60]!r}, errors {start.errors[:200]!r}"
     gate = releases.run_stand_in("./test", at=at)
     if gate.status != 1 or not gate.output.endswith("\n0 passed, 1 failed\n") or "run ./release" not in gate.output:
         return f"./test: status {gate.status}, output {gate.output[-200:]!r}"

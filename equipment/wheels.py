@@ -1,8 +1,9 @@
 """Tries the wheels of each machine and the source distribution: each is built, installed into a fresh environment without a network, and
-asked. The tests of the package run over the module in Node, with all hidden that other systems have not."""
+asked. Another program that is tried takes the place of the one that the wheel for its machine carries. The tests of the package run over the module in Node, with all hidden that other systems have not."""
 
 from __future__ import annotations
 
+import filecmp
 import functools
 import shutil
 import subprocess
@@ -77,11 +78,15 @@ OVER_NODE = (
     "test_view.Opening",
 )
 SECONDS = 900
+# The released program, and the one of the same sources that the wheel carries.
+RELEASED = "dist/linux-x86_64/picklestep"
+CARRIED = "dist/linux-x86_64-static/picklestep"
 
 
 @dataclass
 class Wheels:
     root: Path
+    program: Path
     folder: Path
 
     @functools.cached_property
@@ -115,6 +120,8 @@ class Wheels:
         ignored = shutil.ignore_patterns("__pycache__", "tests", "build", "*.egg-info", "bin")
         shutil.copytree(self.root / "python", copy / "python", ignore=ignored)
         shutil.copytree(self.root / "dist", copy / "dist")
+        if not filecmp.cmp(self.program, self.root / RELEASED, shallow=False):
+            shutil.copy(self.program, copy / CARRIED)
         return copy / "python"
 
     @functools.cached_property

@@ -98,7 +98,7 @@ def of_surroundings(room: Room) -> list[AnyGroup]:
     cut = hostile.Hostile(str(room.program), room.folder / "hostile", room.pickles)
     broken = devices.Devices(str(room.program), library, room.folder / "devices")
     saved = saves.Saves(str(room.program), library, room.folder / "saves")
-    released = releases.Releases(room.root, room.folder / "releases")
+    released = releases.Releases(room.root, room.program, room.folder / "releases")
     others = machines.Machines(room.root, room.program, room.folder / "machines", room.pickles)
     linked = libraries.Libraries(room.root, room.program, room.folder / "libraries", room.pickles)
     loaded = loads.Loads(str(room.program), room.folder / "loads")
@@ -111,7 +111,7 @@ def of_surroundings(room: Room) -> list[AnyGroup]:
         Group("release", functools.partial(releases.trials, released), released.closing),
         Group("machines", functools.partial(machines.trials, others), others.closing, aside=lambda: None),
         Group("library", functools.partial(libraries.trials, linked), linked.closing, aside=lambda: None),
-        Group("wheels", functools.partial(wheels.trials, wheels.Wheels(room.root, room.folder / "wheels")), aside=lambda: None),
+        Group("wheels", functools.partial(wheels.trials, wheels.Wheels(room.root, room.program, room.folder / "wheels")), aside=lambda: None),
         Group("random", functools.partial(random_trials, room), aside=lambda: None),
     ]
 

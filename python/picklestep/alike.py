@@ -9,6 +9,7 @@ from typing import Any, Deque, Dict, Hashable, Iterator, List, Sequence, Set, Tu
 from .python_source.literals import literal
 from .records import Global, Ref
 from .trees import Call, Values
+from .values import Unread
 
 __all__ = ['CONTAINERS', 'Compared', 'Labels', 'inside', 'is_held', 'paired']
 
@@ -64,7 +65,7 @@ class Labels:
 
     def _of_plain(self, value: Any) -> int:
         kind = type(value)
-        label = self._label(kind, literal(value) if kind is float else bytes(value) if kind is bytearray else value)
+        label = self._label(value.kind if kind is Unread else kind, literal(value) if kind is float else bytes(value) if kind is bytearray else value)
         self._plain.add(label)
         return label
 

@@ -12,8 +12,9 @@ from .records import Extension, Global, Ref
 from .python_source.literals import literal
 from .sources import Source
 from .trees import Call, Values, values
+from .values import Unread
 
-__all__ = ['Difference', 'compare', 'shown_value']
+__all__ = ['Comparison', 'Difference', 'compare', 'shown_value']
 
 _SLOTS: Dict[str, Any] = {'slots': True} if sys.version_info >= (3, 10) else {}
 _MOST_LETTERS = 64
@@ -54,8 +55,7 @@ def compare(old: Source, new: Source, *, many: bool = False, unframed: bool = Fa
     ['a'][1]: 2 -> 5
     ['a'][2]: added 6
     """
-    pair = [values(pickle, many, unframed, timeout, memory) for pickle in (old, new)]
-    return list(_Comparison(pair[0][0], pair[1][0]).differences(pair[0][1], pair[1][1]))
+    return list(Comparison(old, new, many, unframed, timeout, memory).of_results())
 
 
 # A path: the path before it, and its last step. (A text for each place would cost as much as the place is deep.)
@@ -73,24 +73,45 @@ def _words(path: _Path) -> str:
 
 
 def _is_same(one: Any, other: Any) -> bool:
+    if isinstance(one, Unread) and one.kind != other.kind:
+        return False
     return literal(one) == literal(other) if isinstance(one, float) else bool(one == other)
 
 
-class _Comparison:
-    """The values of two pickles."""
+class _Words(str):
+    """What differs, in words and not by a value."""
 
-    def __init__(self, old: Values, new: Values) -> None:
-        self._old, self._new = old, new
+
+class Comparison:
+    """Two pickles. What was compared already is not compared again: no difference is given twice."""
+
+    def __init__(self, old: Source, new: Source, many: bool = False, unframed: bool = False, timeout: Optional[float] = None,
+                 memory: Optional[int] = None) -> None:
+        """Raises NoResult where one of them cannot be read to its STOP."""
+        self._old, self._old_result = values(old, many, unframed, timeout, memory)
+        self._new, self._new_result = values(new, many, unframed, timeout, memory)
         self._labels = Labels()
+        self._compared = Compared(_MANY * (len(self._old) + len(self._new)))
 
-    def differences(self, old: Any, new: Any) -> Iterator[Difference]:
-        """Walks both at once. What was compared already is not compared again, so that this ends."""
-        left: List[Tuple[_Path, Any, Any]] = [(None, old, new)]
-        compared = Compared(_MANY * (len(self._old) + len(self._new)))
+    def of_results(self) -> Iterator[Difference]:
+        """What the results differ in."""
+        return self._differences(None, self._old_result, self._new_result)
+
+    def of_objects(self, name: str, old: int, new: int) -> Iterator[Difference]:
+        """What two objects differ in, whose paths begin with a name."""
+        if old < len(self._old) and new < len(self._new):
+            yield from self._differences((None, name), self._old.at(old), self._new.at(new))
+
+    def _differences(self, begin: _Path, old: Any, new: Any) -> Iterator[Difference]:
+        """Walks both at once."""
+        left: List[Tuple[_Path, Any, Any]] = [(begin, old, new)]
+        compared = self._compared
         while left:
             path, one, other = left.pop()
             one, other = self._old.of(one), self._new.of(other)
-            if one is _ABSENT or other is _ABSENT:
+            if isinstance(one, _Words):
+                yield Difference(_words(path), 'changed', one, other)
+            elif one is _ABSENT or other is _ABSENT:
                 is_added = one is _ABSENT
                 shown = shown_value(other if is_added else one)
                 yield Difference(_words(path), 'added' if is_added else 'removed', '' if is_added else shown, shown if is_added else '')
@@ -118,16 +139,23 @@ class _Comparison:
         yield '.name', one.name, other.name
         yield from _in_order(one.arguments, other.arguments, '.arguments')
         yield from _in_order(one.items, other.items)
-        yield from self._in_pairs(one.pairs, other.pairs)
+        yield from self._in_pairs(one.pairs, other.pairs, is_ordered=True)
         if len(one.states) == len(other.states) == 1:
             yield '.state', one.states[0], other.states[0]
         else:
             yield from _in_order(one.states, other.states, '.states')
 
-    def _in_pairs(self, one: _Pairs, other: _Pairs) -> Iterator[_Step]:
-        """Pairs are compared by their keys: those whose keys are alike, then odd ones in their order."""
+    def _in_pairs(self, one: _Pairs, other: _Pairs, is_ordered: bool = False) -> Iterator[_Step]:
+        """Pairs are compared by their keys: those whose keys are alike, then odd ones in their order. Where the order says something it is compared
+        too."""
         keys = [self._old_label(key) for key, _ in one], [self._new_label(key) for key, _ in other]
         found, lefts, rights = self._paired(keys, one, other)
+        found.sort()
+        if is_ordered:
+            for (at, to), least in zip(found, sorted(to for _, to in found)):
+                if to != least:
+                    yield f'.pairs[{at}]', _Words(self._shown_pair(one[at])), _Words(self._shown_pair(other[least], is_new=True))
+                    break
         for at, to in sorted([*found, *((at, -1) for at in lefts)]):
             if self._labels.is_plain(keys[0][at]):
                 yield f'[{self._shown(one[at][0])}]', one[at][1], other[to][1] if to >= 0 else _ABSENT
@@ -177,6 +205,9 @@ class _Comparison:
     def _shown(self, value: Any, is_new: bool = False) -> str:
         return shown_value((self._new if is_new else self._old).of(value))
 
+    def _shown_pair(self, pair: Tuple[Any, Any], is_new: bool = False) -> str:
+        return ': '.join(self._shown(part, is_new) for part in pair)
+
 
 def _in_order(one: Sequence[Any], other: Sequence[Any], before: str = '') -> Iterator[_Step]:
     for place, (first, second) in enumerate(zip_longest(one, other, fillvalue=_ABSENT)):
@@ -202,7 +233,7 @@ def shown_value(value: Any) -> str:
         return f'{value.how} {shown_value(value.name)}' if value.name is not None else value.how
     if isinstance(value, (str, bytes, bytearray)):
         more = len(value) - _MOST_LETTERS
-        return literal(value[:_MOST_LETTERS]) + (f'+{more}' if more > 0 else '')
+        return (f'{value.kind} ' if isinstance(value, Unread) else '') + literal(value[:_MOST_LETTERS]) + (f'+{more}' if more > 0 else '')
     if isinstance(value, tuple) and len(value) <= 4 and not any(isinstance(part, (*CONTAINERS, Ref)) for part in value):
         return f"({', '.join(map(shown_value, value))}{',' if len(value) == 1 else ''})"
     return f'{type(value).__name__} of {len(value)}' if isinstance(value, (list, tuple, dict, set, frozenset)) else literal(value)

@@ -6,13 +6,16 @@ import argparse
 import os
 import sys
 from collections import Counter
-from typing import Iterator, List, Tuple
+from itertools import chain
+from typing import Iterator, List, Optional, Tuple
 
+from .alike import paired
 from .answers import Calls
-from .comparing import compare
+from .comparing import Comparison, Difference, shown_value
 from .errors import PicklestepError, reason
 from .python_source.command import print_text
 from .reaches import unnumbered
+from .records import Reach
 from .sources import Source
 from .tasks import calls, frames
 
@@ -32,8 +35,8 @@ def main(arguments: List[str]) -> int:
     options = parser.parse_args(arguments)
     try:
         old, new = _source(options.old), _source(options.new)
-        lines = [str(difference) for difference in compare(old, new, many=options.many, unframed=options.unframed)]
-        lines += of_reaches(old, new, options.unframed)
+        comparison = Comparison(old, new, options.many, options.unframed)
+        lines = [*map(str, comparison.of_results()), *of_reaches(old, new, options.unframed, comparison)]
         lines += [] if options.many else _of_what_is_behind(old, new, options.unframed)
     except (OSError, PicklestepError) as error:
         print(f'picklestep: {reason(error)}', file=sys.stderr)
@@ -50,19 +53,30 @@ def _source(path: str) -> Source:
         return file.read()
 
 
-def of_reaches(old: Source, new: Source, unframed: bool = False) -> Iterator[str]:
-    """What only one of them imports and calls, also where nothing of it is in the result, and in what their readings end otherwise."""
+def of_reaches(old: Source, new: Source, unframed: bool = False, comparison: Optional[Comparison] = None) -> Iterator[str]:
+    """What only one of them imports and calls, also where nothing of it is in the result, what those differ in that both do, and in what their
+    readings end otherwise."""
     answers = [calls(source, full=True, skip=frames(source, many=True) if unframed else ()) for source in (old, new)]
-    if answers[0].text == answers[1].text:
-        return
-    one, other = ([unnumbered(reach.text) for reach in answer.everything()] for answer in answers)
-    yield from (f'- {text}' for text in _only_in(one, other))
-    yield from (f'+ {text}' for text in _only_in(other, one))
-    if one != other and sorted(one) == sorted(other):
+    known = [list(answer) for answer in answers]
+    texts = [[unnumbered(reach.text) for reach in chain(reaches, *answer.parts)] for reaches, answer in zip(known, answers)]
+    yield from (f'- {text}' for text in _only_in(texts[0], texts[1]))
+    yield from (f'+ {text}' for text in _only_in(texts[1], texts[0]))
+    if comparison is not None:
+        for at, to in paired(*(some[:len(reaches)] for some, reaches in zip(texts, known)))[0]:
+            yield from map(str, _of_both(known[0][at], known[1][to], comparison))
+    if texts[0] != texts[1] and sorted(texts[0]) == sorted(texts[1]):
         yield 'imports and calls: in another order'
     ends = [_ends(answer) for answer in answers]
     if ends[0] != ends[1]:
         yield f'end: {"; ".join(ends[0])} -> {"; ".join(ends[1])}'
+
+
+def _of_both(old: Reach, new: Reach, comparison: Comparison) -> Iterator[Difference]:
+    """What the objects differ in that two lines make or change. (A line has the numbers of objects, and not what these hold.)"""
+    one, other = (reach.target if reach.number is None else reach.number for reach in (old, new))
+    if one is not None and other is not None:
+        name = '' if old.name is None else f' {shown_value(old.name)}'
+        yield from comparison.of_objects(f'{old.what}{name} at {old.offset}', one, other)
 
 
 def _only_in(one: List[str], other: List[str]) -> Iterator[str]:

@@ -9,25 +9,28 @@ from typing import Callable, Dict, Iterator, List, NamedTuple, Optional, Tuple, 
 from .records import Brief, Briefs, End, Extension, Global, Name, Reach, Ref, Value
 from .texts import NUMBER, QUOTED, LineReader, LinesError, number_of, unquoted
 
-__all__ = ['Heading', 'LineKey', 'REACHES', 'ReachedLine', 'before_headings', 'counts_in', 'given_in', 'headings_in', 'line_of', 'lowered',
-           'made_by', 'reach_of', 'reached_line_of', 'reached_lines', 'unnumbered', 'with_offset']
+__all__ = ['Heading', 'LineKey', 'REACHES', 'before_headings', 'counts_in', 'headings_in', 'line_of', 'lowered', 'made_by', 'number_in', 'offset_of',
+           'persistent_lines', 'reach_of', 'reached_lines', 'text_of', 'unnumbered', 'with_offset']
 
 # What is under these headings the strict reading does not reach. Each has the words of the second, and hardly any other line.
 _HEADING = re.compile(r'^(a loader(?: that buffers frames| that keeps its buffer)? may go on):$', re.MULTILINE)
 _IN_HEADINGS = ' may go on:\n'
 _COUNTS = re.compile(r'^([0-9]+) imports, ([0-9]+) calls$', re.MULTILINE)
-# A line of `calls`: its offset, its text and first word, and the name in it where the module is in quotes. Then those that follow at once and
-# call the same: most calls are made again and again.
-_REACHED = re.compile(rf"^ *([0-9]+): ((\w+)(?: ((?:raw )?{QUOTED} (?:(?:raw )?{QUOTED}|#[0-9]+)))?.*)$", re.MULTILINE)
-_IN_ROW = re.compile(rf'{_REACHED.pattern}(?:\n *[0-9]+: (?=call |new |inst )\3 \4(?![0-9]).*){{0,1000}}', re.MULTILINE)
+# A line of `calls`: its offset, its text and first word, and the name in it where the module is in quotes. Then its beginning, without the text.
+_NAMED = rf'(?: ((?:raw )?{QUOTED} (?:(?:raw )?{QUOTED}|#[0-9]+)))?'
+_REACHED = re.compile(rf'^ *([0-9]+): ((\w+){_NAMED}.*)$', re.MULTILINE)
+_BEGIN = re.compile(rf' *([0-9]+): (\w+){_NAMED}')
+_PERSISTENT = re.compile(r'^ *[0-9]+: persistent (.*)$', re.MULTILINE)
+# In a line so much is before the colon behind its offset, with the end of the line before. (Offsets from 100,000 on take more.)
+_OFFSET = 6
+# Most calls are made again and again.
+_IN_ROWS = frozenset({'call', 'new', 'inst'})
 # What may be the number of an object, beside texts.
 _QUOTED_OR_NUMBER = re.compile(rf'{QUOTED}|#([0-9]+)')
 # A text in quotes, a number that was given to an object, or the place of a fault.
 _NUMBERED = re.compile(rf'({QUOTED})| as #\d+|(#)\d+| at \d+')
-# The object that a line makes, and the one that it makes or that is given something. (Such an end is no longer than that.)
+# The object that a line makes.
 _MADE = re.compile(' as #([0-9]+)$')
-_GIVEN = re.compile(r' (?:as|to|in) #([0-9]+)$')
-_LONGEST_GIVEN = 25
 
 
 class _Units:
@@ -270,32 +273,71 @@ def counts_in(text: str, start: int, end: int) -> Tuple[int, int]:
 
 # --- One line, as far as it is asked for ---
 
-# A line: its offset, its text, the first word of that, and the name in it where the module is in quotes.
-ReachedLine = Tuple[str, str, str, Optional[str]]
-# The last two of these: lines that have the same say the same, but for numbers and arguments.
+# The first word of a line, and the name behind it where the module is in quotes: lines that have the same say the same, but for numbers and
+# arguments.
 LineKey = Tuple[str, Optional[str]]
 
 
 def reached_lines(text: str, start: int, end: int, each: bool = False) -> 'Iterator[Tuple[LineKey, int, re.Match[str]]]':
-    """The lines in a part of a text, each with its key and as it matched: a pickle may have a hundred thousand lines and few names.
+    """The lines in a part of a text, each with its key and the match of its beginning: a pickle may have a hundred thousand lines and few names.
 
     The number says how many lines of that key are counted by it, which come one after another. With `each` every line comes by itself.
 
     >>> [found[:2] for found in reached_lines("0: new 'a' 'b' () as #2\\n9: new 'a' 'b' (#2) as #4\\n12: state #4 to #2\\n", 0, 70)]
     [(('new', "'a' 'b'"), 2), (('state', None), 1)]
     """
-    for match in (_REACHED if each else _IN_ROW).finditer(text, start, end):
-        yield (match[3], match[4]), 1 if each else 1 + text.count('\n', *match.span()), match
+    begin, find, starts = _BEGIN.match, text.find, text.startswith
+    at = start
+    while at < end:
+        match = begin(text, at, end)
+        if match is None:
+            at = find('\n', at, end) + 1 or end
+            continue
+        key: LineKey = match[2], match[3]
+        what, name = key
+        stop, count = find('\n', match.end(), end), 1
+        if name is not None and what in _IN_ROWS and not each:
+            said = f': {what} {name} '
+            while stop >= 0 and (starts(said, stop + _OFFSET) or starts(said, find(': ', stop, end))):
+                count += 1
+                stop = find('\n', stop + _OFFSET, end)
+        yield key, count, match
+        at = stop + 1 or end
 
 
-def reached_line_of(match: 're.Match[str]') -> ReachedLine:
-    """What the first line that matched says."""
-    return match[1], match[2], match[3], match[4]
+def persistent_lines(text: str) -> Iterator[str]:
+    """What stands behind the word in the lines that give persistent ids.
+
+    >>> list(persistent_lines("3: persistent 'a' as #1\\n"))
+    ["'a' as #1"]
+    """
+    return (match[1] for match in _PERSISTENT.finditer(text))
+
+
+def offset_of(match: 're.Match[str]') -> int:
+    """The offset of the first line that matched."""
+    return int(match[1])
+
+
+def text_of(match: 're.Match[str]') -> str:
+    """What stands behind the offset in the first line that matched."""
+    return match.string[match.start(2):_end_of_line(match)]
 
 
 def line_of(match: 're.Match[str]') -> str:
     """The first line that matched."""
-    return match.string[match.start():match.end(2)]
+    return match.string[match.start():_end_of_line(match)]
+
+
+def number_in(match: 're.Match[str]') -> str:
+    """The number of the object in which the first line that matched ends, which it makes or gives something, as text."""
+    text, end = match.string, _end_of_line(match)
+    return text[text.rfind('#', match.end(2), end) + 1:end]
+
+
+def _end_of_line(match: 're.Match[str]') -> int:
+    end = match.string.find('\n', match.end())
+    return len(match.string) if end < 0 else end
 
 
 def made_by(text: str) -> Optional[int]:
@@ -306,16 +348,6 @@ def made_by(text: str) -> Optional[int]:
     """
     found = _MADE.search(text)
     return None if found is None else int(found[1])
-
-
-def given_in(text: str) -> str:
-    """The number of the object in which a line of `calls` ends, as text.
-
-    >>> given_in('state #1 to #0')
-    '0'
-    """
-    found = _GIVEN.search(text, max(0, len(text) - _LONGEST_GIVEN))
-    return found[1] if found else ''
 
 
 def unnumbered(text: str) -> str:

@@ -20,13 +20,15 @@ from .records import Mark, Ran, Ref, Where
 from .sources import Input, OwnFile, Source, is_word
 from .tasks import AskedOfEdits, calls_of, frames_of, listing_of, modes
 
-__all__ = ['Session']
+__all__ = ['SHIFTS', 'Session']
 
 _Bytes = bytes  # (a session has a method of this name)
 _SHOWN = 1000
 _LARGE = 1 << 20
 
 
+# The edits, and how many opcodes more there are after each.
+SHIFTS: Dict[str, int] = {'replace': 0, 'insert': 1, 'delete': -1, 'frame': 1, 'unframe': -1}
 # The words whose answers have any number of lines.
 _LONG_WORDS = ('items', 'objects', 'show')
 

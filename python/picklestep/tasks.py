@@ -164,7 +164,7 @@ class _Asked:
 
     def answer(self, words: List[str]) -> str:
         """What the program writes about it with these words."""
-        answer = self._in_process(words)
+        answer = self.in_process(words)
         if answer is None:
             given = self._given()
             self._begun = time.monotonic()
@@ -179,7 +179,7 @@ class _Asked:
     def refused_at(self, words: List[str]) -> Optional[int]:
         """The offset of the opcode that is refused, which a listing by these words ends in. Where that is hardly more than blanks, a session stops
         before the opcode."""
-        answer = self._in_process(['list', *words])
+        answer = self.in_process(['list', *words])
         try:
             blocks = [answer] if answer is not None else bounded(self._process(['list', *words]).blocks(self._left()), self._given().size())
             return _last_offset(blocks)
@@ -196,7 +196,7 @@ class _Asked:
         given = self._given()
         return Process([words[0], given.path, *words[1:]], given.files, self._memory)
 
-    def _in_process(self, words: List[str]) -> Optional[bytes]:
+    def in_process(self, words: List[str]) -> Optional[bytes]:
         return None if self._content is None else library.answer(words, self._content, self._memory)
 
     def _given(self) -> Input:
@@ -226,7 +226,7 @@ class AskedOfEdits(_Asked):
         self._edits = edits
         self._saved = saved
 
-    def _in_process(self, words: List[str]) -> Optional[bytes]:
+    def in_process(self, words: List[str]) -> Optional[bytes]:
         if self._content is None or not self._is_small:
             return None
         return library.edited(words, self._many, self._unframed, self._content, self._edits, self._memory)

@@ -13,8 +13,8 @@ from typing import Callable, Dict, Generic, Iterator, List, NamedTuple, Optional
 
 from .records import Argument, Change, End, Item, Mark, Object, Opcode, OtherForm, Ref, Shown, Where
 
-__all__ = ['Closing', 'FRAME_SIZE', 'HELD', 'MOST_OFFSET', 'HeldObject', 'ITEMS', 'ITEM_IN_BYTES', 'Line', 'LineReader', 'LinesError',
-           'NAMED_BY_TEXTS', 'NUMBER', 'OBJECTS', 'OFFSET_IN_BYTES', 'OPCODES', 'QUOTED', 'SHOWN', 'as_made', 'begins_with_offset',
+__all__ = ['Closing', 'FRAME_SIZE', 'HELD', 'IN_FORM', 'MOST_OFFSET', 'HeldObject', 'ITEMS', 'ITEM_IN_BYTES', 'Line', 'LineReader',
+           'LinesError', 'NAMED_BY_TEXTS', 'NUMBER', 'OBJECTS', 'OFFSET_IN_BYTES', 'OPCODES', 'QUOTED', 'SHOWN', 'as_made', 'begins_with_offset',
            'broken_places', 'closing_of', 'container_in', 'end_of', 'frames_in', 'held_in', 'holding', 'left_in', 'line_of',
            'lines_with_offsets', 'memo_of', 'number_of', 'object_of', 'offset_of_item', 'opcode_of', 'other_form', 'readonly_count',
            'results_in', 'stack_of', 'stored_under', 'unquoted', 'where_of']
@@ -58,6 +58,8 @@ _CONTAINER = re.compile(r'^begins like an? (.*): picklestep scan looks into it$'
 _CLOSING = re.compile(r'(?:it (?=ends: ))?(refused|fault|unsure|left|kept|ends): (.*)|(highest protocol among opcodes) = (.*)|result #.*|'
                       r'[0-9]+ imports, .*|begins like .*')
 _WHERE = re.compile(r'at ([0-9]+) of ([0-9]+), offset ([0-9]+), buffers ([0-9]+), result (none|#[0-9]+(?: #[0-9]+)*), end (.*)')
+# What `form` answers where the pickle is in the form.
+IN_FORM = b'in form\n'
 
 
 def other_form(text: str) -> Optional[OtherForm]:
@@ -66,7 +68,7 @@ def other_form(text: str) -> Optional[OtherForm]:
     >>> other_form('not in form: item 0 at 0: a number that has a shorter form\\n').offset
     0
     """
-    if text == 'in form\n':
+    if text == IN_FORM.decode():
         return None
     match = _OTHER_FORM.fullmatch(text)
     if match is None:

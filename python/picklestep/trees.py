@@ -6,11 +6,14 @@ import sys
 from dataclasses import dataclass, field
 from typing import Any, Dict, List, Optional, Tuple, Union
 
+from _compat_pickle import IMPORT_MAPPING, NAME_MAPPING
+
+from .changes import changed
 from .errors import NoResult
-from .records import Change, Extension, Global, Object, Ref
-from .sources import Source
-from .tasks import objects
-from .values import PLAIN_KINDS, kind_value
+from .records import Extension, Global, Name, Object, Ref
+from .sources import Source, content_of
+from .tasks import calls, frames, objects
+from .values import PLAIN_KINDS, Argument, Unread, kind_value
 
 __all__ = ['Call', 'Values', 'tree', 'values']
 
@@ -43,7 +46,9 @@ class Call:
 class Values:
     """The values of objects, the parts of each before the object."""
 
-    def __init__(self, heap: List[Object]) -> None:
+    def __init__(self, heap: List[Object], names: Dict[int, Name]) -> None:
+        """`names` has what is imported for names of Python 2, by the numbers of their objects."""
+        self._names = names
         self._values: List[Any] = []
         self._depths: List[int] = []
         self._sizes: List[int] = []
@@ -53,10 +58,8 @@ class Values:
             self._depths.append(1 + max([self._depths[part] for part in made.parts], default=0) if is_key else 0)
             self._sizes.append(min(_MOST_SIZE, sum([self._sizes[part] for part in made.parts])) + 1 if is_key else 1)
             self._values.append(self._made(made))
-            if made.kind in ('set', 'frozenset'):
-                self._members[id(self._values[-1])] = [*made.parts, *(change.value for change in made.changes if change.how == 'add')]
         for made in heap:
-            self._change(self._values[made.number], made.changes)
+            self._fill(self._values[made.number], made)
 
     def __len__(self) -> int:
         return len(self._values)
@@ -74,22 +77,25 @@ class Values:
         return list(dict.fromkeys(map(self._key, self._members[id(value)])))
 
     def _made(self, made: Object) -> Any:
-        """An object as it was made. What was done to it comes later."""
+        """An object as it was made. What goes into a list, a set or a dictionary comes later, as does what was done to an object."""
         if made.kind in PLAIN_KINDS:
-            return kind_value(made.kind, made.text)
+            value = kind_value(made.kind, made.text)
+            return Unread(value, made.kind) if isinstance(value, bytes) and made.kind != 'bytes' else value
+        if made.kind in _FILLED:
+            return _FILLED[made.kind]()
         parts = [self._values[part] for part in made.parts]
-        if made.kind in ('list', 'tuple'):
-            return parts if made.kind == 'list' else tuple(parts)
-        if made.kind in ('set', 'frozenset'):
-            return (set if made.kind == 'set' else frozenset)(map(self._key, made.parts))
-        if made.kind == 'dict':
-            return {self._key(key): self._values[value] for key, value in zip(made.parts[::2], made.parts[1::2])}
+        if made.kind == 'tuple':
+            return tuple(parts)
+        if made.kind == 'frozenset':
+            return frozenset(map(self._key, made.parts))
         if made.kind in ('global', 'stack-global', 'ext'):
             imported = self._imported(made)
             return Call('import', made.number, imported) if made.changes else imported
         return self._called(made, parts)
 
-    def _imported(self, made: Object) -> Union[Global, Extension]:
+    def _imported(self, made: Object) -> Name:
+        if made.number in self._names:
+            return self._names[made.number]
         if isinstance(made.text, int):
             return Extension(made.text)
         if isinstance(made.text, tuple):
@@ -101,12 +107,16 @@ class Values:
         value = self._values[number]
         return value.encode('utf-8', 'surrogatepass') if isinstance(value, str) else value if isinstance(value, bytes) else Ref(number)
 
+    @staticmethod
+    def _line(text: Argument) -> Union[Argument, str]:
+        """The number of a buffer, or what PERSID gives of its line: a text, where a loader reads it."""
+        return text.decode('ascii') if isinstance(text, bytes) and text.isascii() else text
+
     def _called(self, made: Object, parts: List[Any]) -> Call:
         if made.kind == 'inst':
-            assert isinstance(made.text, tuple)
-            return Call(made.kind, made.number, Global(*made.text), tuple(parts))
+            return Call(made.kind, made.number, self._imported(made), tuple(parts))
         if made.kind in ('persistent', 'buffer', 'readonly'):
-            given = parts if made.text is None else [made.text]
+            given = parts if made.text is None else [self._line(made.text)]
             return Call(made.kind, made.number, None, tuple(given))
         name, *given = parts
         if made.kind != 'obj' and isinstance(given[0], tuple):
@@ -124,26 +134,31 @@ class Values:
             return Ref(number)
         return value
 
-    def _change(self, value: Any, changes: Tuple[Change, ...]) -> None:
-        """Does to a value what was done to its object."""
-        for change in changes:
-            other = self._values[change.value]
-            if change.how == 'state':
-                value.states.append(other)
-            elif change.how == 'set':
-                self._set(value, change, other)
-            elif isinstance(value, set):
-                value.add(self._key(change.value))
+    def _fill(self, value: Any, made: Object) -> None:
+        """Puts into a value what its object holds, and does what was done to that."""
+        if isinstance(value, Call):
+            for change in made.changes:
+                other = self._values[change.value]
+                if change.key is not None:
+                    value.pairs.append((self._values[change.key], other))
+                else:
+                    (value.states if change.how == 'state' else value.items).append(other)
+        elif made.kind == 'bytearray':
+            changed(value, made, self.at, self.at)
+        elif made.kind == 'frozenset':
+            self._members[id(value)] = list(made.parts)
+        elif made.kind in _FILLED:
+            held = changed(list(made.parts), made, self.at)
+            if made.kind == 'list':
+                value += map(self.at, held)
+            elif made.kind == 'dict':
+                value.update(zip(map(self._key, held[::2]), map(self.at, held[1::2])))
             else:
-                (value if isinstance(value, list) else value.items).append(other)
+                value.update(map(self._key, held))
+                self._members[id(value)] = held
 
-    def _set(self, value: Any, change: Change, other: Any) -> None:
-        assert change.key is not None
-        if isinstance(value, dict):
-            value[self._key(change.key)] = other
-        else:
-            value.pairs.append((self._values[change.key], other))
 
+_FILLED: Dict[str, Any] = {'list': list, 'dict': dict, 'set': set}
 
 # (Python's hash of a tuple asks its items, which ask theirs, each time anew: too many levels would end the interpreter, and a tuple that has one
 # item twice, fifty levels deep, would never be done.)
@@ -154,11 +169,11 @@ _MOST_SIZE = 100_000
 def tree(pickle: Source, *, many: bool = False, unframed: bool = False, timeout: Optional[float] = None, memory: Optional[int] = None) -> Any:
     r"""The result of a pickle as nested Python data; with `many` the list of the results. Nothing is imported or called.
 
-    Lists, dictionaries, sets, tuples and plain values are themselves, and shared as in the pickle. What is imported is a `Global` or an
-    `Extension`, what comes from a call or from elsewhere a `Call`. A key or a member that has no hash is a `Ref` to its object.
-    `unframed` is as for `objects`.
+    Lists, dictionaries, sets, tuples and plain values are themselves, and shared as in the pickle; a text that no loader reads is its bytes. What is
+    imported is a `Global`, by the name that Python 3 imports, or an `Extension`, what comes from a call or from elsewhere a `Call`. A key or a member
+    that has no hash is a `Ref` to its object. `unframed` is as for `objects`.
 
-    Raises NoResult where reading ended before the pickle's STOP.
+    Raises NoResult where reading ended before the pickle's STOP, or it is not known which item of a list was changed.
 
     >>> tree(b'(X\x01\x00\x00\x00aG@\x04\x00\x00\x00\x00\x00\x00X\x01\x00\x00\x00bcos\ngetcwd\nd.')
     {'a': 2.5, 'b': Global(module=b'os', name=b'getcwd')}
@@ -168,10 +183,26 @@ def tree(pickle: Source, *, many: bool = False, unframed: bool = False, timeout:
 
 def values(pickle: Source, many: bool, unframed: bool, timeout: Optional[float], memory: Optional[int]) -> Tuple[Values, Any]:
     """The values of all objects, and what `tree` answers."""
+    if hasattr(pickle, 'read'):
+        pickle = content_of(pickle)
     answer = objects(pickle, many=many, unframed=unframed, timeout=timeout, memory=memory)
     if not answer.end.is_stopped or not answer.results:
         is_frame = answer.end.code in ('F6', 'F7', 'F8')
         raise NoResult(answer.end.text + (' (unframed=True reads that frame)' if is_frame else ''))
-    made = Values(list(answer))
+    heap = list(answer)
+    names: Dict[int, Name] = {}
+    if any(_is_renamed(made, heap) for made in heap):  # (it depends on the protocol there)
+        reaches = calls(pickle, first=not many, skip=frames(pickle, many) if unframed else (), timeout=timeout, memory=memory)
+        names = {reach.number: reach.name for reach in reaches if reach.said and reach.name and reach.number is not None}
+    made = Values(heap, names)
     results = [made.at(number) for number in answer.results]
     return made, results if many else results[0]
+
+
+_RENAMED = frozenset(module.encode('ascii') for module in (*IMPORT_MAPPING, *(module for module, _ in NAME_MAPPING)))
+
+
+def _is_renamed(made: Object, heap: List[Object]) -> bool:
+    """Whether an object is imported from a module some names of which Python 3 has elsewhere."""
+    module = made.text[0] if isinstance(made.text, tuple) else heap[made.parts[0]].text if made.kind == 'stack-global' else None
+    return module in _RENAMED

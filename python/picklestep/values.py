@@ -7,11 +7,12 @@ would not take (a text that is no UTF-8, a line that is no number) stays as the 
 from __future__ import annotations
 
 import codecs
+import math
 import pickletools
 import re
 from typing import Any, Callable, Dict, Optional, Tuple, Union
 
-__all__ = ['Argument', 'PLAIN_KINDS', 'PlainValue', 'Unreadable', 'argument_value', 'kind_value', 'read_form', 'unescaped']
+__all__ = ['Argument', 'PLAIN_KINDS', 'PlainValue', 'Unread', 'Unreadable', 'argument_value', 'kind_value', 'read_form', 'unescaped']
 
 # The argument of an opcode as it is shown: a number, a text as its bytes, the two lines of GLOBAL and INST, or none.
 Argument = Union[None, int, float, bytes, Tuple[bytes, bytes]]
@@ -22,6 +23,17 @@ PlainValue = Union[None, bool, int, float, str, bytes, bytearray, Tuple[Union[st
 
 class Unreadable(ValueError):
     """An argument of which a loader makes no value."""
+
+
+class Unread(bytes):
+    """The bytes of a text or a number that no loader reads, or only one that is told an encoding. `kind` is that of its object."""
+
+    def __new__(cls, data: bytes, kind: str) -> Unread:
+        made = super().__new__(cls, data)
+        made.kind = kind
+        return made
+
+    kind: str
 
 
 def _text(data: bytes) -> str:
@@ -80,8 +92,16 @@ def _long(data: bytes) -> int:
     return int(_up_to_nul(data[:-1] if data.endswith(b'L') else data), 0)
 
 
+# What C's `PyOS_string_to_double` takes: no blanks, no underscores, and nothing that is too large.
+_C_FLOAT = re.compile(rb'[+-]?(?:([0-9]+\.?[0-9]*|\.[0-9]+)(?:e[+-]?[0-9]+)?|inf(?:inity)?|nan)', re.IGNORECASE)
+
+
 def _float(data: bytes) -> float:
-    return float(_up_to_nul(data))
+    found = _C_FLOAT.fullmatch(_up_to_nul(data))
+    value = float(found[0]) if found is not None else 0.0
+    if found is None or found[1] is not None and math.isinf(value):
+        raise ValueError('no float, or one that is too large')
+    return value
 
 
 _READERS: Dict[str, Callable[[bytes], Union[bool, int, float, str, bytes, bytearray]]] = {

@@ -7,7 +7,7 @@ import pickletools
 import re
 from dataclasses import dataclass
 from pathlib import Path
-from typing import Dict, List, Optional
+from typing import Dict, Iterator, List, Optional
 
 ROOT = Path(__file__).resolve().parent.parent.parent
 REAL = sorted((ROOT / 'crates' / 'real_pickles' / 'data').glob('*.pickle'))
@@ -73,3 +73,12 @@ def disassembled(data: bytes) -> Optional[List[Shown]]:
 def real_pickles() -> Dict[str, bytes]:
     """The real pickles of the repository, by their names."""
     return {path.stem: path.read_bytes() for path in REAL}
+
+
+def changed_pickles() -> Iterator[bytes]:
+    """Pickles of plain data in which each kind of object is changed twice, in each way, also where loading fails."""
+    made = [b'K\x05', b'N', b'\x88', b'X\x01\0\0\0x', b'\x96\x02\0\0\0\0\0\0\0xy', b'\x96\0\0\0\0\0\0\0\0', b']', b'](K\x05K\x06e', b'(K\x05l',
+            b'K\x05\x85', b')', b'}', b'}K\x01K\x05s', b'(K\x01K\x05K\x01K\x06d', b'\x8f', b'\x8f(K\x01K\x01\x90', b'(\x91', b'(K\x01K\x01\x91']
+    changes = [b'', b'Nb', b'}b', b'NN\x86b', b'N}\x86b', b'K\x01a', b'(K\x01K\x02e', b'K\x00K\x01s', b'I01\nK\x02s', b'J\xff\xff\xff\xffK\x02s', b'K\x07K\x01s',
+               b'NK\x01s', b'K\x01\x85Ns', b'(K\x00K\x01K\x00K\x02u', b'(K\x01I01\nG?\xf0\0\0\0\0\0\0\x90', b'(K\x00\x85K\x00\x85\x90', b'(\x90']
+    yield from (thing + one + other + b'.' for thing in made for one in changes for other in changes)

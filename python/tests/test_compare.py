@@ -6,6 +6,7 @@ import collections
 import contextlib
 import datetime
 import io
+import itertools
 import os
 import pickle
 import pickletools
@@ -14,12 +15,13 @@ import tempfile
 import time
 import unittest
 from decimal import Decimal
-from typing import Any, List
+from typing import Any, List, Optional
 
 import picklestep
 from harmless import Maker, Plain, canonical
+from picklestep.comparing import shown_value
 from picklestep.diff import main
-from pickles import HOSTILE, known_opcodes, real_pickles
+from pickles import HOSTILE, changed_pickles, known_opcodes, real_pickles
 
 
 def _paths(old: Any, new: Any) -> List[str]:
@@ -69,12 +71,49 @@ class Tree(unittest.TestCase):
                 tried += 1
         self.assertGreater(tried, 150)
 
+    def test_changes(self) -> None:
+        """Whatever is done to plain data, the result is what loading gives; where loading fails there may be none."""
+        tried = 0
+        for data in changed_pickles():
+            if not picklestep.calls(data).end.is_stopped:
+                continue
+            with self.subTest(data):
+                try:
+                    loaded = pickle.loads(data)
+                except Exception:
+                    with contextlib.suppress(picklestep.NoResult):
+                        picklestep.tree(data)
+                    continue
+                self.assertEqual(canonical(picklestep.tree(data)), canonical(loaded))
+                self.assertEqual(picklestep.compare(data, pickle.dumps(loaded, 5)), [])
+                tried += 1
+        self.assertGreater(tried, 500)
+
+    def test_items_that_are_set_at_an_unknown_place(self) -> None:
+        """A call may give an index: nothing is known of the list then."""
+        for data in (b'](K\x05K\x06ecbuiltins\nint\n)RNs.', b'\x96\x01\0\0\0\0\0\0\0xcbuiltins\nint\n)RK\x01s.'):
+            self.assertEqual(pickle.loads(data)[0], [None, 1][data[:1] != b']'])
+            with self.assertRaisesRegex(picklestep.NoResult, 'how object #0 is changed'):
+                picklestep.tree(data)
+
     def test_calls(self) -> None:
         made = picklestep.tree(pickle.dumps(collections.OrderedDict(a=[1])))
         self.assertEqual((made.how, made.name, made.arguments, made.pairs),
                          ('call', picklestep.Global(b'collections', b'OrderedDict'), (), [('a', [1])]))
         self.assertEqual(picklestep.tree(HOSTILE).arguments, ('id',))
         self.assertEqual([value.code for value in picklestep.tree(b'\x82\x01.\x82\x02.', many=True)], [1, 2])
+
+    def test_names_of_python_2(self) -> None:
+        """They are what CPython imports, which depends on the protocol where they stand."""
+        loaded = [data for data in (before + name + after for before in (b'', b'\x80\x02', b'\x80\x03', b'\x80\x04') for name, after in (
+            (b'c__builtin__\nset\n', b'.'), (b'cbuiltins\nset\n', b'.'), (b'V__builtin__\nVset\n\x93', b'.'), (b'ccopy_reg\n_reconstructor\n', b'.'),
+            (b'(i__builtin__\nset\n', b'.'), (b'N0\x80\x04c__builtin__\nset\n', b'.'))) if fails(data) is None]
+        self.assertEqual(len(loaded), 12)
+        for one, other in itertools.product(loaded, loaded):
+            is_same = pickle.loads(one) == pickle.loads(other)
+            self.assertEqual(picklestep.compare(one, io.BytesIO(other)) == [], is_same, (one, other))
+        for data in loaded:
+            self.assertEqual(*map(shown_value, (picklestep.tree(data), picklestep.tree(b'N.' + data, many=True)[1])))
 
     def test_keys_without_a_hash(self) -> None:
         self.assertEqual(picklestep.tree(b'}]Ns.'), {picklestep.Ref(1): None})
@@ -94,6 +133,15 @@ class Tree(unittest.TestCase):
             with self.assertRaisesRegex(picklestep.NoResult, 'F[78] .*unframed=True'):
                 picklestep.tree(data)
             self.assertEqual(picklestep.tree(data, unframed=True), pickle.loads(data[:2] + data[11:]))
+
+
+def fails(data: bytes) -> Optional[Exception]:
+    """Why it does not load, if it does not."""
+    try:
+        pickle.loads(data)
+    except Exception as error:
+        return error
+    return None
 
 
 def crooked(value: Any, length: int) -> bytes:
@@ -148,6 +196,39 @@ class Compare(unittest.TestCase):
         self.assertEqual(_paths([one], [other]), ["[0].state['name']: 'a' -> 'b'"])
         self.assertEqual(_paths(collections.OrderedDict(a=1), collections.OrderedDict(a=2)), ["['a']: 1 -> 2"])
         self.assertEqual(_paths(datetime.date(2020, 1, 1), datetime.timedelta(1))[0], 'result.name: datetime.date -> datetime.timedelta')
+
+    def test_order_of_pairs(self) -> None:
+        """It counts where a call makes what they are put into, as it does in Python for an OrderedDict, and for no dictionary."""
+        make = b'ccollections\nOrderedDict\n)R'
+        pairs = [b'K\x01K\x02s', b'K\x03K\x04s', b'K\x01K\x05s', b'cdecimal\nDecimal\n(U\x011tRK\x06s']
+        datas = [make + b''.join(some) + b'.' for count in range(5) for some in itertools.permutations(pairs, count)]
+        for one, other in itertools.combinations(datas, 2):
+            if pickle.loads(one) != pickle.loads(other):
+                self.assertTrue(picklestep.compare(one, other), (one, other))
+        self.assertEqual([str(each) for each in picklestep.compare(make + b'K\x01K\x02sK\x03K\x04s.', make + b'K\x03K\x04sK\x01K\x02s.')],
+                         ['result.pairs[0]: 1: 2 -> 3: 4'])
+        self.assertEqual(_paths(collections.OrderedDict(a=1, b=2, c=3), collections.OrderedDict(b=2, c=4)), ["['a']: removed 1", "['c']: 3 -> 4"])
+        self.assertEqual(_paths({1: 2, 3: 4}, {3: 4, 1: 2}), [])
+
+    def test_what_no_loader_reads(self) -> None:
+        """It is no bytes, and not the same of another opcode."""
+        same = [b'C\x01\xe9.', b'U\x01\xe9.', b"S'\xe9'\n.", b'X\x01\0\0\0\xe9.', b'F\xe9\n.', b'I\xe9\n.', b'L\xe9\n.']
+        for one, other in itertools.combinations(same, 2):
+            self.assertEqual(len(picklestep.compare(one, other)), 1)
+            self.assertEqual(picklestep.compare(b'}' + one[:-1] + b'Ns.', b'}' + one[:-1] + b'Ns.'), [])
+            self.assertTrue(picklestep.compare(b'}' + one[:-1] + b'Ns.', b'}' + other[:-1] + b'Ns.'))
+        self.assertEqual(str(picklestep.compare(b'U\x01\xe9.', b'C\x01\xe9.')[0]), "result: string b'\\xe9' -> b'\\xe9'")
+        self.assertEqual(picklestep.tree(b'U\x01\xe9.'), pickle.loads(b'U\x01\xe9.', encoding='bytes'))
+
+    def test_persistent_ids(self) -> None:
+        class Unpickler(pickle.Unpickler):
+            def persistent_load(self, pid: Any) -> Any:
+                return pid
+
+        for data in (b'P1\n.', b'Pa b\n.', b'U\x01aQ.', b'K\x01Q.'):
+            wanted = Unpickler(io.BytesIO(data)).load()
+            self.assertEqual(picklestep.tree(data).arguments, (wanted,))
+        self.assertEqual([str(each) for each in picklestep.compare(b'Pa\n.', b'U\x01aQ.')], [])
 
     def test_deep(self) -> None:
         depth = 20_000
@@ -251,6 +332,10 @@ class Compare(unittest.TestCase):
 
     def test_words_of_what_is_not_in_the_results(self) -> None:
         call = b"cos\nsystem\n(S'id'\ntR"
+
+        def by_number(items: bytes) -> bytes:
+            return b'csubprocess\nPopen\n' + items + b'l\x85R0N.'
+
         lines = "{0} import 'os' 'system'\n{0} call 'os' 'system' (string 'id')\n"
         rows = ((b'N.', call + b'0N.', lines.format('+')), (call + b'0N.', b'N.', lines.format('-')),
                 (b'K\x02.', call + b'0K\x03.', 'result: 2 -> 3\n' + lines.format('+')),
@@ -260,6 +345,13 @@ class Compare(unittest.TestCase):
                 (b'cos\nsystem\n0cos\nremove\n0N.', b'cos\nremove\n0cos\nsystem\n0N.', 'imports and calls: in another order\n'),
                 (call.replace(b'id', b'#1') + b'0N.', b']0' + call.replace(b'id', b'#2') + b'0N.',
                  "- call 'os' 'system' (string '#1')\n+ call 'os' 'system' (string '#2')\n"),
+                (by_number(b'(U\x04true'), by_number(b'(U\x04true'), ''), (by_number(b'(U\x04true'), by_number(b']0(U\x04true'), ''),
+                (by_number(b'(U\x04true'), by_number(b'(U\x02rm'), "call subprocess.Popen at 27.arguments[0][0]: 'true' -> 'rm'\n"),
+                (b'cx\nX\n)RK\x01K\x02s0N.', b'cx\nX\n)RK\x05K\x02s0N.', 'call x.X at 6[1]: removed 2\ncall x.X at 6[5]: added 2\n'),
+                (b'cx\nX\n)RK\x01a0N.', b'cx\nX\n)RK\x02a0N.', 'call x.X at 6[0]: 1 -> 2\n'),
+                (b'cx\nX\n)R}K\x01Nsb0N.', b'cx\nX\n)R}K\x01K\x02sb0N.', 'call x.X at 6.state[1]: None -> 2\n'),
+                (b'cx\nX\nU\x01aNs0N.', b'cx\nX\nU\x01aK\x01s0N.', "import x.X at 0['a']: None -> 1\n"),
+                (b'cx\nX\n]K\x01aN.', b'cx\nX\n]K\x02aN.', ''),
                 (call + b'0N.', b']0' + call + b'0N.', ''), (b'\x80\x04N.', b'\x80\x02N.', ''), (b'N.\xff', b'N.\xff', ''))
         with tempfile.TemporaryDirectory() as folder:
             paths = [os.path.join(folder, name) for name in 'ab']

@@ -36,6 +36,21 @@ out of memory
 """
 
 
+# A Python that has an opcode more than those that are known here.
+LATER = """\
+import pickletools
+pickletools.opcodes.append(pickletools.OpcodeInfo('NEWER', '\\x9a', None, [], [pickletools.anyobject], 5, 'Is not known.'))
+from picklestep import source
+from picklestep.scan.blobs import BytesBlob
+from picklestep.scan.canonical.wide import reach_of
+from picklestep.shell.shell import Shell
+from picklestep.view.opcodes import opcode_table
+for begin in (b'', b'\\x9a'):
+    print(reach_of(BytesBlob(begin + b'cposix\\nsystem\\n(X\\x02\\0\\0\\0idtR.'))[0] is None)
+print(source(b'N.').text.splitlines()[-1], len(opcode_table()))
+"""
+
+
 def asked(*words: str, **environment: str) -> str:
     """What an interpreter says that has nothing of this one's environment."""
     done = subprocess.run([sys.executable, *words], capture_output=True, text=True, check=False, timeout=120, cwd='/', stdin=subprocess.DEVNULL,
@@ -66,6 +81,11 @@ class OtherSystems(unittest.TestCase):
         found = asked('-c', ASK, PYTHONPATH=f'{PACKAGE}{os.pathsep}{folder}', PATH='/nowhere', PICKLESTEP_PROGRAM=str(MODULE),
                       WASMTIME_STAND_IN=str(shutil.which('node')))
         self.assertEqual(found, SAID)
+
+
+class ALaterPython(unittest.TestCase):
+    def test_an_opcode_that_is_not_known_ends_what_is_read(self) -> None:
+        self.assertEqual(asked('-c', LATER, PICKLESTEP_PROGRAM=place.find_program()), 'False\nTrue\nresult = None 68\n')
 
 
 class InWasmtime(unittest.TestCase):

@@ -3,10 +3,12 @@
 from __future__ import annotations
 
 import bz2
+import contextlib
 import doctest
 import gzip
 import importlib
 import io
+import itertools
 import json
 import lzma
 import os
@@ -14,14 +16,22 @@ import pickle
 import pkgutil
 import random
 import struct
+import subprocess
+import sys
 import tarfile
+import types
 import unittest
+import unittest.mock
+import warnings
 import zipfile
 import zlib
-from typing import Dict, Set
+from typing import Any, Dict, List, Set, Type
 
 import picklestep.scan
-from picklestep.scan import Options, look
+from picklestep.scan import Judge, Options, look
+from picklestep.scan.blobs import BytesBlob
+from picklestep.scan.canonical.standard import STANDARD_MODULES
+from picklestep.scan.canonical.wide import reach_of
 from picklestep.scan.containers import CONTAINERS, STORES
 from picklestep.scan.names import Names
 from picklestep.scan.results import from_json, to_json
@@ -72,6 +82,24 @@ class RealFiles(ScanCase):
         result = look(str(MODELS / 'torch_checkpoint.pth'))
         self.assertEqual(places_of(result), ['archive/data.pkl'])
         self.assertEqual(result.others, len(others))
+
+
+def asked_for(unpickler: Type[Any], content: bytes) -> List[str]:
+    """The names that an unpickler imports, which are those of a harmless stand-in here."""
+    names: List[str] = []
+
+    class Unpickler(unpickler):  # type: ignore[misc]
+        def find_class(self, module: str, name: str) -> Any:
+            names.append(name)
+            return str
+
+        def persistent_load(self, pid: Any) -> Any:
+            return pid
+
+    with contextlib.suppress(Exception), warnings.catch_warnings():
+        warnings.simplefilter('ignore')  # (of escapes that are none)
+        Unpickler(io.BytesIO(content)).load()
+    return names
 
 
 class Containers(ScanCase):
@@ -213,6 +241,66 @@ class Containers(ScanCase):
         self.assertEqual(pickle.loads(content), os.getcwd())
         self.assertEqual(len(self.look('model.bin', content).pickles), 1)
 
+    def test_modules_that_are_imported_for_odd_members(self) -> None:
+        """Both unpicklers import the module first, and look then for what cannot be there."""
+        for content in (b'ccolorsys\n \n', b'ccolorsys\n \n\xff', b'N0ccolorsys\n\x01\n', b'(icolorsys\n \n', b'Vcolorsys\nV \n\x93.', b'ccolorsys. x\ny\n',
+                        b'\x8c\x08colorsys\x8c\x03\xed\xa0\x80\x93.', b'\x8c\x08colorsysX' + (1201).to_bytes(4, 'little') + b'a' + '\xe9'.encode() * 600 + b'\x93.'):
+            for load in (pickle.loads, pickle._loads):  # type: ignore[attr-defined]
+                sys.modules.pop('colorsys', None)
+                self.assertRaises((AttributeError, ImportError), load, content)
+                self.assertIn('colorsys', sys.modules)
+            for name in ('pytorch_model.bin', 'y.onnx', 'y.txt'):
+                self.assertEqual(len(self.look(name, content).pickles), 1, content)
+        self.assertLessEqual(getattr(sys, 'stdlib_module_names', set()), STANDARD_MODULES)
+        self.assertEqual(self.look('notes', b'cword\nwords and more\n').pickles, ())
+
+    def test_lines_as_they_may_be_spelled(self) -> None:
+        """Before a call: a line of each opcode, of up to two of these letters. Each is gone over where one of Python's unpicklers goes over it."""
+        letters = [bytes([code]) for code in b'10 L_-x\t\r\0.e\'"\\na\x0b\x0c\x1c\x85\xa0\xe9+i'] + ['\xa0'.encode(), '\u0661'.encode()]
+        rest = b'cposix\nsystem\n(X\x04\0\0\0truetR.'
+        gone_over = 0
+        for begin, end in ((b'I', b'\n'), (b'L', b'\n'), (b'L', b'L\n'), (b'F', b'\n'), (b'S', b'\n'), (b"S'", b"'\n"), (b"S'", b'\n'), (b'V', b'\n'), (b'Np', b'\n'),
+                           (b'Np1\n0g', b'\n'), (b'Np\xd9\xa1\n0g', b'\n'), (b'P', b'\n')):
+            for count in range(3):
+                for some in itertools.product(letters, repeat=count):
+                    content = begin + b''.join(some) + end + b'0' + rest
+                    if any('system' in asked_for(kind, content) for kind in (pickle.Unpickler, pickle._Unpickler)):  # type: ignore[attr-defined]
+                        gone_over += 1
+                        self.assertIsNotNone(reach_of(BytesBlob(content))[0], content)
+        self.assertGreater(gone_over, 1500)
+
+    def test_long_lines(self) -> None:
+        """Before a call: each is gone over where one of Python's unpicklers is asked for the name of the call behind it, or goes to its end."""
+        lines = {'S': (b"S'", b'a', b"'\n0"), 'S"': (b'S"', b'a', b'"  \n0'), 'V': (b'V', b'a', b'\n0'), 'I': (b'I', b' ', b'1\n0'), 'L': (b'L', b' ', b'1L\n0'),
+                 'F': (b'F', b'0', b'1.5\n0'), 'p': (b'Np', b' ', b'1\n0'), 'p0': (b'Np', b'0', b'1\n0'), 'g': (b'Np1\n0g', b' ', b'1\n0'),
+                 'P': (b'P', b'a', b'\n0'), 'c': (b'c', b'a', b'\nb\n0'), 'c b': (b'ca\n', b'b', b'\n0'), 'i': (b'(i', b'a', b'\nb\n0'),
+                 'U': (b'\x8d' + (70_000).to_bytes(8, 'little') + bytes(70_000) + b'0', b'', b'')}
+        rest = b'cposix\nsystem\n(X\x04\0\0\0truetR.'
+        gone_over = 0
+        for name, (begin, letter, end) in lines.items():
+            for count in (10, 4200, 4290, 4300, 5000, 65_520, 65_533, 65_534, 65_535, 65_536, 65_537, 70_000):
+                content = begin + letter * count + end + rest
+                if any('system' in asked_for(kind, content) for kind in (pickle.Unpickler, pickle._Unpickler)):  # type: ignore[attr-defined]
+                    gone_over += 1
+                    self.assertEqual(len(self.look('pytorch_model.bin', content).pickles), 1, (name, count))
+        self.assertGreater(gone_over, 100)
+
+    def test_names_in_latin_1(self) -> None:
+        """A line of UNICODE is in Latin-1, with escapes."""
+        module = types.ModuleType('mod\xe9')
+        vars(module)['ma\xedn'] = os.getcwd
+        for content in (b'Vmod\xe9\nVma\xedn\n\x93)R.', b'Vmod\\u00e9\nVma\xedn\n\x93)R.'):
+            with unittest.mock.patch.dict(sys.modules, {module.__name__: module}):
+                self.assertEqual([load(content) for load in (pickle.loads, pickle._loads)], 2 * [os.getcwd()])  # type: ignore[attr-defined]
+            for name in ('x.bin', 'x.onnx', 'x.txt'):
+                self.assertEqual(len(self.look(name, content).pickles), 1, content)
+
+    def test_an_opcode_that_is_new(self) -> None:
+        """A Python that knows one more: for this package it is none."""
+        code = 'import pickletools, copy; new = copy.copy(pickletools.opcodes[0]); new.name, new.code = "BRAND_NEW", chr(0xf0);' \
+            'pickletools.opcodes.append(new); import picklestep.scan.command, picklestep.shell.command, picklestep.view.command, picklestep.python_source'
+        subprocess.run([sys.executable, '-c', code], check=True)
+
     def test_raw_numbers_are_no_pickles(self) -> None:
         # Numbers that begin like opcodes: an import by a number of copyreg's, an id, a frame, a text.
         chance = random.Random(33)
@@ -282,6 +370,23 @@ class Allowing(unittest.TestCase):
     def test_nothing_but_everything_allows_a_name_that_is_worked_out(self) -> None:
         self.assertIsNone(Names(['os.*', '*']).note("'os' #5.x"))
         self.assertIsNotNone(Names(['**']).note("'os' #5"))
+
+
+class ThroughAnother(ScanCase):
+    """What a module reaches that has imported it."""
+
+    def test_a_pattern_does_not_allow_it(self) -> None:
+        module = types.ModuleType('myapp')
+        vars(module).update(os=os, models=module, Net=str)
+        for found, name, allowing in (('myapp', 'os.getcwd', ('myapp.os.getcwd', 'myapp.os.*', '**.os.**', '**')), ('myapp.models', 'os.getcwd', ('myapp.models.os.*',)),
+                                      ('myapp.models', 'Net', ('myapp.*.*', 'myapp.**', 'myapp.models.Net'))):
+            data = b'\x80\x04' + b''.join(b'\x8c' + bytes([len(text)]) + text.encode() for text in (found, name)) + b'\x93)R.'
+            with unittest.mock.patch.dict(sys.modules, {'myapp': module, 'myapp.models': module}):
+                self.assertEqual(pickle.loads(data), '' if name == 'Net' else os.getcwd())
+            named, = names_of(self.look('a.pkl', data))
+            for pattern in ('myapp.**', 'myapp.*.*', 'myapp.*.*.*', '**.getcwd', *allowing):
+                if Names([pattern]).note(named) is not None:
+                    self.assertEqual(Judge(Names([pattern])).mark(named) is None, pattern in allowing, (named, pattern))
 
 
 class TheCommand(ScanCase):

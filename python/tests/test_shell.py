@@ -27,7 +27,7 @@ from picklestep.shell.opened import Opened
 from picklestep.shell.shell import Shell, WordError
 from picklestep.shell.words import SAMPLE, WORDS
 from picklestep.view.document import Document
-from pickles import real_pickles
+from pickles import changed_pickles, real_pickles
 from terminals import Terminal
 
 _QUESTION = '(yes/no) '
@@ -166,8 +166,8 @@ class AtATerminal(unittest.TestCase):
 class Words(unittest.TestCase):
     """What the words do."""
 
-    def shell(self, data: bytes, path: str = '') -> Shell:
-        shell = Shell(data, path)
+    def shell(self, data: bytes, path: str = '', many: bool = False) -> Shell:
+        shell = Shell(data, path, many)
         self.addCleanup(shell.pickle.close)
         return shell
 
@@ -287,7 +287,7 @@ class Words(unittest.TestCase):
             shell.obey(f'break {place}')
         before = shell.obey('break')
         for line in ('delete 3', 'insert 1 NONE', 'rename oldapp newapp'):
-            with mock.patch.object(Opened, '_read_from', side_effect=picklestep.ProgramError('it fails')):
+            with mock.patch.object(Opened, '_take', side_effect=picklestep.ProgramError('it fails')):
                 with self.assertRaisesRegex(WordError, 'it fails'):
                     shell.obey(line)
                     shell.obey('where')
@@ -447,6 +447,72 @@ class Words(unittest.TestCase):
                 rows = shell.obey(line).split('\n')
                 self.assertEqual([row for row in rows if row.startswith(('made', 'changed', 'stored'))], wanted)
 
+    def test_results_are_what_loading_gives(self) -> None:
+        """Of plain data that is changed in each way, one pickle after another in one shell."""
+        wanted = {}
+        for data in changed_pickles():
+            with contextlib.suppress(Exception):
+                loaded = pickle.loads(data)
+                if not isinstance(loaded, (list, dict)) or len(loaded) <= 4:  # (of others the first are shown)
+                    wanted[data] = repr(loaded) if isinstance(loaded, tuple) else re.sub(r'\(\d,\)', 'tuple of 1', repr(loaded))
+        wanted = {data: text for data, text in wanted.items() if picklestep.calls(data).end.is_stopped}
+        self.assertGreater(len(wanted), 500)
+        shell = self.shell(b''.join(wanted), many=True)
+        shell.obey('run')
+        shown = [shell.pickle.described(number) for number in shell.pickle.session.where().results]
+        self.assertEqual(*[[sorted(text) if 'tuple of' in text else text for text in texts] for texts in (shown, wanted.values())])
+
+    def test_texts_that_are_long_or_have_quotes(self) -> None:
+        """They are found in the whole argument, and as they are typed."""
+        texts = ["it's", 'a\\b', 'x' * 5000 + 'needle' + 'y' * 5000, 'x' * 5000, 'x' * 600 + "the'n", 'a needle']
+        data = pickle.dumps(texts, 3)
+        shell = self.shell(data)
+        places = {value: place for place, (_, value, _) in enumerate(pickletools.genops(data)) if isinstance(value, str)}
+        for wanted in ("it's", 'a\\b', 'needle', "the'n", 'y' * 100):
+            with self.subTest(wanted):
+                shell.obey('goto 0')
+                holders = [places[text] for text in texts if wanted in text]
+                found = [int(shell.obey(f'find {wanted}').rpartition(' ')[2]) for _ in range(len(holders) + 1)]
+                self.assertEqual(found, [*holders, holders[0]])
+                shell.obey(f'break text {wanted}')
+                shell.obey('goto 0')
+                stops = [self.place(shell) for _ in holders if shell.obey('run')]
+                self.assertEqual(stops, holders)
+                shell.obey('run')
+                self.assertEqual([self.place(shell) for _ in holders if shell.obey('run back')], holders[::-1])
+                shell.obey(f'clear {shell._breaks[-1].number}')
+        with self.assertRaisesRegex(WordError, 'is in no opcode'):
+            shell.obey('find nowhere')
+
+    def test_many_objects(self) -> None:
+        """Where it is not known what they hold at the cursor, the shell says so."""
+        note = '(What objects hold is as it is at the end.)'
+        shell = self.shell(pickle.dumps({'a': list(range(15_000)), 'b': list(range(15_000)), 'c': {'x': 1}}))
+        for line, is_there in (('goto 10000', False), ('show 0', False), ('goto 30000', True), ('show 0', True), ('stack', True), ('memo', True),
+                               ('objects 5', True), ('explain', True), ('list', False), ('run', False), ('show 0', False)):
+            self.assertEqual(note in shell.obey(line), is_there, line)
+
+    def test_explained_where_it_is_refused(self) -> None:
+        for data, code in ((b'K\x01K\x02a.', 'S5'), (b'Nh\x05.', 'S3'), (b'K\x01K\x02R.', 'S9'), (b'N\x82\x00.', 'S7'), (b'N0a.', 'S2'), (b'Ne.', 'S1')):
+            self.assertEqual(picklestep.listing(data).end.code, code)
+            shell = self.shell(data)
+            shell.obey('run')
+            self.assertIn(f'it is refused here: {code} ', shell.obey('explain'))
+            self.assertNotIn('refused', shell.obey('explain 0'))
+        self.assertIn('it takes list #0 [], item #1 1', self.shell(b']K\x01a.').obey('explain 2'))
+
+    def test_words_that_fail(self) -> None:
+        """The shell goes on, with its edits, whatever happens in a word."""
+        shell = self.shell(SAMPLE)
+        shell.obey("set 2 to 'x'")
+        for error in (AttributeError('no such thing'), IndexError('1'), KeyError(1), RecursionError('deep'), MemoryError(), AssertionError()):
+            with mock.patch.dict(shell._words, where=mock.Mock(side_effect=error)), self.assertRaisesRegex(WordError, type(error).__name__):
+                shell.obey('where')
+        self.assertIn('undone', shell.obey('undo'))
+        for data in (SAMPLE, b'N.'):
+            with self.assertRaisesRegex(WordError, 'calls counts from 1'):
+                self.shell(data).obey('calls 0')
+
     def test_completions(self) -> None:
         shell = self.shell(SAMPLE)
         for before, wanted in (('ru', ['run']), ('break o', ['opcode']), ('break opcode REDU', ['REDUCE']), ('goto @3', ['@31', '@33', '@35', '@36', '@38', '@39']),
@@ -547,6 +613,15 @@ class Words(unittest.TestCase):
                 shell.obey(f"save '{path} 2'")
             self.assertEqual(Path(path).read_bytes(), SAMPLE.replace(b'K\x03', b'K\x04'))
             self.assertEqual(Path(path + ' 2').read_bytes(), SAMPLE.replace(b'K\x03', b'K\x04'))
+
+    def test_save_to_names_with_blanks(self) -> None:
+        with tempfile.TemporaryDirectory() as folder:
+            shell = self.shell(SAMPLE)
+            with self.assertRaisesRegex(WordError, 'in quotes'):
+                shell.obey(f'save {folder}/my file.pickle')
+            self.assertEqual(os.listdir(folder), [])
+            shell.obey(f"save '{folder}/my file.pickle'")
+            self.assertEqual(os.listdir(folder), ['my file.pickle'])
 
     def test_batch(self) -> None:
         with tempfile.TemporaryDirectory() as folder:

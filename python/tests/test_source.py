@@ -23,7 +23,7 @@ from typing import Any, List, Tuple
 import picklestep
 from harmless import Maker, OwnList, canonical, executed, opcodes_at_random
 from picklestep.python_source import main, source
-from picklestep.python_source.code import HEAD
+from picklestep.python_source.code import HEAD, HEAD_OF_CUT
 from picklestep.python_source.names import TAKEN
 from pickles import HOSTILE, real_pickles
 
@@ -234,11 +234,22 @@ class Shown(unittest.TestCase):
     def test_ends_early(self) -> None:
         for data, ending in ((b'(lp0\nI1\na', '# F1 ended at 9: reading ends here, and the stack is\nstack = [[1]]\n'),
                              (b'K\x050', '# F1 ended at 3: reading ends here, and the stack is\nstack = []\n'),
-                             (b'K\x01ea.', '# S1 no mark at 2: reading ends here, and the stack is\nstack = [1]\n'),
+                             (b'K\x01ea.', '# S1 no mark at 2: reading ends here (`calls` shows what loaders reach behind it), and the stack is\nstack = [1]\n'),
                              (b'', '# F1 ended at 0: reading ends here, and the stack is\nstack = []\n'),
                              (b'N.abc', 'result = None\n# 3 bytes after STOP are not read\n')):
             with self.subTest(data):
                 self.assertTrue(source(data).text.endswith(ending), source(data).text)
+
+    def test_a_loader_goes_on(self) -> None:
+        """Where one of Python's unpicklers reads on, the source does not say that it does the same."""
+        call = b'cfractions\nFraction\n)R'
+        for data in (b'\x95\x02\0\0\0\0\0\0\0N' + call + b'.', call + b'\x95\xff\0\0\0\0\0\0\0.', b'Np 1\n' + call + b'.'):
+            loaded = []
+            for load in (pickle.loads, pickle._loads):  # type: ignore[attr-defined]
+                with contextlib.suppress(pickle.UnpicklingError):
+                    loaded.append(load(data))
+            self.assertIn(0, loaded, data)
+            self.assertIn(': reading ends here (`calls` shows what loaders reach behind it), and the stack is\nstack = [', source(data).text)
 
     def test_cut_within_a_frame(self) -> None:
         """Read unframed, what the source has on its stack is what Python's unpickler has there of the same bytes without the FRAME."""
@@ -271,8 +282,11 @@ class Shown(unittest.TestCase):
         text = source(data, full=False).text
         for shown in (f"'{'x' * 64}' + cut(936)", '15, *cut(84)', '15: 15, **cut(4)', f"b'{'y' * 70}'", "cut('0x1000"):
             self.assertIn(shown, ' '.join(text.split()).replace(', ]', ']'))
-        with self.assertRaises(NameError):
-            executed(text)
+        for is_cut, text in ((True, text), (True, source(pickle.dumps(['x' * 1000]), full=False).text), (False, source(data).text),
+                             (False, source(pickle.dumps(['cut(4)']), full=False).text)):
+            self.assertEqual((text.startswith(HEAD_OF_CUT), text.startswith(HEAD)), (is_cut, not is_cut))
+            with self.assertRaises(NameError) if is_cut else contextlib.nullcontext():
+                executed(text)
         many = source(pickle.dumps(collections.OrderedDict.fromkeys(range(100))), full=False).text
         self.assertIn('.update(cut(84))  # ', many)
 
@@ -290,6 +304,21 @@ class Shown(unittest.TestCase):
                 with self.assertRaises(ValueError):
                     executed(source(data).text)
 
+
+    def test_floats_as_c_reads_them(self) -> None:
+        """What it refuses, which Python's own reading may take, fails; all else is the same."""
+        spelled = ['1', '1.', '.5', '-.5e3', '+1E5', '1e400', '-1e999', '1e-400', 'inf', '-INF', 'Infinity', '+nan', '-nan', '1_0', ' 1', '1 ', '1\r', '\t1', '1_0.5',
+                   '.', '', 'e5', '1e', '1e+', '0x10', '1.5\0x', '\0', 'infinit', 'nan(1)', '1' * 400, '0.' + '0' * 400 + '1', '\u0661', '1L', '1,5', '--1']
+        for text in spelled:
+            data = b'F' + text.encode() + b'\n.'
+            with self.subTest(text):
+                try:
+                    wanted = repr(pickle.loads(data))
+                except (ValueError, OverflowError, pickle.UnpicklingError):
+                    self.assertRaises((ValueError, OverflowError), executed, source(data).text)
+                    self.assertEqual(picklestep.tree(data), text.encode())
+                    continue
+                self.assertEqual((repr(executed(source(data).text)['result']), repr(picklestep.tree(data))), (wanted, wanted))
 
     def test_numbers_as_c_reads_them(self) -> None:
         """A number of INT with a 0 before it is octal, and one ends at a NUL byte."""

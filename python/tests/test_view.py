@@ -149,6 +149,13 @@ class Documents(unittest.TestCase):
             self.assertEqual(document.find('posix', 3), 0)
         with opened(pickle.dumps(['a', 'caf\xe9'], 4)) as document:
             self.assertEqual(document.lines.at(document.find('f\xe9', 0) or 0).argument, r"'caf\xc3\xa9'")
+        texts = ["it's", 'a\\b', 'x' * 700 + "need'le" + 'y' * 700, 'need']
+        data = pickle.dumps(texts, 3)
+        places = {value: place for place, (_, value, _) in enumerate(pickletools.genops(data)) if isinstance(value, str)}
+        with opened(data) as document:
+            for wanted, text in (("it's", texts[0]), ('a\\b', texts[1]), ("need'le", texts[2]), ('y' * 600, texts[2]), ('need', texts[2])):
+                self.assertEqual(document.find(wanted, 0), places[text], wanted)
+            self.assertEqual([document.find('need', places[text]) for text in texts[2:]], [places[texts[3]], places[texts[2]]])
 
     def test_refused_opcodes_stay_in_view(self) -> None:
         with opened(b'N0R\x8c\x01a.') as document:

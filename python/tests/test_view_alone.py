@@ -408,6 +408,22 @@ class Alone(Driven):
         self.assertEqual(self.texts('#opcode .effect'), ['stack: nothing → what is imported'])
         self.assertEqual(self.browser.errors(), [])
 
+    def test_finding(self) -> None:
+        """What is found is what the document of the server finds, from each place on."""
+        texts = ["it's", 'a\\b', 'x' * 700 + "need'le" + 'y' * 700, 'need', '\u20ac']
+        data = pickle.dumps(texts, 3)
+        path = self.file('long.pickle', data)
+        self.load()
+        self.give(path)
+        document = Document(data, 'a pickle', False)
+        self.addCleanup(document.close)
+        wanted = ["it's", 'a\\b', 'a\\\\b', "need'le", 'y' * 600, 'need', '\u20ac', "'need'", '2', '200000', 'nowhere', 'MARK', '']
+        places = range(len(document.lines))
+        asked = json.dumps([[text, place] for text in wanted for place in places])
+        found = self.browser.js(f'(async () => {{ const found = []; for (const [text, after] of {asked}) '
+                                "found.push((await host.ask('find', { text, after })).place); return found; })()")
+        self.assertEqual(found, [document.find(text, place) for text in wanted for place in places])
+
     # --- Values ---
 
     def test_values_are_those_of_python(self) -> None:

@@ -128,6 +128,10 @@ abbrev pub is_tuple : Role → Bool
 is_tuple role.Tuple = true
 is_tuple _ = false
 
+abbrev pub is_list : Role → Bool
+is_list role.List = true
+is_list _ = false
+
 -- from protocol 3 on fewer than four objects have a tuple opcode without a mark, but cloudpickle before 1.3 marks two arguments of a call
 -- that follows at once; in protocol 1 only nothing has
 abbrev pub has_right_size : ℕ → ℕ → Role → Bool
@@ -226,9 +230,13 @@ other_taking taking.CallWith h = other_call 1 h (if_so is_dict (deep 0 h) reason
 abbrev pub if_even : ℕ → Option Reason → Option Reason
 if_even n rest = if n % 2 == 0 then rest else Some reason.OddItems
 
+-- LIST and DICT make empty ones, which get their items later
+abbrev pub other_begun : Held → Option Reason
+other_begun h = unless (above h == 0) reason.BatchSize
+
 abbrev pub other_cutting : ℕ → Role → Cutting → Held → Option Reason
-other_cutting protocol r cutting.Any h = unless (has_right_size protocol (above h) r) reason.TupleSize
-other_cutting protocol r cutting.Pairs h = if_even (above h) None
+other_cutting protocol r cutting.Any h = if is_list r then other_begun h else unless (has_right_size protocol (above h) r) reason.TupleSize
+other_cutting protocol r cutting.Pairs h = other_begun h
 other_cutting protocol r cutting.Callable h = if_deep 1 (above h) (if_so is_callable (slice_get h.cells (below h)) reason.NotCallable None)
 
 abbrev pub if_paired : Filling → ℕ → Option Reason → Option Reason

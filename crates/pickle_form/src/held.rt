@@ -187,7 +187,7 @@ impl Held {
     ghost use Rattle.std.specs.Option.{unwrap_or};
     ghost use Rattle.pickle_ops.specs.Row.{count_of, values_of};
     ghost use Rattle.pickle_form.specs.Spelled.{unless};
-    ghost use Rattle.pickle_form.specs.Held.{nothing_held, below, above, between, deep, under, at_key, other_call, other_taking, other_cutting, is_next_key, other_batch, other_state, is_two, other_row, without, cut, push, top, keep, fill, next};
+    ghost use Rattle.pickle_form.specs.Held.{nothing_held, below, above, between, deep, under, at_key, other_call, other_taking, other_begun, other_cutting, is_next_key, other_batch, other_state, is_two, other_row, without, cut, push, top, keep, fill, next};
 
     /// Nothing is there.
     pub fn new(alloc: Global) -> Held
@@ -296,16 +296,26 @@ impl Held {
         }
     }
 
+    /// Why LIST and DICT do not make this of the objects above the topmost mark: they make empty ones, which get their items later.
+    fn other_begun(&self) -> Option<Reason>
+        ensures { result ≡ other_begun self.now }
+    {
+        unless(self.above() == 0, Reason::BatchSize)
+    }
+
     /// Why nothing is made so of the objects above the topmost mark.
     fn other_cutting(&self, protocol: u64, role: Role, cutting: Cutting) -> Option<Reason>
         ensures { result ≡ other_cutting protocol role cutting self.now }
     {
         match cutting {
-            Cutting::Any => unless(
-                has_right_size(protocol, self.above(), role),
-                Reason::TupleSize,
-            ),
-            Cutting::Pairs => if_paired(Filling::SetItem, self.above(), None),
+            Cutting::Any => {
+                if role.is_list() {
+                    return self.other_begun();
+                }
+                let right = has_right_size(protocol, self.above(), role);
+                unless(right, Reason::TupleSize)
+            }
+            Cutting::Pairs => self.other_begun(),
             Cutting::Callable => {
                 if self.above() < 1 {
                     return Some(Reason::TooFew);

@@ -51,7 +51,7 @@ pub enum Role {
 
 impl Role {
     ghost use Rattle.std.specs.Prelude.{◌≡◌, ◌<◌, ◌≤◌, ◌*◌};
-    ghost use Rattle.pickle_form.specs.Held.{is_name_role, is_there, is_buffer, is_dict, is_two, is_tuple, is_null, is_instance, is_callable, is_arguments, is_target, least_of, filled_role};
+    ghost use Rattle.pickle_form.specs.Held.{is_name_role, is_there, is_buffer, is_dict, is_two, is_tuple, is_list, is_null, is_instance, is_callable, is_arguments, is_target, least_of, filled_role};
 
     /// Whether it is a plain name.
     pub fn is_name(self) -> bool
@@ -112,6 +112,13 @@ impl Role {
         ensures { result ≡ is_tuple self }
     {
         matches!(self, Role::Tuple)
+    }
+
+    /// Whether it is a list that nothing went into.
+    pub fn is_list(self) -> bool
+        ensures { result ≡ is_list self }
+    {
+        matches!(self, Role::List)
     }
 
     /// Whether picklers call it.

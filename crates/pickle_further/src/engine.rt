@@ -92,15 +92,8 @@ pub fn write_items<S: Page>(
     let mut course = course_of(naming);
     let mut left = bytes.len();
     'items: loop {
-        write_line(
-            holes,
-            at.offset,
-            course.naming,
-            machine.heap(),
-            gone.event,
-            page,
-        )?;
-        course = course.with(gone.row, machine.heap(), gone.event);
+        write_line(holes, at.offset, course.naming, machine, gone.event, page)?;
+        course = course.with(gone.row, machine, gone.event);
         if let Some(closing) = ended(gone, left, at.offset) {
             return Ok(TaleEnd { course, closing });
         }

@@ -18,7 +18,7 @@ use pickle_doc::{TailFault, is_stop};
 use pickle_lenient::{NotTaken, RowKind, Taken, take_op};
 use pickle_machine::{LoaderMove, Refusal};
 use pickle_ops::{FrontFault, Op, Opcode, Row, op_of};
-use pickle_show::{Before, Closing, Event, TextStop};
+use pickle_show::{Before, Closing, Event, TextStop, event_of};
 use std::alloc::Global;
 
 /// What an item comes to.
@@ -78,7 +78,7 @@ fn event_by(m: LoaderMove, before: Before, machine: &LoaderMachine) -> Option<Ev
 {
     match m.fill {
         Some(fill) => Some(Event::Filled(fill.filling, fill.count, fill.target)),
-        None => machine.event(m.row, before),
+        None => event_of(m.row, before, machine),
     }
 }
 
@@ -196,7 +196,7 @@ fn go_near(
 {
     let m = machine.loader_move(item.op.opcode(), item.row);
     let anew = keeps(way.pickles, item.op.opcode());
-    let before = machine.before();
+    let before = Before::of(machine);
     let closing = closing_after(way.pickles, item.op.opcode(), place, more, m.last);
     let (row, size, left, lost) = (item.row, item.size, item.left, item.lost);
     let op = used_op(alloc, m, item.op)?;

@@ -6,9 +6,8 @@ ghost use Rattle.std.specs.BTreeMap.{insert_entry};
 ghost use Rattle.pickle_further.specs.Far.{with_far, IsApart, counted, ComesTo};
 
 use pickle_lenient::{Number, is_far};
-use pickle_machine::{LoaderMove, Machine, Refusal};
-use pickle_ops::{ObjId, Object, Op, Opcode, Row};
-use pickle_show::{Before, Event, event_of};
+use pickle_machine::{Inspect, LoaderMove, Machine, Refusal};
+use pickle_ops::{Class, Look, ObjId, Op, Opcode, Row};
 use std::alloc::{AllocError, Global};
 use std::collections::BTreeMap;
 use std::marker::Model;
@@ -49,12 +48,35 @@ fn put_in(far: &mut BTreeMap<Number, ObjId>, number: Number, id: ObjId) -> Resul
     }
 }
 
+impl Inspect for LoaderMachine {
+    ghost state = { λ m. m.state };
+
+    fn objects(&self) -> usize {
+        self.machine.objects()
+    }
+
+    fn class_at(&self, id: ObjId) -> Option<Class> {
+        self.machine.class_at(id)
+    }
+
+    fn look(&self, id: ObjId) -> Option<Look<'_>> {
+        self.machine.look(id)
+    }
+
+    fn stack_len(&self) -> usize {
+        self.machine.stack_len()
+    }
+
+    fn stack_at(&self, i: usize) -> Option<ObjId> {
+        self.machine.stack_at(i)
+    }
+}
+
 #[tactic(auto, using(crate::proofs::Fars::far_rules))]
 impl LoaderMachine {
     ghost use Rattle.std.specs.Prelude.{◌≡◌, ◌≢◌, ◌+◌, ◌-◌, ◌<◌, ◌≤◌, ◌^◌, true, false, length, IfOk, IfErr, IfSome, OnOk, Ok, Some};
     ghost use Rattle.pickle_machine.specs.Move.{fresh, refusal_of};
     ghost use Rattle.pickle_machine.specs.Loader.{loader_move, move_as, cleared};
-    ghost use Rattle.pickle_show.specs.Event.{before_of, event_of};
     ghost use Rattle.pickle_further.specs.Far.{counted, ComesTo};
 
     /// The same with this machine.
@@ -68,33 +90,11 @@ impl LoaderMachine {
         }
     }
 
-    /// All objects. The number of each is its place.
-    pub fn heap(&self) -> &[Object]
-        ensures { result.now ≡ self.now.state.heap }
-    {
-        self.machine.heap()
-    }
-
     /// How a loader moves at this opcode, whose row this is.
     pub fn loader_move(&self, opcode: Opcode, row: Row) -> LoaderMove
         ensures { result ≡ loader_move opcode row (fresh self.now.state) }
     {
         self.machine.loader_move(opcode, row)
-    }
-
-    /// What is looked at before a step.
-    pub fn before(&self) -> Before
-        requires { length self.now.state.heap < 2 ^ 32 }
-        ensures { result ≡ before_of self.now.state }
-    {
-        Before::of(&self.machine)
-    }
-
-    /// The event of the step of this row, before which this was looked at.
-    pub fn event(&self, row: Row, before: Before) -> Option<Event>
-        ensures { result ≡ event_of row before self.now.state }
-    {
-        event_of(row, before, &self.machine)
     }
 
     /// The row as which the machine moves: its own memo does not have all entries. None where they are too many to be counted.

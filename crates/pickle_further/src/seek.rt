@@ -9,6 +9,7 @@ use crate::engine::spot_after;
 use crate::going::{Gone, go};
 use crate::machine::LoaderMachine;
 use crate::way::{Spot, Way};
+use pickle_machine::Inspect;
 use pickle_show::{Naming, TextStop};
 use std::alloc::Global;
 
@@ -58,9 +59,7 @@ fn next<'a>(
     ensures less { IfOk result (λ t. length t.rest.now < length item.entry.rest.now) }
     ensures err { IfErr result (λ e. e ≡ TextStop.Memory) }
 {
-    let naming = item
-        .naming
-        .after(item.gone.row, machine.heap().len() as u32);
+    let naming = item.naming.after(item.gone.row, machine.objects() as u32);
     let at = spot_after(item.at, item.gone);
     let rest = item.rest.split_at(item.gone.size).1;
     let gone = go(alloc, way, rest, at, machine)?;

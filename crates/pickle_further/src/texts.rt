@@ -17,7 +17,7 @@ use pickle_doc::Items;
 use pickle_holes::Holes;
 use pickle_io::{Failed, Page, write_all, write_decimal};
 use pickle_lenient::Frames;
-use pickle_machine::Machine;
+use pickle_machine::{Machine, Slim};
 use pickle_show::{Closing, Detail, Ending, Naming, Ran, TextStop, run_items, write_end};
 use std::alloc::Global;
 
@@ -68,14 +68,14 @@ fn write_parts<S: Page>(
     pickles: Pickles,
     bytes: &[u8],
     ran: Ran,
-    machine: Machine,
+    slim: &Slim<'_>,
     page: &mut S,
 ) -> Result<(), TextStop>
     requires small { length bytes.now ≤ size_limit }
     requires offset { ran.offset ≤ length bytes.now }
     requires place { ran.place ≤ length bytes.now }
-    requires heap { length machine.state.heap ≤ ran.place }
-    ensures { (a b : Told) → (w : IsRun (manner detail holes.now) (are_many pickles) bytes.now a b machine.state ran) → PutsText (S.told page.old) (S.told page.new) (parts (manner detail holes.now) pickles w.d) result }
+    requires heap { length slim.now.state.heap ≤ ran.place }
+    ensures { (a b : Told) → (w : IsRun (manner detail holes.now) (are_many pickles) bytes.now a b slim.now.state ran) → PutsText (S.told page.old) (S.told page.new) (parts (manner detail holes.now) pickles w.d) result }
 {
     if !is_open(ran.ending) {
         return Ok(());
@@ -90,7 +90,8 @@ fn write_parts<S: Page>(
         left: 0,
     };
     let rest = bytes.split_at(ran.offset as usize).1;
-    let mut machine = LoaderMachine::new(alloc, machine);
+    // Loaders go on with all that the objects hold, which the slim machine does not keep.
+    let mut machine = LoaderMachine::new(alloc, slim.whole(alloc)?);
     write_from(
         alloc,
         holes,
@@ -122,18 +123,18 @@ fn write_document<S: Page>(
     ensures err { IfErr result (CutsDocument (manner detail holes.now) pickles bytes.now (S.told page.old) (S.told page.new)) }
 {
     let many = are_many(pickles);
-    let mut machine = Machine::start(alloc, many);
+    let mut slim = Slim::new(alloc, many, bytes);
     let ran = run_items(
         alloc,
         detail,
         holes,
         many,
         Items::new(bytes),
-        &mut machine,
+        &mut slim,
         page,
     )?;
     let status = write_end(holes, bytes, ran.course, ran.ending, page)?;
-    write_parts(alloc, detail, holes, pickles, bytes, ran, machine, page)?;
+    write_parts(alloc, detail, holes, pickles, bytes, ran, &slim, page)?;
     Ok(status)
 }
 

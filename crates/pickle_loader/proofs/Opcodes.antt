@@ -14,7 +14,7 @@ use Rattle.pickle_ops.specs.Argument.{number_of, integer_of, payload, first_text
 use Rattle.pickle_ops.specs.Row.{row_of_opcode, kind_of_opcode}
 use Rattle.pickle_loader.specs.Environment.{PyTuple, PyList, PyDict, PySet, PyByteArray, Plain, Find, Line, Persist}
 use Rattle.pickle_loader.specs.Unpickler.{Raised, load_literal, load_get, load_put}
-use Rattle.pickle_loader.specs.Dispatch.{with_int, dispatch}
+use Rattle.pickle_loader.specs.Dispatch.{with_int, literal_of, dispatch}
 use Rattle.pickle_loader.specs.Told.{protocol_after}
 use Rattle.pickle_loader.proofs.Methods.{Here, unpickler, RowGood, frame_good, proto_good, literal_good, empty_good, get_good, ext_good, buffer_good, tuple_of_good, binpersid_good, reduce_good, newobj_good, newobj_ex_good, stack_global_good, tuple_good, list_good, frozenset_good, dict_good, inst_good, obj_good, pop_mark_good, mark_good, dup_good, put_good, memoize_good, memo_get_good, stop_good, pop_good}
 use Rattle.pickle_loader.proofs.Keys.{plain_int, quoted_text}
@@ -33,32 +33,12 @@ opcode_good h op.Proto arg v = proto_good h kind.None (number_of form.U1 arg)
 opcode_good h op.Frame arg v = frame_good h kind.None
 opcode_good h op.PersId arg v = get_good h (kind.PersistentLine (payload form.Line arg)) (λ proto. Persist (Line (payload form.Line arg))) refl refl
 opcode_good h op.BinPersId arg v = binpersid_good h
-opcode_good h op.None arg v = literal_good h kind.None refl (λ vs. refl)
-opcode_good h op.NewFalse arg v = literal_good h kind.False refl (λ vs. refl)
-opcode_good h op.NewTrue arg v = literal_good h kind.True refl (λ vs. refl)
 opcode_good h op.Int arg v =
     let text : List ℕ = payload form.Line arg in
     int_by h (length text == 2 && slice_index text 0 == 48 && slice_index text 1 == 48) (length text == 2 && slice_index text 0 == 48 && slice_index text 1 == 49) text
-opcode_good h op.BinInt arg v = literal_good h (kind.Int (integer_of form.S4 arg)) refl (λ vs. refl)
-opcode_good h op.BinInt1 arg v = literal_good h (kind.Int (integer_of form.U1 arg)) refl (λ vs. refl)
-opcode_good h op.BinInt2 arg v = literal_good h (kind.Int (integer_of form.U2 arg)) refl (λ vs. refl)
-opcode_good h op.Long arg v = literal_good h (kind.LongLine (payload form.Line arg)) refl (λ vs. refl)
-opcode_good h op.Long1 arg v = literal_good h (kind.Long (payload form.B1 arg)) refl (λ vs. refl)
-opcode_good h op.Long4 arg v = literal_good h (kind.Long (payload form.Bs4 arg)) refl (λ vs. refl)
-opcode_good h op.Float arg v = literal_good h (kind.FloatLine (payload form.Line arg)) refl (λ vs. refl)
-opcode_good h op.BinFloat arg v = literal_good h (kind.Float (payload form.R8 arg)) refl (λ vs. refl)
 opcode_good h op.String arg v =
     let k : Kind = kind.LegacyLine (payload form.Quoted arg) in
     subst (λ (b : Bool). RowGood h row.Push k h.proto (if b then load_literal k (unpickler h) else Raised h.acts)) (sym (quoted_text arg v)) (literal_good h k refl (λ vs. refl))
-opcode_good h op.BinString arg v = literal_good h (kind.LegacyString (payload form.Bs4 arg)) refl (λ vs. refl)
-opcode_good h op.ShortBinString arg v = literal_good h (kind.LegacyString (payload form.B1 arg)) refl (λ vs. refl)
-opcode_good h op.BinBytes arg v = literal_good h (kind.Bytes (payload form.B4 arg)) refl (λ vs. refl)
-opcode_good h op.ShortBinBytes arg v = literal_good h (kind.Bytes (payload form.B1 arg)) refl (λ vs. refl)
-opcode_good h op.BinBytes8 arg v = literal_good h (kind.Bytes (payload form.B8 arg)) refl (λ vs. refl)
-opcode_good h op.Unicode arg v = literal_good h (kind.TextLine (payload form.Line arg)) refl (λ vs. refl)
-opcode_good h op.BinUnicode arg v = literal_good h (kind.Text (payload form.B4 arg)) refl (λ vs. refl)
-opcode_good h op.ShortBinUnicode arg v = literal_good h (kind.Text (payload form.B1 arg)) refl (λ vs. refl)
-opcode_good h op.BinUnicode8 arg v = literal_good h (kind.Text (payload form.B8 arg)) refl (λ vs. refl)
 opcode_good h op.ByteArray8 arg v = empty_good h (kind.ByteArray (payload form.B8 arg)) PyByteArray (Plain (kind.Bytes (payload form.B8 arg)) ∷ []) refl (λ vs. refl)
 opcode_good h op.NextBuffer arg v = buffer_good h kind.None
 opcode_good h op.ReadOnlyBuffer arg v = readonly_good h kind.None
@@ -105,3 +85,4 @@ opcode_good h op.AddItems arg v = additems_good h kind.None
 opcode_good h op.Build arg v = build_good h kind.None
 opcode_good h op.Mark arg v = mark_good h kind.None
 opcode_good h op.Stop arg v = stop_good h kind.None
+opcode_good h o arg v = literal_good h (literal_of o arg) refl (λ vs. refl)

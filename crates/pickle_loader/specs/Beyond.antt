@@ -33,7 +33,8 @@ HasValue o = value_fault (form_of o.opcode) o.arg ≡ None
 
 -- a key of decimal digits, as documents have them, is that number to both unpicklers
 abbrev pub KeysAgree : Type 0
-KeysAgree = (arg : List ℕ) → value_fault form.Decimal arg ≡ None → (int_key (text_of arg) ≡ Some (number_of form.Decimal arg)) × (key_of (text_of arg) ≡ Some (number_of form.Decimal arg))
+KeysAgree = (arg : List ℕ) → value_fault form.Decimal arg ≡ None
+    → (int_key (text_of arg) ≡ Some (number_of form.Decimal arg)) × (key_of (text_of arg) ≡ Some (number_of form.Decimal arg))
 
 -- the row as which a loader moves
 abbrev pub less_of : Operation → State → Row
@@ -57,8 +58,11 @@ MapsNew V s t (Raised done) = ⊤
 -- in every environment, for each opcode: where a loader moves as the row that asks for less, the unpickler that holds what the state holds
 -- does exactly what the event of that move tells, or raises and did a beginning of it
 abbrev pub WideMovesAreFollowed : Type 0
-WideMovesAreFollowed = (w : World) (V : ℕ → Value) (s t : State) (u : Unpickler) (o : Operation) (place : ℕ) → HasValue o → s.stopped ≡ false → IsSame w V s u → move_as (less_of o s) o place s ≡ Ok t
-    → MapsNew V s t (load_op w o u) → StepFollows w V (told_of u.acts ++ acts_told V u.proto s t (event_of (less_of o s) (before_of s) t)) (protocol_after o.opcode o.arg u.proto) t (load_op w o u)
+WideMovesAreFollowed = (w : World) (V : ℕ → Value) (s t : State) (u : Unpickler) (o : Operation) (place : ℕ) → HasValue o → s.stopped ≡ false
+    → IsSame w V s u → move_as (less_of o s) o place s ≡ Ok t
+    → MapsNew V s t (load_op w o u)
+    → StepFollows w V (told_of u.acts ++ acts_told V u.proto s t (event_of (less_of o s) (before_of s) t))
+    (protocol_after o.opcode o.arg u.proto) t (load_op w o u)
 
 -- ---- what is missing
 
@@ -72,7 +76,8 @@ is_missing _ = false
 -- in every environment, for each opcode but INST: where even the row that asks for less lacks something, the unpickler raises and did
 -- nothing. INST finds its class before it misses the mark
 abbrev pub WhatIsMissingRaises : Type 0
-WhatIsMissingRaises = (w : World) (V : ℕ → Value) (s : State) (u : Unpickler) (o : Operation) (r : Refusal) → HasValue o → IsSame w V s u → is_inst o.opcode ≡ false
+WhatIsMissingRaises = (w : World) (V : ℕ → Value) (s : State) (u : Unpickler) (o : Operation) (r : Refusal) → HasValue o → IsSame w V s u
+    → is_inst o.opcode ≡ false
     → refusal_of (less_of o s) s ≡ Some r → is_missing r ≡ true → load_op w o u ≡ Raised u.acts
 
 -- ---- what is put into a view
@@ -86,9 +91,11 @@ dropped _ s = s
 -- in every environment: where a loader puts objects into a view, as the machine refuses, and none is left without a partner, the unpickler
 -- does exactly what the event of that tells, or raises and did a beginning of it
 abbrev pub FillsAreFollowed : Type 0
-FillsAreFollowed = (w : World) (V : ℕ → Value) (s : State) (u : Unpickler) (o : Operation) (f : Fill) → IsSame w V s u → fill_of (row_of o) s ≡ Some f → ends_odd (row_of o) s ≡ None
+FillsAreFollowed = (w : World) (V : ℕ → Value) (s : State) (u : Unpickler) (o : Operation) (f : Fill) → IsSame w V s u → fill_of (row_of o) s ≡ Some f
+    → ends_odd (row_of o) s ≡ None
     → MapsNew V s (dropped (row_of o) s) (load_op w o u)
-    → StepFollows w V (told_of u.acts ++ acts_told V u.proto s (dropped (row_of o) s) (Some (event.Filled f.filling f.count f.target))) u.proto (dropped (row_of o) s) (load_op w o u)
+    → StepFollows w V (told_of u.acts ++ acts_told V u.proto s (dropped (row_of o) s) (Some (event.Filled f.filling f.count f.target)))
+    u.proto (dropped (row_of o) s) (load_op w o u)
 
 -- ---- a step beyond
 

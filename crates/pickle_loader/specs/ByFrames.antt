@@ -12,6 +12,7 @@ use Rattle.pickle_show.specs.Output.{Output}
 use Rattle.pickle_show.specs.declared.naming.Detail.TheVariants as detail
 use Rattle.pickle_further.specs.declared.way.Pickles.{Pickles}
 use Rattle.pickle_further.specs.declared.way.Pickles.TheVariants as pickles
+use Rattle.pickle_further.specs.declared.way.Way.{Way}
 use Rattle.pickle_further.specs.Going.{Standing, going}
 use Rattle.pickle_further.specs.Parts.{ignoring, are_many, standing_first}
 use Rattle.pickle_further.specs.CallsText.{IsCallsText}
@@ -20,7 +21,7 @@ use Rattle.pickle_loader.specs.Dispatch.{Loaded, Going, Ended, Failed, loaded, a
 use Rattle.pickle_loader.specs.Reader.{Fetched, Fetch, NoFetch, fetch, opened, all_left}
 use Rattle.pickle_loader.specs.Told.{told_of}
 use Rattle.pickle_loader.specs.Laws.{IsTold}
-use Rattle.pickle_loader.specs.Onward.{again, reads_on, stands, state_behind, protocol, acts_gone, acts_before, begins_anew}
+use Rattle.pickle_loader.specs.Onward.{again, reads_on, stands, state_behind, protocol, acts_gone, acts_before, IsToldFrom, begins_anew}
 use Rattle.pickle_loader.specs.Bytes.{Loading, load_bytes}
 use Rattle.pickle_loader.specs.CLoad.{seen_loaded, c_load_way}
 use Rattle.pickle_loader.specs.Text.{IsAmong, line_gone, way_of, are_told}
@@ -62,9 +63,12 @@ state_left [] s = None
 state_left (b ∷ bytes) s = s
 
 -- that the lines of a reading tell it, and which values it holds as long as bytes are left
+abbrev pub TellsWay : World → (ℕ → Value) → Pickles → List ℕ → Way → Standing → Type 0
+TellsWay w V p bytes way q =
+    IsTold w V (acts_before V way q) (λ n. state_left (all_left (load_framed w p bytes n).reader) (state_behind way q n)) (λ n. (load_framed w p bytes n).now)
+
 abbrev pub TellsFrames : World → (ℕ → Value) → Pickles → Frames → List ℕ → Type 0
-TellsFrames w V p f bytes =
-    IsTold w V (acts_before V (way_of p f) (standing_first detail.Cut p bytes)) (λ n. state_left (all_left (load_framed w p bytes n).reader) (state_behind (way_of p f) (standing_first detail.Cut p bytes) n)) (λ n. (load_framed w p bytes n).now)
+TellsFrames w V p f bytes = TellsWay w V p bytes (way_of p f) (standing_first detail.Cut p bytes)
 
 -- in every environment, for any bytes, be it one load, a loop of loads or one unpickler that loads again: after any number of opcodes all that is
 -- told of the unpickler is a beginning of what the lines of such a reading tell, of the values that it holds
@@ -74,8 +78,7 @@ NothingBeyondByFrames = (w : World) (p : Pickles) (f : Frames) (bytes : List ℕ
 -- where the lines of `calls --memo kept` end with status 0, one unpickler that loads again does nothing else
 abbrev pub NothingElseByFrames : Type 0
 NothingElseByFrames = (how : Manner) (w : World) (bytes : List ℕ) (o : Output) → IsCallsText how pickles.OneMemo bytes o → o.status ≡ 0
-    → (V : ℕ → Value)
-    × IsTold w V (acts_before V (ignoring pickles.OneMemo) (standing_first how.detail pickles.OneMemo bytes)) (λ n. state_left (all_left (load_framed w pickles.OneMemo bytes n).reader) (state_behind (ignoring pickles.OneMemo) (standing_first how.detail pickles.OneMemo bytes) n)) (λ n. (load_framed w pickles.OneMemo bytes n).now)
+    → (V : ℕ → Value) × TellsWay w V pickles.OneMemo bytes (ignoring pickles.OneMemo) (standing_first how.detail pickles.OneMemo bytes)
 
 -- ---- its lines
 
@@ -87,17 +90,21 @@ IsAct a (b ∷ acts) = (a ≡ b) ⊎ IsAct a acts
 -- it is told of an item of this reading, whose line is one of the text
 abbrev pub HasLine : Manner → (ℕ → Value) → Pickles → Frames → List ℕ → Output → Act → Type 0
 HasLine how V p f bytes o a = (k : ℕ) × (q : Standing) × (stands (way_of p f) (standing_first how.detail p bytes) k ≡ Some q)
-    × IsAct a (acts_gone V (protocol (way_of p f) (standing_first how.detail p bytes) k) q (going (way_of p f) q)) × IsAmong (line_gone how.holes q (going (way_of p f) q)) (cut_lines o.text)
+    × IsAct a (acts_gone V (protocol (way_of p f) (standing_first how.detail p bytes) k) q (going (way_of p f) q))
+    × IsAmong (line_gone how.holes q (going (way_of p f) q)) (cut_lines o.text)
 
 -- whatever is told of the unpickler in Python, over any bytes, in any environment, has its line in the text of `calls`: where the lines end with
 -- status 0, and behind every other end
 abbrev pub EachActHasItsLine : Type 0
-EachActHasItsLine = (how : Manner) (w : World) (p : Pickles) (f : Frames) (bytes : List ℕ) (o : Output) → IsCallsText how p bytes o → length bytes < 2 ^ 64 → tells_frames p f ≡ true
-    → (V : ℕ → Value) × TellsFrames w V p f bytes × ((n : ℕ) (a : Act) → IsAct a (told_of (acts_of (load_framed w p bytes n).now)) → HasLine how V p f bytes o a)
+EachActHasItsLine = (how : Manner) (w : World) (p : Pickles) (f : Frames) (bytes : List ℕ) (o : Output) → IsCallsText how p bytes o → length bytes < 2 ^ 64
+    → tells_frames p f ≡ true
+    → (V : ℕ → Value) × TellsFrames w V p f bytes
+    × ((n : ℕ) (a : Act) → IsAct a (told_of (acts_of (load_framed w p bytes n).now)) → HasLine how V p f bytes o a)
 
 -- and so has whatever is told of the unpickler in C, in each reading that the text tells of: frames ignored, in a buffer that STOP ends, or in one
 -- that STOP leaves
 abbrev pub EachActInCHasItsLine : Type 0
-EachActInCHasItsLine = (how : Manner) (w : World) (p : Pickles) (f : Frames) (bytes : List ℕ) (o : Output) → IsCallsText how p bytes o → length bytes < 2 ^ 64 → are_told p f ≡ true
-    → (V : ℕ → Value) × IsTold w V (acts_before V (way_of p f) (standing_first detail.Cut p bytes)) (state_behind (way_of p f) (standing_first detail.Cut p bytes)) (λ n. seen_loaded (c_load_way w (way_of p f) bytes n).now)
+EachActInCHasItsLine = (how : Manner) (w : World) (p : Pickles) (f : Frames) (bytes : List ℕ) (o : Output) → IsCallsText how p bytes o
+    → length bytes < 2 ^ 64 → are_told p f ≡ true
+    → (V : ℕ → Value) × IsToldFrom w V (way_of p f) (standing_first detail.Cut p bytes) (λ n. seen_loaded (c_load_way w (way_of p f) bytes n).now)
     × ((n : ℕ) (a : Act) → IsAct a (told_of (acts_of (seen_loaded (c_load_way w (way_of p f) bytes n).now))) → HasLine how V p f bytes o a)

@@ -42,7 +42,9 @@ load_bytes w many bytes (suc n) = load_next w many (load_bytes w many bytes n)
 -- frame unfinished, behind which this unpickler reads on behind the frame
 abbrev pub BytesAreListed : Type 0
 BytesAreListed = (w : World) (many : Bool) (bytes : List ℕ) (d : Contents) → ReadsAs many bytes d → length bytes < 2 ^ 64
-    → (V : ℕ → Value) × ((n : ℕ) (s : State) → run (start many) (ops_of d) n ≡ Some s → n ≤ (calls_end d).place → Follows w V (told V many (ops_of d) n) s (load_bytes w many bytes n).now)
+    → (V : ℕ → Value)
+    × ((n : ℕ) (s : State) → run (start many) (ops_of d) n ≡ Some s → n ≤ (calls_end d).place
+    → Follows w V (told V many (ops_of d) n) s (load_bytes w many bytes n).now)
 
 -- where the reading ends with status 0, for which no STOP may leave a frame unfinished, however long the unpickler runs, all that is told
 -- of what it does is a beginning of what the lines tell, of the values that it holds

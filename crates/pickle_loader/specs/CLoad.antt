@@ -10,9 +10,6 @@ use Rattle.pickle_ops.specs.declared.row.Row.TheVariants as row
 use Rattle.pickle_ops.specs.declared.fault.FrontFault.{FrontFault}
 use Rattle.pickle_ops.specs.Argument.{integer_of}
 use Rattle.pickle_doc.specs.Document.{Contents, ReadsAs}
-use Rattle.pickle_doc.specs.Place.{ops_of}
-use Rattle.pickle_machine.specs.State.{start}
-use Rattle.pickle_machine.specs.Run.{run}
 use Rattle.pickle_lenient.specs.declared.taken.Taken.{Taken}
 use Rattle.pickle_lenient.specs.Stream.{taken}
 use Rattle.pickle_show.specs.Manner.{Manner}
@@ -25,9 +22,8 @@ use Rattle.pickle_further.specs.Parts.{ignoring, buffering, are_many, standing_f
 use Rattle.pickle_loader.specs.Environment.{Value, is_elsewhere, Act, Unpickler, World}
 use Rattle.pickle_loader.specs.Unpickler.{Step, Ran, Raised, item, pop, pop_mark}
 use Rattle.pickle_loader.specs.Dispatch.{Loaded, Going, Ended, Failed, acts_of}
-use Rattle.pickle_loader.specs.Told.{told}
-use Rattle.pickle_loader.specs.Laws.{IsTold}
-use Rattle.pickle_loader.specs.Onward.{Onward, reads_on, load_way, state_behind, acts_before, begins_anew}
+use Rattle.pickle_loader.specs.Laws.{IsToldOf}
+use Rattle.pickle_loader.specs.Onward.{Onward, reads_on, load_way, IsToldFrom, begins_anew}
 use Rattle.pickle_loader.specs.CUnpickler.{CUnpickler, CStep, CRan, CStopped, CRaised, are_call, are_call_with, are_pairs, load_frame, load_get, load_put, dispatch, seen}
 
 -- ---- an item
@@ -137,15 +133,17 @@ OneLoad = (w : World) (way : Way) (bytes : List ℕ) (n : ℕ) → seen_onward (
 -- reading tell, of the values that it holds
 abbrev pub NothingBeyondInC : Type 0
 NothingBeyondInC = (w : World) (way : Way) (bytes : List ℕ)
-    → (V : ℕ → Value) × IsTold w V (acts_before V way (standing_first detail.Cut way.pickles bytes)) (state_behind way (standing_first detail.Cut way.pickles bytes)) (λ n. seen_loaded (c_load_way w way bytes n).now)
+    → (V : ℕ → Value) × IsToldFrom w V way (standing_first detail.Cut way.pickles bytes) (λ n. seen_loaded (c_load_way w way bytes n).now)
 
 -- where the lines of one pickle or of several end with status 0, it is a beginning of what they tell: of bytes that are there whole, from which
 -- frames are ignored
 abbrev pub NothingElseInC : Type 0
-NothingElseInC = (how : Manner) (w : World) (p : Pickles) (bytes : List ℕ) (d : Contents) → begins_anew p ≡ true → ReadsAs (are_many p) bytes d → length bytes < 2 ^ 64 → (calls how d).status ≡ 0
-    → (V : ℕ → Value) × IsTold w V (λ n. told V d.many (ops_of d) (length (ops_of d))) (run (start d.many) (ops_of d)) (λ n. seen_loaded (c_load_way w (ignoring p) bytes n).now)
+NothingElseInC = (how : Manner) (w : World) (p : Pickles) (bytes : List ℕ) (d : Contents) → begins_anew p ≡ true → ReadsAs (are_many p) bytes d
+    → length bytes < 2 ^ 64 → (calls how d).status ≡ 0
+    → (V : ℕ → Value) × IsToldOf w V d (λ n. seen_loaded (c_load_way w (ignoring p) bytes n).now)
 
 -- nor does a stream change that: there the unpickler in C keeps frames in a buffer, and loses nothing of it
 abbrev pub NothingElseInAStream : Type 0
-NothingElseInAStream = (how : Manner) (w : World) (p : Pickles) (bytes : List ℕ) (d : Contents) → begins_anew p ≡ true → ReadsAs (are_many p) bytes d → length bytes < 2 ^ 64 → (calls how d).status ≡ 0
-    → (V : ℕ → Value) × IsTold w V (λ n. told V d.many (ops_of d) (length (ops_of d))) (run (start d.many) (ops_of d)) (λ n. seen_loaded (c_load_way w (buffering p) bytes n).now)
+NothingElseInAStream = (how : Manner) (w : World) (p : Pickles) (bytes : List ℕ) (d : Contents) → begins_anew p ≡ true → ReadsAs (are_many p) bytes d
+    → length bytes < 2 ^ 64 → (calls how d).status ≡ 0
+    → (V : ℕ → Value) × IsToldOf w V d (λ n. seen_loaded (c_load_way w (buffering p) bytes n).now)

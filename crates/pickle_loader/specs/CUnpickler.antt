@@ -15,10 +15,10 @@ use Rattle.pickle_ops.specs.declared.row.Filling.{Filling}
 use Rattle.pickle_ops.specs.declared.row.Filling.TheVariants as filling
 use Rattle.pickle_ops.specs.Shape.{is_quoted}
 use Rattle.pickle_ops.specs.Argument.{number_of, integer_of, payload, first_text, second_text}
-use Rattle.pickle_ops.specs.Table.{int_kind}
 use Rattle.pickle_lenient.specs.Key.{key_of}
 use Rattle.pickle_loader.specs.Environment.{PyType, PyTuple, PyList, PyDict, PySet, PyFrozenSet, PyByteArray, PyMemoryView, PyOther, Value, Plain, Own, Foreign, is_elsewhere, Line, Given, Act, Make, Find, Extension, Call, New, NewEx, Instance, SetState, Fill, Persist, NextBuffer, View, Method, Reply, Raises, Answers, Unpickler, World}
 use Rattle.pickle_loader.specs.Unpickler.{item, is_str, has_memory}
+use Rattle.pickle_loader.specs.Dispatch.{literal_of}
 use Rattle.pickle_loader.specs.FlatStack.{Flat, Popped, flat_push, flat_pop, flat_top, flat_mark, flat_cut, flat_load_pop, above, between}
 
 -- ---- the unpickler
@@ -295,33 +295,13 @@ load_stop c = pop 1 c (λ vs q. CStopped (item 0 vs) q)
 
 -- ---- load
 
+-- those that push a value come last: the same as the methods in Python
 abbrev pub dispatch : World → Opcode → List ℕ → CUnpickler → CStep
 dispatch w op.Proto arg c = load_proto (number_of form.U1 arg) c
 dispatch w op.Frame arg c = load_frame c
 dispatch w op.PersId arg c = load_persid w (payload form.Line arg) c
 dispatch w op.BinPersId arg c = load_binpersid w c
-dispatch w op.None arg c = load_literal kind.None c
-dispatch w op.NewFalse arg c = load_literal kind.False c
-dispatch w op.NewTrue arg c = load_literal kind.True c
-dispatch w op.Int arg c = load_literal (int_kind (payload form.Line arg)) c
-dispatch w op.BinInt arg c = load_literal (kind.Int (integer_of form.S4 arg)) c
-dispatch w op.BinInt1 arg c = load_literal (kind.Int (integer_of form.U1 arg)) c
-dispatch w op.BinInt2 arg c = load_literal (kind.Int (integer_of form.U2 arg)) c
-dispatch w op.Long arg c = load_literal (kind.LongLine (payload form.Line arg)) c
-dispatch w op.Long1 arg c = load_literal (kind.Long (payload form.B1 arg)) c
-dispatch w op.Long4 arg c = load_literal (kind.Long (payload form.Bs4 arg)) c
-dispatch w op.Float arg c = load_literal (kind.FloatLine (payload form.Line arg)) c
-dispatch w op.BinFloat arg c = load_literal (kind.Float (payload form.R8 arg)) c
 dispatch w op.String arg c = load_string (payload form.Quoted arg) c
-dispatch w op.BinString arg c = load_literal (kind.LegacyString (payload form.Bs4 arg)) c
-dispatch w op.ShortBinString arg c = load_literal (kind.LegacyString (payload form.B1 arg)) c
-dispatch w op.BinBytes arg c = load_literal (kind.Bytes (payload form.B4 arg)) c
-dispatch w op.ShortBinBytes arg c = load_literal (kind.Bytes (payload form.B1 arg)) c
-dispatch w op.BinBytes8 arg c = load_literal (kind.Bytes (payload form.B8 arg)) c
-dispatch w op.Unicode arg c = load_literal (kind.TextLine (payload form.Line arg)) c
-dispatch w op.BinUnicode arg c = load_literal (kind.Text (payload form.B4 arg)) c
-dispatch w op.ShortBinUnicode arg c = load_literal (kind.Text (payload form.B1 arg)) c
-dispatch w op.BinUnicode8 arg c = load_literal (kind.Text (payload form.B8 arg)) c
 dispatch w op.ByteArray8 arg c = load_counted_bytearray (payload form.B8 arg) c
 dispatch w op.NextBuffer arg c = load_next_buffer w c
 dispatch w op.ReadOnlyBuffer arg c = load_readonly_buffer w c
@@ -364,6 +344,7 @@ dispatch w op.AddItems arg c = load_additems w c
 dispatch w op.Build arg c = load_build w c
 dispatch w op.Mark arg c = load_mark c
 dispatch w op.Stop arg c = load_stop c
+dispatch w o arg c = load_literal (literal_of o arg) c
 
 -- what it holds, as a stack and a metastack
 abbrev pub seen : CUnpickler → Unpickler

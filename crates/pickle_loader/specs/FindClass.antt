@@ -42,8 +42,10 @@ pub record ImportsAsFound (how : Manner) (d : Contents) (k : ℕ) (s t : State) 
   pub import : names_of t.heap o ≡ Some p → (entry_at how d k).text ≡ right_aligned 5 (decimal (in_file how.holes (offset_of d k))) ⧺ codes ": "
       ⧺ (codes "import " ⧺ found_said (protocol_at (ops_of d) k) from name ⧺ codes " as " ⧺ id_text (length s.heap)) ⧺ newline
   pub inst : inst_names o.kind ≡ Some p → (entry_at how d k).text ≡ right_aligned 5 (decimal (in_file how.holes (offset_of d k))) ⧺ codes ": "
-      ⧺ ((codes "inst " ⧺ found_said (protocol_at (ops_of d) k) from name ⧺ codes " " ⧺ briefs_text (naming_at how.detail d k) t.heap o.parts) ⧺ codes " as " ⧺ id_text (length s.heap)) ⧺ newline
+      ⧺ ((codes "inst " ⧺ found_said (protocol_at (ops_of d) k) from name ⧺ codes " " ⧺ briefs_text (naming_at how.detail d k) t.heap o.parts)
+      ⧺ codes " as " ⧺ id_text (length s.heap)) ⧺ newline
 
 abbrev pub FoundIsSaid : Type 0
-FoundIsSaid = (how : Manner) (d : Contents) (k : ℕ) (s t : State) (o : Object) (p : Pair) (from name : List ℕ) → IsStep d k s t → slice_get t.heap (length s.heap) ≡ Some o
+FoundIsSaid = (how : Manner) (d : Contents) (k : ℕ) (s t : State) (o : Object) (p : Pair) (from name : List ℕ) → IsStep d k s t
+    → slice_get t.heap (length s.heap) ≡ Some o
     → IsRead p.from from → IsRead p.name name → ImportsAsFound how d k s t o p from name

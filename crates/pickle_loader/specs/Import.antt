@@ -50,7 +50,8 @@ pub record IsImport (holes : List Hole) (from name : List ℕ) (offset id : ℕ)
 
 -- where a reading begins that the text tells: at the first byte, or where the machine stands before an item of the document
 abbrev pub IsStart : Manner → Pickles → List ℕ → Standing → Type 0
-IsStart how p bytes q = (q ≡ standing_first how.detail p bytes) ⊎ ((d : Contents) × (k : ℕ) × (s : State) × ReadsAs (are_many p) bytes d × (run (start d.many) (ops_of d) k ≡ Some s) × (q ≡ standing_at how.detail d k s))
+IsStart how p bytes q = (q ≡ standing_first how.detail p bytes)
+    ⊎ ((d : Contents) × (k : ℕ) × (s : State) × ReadsAs (are_many p) bytes d × (run (start d.many) (ops_of d) k ≡ Some s) × (q ≡ standing_at how.detail d k s))
 
 -- this item of a reading that the text tells is such an import, and this is its line
 pub record ImportsIt (how : Manner) (p : Pickles) (bytes : List ℕ) (line from name : List ℕ) (offset id : ℕ) : Type 0 where

@@ -9,8 +9,7 @@ use Rattle.pickle_further.specs.declared.way.Pickles.TheVariants as pickles
 use Rattle.pickle_further.specs.Parts.{ignoring, standing_first}
 use Rattle.pickle_further.specs.CallsText.{IsCallsText}
 use Rattle.pickle_loader.specs.Environment.{Value, World}
-use Rattle.pickle_loader.specs.Laws.{IsTold}
-use Rattle.pickle_loader.specs.Onward.{load_way, state_behind, acts_before}
+use Rattle.pickle_loader.specs.Onward.{load_way, IsToldFrom}
 use Rattle.pickle_loader.specs.CLoad.{seen_loaded, c_load_way}
 use Rattle.pickle_loader.specs.Text.{way_of}
 
@@ -18,9 +17,11 @@ use Rattle.pickle_loader.specs.Text.{way_of}
 -- all that is told of what it does is a beginning of what the lines tell, of the values that it holds
 abbrev pub NothingElseWithOneMemo : Type 0
 NothingElseWithOneMemo = (how : Manner) (w : World) (f : Frames) (bytes : List ℕ) (o : Output) → IsCallsText how pickles.OneMemo bytes o → o.status ≡ 0
-    → (V : ℕ → Value) × IsTold w V (acts_before V (ignoring pickles.OneMemo) (standing_first how.detail pickles.OneMemo bytes)) (state_behind (ignoring pickles.OneMemo) (standing_first how.detail pickles.OneMemo bytes)) (λ n. (load_way w (way_of pickles.OneMemo f) bytes n).now)
+    → (V : ℕ → Value)
+    × IsToldFrom w V (ignoring pickles.OneMemo) (standing_first how.detail pickles.OneMemo bytes) (λ n. (load_way w (way_of pickles.OneMemo f) bytes n).now)
 
 -- and so of the one in C
 abbrev pub NothingElseWithOneMemoInC : Type 0
 NothingElseWithOneMemoInC = (how : Manner) (w : World) (f : Frames) (bytes : List ℕ) (o : Output) → IsCallsText how pickles.OneMemo bytes o → o.status ≡ 0
-    → (V : ℕ → Value) × IsTold w V (acts_before V (ignoring pickles.OneMemo) (standing_first how.detail pickles.OneMemo bytes)) (state_behind (ignoring pickles.OneMemo) (standing_first how.detail pickles.OneMemo bytes)) (λ n. seen_loaded (c_load_way w (way_of pickles.OneMemo f) bytes n).now)
+    → (V : ℕ → Value)
+    × IsToldFrom w V (ignoring pickles.OneMemo) (standing_first how.detail pickles.OneMemo bytes) (λ n. seen_loaded (c_load_way w (way_of pickles.OneMemo f) bytes n).now)

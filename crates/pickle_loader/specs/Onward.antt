@@ -140,6 +140,10 @@ unfoldable pub acts_before : (ℕ → Value) → Way → Standing → ℕ → Li
 acts_before V way p zero = []
 acts_before V way p (suc n) = acts_before V way p n ++ acts_on V way (protocol way p n) (stands way p n)
 
+-- that the lines of a reading tell what is loaded, and which values it holds
+abbrev pub IsToldFrom : World → (ℕ → Value) → Way → Standing → (ℕ → Loaded) → Type 0
+IsToldFrom w V way p loads = IsTold w V (acts_before V way p) (state_behind way p) loads
+
 -- ---- the law
 
 -- in every environment, for any bytes, read as one pickle, as several, or by one Unpickler that loads again, with frames ignored or
@@ -147,7 +151,7 @@ acts_before V way p (suc n) = acts_before V way p n ++ acts_on V way (protocol w
 -- unpickler is a beginning of what the lines of that reading tell, of the values that it holds
 abbrev pub NothingBeyond : Type 0
 NothingBeyond = (w : World) (way : Way) (bytes : List ℕ)
-    → (V : ℕ → Value) × IsTold w V (acts_before V way (standing_first detail.Cut way.pickles bytes)) (state_behind way (standing_first detail.Cut way.pickles bytes)) (λ n. (load_way w way bytes n).now)
+    → (V : ℕ → Value) × IsToldFrom w V way (standing_first detail.Cut way.pickles bytes) (λ n. (load_way w way bytes n).now)
 
 -- ---- the lines of a document
 
@@ -161,7 +165,8 @@ begins_anew pickles.OneMemo = false
 -- the part behind an end at that place begins, and told up to there what the lines tell: the lines and the part behind their end are those
 -- of one reading
 abbrev pub LinesAreRead : Type 0
-LinesAreRead = (how : Detail) (V : ℕ → Value) (p : Pickles) (d : Contents) → IsFormed d → length (document_bytes d) < 2 ^ 64 → begins_anew p ≡ true → d.many ≡ are_many p
+LinesAreRead = (how : Detail) (V : ℕ → Value) (p : Pickles) (d : Contents) → IsFormed d → length (document_bytes d) < 2 ^ 64 → begins_anew p ≡ true
+    → d.many ≡ are_many p
     → (k : ℕ) (s : State) (q : Standing) → run (start d.many) (ops_of d) k ≡ Some s → stands (ignoring p) (standing_first how p (document_bytes d)) k ≡ Some q
     → (q ≡ standing_at how d k s) × (acts_before V (ignoring p) (standing_first how p (document_bytes d)) k ≡ told V d.many (ops_of d) k)
 
@@ -178,8 +183,10 @@ NoneLost way p k = (j : ℕ) (q : Standing) → j < k → stands way p j ≡ Som
 -- up to the first item that loses bytes a reading with a buffer is the one in which frames are ignored: it stands where that does, and told
 -- the same, so that what is shown of it from there on is all that it has more
 abbrev pub BufferedIsRead : Type 0
-BufferedIsRead = (how : Detail) (V : ℕ → Value) (w : Way) (bytes : List ℕ) (k : ℕ) (q : Standing) → stands w (standing_first how w.pickles bytes) k ≡ Some q → NoneLost w (standing_first how w.pickles bytes) k
-    → (stands (ignoring w.pickles) (standing_first how w.pickles bytes) k ≡ Some (unbuffered q)) × (acts_before V w (standing_first how w.pickles bytes) k ≡ acts_before V (ignoring w.pickles) (standing_first how w.pickles bytes) k)
+BufferedIsRead = (how : Detail) (V : ℕ → Value) (w : Way) (bytes : List ℕ) (k : ℕ) (q : Standing) → stands w (standing_first how w.pickles bytes) k ≡ Some q
+    → NoneLost w (standing_first how w.pickles bytes) k
+    → (stands (ignoring w.pickles) (standing_first how w.pickles bytes) k ≡ Some (unbuffered q))
+    × (acts_before V w (standing_first how w.pickles bytes) k ≡ acts_before V (ignoring w.pickles) (standing_first how w.pickles bytes) k)
 
 -- what is found among the first n items: none that loses bytes, or the first that does
 abbrev pub IsFound : Way → Standing → ℕ → Option Standing → Type 0

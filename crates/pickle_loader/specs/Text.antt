@@ -88,15 +88,18 @@ abbrev pub kept_first : Manner → Standing → List (List ℕ)
 kept_first how p = all_lines how.holes (ignoring pickles.OneMemo) p
 
 abbrev pub kept_last : Manner → List ℕ → Tale → List (List ℕ)
-kept_last how bytes t = if_any (begins_text bytes) ++ (totals_line t.lines.imports t.lines.calls ∷ ending_pieces (ending_in how.holes (ending.Closed 0 t.closing)))
+kept_last how bytes t = if_any (begins_text bytes)
+    ++ (totals_line t.lines.imports t.lines.calls ∷ ending_pieces (ending_in how.holes (ending.Closed 0 t.closing)))
 
 abbrev pub kept_parts : Manner → List ℕ → Option ℕ → List (List ℕ)
 kept_parts how bytes None = []
-kept_parts how bytes (Some offset) = loss_line (in_file how.holes offset) ∷ (lost_lines how (buffering pickles.OneMemo) bytes ++ lost_lines how (holding pickles.OneMemo) bytes)
+kept_parts how bytes (Some offset) = loss_line (in_file how.holes offset)
+    ∷ (lost_lines how (buffering pickles.OneMemo) bytes ++ lost_lines how (holding pickles.OneMemo) bytes)
 
 abbrev pub kept_lines : Manner → List ℕ → List (List ℕ)
 kept_lines how bytes =
-    (kept_first how (standing_first how.detail pickles.OneMemo bytes) ++ kept_last how bytes (tale_of how.holes (ignoring pickles.OneMemo) (standing_first how.detail pickles.OneMemo bytes)))
+    (kept_first how (standing_first how.detail pickles.OneMemo bytes)
+    ++ kept_last how bytes (tale_of how.holes (ignoring pickles.OneMemo) (standing_first how.detail pickles.OneMemo bytes)))
     ++ kept_parts how bytes (first_loss how.detail bytes)
 
 -- these are the lines of the text of these bytes
@@ -112,7 +115,8 @@ WholeTextIsItsLines = (how : Manner) (p : Pickles) (bytes : List ℕ) (o : Outpu
 
 -- for any bytes there is one text, with one status
 abbrev pub OneWholeText : Type 0
-OneWholeText = (how : Manner) (p : Pickles) (bytes : List ℕ) → AreBytes bytes → length bytes < 2 ^ 64 → (o : Output) × IsCallsText how p bytes o × ((e : Output) → IsCallsText how p bytes e → o ≡ e)
+OneWholeText = (how : Manner) (p : Pickles) (bytes : List ℕ) → AreBytes bytes → length bytes < 2 ^ 64
+    → (o : Output) × IsCallsText how p bytes o × ((e : Output) → IsCallsText how p bytes e → o ≡ e)
 
 -- ---- each reach has its line
 
@@ -137,11 +141,14 @@ are_told pickles.First f = never_held f
 -- in each of these readings, from the first byte on and as far as it goes: an item that tells an act has an event; and an item with an event has
 -- a line, which is one of the lines of the text, be it above the headings or under one
 abbrev pub EachReachHasItsLine : Type 0
-EachReachHasItsLine = (how : Manner) (p : Pickles) (f : Frames) (bytes : List ℕ) (o : Output) → IsCallsText how p bytes o → length bytes < 2 ^ 64 → are_told p f ≡ true
+EachReachHasItsLine = (how : Manner) (p : Pickles) (f : Frames) (bytes : List ℕ) (o : Output) → IsCallsText how p bytes o → length bytes < 2 ^ 64
+    → are_told p f ≡ true
     → (n : ℕ) (q : Standing) → stands (way_of p f) (standing_first how.detail p bytes) n ≡ Some q
     → ((V : ℕ → Value) (proto : ℕ) → acts_gone V proto q (going (way_of p f) q) ≢ [] → (going (way_of p f) q).gone.event ≢ None)
-    × ((going (way_of p f) q).gone.event ≢ None → (line_gone how.holes q (going (way_of p f) q) ≢ []) × IsAmong (line_gone how.holes q (going (way_of p f) q)) (cut_lines o.text))
+    × ((going (way_of p f) q).gone.event ≢ None
+    → (line_gone how.holes q (going (way_of p f) q) ≢ []) × IsAmong (line_gone how.holes q (going (way_of p f) q)) (cut_lines o.text))
 
 -- how much of an argument is shown changes nothing of what is told
 abbrev pub DetailTellsAlike : Type 0
-DetailTellsAlike = (a b : Detail) (V : ℕ → Value) (w : Way) (bytes : List ℕ) (n : ℕ) → acts_before V w (standing_first a w.pickles bytes) n ≡ acts_before V w (standing_first b w.pickles bytes) n
+DetailTellsAlike = (a b : Detail) (V : ℕ → Value) (w : Way) (bytes : List ℕ) (n : ℕ)
+    → acts_before V w (standing_first a w.pickles bytes) n ≡ acts_before V w (standing_first b w.pickles bytes) n

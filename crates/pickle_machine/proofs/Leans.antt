@@ -8,7 +8,8 @@ use Rattle.pickle_ops.specs.declared.kind.Kind.{Kind}
 use Rattle.pickle_ops.specs.declared.class.Demand.{Demand}
 use Rattle.pickle_ops.specs.Object.{Object}
 use Rattle.pickle_ops.specs.Class.{class_meets}
-use Rattle.pickle_ops.specs.Kind.{meets}
+use Rattle.pickle_ops.specs.Kind.{class_of, meets}
+use Rattle.pickle_machine.specs.Seen.{class_at}
 use Rattle.pickle_ops.specs.declared.class.Class.{Class}
 use Rattle.pickle_machine.specs.Outline.{sample, bared, sample_object}
 use Rattle.pickle_machine.proofs.Outlines.{class_of_sample}
@@ -39,5 +40,13 @@ meets_some d (Some c) = ap (class_meets d) (class_of_sample c)
 pub meets_by_class : (d : Demand) (cs : List Class) (id : ℕ) → option_map_or (λ (o : Object). meets d o.kind) (slice_get (map sample_object cs) id) false ≡ option_map_or (class_meets d) (slice_get cs id) false
 meets_by_class d cs id =
     ap (λ (g : Option Object). option_map_or (λ (o : Object). meets d o.kind) g false) (slice_get-map sample_object cs id) ∙ meets_some d (slice_get cs id)
+
+class_some : (g : Option Class) → option_map (λ (o : Object). class_of o.kind) (option_map sample_object g) ≡ g
+class_some None = refl
+class_some (Some c) = ap Some (class_of_sample c)
+
+-- the class of an object is the one that is kept
+pub class_by_number : (cs : List Class) (id : ℕ) → class_at (map sample_object cs) id ≡ slice_get cs id
+class_by_number cs id = ap (λ (g : Option Object). option_map (λ (o : Object). class_of o.kind) g) (slice_get-map sample_object cs id) ∙ class_some (slice_get cs id)
 
 pub ruleset lean_rules = (map_samples, more_samples, length_samples)

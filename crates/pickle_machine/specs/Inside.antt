@@ -3,3 +3,4 @@ pub mod Cells
 pub mod Records
 pub mod Memo
 pub mod Slots
+pub mod Origins

@@ -33,6 +33,16 @@ fn meets_at(classes: &[Class], id: ObjId, demand: Demand) -> bool
     }
 }
 
+/// The class of this number, if there is one.
+fn class_of(classes: &[Class], id: ObjId) -> Option<Class>
+    ensures { result ≡ slice_get classes.now id }
+{
+    match classes.get(id as usize) {
+        Some(class) => Some(*class),
+        None => None,
+    }
+}
+
 impl Model for Lean {
     ghost use Rattle.std.specs.Prelude.{[], map};
     ghost use Rattle.pickle_machine.specs.State.{State};
@@ -70,10 +80,11 @@ impl Operands for Lean {
 
 #[tactic(auto, using(crate::proofs::Leans::lean_rules))]
 impl Lean {
-    ghost use Rattle.std.specs.Prelude.{◌≡◌, ◌≢◌, ◌<◌, ◌≤◌, ◌-◌, ◌^◌, [], length, IfSome, OnOk, None};
+    ghost use Rattle.std.specs.Prelude.{◌≡◌, ◌≢◌, ◌<◌, ◌≤◌, ◌-◌, ◌^◌, [], length, slice_get, IfSome, OnOk, None};
     ghost use Rattle.pickle_ops.specs.declared.kind.Kind.{Kind};
     ghost use Rattle.pickle_ops.specs.Row.{values_of};
-    ghost use Rattle.pickle_machine.specs.State.{start, stack_size};
+    ghost use Rattle.pickle_machine.specs.State.{start, stack_of, stack_size};
+    ghost use Rattle.pickle_machine.specs.Seen.{class_at};
     ghost use Rattle.pickle_machine.specs.Move.{refusal_of, next_of, takes_mark, fresh, push, without, cut, put_on, put, last_of, change_top, changes_of};
     ghost use Rattle.pickle_machine.specs.Outline.{outline, sample};
 
@@ -95,6 +106,27 @@ impl Lean {
         ensures { result ≡ stack_size self.now }
     {
         self.stack.size()
+    }
+
+    /// The object at this place of the stack, from the bottom and through all sections.
+    pub fn stack_at(&self, i: usize) -> Option<ObjId>
+        ensures { result ≡ slice_get (stack_of self.now) i }
+    {
+        self.stack.object_at(i)
+    }
+
+    /// How many objects there are.
+    pub fn objects(&self) -> usize
+        ensures { result ≡ length self.now.heap }
+    {
+        self.classes.len()
+    }
+
+    /// The class of the object of this number, if there is one.
+    pub fn class_at(&self, id: ObjId) -> Option<Class>
+        ensures { result ≡ class_at self.now.heap id }
+    {
+        class_of(self.classes.as_slice(), id)
     }
 
     /// How many marks are open.

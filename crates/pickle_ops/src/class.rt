@@ -93,7 +93,7 @@ impl Class {
     }
 
     /// Whether it may be of any type.
-    pub(crate) fn is_opaque(self) -> bool
+    pub fn is_opaque(self) -> bool
         ensures { result ≡ is_any self }
     {
         matches!(self, Class::Opaque)

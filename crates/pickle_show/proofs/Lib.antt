@@ -14,6 +14,7 @@ pub mod Imports
 pub mod Codes
 pub mod Names
 pub mod Namings
+pub mod Looks
 pub mod Turns
 pub mod Cutting
 pub mod Moves

@@ -20,7 +20,7 @@ use Rattle.pickle_machine.specs.Move.{next_of, refusal_of, refusal_at, next, out
 use Rattle.pickle_machine.proofs.HeapGrowth.{fresh_heap}
 use Rattle.pickle_doc.specs.Document.{Contents}
 use Rattle.pickle_doc.specs.Place.{offset_of}
-use Rattle.pickle_show.specs.Inside.Marks.{followed, mark_offsets}
+use Rattle.pickle_show.specs.Inside.Marks.{followed, followed_by, mark_offsets}
 
 one_more : (x : Object) (xs : List Object) → length (xs ++ x ∷ []) ≤ length xs + 1
 one_more x xs = omega (arith, length-append xs (x ∷ []))
@@ -114,6 +114,49 @@ next_marks (row.Get key) k place s e = Stays refl
 next_marks (row.Put key) k place s e = Stays refl
 next_marks row.Memoize k place s e = Stays refl
 next_marks row.Stop k place s e = Stays refl
+
+followed_same : (ms : List Marked) (opened : List ℕ) (offset : ℕ) → followed opened (length ms) (length ms) offset ≡ opened
+followed_same ms opened offset = rw (le-ltb (length ms) (length ms) (omega arith)) refl
+
+followed_one : (m : Marked) (ms : List Marked) (opened : List ℕ) (offset : ℕ) → followed opened (length (m ∷ ms)) (length ms) offset ≡ take (length opened - 1) opened
+followed_one m ms opened offset = rw (le-ltb (length (m ∷ ms)) (length ms) (omega arith), lt-ltb (length ms) (length (m ∷ ms)) (omega arith)) refl
+
+followed_more : (m : Marked) (ms : List Marked) (opened : List ℕ) (offset : ℕ) → followed opened (length ms) (length (m ∷ ms)) offset ≡ opened ++ offset ∷ []
+followed_more m ms opened offset = rw (lt-ltb (length ms) (length (m ∷ ms)) (omega arith)) refl
+
+followed_less : (ms : List Marked) (r : Refusal) (rest : Option Refusal) (opened : List ℕ) (offset : ℕ) → unless (ltb 0 (length ms)) r rest ≡ None
+    → followed opened (length ms) (length (deeper ms)) offset ≡ take (length opened - 1) opened
+followed_less [] r rest opened offset e = cc
+followed_less (m ∷ ms) r rest opened offset e = followed_one m ms opened offset
+
+followed_pop : (top : List ℕ) (s : State) (opened : List ℕ) (offset : ℕ) → s.top ≡ top
+    → cond (ltb 0 (length top)) None (unless (ltb 0 (length s.marked)) refusal.Underflow None) ≡ None
+    → followed opened (length s.marked) (length (cond (ltb 0 (length top)) (without 1 s) (cut s)).marked) offset ≡ (if length top == 0 then take (length opened - 1) opened else opened)
+followed_pop [] s opened offset is e = followed_less s.marked refusal.Underflow None opened offset e
+followed_pop (x ∷ xs) s opened offset is e = followed_same s.marked opened offset
+
+-- what becomes of the offsets of the open marks is known by the row, before it moves
+pub followed_is : (r : Row) (k : Kind) (place : ℕ) (s : State) (opened : List ℕ) (offset : ℕ) → refusal_of r s ≡ None
+    → followed opened (length s.marked) (length (next_of r k place s).marked) offset ≡ followed_by r s opened offset
+followed_is row.Mark k place s opened offset e = followed_more _ s.marked opened offset
+followed_is (row.Cut c) k place s opened offset e = followed_less s.marked _ _ opened offset e
+followed_is (row.CutChange f) k place s opened offset e = followed_less s.marked _ _ opened offset e
+followed_is row.PopMark k place s opened offset e = followed_less s.marked _ _ opened offset e
+followed_is row.Pop k place s opened offset e = followed_pop s.top s opened offset refl e
+followed_is row.Nothing k place s opened offset e = followed_same s.marked opened offset
+followed_is (row.Protocol n) k place s opened offset e = followed_same s.marked opened offset
+followed_is (row.Extension n) k place s opened offset e = followed_same s.marked opened offset
+followed_is row.Push k place s opened offset e = followed_same s.marked opened offset
+followed_is row.Buffer k place s opened offset e = followed_same s.marked opened offset
+followed_is row.ReadOnly k place s opened offset e =
+    ap (λ (n : List Marked). followed opened (length s.marked) (length n) offset) (view_marks (object_meets demand.ReadOnly s (deep 0 s.top)) s s _ refl refl) ∙ followed_same s.marked opened offset
+followed_is (row.Take t) k place s opened offset e = followed_same s.marked opened offset
+followed_is (row.Change f) k place s opened offset e = followed_same s.marked opened offset
+followed_is row.Dup k place s opened offset e = followed_same s.marked opened offset
+followed_is (row.Get key) k place s opened offset e = followed_same s.marked opened offset
+followed_is (row.Put key) k place s opened offset e = followed_same s.marked opened offset
+followed_is row.Memoize k place s opened offset e = followed_same s.marked opened offset
+followed_is row.Stop k place s opened offset e = followed_same s.marked opened offset
 
 pub move_marks : (o : Operation) (place : ℕ) (s t : State) → move o place s ≡ Ok t → MarkStep place (fresh s).marked t.marked
 move_marks o place s t e =

@@ -3,6 +3,7 @@
 ghost use Rattle.std.specs.Prelude.{◌≡◌, ◌≤◌, length};
 ghost use Rattle.pickle_io.specs.Text.{◌⧺◌, quoted};
 ghost use Rattle.pickle_names.specs.Value.{decode};
+ghost use Rattle.pickle_ops.specs.KindRef.{kind_view};
 ghost use Rattle.pickle_names.specs.Reading.{IsReading};
 ghost use Rattle.pickle_io.specs.Device.{Writes, each};
 ghost use Rattle.pickle_show.specs.Brief.{over_text, cut_quoted, cut_after, cut_text, cut_long, shown_quoted, payload_after, shown_text, text_after, shown_long, long_after, kind_brief, brief_text, next_brief, comma_list, more_text, cut_list, shown_list, briefs_text, kind_value, value_text};
@@ -13,8 +14,9 @@ use crate::name::{inner, write_global_after, write_stack_after};
 use crate::naming::{Detail, Naming};
 use crate::words::{write_id, write_with_number};
 use pickle_io::{Failed, Page, write_all, write_quoted};
+use pickle_machine::Inspect;
 use pickle_names::{Coding, Reading, read, write_text, write_value as write_text_value};
-use pickle_ops::{Kind, ObjId, Object, write_long};
+use pickle_ops::{KindRef, ObjId, write_long};
 
 /// At how many bytes a payload is cut. A name is shown whole, since names are what is looked for.
 const MOST_BYTES: usize = 64;
@@ -169,49 +171,38 @@ fn write_long_after<S: Page>(detail: Detail, bytes: &[u8], page: &mut S) -> Resu
 
 /// Writes an object of this kind with these parts in brief.
 #[tactic(auto, unfolding(crate::specs::Brief::kind_brief))]
-fn write_kind_brief<S: Page>(
+fn write_kind_brief<M: Inspect, S: Page>(
     naming: Naming,
-    heap: &[Object],
+    machine: &M,
     id: ObjId,
-    kind: &Kind,
+    kind: KindRef<'_>,
     parts: &[ObjId],
     page: &mut S,
 ) -> Result<(), Failed>
-    ensures { Writes (S.told page.old) (S.told page.new) result (kind_brief naming heap.now id kind.now parts.now) }
+    ensures { Writes (S.told page.old) (S.told page.new) result (kind_brief naming (M.state machine.now).heap id (kind_view kind.entry) parts.now) }
 {
     let detail = naming.detail;
     match kind {
-        Kind::None => write_kind(kind, page),
-        Kind::True => write_kind(kind, page),
-        Kind::False => write_kind(kind, page),
-        Kind::Int(_) => write_kind(kind, page),
-        Kind::Long(bytes) => write_long_after(detail, bytes.as_slice(), page),
-        Kind::IntLine(text) => write_payload_after(detail, b"int-line ", text.as_slice(), page),
-        Kind::LongLine(text) => write_payload_after(detail, b"long-line ", text.as_slice(), page),
-        Kind::FloatLine(text) => write_payload_after(detail, b"float-line ", text.as_slice(), page),
-        Kind::Float(_) => write_kind(kind, page),
-        Kind::LegacyString(text) => {
-            write_text_after(detail, b"string ", Coding::Ascii, text.as_slice(), page)
+        KindRef::None => write_kind(kind, page),
+        KindRef::True => write_kind(kind, page),
+        KindRef::False => write_kind(kind, page),
+        KindRef::Int(_) => write_kind(kind, page),
+        KindRef::Long(bytes) => write_long_after(detail, bytes, page),
+        KindRef::IntLine(text) => write_payload_after(detail, b"int-line ", text, page),
+        KindRef::LongLine(text) => write_payload_after(detail, b"long-line ", text, page),
+        KindRef::FloatLine(text) => write_payload_after(detail, b"float-line ", text, page),
+        KindRef::Float(_) => write_kind(kind, page),
+        KindRef::LegacyString(text) => {
+            write_text_after(detail, b"string ", Coding::Ascii, text, page)
         }
-        Kind::LegacyLine(text) => {
-            write_text_after(
-                detail,
-                b"string ",
-                Coding::StringEscape,
-                inner(text.as_slice()),
-                page,
-            )
+        KindRef::LegacyLine(text) => {
+            write_text_after(detail, b"string ", Coding::StringEscape, inner(text), page)
         }
-        Kind::Text(text) => write_shown_text(detail, Coding::AnyUtf8, text.as_slice(), page),
-        Kind::TextLine(text) => write_shown_text(detail, Coding::RawEscape, text.as_slice(), page),
-        Kind::Bytes(bytes) => write_payload_after(detail, b"bytes ", bytes.as_slice(), page),
-        Kind::ByteArray(bytes) => write_payload_after(
-            detail,
-            b"bytearray ",
-            bytes.as_slice(),
-            page,
-        ),
-        Kind::Global(names) => {
+        KindRef::Text(text) => write_shown_text(detail, Coding::AnyUtf8, text, page),
+        KindRef::TextLine(text) => write_shown_text(detail, Coding::RawEscape, text, page),
+        KindRef::Bytes(bytes) => write_payload_after(detail, b"bytes ", bytes, page),
+        KindRef::ByteArray(bytes) => write_payload_after(detail, b"bytearray ", bytes, page),
+        KindRef::Global(names) => {
             write_global_after(
                 b"global ",
                 naming,
@@ -221,86 +212,93 @@ fn write_kind_brief<S: Page>(
                 page,
             )
         }
-        Kind::StackGlobal => write_stack_after(b"global ", naming, Some(id), heap, parts, page),
-        Kind::Ext(_) => write_kind(kind, page),
+        KindRef::StackGlobal => write_stack_after(
+            b"global ",
+            naming,
+            Some(id),
+            machine,
+            parts,
+            page,
+        ),
+        KindRef::Ext(_) => write_kind(kind, page),
         _ => write_id(u64::from(id), page),
     }
 }
 
 /// Writes the object of this number in brief.
-#[tactic(auto, unfolding(crate::specs::Brief::brief_text))]
-fn write_brief<S: Page>(
+#[tactic(auto, using(crate::proofs::Looks::look_rules))]
+fn write_brief<M: Inspect, S: Page>(
     naming: Naming,
-    heap: &[Object],
+    machine: &M,
     id: ObjId,
     page: &mut S,
 ) -> Result<(), Failed>
-    ensures { Writes (S.told page.old) (S.told page.new) result (brief_text naming heap.now id) }
+    ensures { Writes (S.told page.old) (S.told page.new) result (brief_text naming (M.state machine.now).heap id) }
 {
-    match heap.get(id as usize) {
-        Some(object) => write_kind_brief(naming, heap, id, object.kind(), object.parts(), page),
+    match machine.look(id) {
+        Some(look) => write_kind_brief(naming, machine, id, look.kind, look.parts, page),
         None => write_id(u64::from(id), page),
     }
 }
 
 /// Writes one object more in brief, after a comma.
 #[tactic(auto, using(pickle_io::proofs::Devices::text_steps), unfolding(crate::specs::Brief::next_brief))]
-fn write_next<S: Page>(
+fn write_next<M: Inspect, S: Page>(
     naming: Naming,
-    heap: &[Object],
+    machine: &M,
     id: ObjId,
     page: &mut S,
 ) -> Result<(), Failed>
-    ensures { Writes (S.told page.old) (S.told page.new) result (next_brief naming heap.now id) }
+    ensures { Writes (S.told page.old) (S.told page.new) result (next_brief naming (M.state machine.now).heap id) }
 {
     write_all(page, b", ")?;
-    write_brief(naming, heap, id, page)
+    write_brief(naming, machine, id, page)
 }
 
 /// Writes objects in brief, each after a comma.
 #[tactic(auto, using(pickle_io::proofs::Devices::each_steps))]
-fn write_all_next<S: Page>(
+fn write_all_next<M: Inspect, S: Page>(
     naming: Naming,
-    heap: &[Object],
+    machine: &M,
     ids: &[ObjId],
     page: &mut S,
 ) -> Result<(), Failed>
-    ensures { Writes (S.told page.old) (S.told page.new) result (each (next_brief naming heap.now) ids.now) }
+    ensures { Writes (S.told page.old) (S.told page.new) result (each (next_brief naming (M.state machine.now).heap) ids.now) }
 {
     for id in ids {
-        write_next(naming, heap, *id, page)?;
+        write_next(naming, machine, *id, page)?;
     }
     Ok(())
 }
 
 /// Writes an object in brief, and others after it.
 #[tactic(auto, using(pickle_io::proofs::Devices::text_steps))]
-fn write_some<S: Page>(
+fn write_some<M: Inspect, S: Page>(
     naming: Naming,
-    heap: &[Object],
+    machine: &M,
     first: ObjId,
     rest: &[ObjId],
     page: &mut S,
 ) -> Result<(), Failed>
-    ensures { Writes (S.told page.old) (S.told page.new) result (brief_text naming heap.now first ⧺ each (next_brief naming heap.now) rest.now) }
+    ensures { Writes (S.told page.old) (S.told page.new) result (brief_text naming (M.state machine.now).heap first ⧺ each (next_brief naming (M.state machine.now).heap) rest.now) }
 {
-    write_brief(naming, heap, first, page)?;
-    write_all_next(naming, heap, rest, page)
+    write_brief(naming, machine, first, page)?;
+    write_all_next(naming, machine, rest, page)
 }
 
 /// Writes objects in brief with commas between them.
 #[tactic(auto, using(pickle_io::proofs::Devices::text_steps))]
-fn write_joined<S: Page>(
+fn write_joined<M: Inspect, S: Page>(
     naming: Naming,
-    heap: &[Object],
+    machine: &M,
     ids: &[ObjId],
     page: &mut S,
 ) -> Result<(), Failed>
-    ensures { Writes (S.told page.old) (S.told page.new) result (comma_list naming heap.now ids.now) }
+    ensures { Writes (S.told page.old) (S.told page.new) result (comma_list naming (M.state machine.now).heap ids.now) }
 {
     match ids.split_first() {
         None => Ok(()),
-        Some((first, rest)) => write_some(naming, heap, *first, rest, page),
+        Some((first, rest)) => write_some(naming, machine, *first, rest, page),
     }
 }
 
@@ -318,79 +316,79 @@ fn write_more<S: Page>(count: usize, page: &mut S) -> Result<(), Failed>
 
 /// Writes the first objects, and how many more there are.
 #[tactic(auto, using(pickle_io::proofs::Devices::text_steps), unfolding(crate::specs::Brief::cut_list))]
-fn write_cut_list<S: Page>(
+fn write_cut_list<M: Inspect, S: Page>(
     naming: Naming,
-    heap: &[Object],
+    machine: &M,
     ids: &[ObjId],
     page: &mut S,
 ) -> Result<(), Failed>
-    ensures { Writes (S.told page.old) (S.told page.new) result (cut_list naming heap.now ids.now) }
+    ensures { Writes (S.told page.old) (S.told page.new) result (cut_list naming (M.state machine.now).heap ids.now) }
 {
-    write_joined(naming, heap, front(ids, MOST_OBJECTS), page)?;
+    write_joined(naming, machine, front(ids, MOST_OBJECTS), page)?;
     write_more(ids.len().saturating_sub(MOST_OBJECTS), page)
 }
 
 /// Writes the first objects, or all.
 #[tactic(auto, unfolding(crate::specs::Brief::shown_list))]
-fn write_shown_list<S: Page>(
+fn write_shown_list<M: Inspect, S: Page>(
     naming: Naming,
-    heap: &[Object],
+    machine: &M,
     ids: &[ObjId],
     page: &mut S,
 ) -> Result<(), Failed>
-    ensures { Writes (S.told page.old) (S.told page.new) result (shown_list naming.detail naming heap.now ids.now) }
+    ensures { Writes (S.told page.old) (S.told page.new) result (shown_list naming.detail naming (M.state machine.now).heap ids.now) }
 {
     match naming.detail {
-        Detail::Cut => write_cut_list(naming, heap, ids, page),
-        Detail::Full => write_joined(naming, heap, ids, page),
+        Detail::Cut => write_cut_list(naming, machine, ids, page),
+        Detail::Full => write_joined(naming, machine, ids, page),
     }
 }
 
 /// Writes objects in brackets.
 #[tactic(auto, using(pickle_io::proofs::Devices::text_steps), unfolding(crate::specs::Brief::briefs_text))]
-pub fn write_briefs<S: Page>(
+pub fn write_briefs<M: Inspect, S: Page>(
     naming: Naming,
-    heap: &[Object],
+    machine: &M,
     ids: &[ObjId],
     page: &mut S,
 ) -> Result<(), Failed>
-    ensures { Writes (S.told page.old) (S.told page.new) result (briefs_text naming heap.now ids.now) }
+    ensures { Writes (S.told page.old) (S.told page.new) result (briefs_text naming (M.state machine.now).heap ids.now) }
 {
     write_all(page, b"(")?;
-    write_shown_list(naming, heap, ids, page)?;
+    write_shown_list(naming, machine, ids, page)?;
     write_all(page, b")")
 }
 
 /// Writes an object of this kind with these parts as a value.
 #[tactic(auto, unfolding(crate::specs::Brief::kind_value))]
-fn write_kind_value<S: Page>(
+fn write_kind_value<M: Inspect, S: Page>(
     naming: Naming,
-    heap: &[Object],
+    machine: &M,
     id: ObjId,
-    kind: &Kind,
+    kind: KindRef<'_>,
     parts: &[ObjId],
     page: &mut S,
 ) -> Result<(), Failed>
-    ensures { Writes (S.told page.old) (S.told page.new) result (kind_value naming heap.now id kind.now parts.now) }
+    ensures { Writes (S.told page.old) (S.told page.new) result (kind_value naming (M.state machine.now).heap id (kind_view kind.entry) parts.now) }
 {
     match kind {
-        Kind::Tuple => write_briefs(naming, heap, parts, page),
-        _ => write_kind_brief(naming, heap, id, kind, parts, page),
+        KindRef::Tuple => write_briefs(naming, machine, parts, page),
+        _ => write_kind_brief(naming, machine, id, kind, parts, page),
     }
 }
 
 /// Writes the object of this number as a value: the parts of a tuple, or what it is in brief.
-#[tactic(auto, unfolding(crate::specs::Brief::value_text))]
-pub fn write_value<S: Page>(
+#[tactic(auto, using(crate::proofs::Looks::look_rules))]
+pub fn write_value<M: Inspect, S: Page>(
     naming: Naming,
-    heap: &[Object],
+    machine: &M,
     id: ObjId,
     page: &mut S,
 ) -> Result<(), Failed>
-    ensures { Writes (S.told page.old) (S.told page.new) result (value_text naming heap.now id) }
+    ensures { Writes (S.told page.old) (S.told page.new) result (value_text naming (M.state machine.now).heap id) }
 {
-    match heap.get(id as usize) {
-        Some(object) => write_kind_value(naming, heap, id, object.kind(), object.parts(), page),
+    match machine.look(id) {
+        Some(look) => write_kind_value(naming, machine, id, look.kind, look.parts, page),
         None => write_id(u64::from(id), page),
     }
 }

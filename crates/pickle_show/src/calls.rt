@@ -7,7 +7,7 @@ ghost use Rattle.pickle_show.specs.CallsWritten.{CutsCalls};
 ghost use Rattle.pickle_show.specs.Manner.{manner};
 ghost use Rattle.pickle_show.specs.Ran.{IsRun};
 ghost use Rattle.pickle_show.specs.Inside.Part.{IsPart};
-ghost use Rattle.pickle_show.specs.Inside.Walked.{Begun, HasWalked};
+ghost use Rattle.pickle_show.specs.Inside.Walked.{Begun, HasWalked, GoesAlong};
 
 use crate::calls_line::write_line;
 use crate::course::Course;
@@ -15,12 +15,12 @@ use crate::end::Ending;
 use crate::event::{Before, event_of};
 use crate::naming::{Detail, leaves_frame};
 use crate::part::{ITEMS_OF_A_PART, Part};
-use crate::report::{Closing, closing_at, step_over};
+use crate::report::{Closing, closing_at};
 use crate::stop::TextStop;
 use pickle_doc::{ItemSource, NextRef, ends_reading, is_stop};
 use pickle_holes::Holes;
 use pickle_io::Page;
-use pickle_machine::{Machine, Refusal};
+use pickle_machine::{Refusal, Slim};
 use pickle_ops::Row;
 use std::alloc::Global;
 
@@ -55,12 +55,14 @@ fn run_part<'a, I: ItemSource<'a>, S: Page>(
     holes: &Holes,
     many: bool,
     from: SoFar<I>,
-    machine: &mut Machine,
+    machine: &mut Slim<'_>,
     page: &mut S,
 ) -> Result<Part<SoFar<I>, Ran>, TextStop>
-    requires { (begun : Begun) × HasWalked holes.now many begun I.unread (S.told page.old) machine.old.state from }
+    requires walked { (begun : Begun) × HasWalked holes.now many begun I.unread (S.told page.old) machine.old.state from }
+    requires along { GoesAlong machine.old (I.unread from.reader) from.place }
     ensures ok { (begun : Begun) → HasWalked holes.now many begun I.unread (S.told page.old) machine.old.state from → IfOk result (IsPart (HasWalked holes.now many begun I.unread (S.told page.new) machine.new.state) (IsRun (manner begun.detail holes.now) many begun.rest begun.told (S.told page.new) machine.new.state)) }
     ensures err { (begun : Begun) → HasWalked holes.now many begun I.unread (S.told page.old) machine.old.state from → IfErr result (CutsCalls (manner begun.detail holes.now) many begun.rest begun.told (S.told page.new)) }
+    ensures along { IfOk result (IsPart (λ far. GoesAlong machine.new (I.unread far.reader) far.place) (λ _. ⊤)) }
     ensures less { IfOk result (IsPart (λ far. length (I.unread far.reader).rest < length (I.unread from.reader).rest) (λ _. ⊤)) }
 {
     let SoFar {
@@ -85,7 +87,7 @@ fn run_part<'a, I: ItemSource<'a>, S: Page>(
             NextRef::Item(op) => {
                 let row = Row::of_ref(&op);
                 let before = Before::of(machine);
-                if let Err(refusal) = step_over(alloc, row, &op, place, machine) {
+                if let Err(refusal) = machine.step(alloc, row, &op) {
                     if refusal == Refusal::Memory {
                         return Err(TextStop::Memory);
                     }
@@ -98,8 +100,8 @@ fn run_part<'a, I: ItemSource<'a>, S: Page>(
                     }));
                 }
                 let event = event_of(row, before, machine);
-                write_line(holes, offset, course.naming, machine.heap(), event, page)?;
-                course = course.over(&op, row, machine.heap(), event);
+                write_line(holes, offset, course.naming, machine, event, page)?;
+                course = course.over(&op, row, machine, event);
                 let at = offset;
                 offset += op.size() as u64;
                 if ends_reading(many, op.opcode()) {
@@ -133,7 +135,7 @@ fn run_part<'a, I: ItemSource<'a>, S: Page>(
 }
 
 /// Writes the lines of the items that a source gives from the first on, as several pickles or as one, and not the last lines. The machine,
-/// which has done nothing yet, runs the items; each line is written when its item was stepped, and no item, no step and no line is kept.
+/// which has done nothing yet and is over the same bytes, runs the items; each line is written when its item was stepped, and no item, no step and no line is kept.
 /// The run ends at the end of the items, at an item that is refused, or where of several pickles STOP leaves a frame unfinished, since
 /// loaders disagree about what is behind it. The machine then stands behind the last item that was run. The source is to give a document
 /// that is not too large, with its frames. It is what is left of a file without these holes, and the lines have the offsets of the file.
@@ -145,12 +147,13 @@ pub fn run_items<'a, I: ItemSource<'a>, S: Page>(
     holes: &Holes,
     many: bool,
     source: I,
-    machine: &mut Machine,
+    machine: &mut Slim<'_>,
     page: &mut S,
 ) -> Result<Ran, TextStop>
     requires source { GivesDocument many (I.unread source) }
     requires framed { (I.unread source).loose ≡ false }
     requires fresh { machine.old.state ≡ start many }
+    requires along { GoesAlong machine.old (I.unread source) 0 }
     ensures ok { IfOk result (IsRun (manner detail holes.now) many (I.unread source).rest (S.told page.old) (S.told page.new) machine.new.state) }
     ensures err { IfErr result (CutsCalls (manner detail holes.now) many (I.unread source).rest (S.told page.old) (S.told page.new)) }
 {

@@ -4,6 +4,7 @@ ghost use Rattle.pickle_io.specs.Text.{◌⧺◌};
 ghost use Rattle.std.specs.Prelude.{◌≡◌, drop};
 ghost use Rattle.pickle_holes.specs.Holes.{in_file};
 ghost use Rattle.pickle_names.specs.Value.{whole_text};
+ghost use Rattle.pickle_ops.specs.KindRef.{kind_view, looked};
 ghost use Rattle.pickle_io.specs.Device.{Writes};
 ghost use Rattle.pickle_show.specs.Brief.{value_text};
 ghost use Rattle.pickle_show.specs.Event.{part};
@@ -19,57 +20,58 @@ use crate::number::write_right;
 use crate::words::{write_id, write_with_id, write_with_number, write_with_signed};
 use pickle_holes::Holes;
 use pickle_io::{Failed, Page, write_all};
+use pickle_machine::Inspect;
 use pickle_names::{Coding, write_text};
-use pickle_ops::{Filling, Kind, ObjId, Object};
+use pickle_ops::{Filling, KindRef, Look, ObjId};
 
 /// Writes that a member of a module is imported and called.
 #[tactic(auto, using(pickle_io::proofs::Devices::text_steps), unfolding(crate::specs::CallsLine::inst_text))]
-fn write_inst<S: Page>(
+fn write_inst<M: Inspect, S: Page>(
     naming: Naming,
-    heap: &[Object],
+    machine: &M,
     first: &[u8],
     second: &[u8],
     parts: &[ObjId],
     page: &mut S,
 ) -> Result<(), Failed>
-    ensures { Writes (S.told page.old) (S.told page.new) result (inst_text naming heap.now first.now second.now parts.now) }
+    ensures { Writes (S.told page.old) (S.told page.new) result (inst_text naming (M.state machine.now).heap first.now second.now parts.now) }
 {
     write_names_after(b"inst ", naming, None, inst_pair(first, second), page)?;
     write_all(page, b" ")?;
-    write_briefs(naming, heap, parts, page)
+    write_briefs(naming, machine, parts, page)
 }
 
 /// Writes a call, or a new instance, after a keyword.
 #[tactic(auto, using(pickle_io::proofs::Devices::text_steps), unfolding(crate::specs::CallsLine::call_text))]
-fn write_call<S: Page>(
+fn write_call<M: Inspect, S: Page>(
     keyword: &[u8],
     naming: Naming,
-    heap: &[Object],
+    machine: &M,
     parts: &[ObjId],
     page: &mut S,
 ) -> Result<(), Failed>
-    ensures { Writes (S.told page.old) (S.told page.new) result (call_text naming keyword.now heap.now parts.now) }
+    ensures { Writes (S.told page.old) (S.told page.new) result (call_text naming keyword.now (M.state machine.now).heap parts.now) }
 {
     let called = part(0, parts);
     write_all(page, keyword)?;
-    write_name(naming, heap, called, page)?;
+    write_name(naming, machine, called, page)?;
     write_all(page, b" ")?;
-    write_value(naming, heap, part(1, parts), page)
+    write_value(naming, machine, part(1, parts), page)
 }
 
 /// Writes a new instance that is given arguments with names.
 #[tactic(auto, using(pickle_io::proofs::Devices::text_steps), unfolding(crate::specs::CallsLine::call_with_text))]
-fn write_call_with<S: Page>(
+fn write_call_with<M: Inspect, S: Page>(
     naming: Naming,
-    heap: &[Object],
+    machine: &M,
     parts: &[ObjId],
     page: &mut S,
 ) -> Result<(), Failed>
-    ensures { Writes (S.told page.old) (S.told page.new) result (call_with_text naming heap.now parts.now) }
+    ensures { Writes (S.told page.old) (S.told page.new) result (call_with_text naming (M.state machine.now).heap parts.now) }
 {
-    write_call(b"new ", naming, heap, parts, page)?;
+    write_call(b"new ", naming, machine, parts, page)?;
     write_all(page, b" ")?;
-    write_value(naming, heap, part(2, parts), page)
+    write_value(naming, machine, part(2, parts), page)
 }
 
 /// The parts but the first.
@@ -84,33 +86,33 @@ fn after_first(parts: &[ObjId]) -> &[ObjId]
 
 /// Writes a call whose arguments are after the class.
 #[tactic(auto, using(pickle_io::proofs::Devices::text_steps), unfolding(crate::specs::CallsLine::obj_text))]
-fn write_obj<S: Page>(
+fn write_obj<M: Inspect, S: Page>(
     naming: Naming,
-    heap: &[Object],
+    machine: &M,
     parts: &[ObjId],
     page: &mut S,
 ) -> Result<(), Failed>
-    ensures { Writes (S.told page.old) (S.told page.new) result (obj_text naming heap.now parts.now) }
+    ensures { Writes (S.told page.old) (S.told page.new) result (obj_text naming (M.state machine.now).heap parts.now) }
 {
     write_all(page, b"call ")?;
-    write_name(naming, heap, part(0, parts), page)?;
+    write_name(naming, machine, part(0, parts), page)?;
     write_all(page, b" ")?;
-    write_briefs(naming, heap, after_first(parts), page)
+    write_briefs(naming, machine, after_first(parts), page)
 }
 
 /// Writes a keyword and an object as a value.
 #[tactic(auto, using(pickle_io::proofs::Devices::text_steps))]
-fn write_value_after<S: Page>(
+fn write_value_after<M: Inspect, S: Page>(
     keyword: &[u8],
     naming: Naming,
-    heap: &[Object],
+    machine: &M,
     id: ObjId,
     page: &mut S,
 ) -> Result<(), Failed>
-    ensures { Writes (S.told page.old) (S.told page.new) result (keyword.now ⧺ value_text naming heap.now id) }
+    ensures { Writes (S.told page.old) (S.told page.new) result (keyword.now ⧺ value_text naming (M.state machine.now).heap id) }
 {
     write_all(page, keyword)?;
-    write_value(naming, heap, id, page)
+    write_value(naming, machine, id, page)
 }
 
 /// Writes a keyword and a text of ASCII.
@@ -124,17 +126,17 @@ fn write_ascii_after<S: Page>(keyword: &[u8], text: &[u8], page: &mut S) -> Resu
 
 /// Writes what made an object of this kind with these parts.
 #[tactic(auto, using(pickle_io::proofs::Devices::text_steps), unfolding(crate::specs::CallsLine::made_words))]
-fn write_made_words<S: Page>(
+fn write_made_words<M: Inspect, S: Page>(
     naming: Naming,
-    heap: &[Object],
-    kind: &Kind,
+    machine: &M,
+    kind: KindRef<'_>,
     parts: &[ObjId],
     page: &mut S,
 ) -> Result<(), Failed>
-    ensures { Writes (S.told page.old) (S.told page.new) result (made_words naming heap.now kind.now parts.now) }
+    ensures { Writes (S.told page.old) (S.told page.new) result (made_words naming (M.state machine.now).heap (kind_view kind.entry) parts.now) }
 {
     match kind {
-        Kind::Global(names) => {
+        KindRef::Global(names) => {
             write_global_after(
                 b"import ",
                 naming,
@@ -144,65 +146,78 @@ fn write_made_words<S: Page>(
                 page,
             )
         }
-        Kind::StackGlobal => write_stack_after(b"import ", naming, None, heap, parts, page),
-        Kind::Ext(code) => write_with_signed(b"import ext ", *code, page),
-        Kind::Inst(names) => write_inst(naming, heap, names.first(), names.second(), parts, page),
-        Kind::Call => write_call(b"call ", naming, heap, parts, page),
-        Kind::New => write_call(b"new ", naming, heap, parts, page),
-        Kind::NewEx => write_call_with(naming, heap, parts, page),
-        Kind::Obj => write_obj(naming, heap, parts, page),
-        Kind::PersistentLine(text) => write_ascii_after(b"persistent ", text.as_slice(), page),
-        Kind::Persistent => write_value_after(b"persistent ", naming, heap, part(0, parts), page),
-        Kind::Buffer(number) => write_with_number(b"buffer ", *number, page),
-        Kind::ReadOnly => write_with_id(b"readonly ", u64::from(part(0, parts)), page),
+        KindRef::StackGlobal => write_stack_after(b"import ", naming, None, machine, parts, page),
+        KindRef::Ext(code) => write_with_signed(b"import ext ", code, page),
+        KindRef::Inst(names) => write_inst(
+            naming,
+            machine,
+            names.first(),
+            names.second(),
+            parts,
+            page,
+        ),
+        KindRef::Call => write_call(b"call ", naming, machine, parts, page),
+        KindRef::New => write_call(b"new ", naming, machine, parts, page),
+        KindRef::NewEx => write_call_with(naming, machine, parts, page),
+        KindRef::Obj => write_obj(naming, machine, parts, page),
+        KindRef::PersistentLine(text) => write_ascii_after(b"persistent ", text, page),
+        KindRef::Persistent => write_value_after(
+            b"persistent ",
+            naming,
+            machine,
+            part(0, parts),
+            page,
+        ),
+        KindRef::Buffer(number) => write_with_number(b"buffer ", number, page),
+        KindRef::ReadOnly => write_with_id(b"readonly ", u64::from(part(0, parts)), page),
         _ => Ok(()),
     }
 }
 
 /// Writes what made an object, and its number.
 #[tactic(auto, using(pickle_io::proofs::Devices::text_steps), unfolding(crate::specs::CallsLine::made_text))]
-fn write_made_object<S: Page>(
+fn write_made_object<M: Inspect, S: Page>(
     naming: Naming,
-    heap: &[Object],
+    machine: &M,
     id: ObjId,
-    object: &Object,
+    look: Look<'_>,
     page: &mut S,
 ) -> Result<(), Failed>
-    ensures { Writes (S.told page.old) (S.told page.new) result (made_text naming heap.now id object.now) }
+    ensures { Writes (S.told page.old) (S.told page.new) result (made_text naming (M.state machine.now).heap id (looked look.entry)) }
 {
-    write_made_words(naming, heap, object.kind(), object.parts(), page)?;
+    write_made_words(naming, machine, look.kind, look.parts, page)?;
     write_all(page, b" as ")?;
     write_id(u64::from(id), page)
 }
 
 /// Writes what made the object of this number.
-#[tactic(auto, using(pickle_io::proofs::Devices::text_steps))]
-fn write_made<S: Page>(
+#[tactic(auto, using(pickle_io::proofs::Devices::text_steps, crate::proofs::Looks::look_rules))]
+fn write_made<M: Inspect, S: Page>(
     naming: Naming,
-    heap: &[Object],
+    machine: &M,
     id: ObjId,
     page: &mut S,
 ) -> Result<(), Failed>
-    ensures { Writes (S.told page.old) (S.told page.new) result (made_at naming heap.now id) }
+    ensures { Writes (S.told page.old) (S.told page.new) result (made_at naming (M.state machine.now).heap id) }
 {
-    match heap.get(id as usize) {
-        Some(object) => write_made_object(naming, heap, id, object, page),
+    match machine.look(id) {
+        Some(look) => write_made_object(naming, machine, id, look, page),
         None => Ok(()),
     }
 }
 
 /// Writes that an object becomes the state of another.
 #[tactic(auto, using(pickle_io::proofs::Devices::text_steps), unfolding(crate::specs::CallsLine::state_text))]
-fn write_state<S: Page>(
+fn write_state<M: Inspect, S: Page>(
     naming: Naming,
-    heap: &[Object],
+    machine: &M,
     value: ObjId,
     target: ObjId,
     page: &mut S,
 ) -> Result<(), Failed>
-    ensures { Writes (S.told page.old) (S.told page.new) result (state_text naming heap.now value target) }
+    ensures { Writes (S.told page.old) (S.told page.new) result (state_text naming (M.state machine.now).heap value target) }
 {
-    write_value_after(b"state ", naming, heap, value, page)?;
+    write_value_after(b"state ", naming, machine, value, page)?;
     write_all(page, b" to ")?;
     write_id(u64::from(target), page)
 }
@@ -250,17 +265,17 @@ fn write_filled<S: Page>(
 
 /// Writes an event, by the objects after the step.
 #[tactic(auto, unfolding(crate::specs::CallsLine::event_text))]
-fn write_event<S: Page>(
+fn write_event<M: Inspect, S: Page>(
     naming: Naming,
-    heap: &[Object],
+    machine: &M,
     event: Event,
     page: &mut S,
 ) -> Result<(), Failed>
-    ensures { Writes (S.told page.old) (S.told page.new) result (event_text naming heap.now event) }
+    ensures { Writes (S.told page.old) (S.told page.new) result (event_text naming (M.state machine.now).heap event) }
 {
     match event {
-        Event::Made(id) => write_made(naming, heap, id, page),
-        Event::State(value, target) => write_state(naming, heap, value, target, page),
+        Event::Made(id) => write_made(naming, machine, id, page),
+        Event::State(value, target) => write_state(naming, machine, value, target, page),
         Event::Filled(filling, count, target) => write_filled(filling, count, target, page),
     }
 }
@@ -268,36 +283,36 @@ fn write_event<S: Page>(
 /// Writes the line of an event whose item is at this offset.
 #[tactic(auto, using(pickle_io::proofs::Devices::text_steps), unfolding(crate::specs::CallsLine::event_line))]
 #[inline(never)]
-fn write_event_line<S: Page>(
+fn write_event_line<M: Inspect, S: Page>(
     offset: u64,
     naming: Naming,
-    heap: &[Object],
+    machine: &M,
     event: Event,
     page: &mut S,
 ) -> Result<(), Failed>
-    ensures { Writes (S.told page.old) (S.told page.new) result (event_line offset naming heap.now event) }
+    ensures { Writes (S.told page.old) (S.told page.new) result (event_line offset naming (M.state machine.now).heap event) }
 {
     write_right(offset, page)?;
     write_all(page, b": ")?;
-    write_event(naming, heap, event, page)?;
+    write_event(naming, machine, event, page)?;
     write_all(page, b"\n")
 }
 
 /// Writes the line of a step, if it has an event. The offset is that without the holes of the file, and the line has that in the file.
 #[tactic(auto, using(pickle_io::proofs::Devices::text_steps))]
 #[inline(always)]
-pub fn write_line<S: Page>(
+pub fn write_line<M: Inspect, S: Page>(
     holes: &Holes,
     offset: u64,
     naming: Naming,
-    heap: &[Object],
+    machine: &M,
     event: Option<Event>,
     page: &mut S,
 ) -> Result<(), Failed>
-    ensures { Writes (S.told page.old) (S.told page.new) result (line_of (in_file holes.now offset) naming heap.now event) }
+    ensures { Writes (S.told page.old) (S.told page.new) result (line_of (in_file holes.now offset) naming (M.state machine.now).heap event) }
 {
     match event {
-        Some(event) => write_event_line(holes.in_file(offset), naming, heap, event, page),
+        Some(event) => write_event_line(holes.in_file(offset), naming, machine, event, page),
         None => Ok(()),
     }
 }

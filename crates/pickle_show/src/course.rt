@@ -1,12 +1,14 @@
 //! What goes along with the items.
 
 ghost use Rattle.std.specs.Prelude.{◌≡◌};
+ghost use Rattle.pickle_ops.specs.KindRef.{kind_view};
 ghost use Rattle.pickle_show.specs.CallsLine.{is_import, is_call, imports_of, calls_of};
 ghost use Rattle.pickle_show.specs.Event.{object_is};
 
 use crate::event::Event;
 use crate::naming::{Detail, Naming, left_behind, turns};
-use pickle_ops::{Kind, ObjId, Object, OpRef, Row};
+use pickle_machine::Inspect;
+use pickle_ops::{KindRef, ObjId, OpRef, Row};
 
 /// What goes along with the items that were stepped: how many imports and calls their lines are, how names are read, and what is left of a
 /// frame.
@@ -23,69 +25,71 @@ pub struct Course {
 }
 
 /// Whether an object of this kind is imported.
-fn is_import(kind: &Kind) -> bool
-    ensures { result ≡ is_import kind.now }
+fn is_import(kind: KindRef<'_>) -> bool
+    ensures { result ≡ is_import (kind_view kind.entry) }
 {
     match kind {
-        Kind::Global(_) => true,
-        Kind::StackGlobal => true,
-        Kind::Ext(_) => true,
-        Kind::Inst(_) => true,
+        KindRef::Global(_) => true,
+        KindRef::StackGlobal => true,
+        KindRef::Ext(_) => true,
+        KindRef::Inst(_) => true,
         _ => false,
     }
 }
 
 /// Whether a call makes an object of this kind.
-fn is_call(kind: &Kind) -> bool
-    ensures { result ≡ is_call kind.now }
+fn is_call(kind: KindRef<'_>) -> bool
+    ensures { result ≡ is_call (kind_view kind.entry) }
 {
     match kind {
-        Kind::Call => true,
-        Kind::New => true,
-        Kind::NewEx => true,
-        Kind::Inst(_) => true,
-        Kind::Obj => true,
+        KindRef::Call => true,
+        KindRef::New => true,
+        KindRef::NewEx => true,
+        KindRef::Inst(_) => true,
+        KindRef::Obj => true,
         _ => false,
     }
 }
 
 /// Whether the object of this number is there and is imported.
-fn is_import_at(heap: &[Object], id: ObjId) -> bool
-    ensures { result ≡ object_is is_import heap.now id }
+#[tactic(auto, using(crate::proofs::Looks::look_rules))]
+fn is_import_at<M: Inspect>(machine: &M, id: ObjId) -> bool
+    ensures { result ≡ object_is is_import (M.state machine.now).heap id }
 {
-    match heap.get(id as usize) {
-        Some(object) => is_import(object.kind()),
+    match machine.look(id) {
+        Some(look) => is_import(look.kind),
         None => false,
     }
 }
 
 /// Whether the object of this number is there and a call makes it.
-fn is_call_at(heap: &[Object], id: ObjId) -> bool
-    ensures { result ≡ object_is is_call heap.now id }
+#[tactic(auto, using(crate::proofs::Looks::look_rules))]
+fn is_call_at<M: Inspect>(machine: &M, id: ObjId) -> bool
+    ensures { result ≡ object_is is_call (M.state machine.now).heap id }
 {
-    match heap.get(id as usize) {
-        Some(object) => is_call(object.kind()),
+    match machine.look(id) {
+        Some(look) => is_call(look.kind),
         None => false,
     }
 }
 
 /// How many imports a step is.
-fn imports_of(heap: &[Object], event: Option<Event>) -> u64
-    ensures { result ≡ imports_of heap.now event }
+fn imports_of<M: Inspect>(machine: &M, event: Option<Event>) -> u64
+    ensures { result ≡ imports_of (M.state machine.now).heap event }
 {
     match event {
-        Some(Event::Made(id)) => u64::from(is_import_at(heap, id)),
+        Some(Event::Made(id)) => u64::from(is_import_at(machine, id)),
         _ => 0,
     }
 }
 
 /// How many calls a step is.
-fn calls_of(heap: &[Object], event: Option<Event>) -> u64
-    ensures { result ≡ calls_of heap.now event }
+fn calls_of<M: Inspect>(machine: &M, event: Option<Event>) -> u64
+    ensures { result ≡ calls_of (M.state machine.now).heap event }
 {
     match event {
         None => 0,
-        Some(Event::Made(id)) => u64::from(is_call_at(heap, id)),
+        Some(Event::Made(id)) => u64::from(is_call_at(machine, id)),
         Some(_) => 1,
     }
 }
@@ -109,47 +113,53 @@ impl Course {
     }
 
     /// After one step more, with its line, if it has one. What is left of a frame stays.
-    pub fn with(self, row: Row, heap: &[Object], event: Option<Event>) -> Course
+    pub fn with<M: Inspect>(self, row: Row, machine: &M, event: Option<Event>) -> Course
         requires imports { self.imports < 2 ^ 32 }
         requires calls { self.calls < 2 ^ 32 }
-        requires objects { length heap.now < 2 ^ 32 }
-        ensures imports { result.imports ≡ self.imports + imports_of heap.now event }
-        ensures calls { result.calls ≡ self.calls + calls_of heap.now event }
-        ensures naming { result.naming ≡ naming_after row (length heap.now) self.naming }
+        requires objects { length (M.state machine.now).heap < 2 ^ 32 }
+        ensures imports { result.imports ≡ self.imports + imports_of (M.state machine.now).heap event }
+        ensures calls { result.calls ≡ self.calls + calls_of (M.state machine.now).heap event }
+        ensures naming { result.naming ≡ naming_after row (length (M.state machine.now).heap) self.naming }
         ensures left { result.left ≡ self.left }
     {
         Course {
-            imports: self.imports + imports_of(heap, event),
-            calls: self.calls + calls_of(heap, event),
-            naming: self.naming.after(row, heap.len() as ObjId),
+            imports: self.imports + imports_of(machine, event),
+            calls: self.calls + calls_of(machine, event),
+            naming: self.naming.after(row, machine.objects() as ObjId),
             left: self.left,
         }
     }
 
     /// The same, apart: few steps have a line or change how names are read.
     #[inline(never)]
-    fn told(self, row: Row, heap: &[Object], event: Option<Event>) -> Course
+    fn told<M: Inspect>(self, row: Row, machine: &M, event: Option<Event>) -> Course
         requires imports { self.imports < 2 ^ 32 }
         requires calls { self.calls < 2 ^ 32 }
-        requires objects { length heap.now < 2 ^ 32 }
-        ensures imports { result.imports ≡ self.imports + imports_of heap.now event }
-        ensures calls { result.calls ≡ self.calls + calls_of heap.now event }
-        ensures naming { result.naming ≡ naming_after row (length heap.now) self.naming }
+        requires objects { length (M.state machine.now).heap < 2 ^ 32 }
+        ensures imports { result.imports ≡ self.imports + imports_of (M.state machine.now).heap event }
+        ensures calls { result.calls ≡ self.calls + calls_of (M.state machine.now).heap event }
+        ensures naming { result.naming ≡ naming_after row (length (M.state machine.now).heap) self.naming }
         ensures left { result.left ≡ self.left }
     {
-        self.with(row, heap, event)
+        self.with(row, machine, event)
     }
 
     /// After one step more, over this opcode, with its line, if it has one.
     #[tactic(auto, using(crate::proofs::Turns::unturned))]
     #[inline(always)]
-    pub fn over(self, op: &OpRef<'_>, row: Row, heap: &[Object], event: Option<Event>) -> Course
+    pub fn over<M: Inspect>(
+        self,
+        op: &OpRef<'_>,
+        row: Row,
+        machine: &M,
+        event: Option<Event>,
+    ) -> Course
         requires imports { self.imports < 2 ^ 32 }
         requires calls { self.calls < 2 ^ 32 }
-        requires objects { length heap.now < 2 ^ 32 }
-        ensures imports { result.imports ≡ self.imports + imports_of heap.now event }
-        ensures calls { result.calls ≡ self.calls + calls_of heap.now event }
-        ensures naming { result.naming ≡ naming_after row (length heap.now) self.naming }
+        requires objects { length (M.state machine.now).heap < 2 ^ 32 }
+        ensures imports { result.imports ≡ self.imports + imports_of (M.state machine.now).heap event }
+        ensures calls { result.calls ≡ self.calls + calls_of (M.state machine.now).heap event }
+        ensures naming { result.naming ≡ naming_after row (length (M.state machine.now).heap) self.naming }
         ensures left { result.left ≡ left_behind false self.left op.now }
     {
         if event.is_none() && !turns(row) {
@@ -160,7 +170,7 @@ impl Course {
                 left: left_behind(op, self.left),
             };
         }
-        let course = self.told(row, heap, event);
+        let course = self.told(row, machine, event);
         Course {
             imports: course.imports,
             calls: course.calls,

@@ -9,7 +9,7 @@ ghost use Rattle.pickle_machine.specs.Move.{next_of, refusal_of, fresh};
 ghost use Rattle.pickle_machine.specs.Outline.{outline, sample};
 ghost use Rattle.pickle_show.specs.ReportLine.{fault_line};
 ghost use Rattle.pickle_show.specs.Line.{item_line, refused_line, left_line, kept_line, protocol_line};
-ghost use Rattle.pickle_show.specs.Inside.Marks.{followed};
+ghost use Rattle.pickle_show.specs.Inside.Marks.{followed, followed_by};
 ghost use Rattle.pickle_show.specs.Inside.Answer.{IsAnswer};
 ghost use Rattle.pickle_show.specs.Inside.Part.{IsPart};
 ghost use Rattle.pickle_show.specs.Inside.Listed.{Begun, HasListed};
@@ -110,25 +110,27 @@ fn answer<I: Drop>(closed: Result<(), Failed>, status: u8) -> Result<Part<SoFar<
     Ok(Part::End(status))
 }
 
-/// What becomes of the offsets of the open marks when a step changes how many there are.
+/// What becomes of the offsets of the open marks by a row that is to move. Asking the row takes less than counting the marks before and
+/// after.
 #[inline(always)]
 fn follow_marks(
+    row: Row,
+    lean: &Lean,
     opened: &mut Vec<u64>,
-    before: usize,
-    after: usize,
     offset: &Offset,
 ) -> Result<(), AllocError>
-    ensures ok { OnOk result (opened.new.items ≡ followed opened.old.items before after offset.now) }
+    ensures ok { OnOk result (opened.new.items ≡ followed_by row lean.now opened.old.items offset.now) }
 {
-    if before < after {
+    if let Row::Mark = row {
         opened.push(offset.number())?;
-    } else if after < before {
+    } else if lean.takes_mark(row) {
         opened.pop();
     }
     Ok(())
 }
 
 /// Moves the outline by an item that is not refused, and follows its marks.
+#[tactic(auto, using(crate::proofs::Moves::followed_is))]
 #[inline(always)]
 fn perform(
     lean: &mut Lean,
@@ -143,9 +145,8 @@ fn perform(
     ensures moved { OnOk result (lean.new ≡ outline (next_of row (sample class) place lean.old)) }
     ensures marks { OnOk result (opened.new.items ≡ followed opened.old.items (length lean.old.marked) (length lean.new.marked) offset.now) }
 {
-    let marks = lean.marks_len();
-    lean.perform(row, class, place)?;
-    follow_marks(opened, marks, lean.marks_len(), offset)
+    follow_marks(row, lean, opened, offset)?;
+    lean.perform(row, class, place)
 }
 
 /// Makes ready for the next move: after STOP, where several pickles are listed, the next one begins, and no mark is open.

@@ -5,6 +5,7 @@ ghost use Rattle.std.specs.Option.{option_map, option_map_or};
 ghost use Rattle.pickle_io.specs.Device.{Writes};
 ghost use Rattle.pickle_io.specs.Text.{◌⧺◌};
 ghost use Rattle.pickle_names.specs.Renamed.{import_of};
+ghost use Rattle.pickle_ops.specs.KindRef.{kind_view};
 ghost use Rattle.pickle_show.specs.Brief.{kind_name, name_text};
 ghost use Rattle.pickle_show.specs.Naming.{inner, spelled_of, spelled_at, said_text, pair_text, is_text, said_names, short_of, may_be_name, by_both, renamed_by, pair_renamed, member_text, import_text, import_for, renamed_text, names_by, names_text, global_pair, inst_pair, stack_pair, spelled_view, pair_view, new_view, is_as_said};
 
@@ -14,10 +15,11 @@ use crate::naming::Naming;
 use crate::words::write_id;
 use arrayvec::ArrayVec;
 use pickle_io::{Failed, Page, write_all, write_quoted};
+use pickle_machine::Inspect;
 use pickle_names::{
     Coding, NewNames, is_plain_name, module_renamed, read, renamed, short_value, write_text,
 };
-use pickle_ops::{Kind, ObjId, Object};
+use pickle_ops::{KindRef, ObjId};
 
 /// A text as it is in a pickle.
 #[derive(Clone, Copy)]
@@ -61,36 +63,37 @@ pub(crate) fn inner(line: &[u8]) -> &[u8]
 }
 
 /// An object of this kind, if it is a text.
-fn spelled_of<'a>(kind: &'a Kind) -> Option<SpelledText<'a>>
-    ensures { option_map spelled_view result ≡ spelled_of kind.now }
+fn spelled_of<'a>(kind: KindRef<'a>) -> Option<SpelledText<'a>>
+    ensures { option_map spelled_view result ≡ spelled_of (kind_view kind.entry) }
 {
     match kind {
-        Kind::Text(text) => Some(SpelledText {
+        KindRef::Text(text) => Some(SpelledText {
             coding: Coding::AnyUtf8,
-            bytes: text.as_slice(),
+            bytes: text,
         }),
-        Kind::TextLine(text) => Some(SpelledText {
+        KindRef::TextLine(text) => Some(SpelledText {
             coding: Coding::RawEscape,
-            bytes: text.as_slice(),
+            bytes: text,
         }),
-        Kind::LegacyString(text) => Some(SpelledText {
+        KindRef::LegacyString(text) => Some(SpelledText {
             coding: Coding::Ascii,
-            bytes: text.as_slice(),
+            bytes: text,
         }),
-        Kind::LegacyLine(text) => Some(SpelledText {
+        KindRef::LegacyLine(text) => Some(SpelledText {
             coding: Coding::StringEscape,
-            bytes: inner(text.as_slice()),
+            bytes: inner(text),
         }),
         _ => None,
     }
 }
 
 /// The object of this number, if it is a text.
-fn spelled_at<'a>(heap: &'a [Object], id: ObjId) -> Option<SpelledText<'a>>
-    ensures { option_map spelled_view result ≡ spelled_at heap.now id }
+#[tactic(auto, using(crate::proofs::Looks::look_rules))]
+fn spelled_at<'a, M: Inspect>(machine: &'a M, id: ObjId) -> Option<SpelledText<'a>>
+    ensures { option_map spelled_view result ≡ spelled_at (M.state machine.now).heap id }
 {
-    match heap.get(id as usize) {
-        Some(object) => spelled_of(object.kind()),
+    match machine.look(id) {
+        Some(look) => spelled_of(look.kind),
         None => None,
     }
 }
@@ -132,15 +135,15 @@ pub fn inst_pair<'a>(first: &'a [u8], second: &'a [u8]) -> NamePair<'a>
 }
 
 /// The names of STACK_GLOBAL, which are its parts.
-pub fn stack_pair<'a>(heap: &'a [Object], parts: &[ObjId]) -> NamePair<'a>
-    ensures { pair_view result ≡ stack_pair heap.now parts.now }
+pub fn stack_pair<'a, M: Inspect>(machine: &'a M, parts: &[ObjId]) -> NamePair<'a>
+    ensures { pair_view result ≡ stack_pair (M.state machine.now).heap parts.now }
 {
     let from = part(0, parts);
     let name = part(1, parts);
     NamePair {
-        from: spelled_at(heap, from),
+        from: spelled_at(machine, from),
         from_id: from,
-        name: spelled_at(heap, name),
+        name: spelled_at(machine, name),
         name_id: name,
     }
 }
@@ -495,17 +498,17 @@ pub fn write_global_after<S: Page>(
 }
 
 /// Writes the names of STACK_GLOBAL after a keyword.
-pub fn write_stack_after<S: Page>(
+pub fn write_stack_after<M: Inspect, S: Page>(
     keyword: &[u8],
     naming: Naming,
     object: Option<ObjId>,
-    heap: &[Object],
+    machine: &M,
     parts: &[ObjId],
     page: &mut S,
 ) -> Result<(), Failed>
-    ensures { Writes (S.told page.old) (S.told page.new) result (keyword.now ⧺ names_text naming object (stack_pair heap.now parts.now)) }
+    ensures { Writes (S.told page.old) (S.told page.new) result (keyword.now ⧺ names_text naming object (stack_pair (M.state machine.now).heap parts.now)) }
 {
-    write_names_after(keyword, naming, object, stack_pair(heap, parts), page)
+    write_names_after(keyword, naming, object, stack_pair(machine, parts), page)
 }
 
 /// Writes the names of GLOBAL.
@@ -522,50 +525,50 @@ fn write_global<S: Page>(
 }
 
 /// Writes the names of STACK_GLOBAL.
-fn write_stack<S: Page>(
+fn write_stack<M: Inspect, S: Page>(
     naming: Naming,
     id: ObjId,
-    heap: &[Object],
+    machine: &M,
     parts: &[ObjId],
     page: &mut S,
 ) -> Result<(), Failed>
-    ensures { Writes (S.told page.old) (S.told page.new) result (names_text naming (Some id) (stack_pair heap.now parts.now)) }
+    ensures { Writes (S.told page.old) (S.told page.new) result (names_text naming (Some id) (stack_pair (M.state machine.now).heap parts.now)) }
 {
-    write_names(naming, Some(id), stack_pair(heap, parts), page)
+    write_names(naming, Some(id), stack_pair(machine, parts), page)
 }
 
 /// Writes the name of an object of this kind with these parts.
 #[tactic(auto, unfolding(crate::specs::Brief::kind_name))]
-fn write_kind_name<S: Page>(
+fn write_kind_name<M: Inspect, S: Page>(
     naming: Naming,
-    heap: &[Object],
+    machine: &M,
     id: ObjId,
-    kind: &Kind,
+    kind: KindRef<'_>,
     parts: &[ObjId],
     page: &mut S,
 ) -> Result<(), Failed>
-    ensures { Writes (S.told page.old) (S.told page.new) result (kind_name naming heap.now id kind.now parts.now) }
+    ensures { Writes (S.told page.old) (S.told page.new) result (kind_name naming (M.state machine.now).heap id (kind_view kind.entry) parts.now) }
 {
     match kind {
-        Kind::Global(names) => write_global(naming, id, names.first(), names.second(), page),
-        Kind::StackGlobal => write_stack(naming, id, heap, parts, page),
-        Kind::Ext(_) => write_kind(kind, page),
+        KindRef::Global(names) => write_global(naming, id, names.first(), names.second(), page),
+        KindRef::StackGlobal => write_stack(naming, id, machine, parts, page),
+        KindRef::Ext(_) => write_kind(kind, page),
         _ => write_id(u64::from(id), page),
     }
 }
 
 /// Writes the name of the object of this number.
-#[tactic(auto, unfolding(crate::specs::Brief::name_text))]
-pub fn write_name<S: Page>(
+#[tactic(auto, using(crate::proofs::Looks::look_rules))]
+pub fn write_name<M: Inspect, S: Page>(
     naming: Naming,
-    heap: &[Object],
+    machine: &M,
     id: ObjId,
     page: &mut S,
 ) -> Result<(), Failed>
-    ensures { Writes (S.told page.old) (S.told page.new) result (name_text naming heap.now id) }
+    ensures { Writes (S.told page.old) (S.told page.new) result (name_text naming (M.state machine.now).heap id) }
 {
-    match heap.get(id as usize) {
-        Some(object) => write_kind_name(naming, heap, id, object.kind(), object.parts(), page),
+    match machine.look(id) {
+        Some(look) => write_kind_name(naming, machine, id, look.kind, look.parts, page),
         None => write_id(u64::from(id), page),
     }
 }

@@ -691,8 +691,10 @@ def _pusher(name: str, form: str) -> _Handler:
         return lambda builder, line: builder._push_value(of_bytes(line[line.index("'"):]))
     if form:
         return lambda builder, line: builder._push_value(of_line(name, line[line.index("'"):]))
-    value = {'NONE': 'None', 'NEWTRUE': 'True', 'NEWFALSE': 'False'}[name]
-    return lambda builder, line: builder._push_value(value)
+    return lambda builder, line: builder._push_value(_VALUES[name])
+
+
+_VALUES = {'NONE': 'None', 'NEWTRUE': 'True', 'NEWFALSE': 'False'}
 
 
 def _maker(kind: str, opcode: pickletools.OpcodeInfo) -> _Handler:

@@ -18,9 +18,12 @@ from .helpers import HELPERS
 from .nodes import Event, Statement
 from .writer import Writer
 
-__all__ = ['HEAD', 'PythonSource', 'source']
+__all__ = ['BEHIND', 'HEAD', 'HEAD_OF_CUT', 'PythonSource', 'source']
 
 HEAD = '# What loading the pickle would do. Running this does the same.\n'
+HEAD_OF_CUT = '# What loading the pickle would do. cut(N) stands for N more, so this cannot be run.\n'
+# Where reading ends before the bytes do.
+BEHIND = ' (`calls` shows what loaders reach behind it)'
 
 
 class PythonSource(Answer[str]):
@@ -83,12 +86,13 @@ def _written(builder: Builder, listed: Listed, full: bool) -> PythonSource:
     writer.write(builder.events)
     if left:
         place = f' at {end.offset}' if listed.refused else ''
-        writer.lines.append(f'# {end.text}{place}: reading ends here, and the stack is')
+        behind = '' if end.code == 'F1' else BEHIND
+        writer.lines.append(f'# {end.text}{place}: reading ends here{behind}, and the stack is')
         writer.write(left)
     if listed.kept:
         writer.lines.append(f'# {listed.kept} bytes after STOP are not read')
     head = ''.join(text for need, text in HELPERS.items() if need in builder.needs)
-    return PythonSource(HEAD + head + '\n'.join(writer.lines) + '\n', end, listed.kept)
+    return PythonSource((HEAD_OF_CUT if writer.is_cut else HEAD) + head + '\n'.join(writer.lines) + '\n', end, listed.kept)
 
 
 @contextlib.contextmanager

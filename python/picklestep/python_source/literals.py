@@ -78,4 +78,4 @@ def _failing_string(data: bytes) -> str:
         return f"{data[1:-1]!r}.decode('unicode_escape')"  # (it fails at what makes the other fail)
 
 
-_FAILING = {'INT': 'int({!r}, 0)', 'LONG': 'int({!r}, 0)', 'FLOAT': 'float({!r})', 'UNICODE': "{!r}.decode('raw-unicode-escape')"}
+_FAILING = {'INT': 'int({!r}, 0)', 'LONG': 'int({!r}, 0)', 'FLOAT': "float({!r} + b' is no float')", 'UNICODE': "{!r}.decode('raw-unicode-escape')"}

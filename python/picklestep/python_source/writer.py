@@ -21,11 +21,17 @@ _EMPTY = {'set': 'set()', 'frozenset': 'frozenset()'}
 
 
 class Writer:
-    """The statements of a source. Unless it is `full`, texts and containers are cut as in `calls`."""
+    """The statements of a source. Unless it is `full`, texts and containers are cut as in `calls`: `is_cut` says that one was."""
 
     def __init__(self, full: bool) -> None:
         self.lines: List[str] = []
+        self.is_cut = False
         self._full = full
+
+    def _cut(self, count: object, before: str = '') -> str:
+        """What stands for so many that are not shown."""
+        self.is_cut = True
+        return f'{before}cut({count})'
 
     def write(self, events: Iterable[Event]) -> None:
         """Writes what happened, in its order."""
@@ -104,10 +110,10 @@ class Writer:
             return text
         start = text[:2].lstrip('b')[:1]
         if start not in ('"', "'") or not text.endswith(start):
-            return f'cut({text[:MOST_LETTERS]!r}, {len(text) - MOST_LETTERS})'
+            return self._cut(f'{text[:MOST_LETTERS]!r}, {len(text) - MOST_LETTERS}')
         value = _value_of(text)
         more = len(value) - MOST_LETTERS
-        return f'{value[:MOST_LETTERS]!r} + cut({more})' if more > 0 else text
+        return self._cut(more, f'{value[:MOST_LETTERS]!r} + ') if more > 0 else text
 
     def _container(self, kind: str, items: Sequence[Entry], are_texts: bool) -> str:
         """The literal of a container."""
@@ -118,7 +124,8 @@ class Writer:
         if kind == 'dict':
             texts = list(map('%s: %s'.__mod__, zip(texts[::2], texts[1::2])))
         if len(shown) < len(items):  # (then they are a list of their own)
-            texts.append(f'**cut({(len(items) - len(shown)) // 2})' if kind == 'dict' else f'*cut({len(items) - len(shown)})')
+            more = len(items) - len(shown)
+            texts.append(self._cut(more // 2, '**') if kind == 'dict' else self._cut(more, '*'))
         return _bracketed(*BRACKETS[kind], texts, kind == 'tuple')
 
     # --- What happens ---
@@ -132,20 +139,20 @@ class Writer:
         self._end(f'_{called.number} = {arguments}', called.offset)
 
     def _arguments(self, arguments: Arguments) -> List[str]:
-        texts = self._shown(arguments.items, '*')
+        texts = self._shown(arguments.items)
         spread, keywords = arguments.spread, arguments.keywords
         if isinstance(spread, Node) and spread.kind == 'tuple' and not spread.is_named:
-            texts += self._shown(spread.items, '*')
+            texts += self._shown(spread.items)
         elif spread is not None and spread != '()':
             texts.append('*' + str(spread))
         if keywords is not None:
             texts += self._keywords(keywords)
         return texts
 
-    def _shown(self, entries: Sequence[Entry], star: str) -> List[str]:
+    def _shown(self, entries: Sequence[Entry]) -> List[str]:
         """How entries appear, as many as are shown, and how many more there are."""
         shown = entries if self._full else entries[:MOST_ITEMS]
-        return [str(entry) for entry in shown] + ([f'{star}cut({len(entries) - len(shown)})'] if len(shown) < len(entries) else [])
+        return [str(entry) for entry in shown] + ([self._cut(len(entries) - len(shown), '*')] if len(shown) < len(entries) else [])
 
     def _keywords(self, keywords: Entry) -> List[str]:
         if not isinstance(keywords, Node) or keywords.is_named or keywords.kind != 'dict':
@@ -156,7 +163,7 @@ class Writer:
         return ['**' + str(keywords)]
 
     def _filled(self, filled: Filled) -> None:
-        texts = self._shown(filled.items, '*')
+        texts = self._shown(filled.items)
         for text in texts if filled.is_each else [_bracketed('[', ']', texts, False)]:
             self._end(filled.form.format(filled.target, text), filled.offset)
 
@@ -167,7 +174,7 @@ class Writer:
         for key, value in zip(paired.items[:2 * shown:2], paired.items[1::2]):
             self._end(f'{target}[{str(key)}] = {str(value)}', paired.offset)
         if shown < count:
-            self._end(f'{target}.update(cut({count - shown}))', paired.offset)
+            self._end(f'{target}.update({self._cut(count - shown)})', paired.offset)
 
 
 def _value_of(text: str) -> Union[str, bytes]:

@@ -8,7 +8,7 @@ import tempfile
 import threading
 import time
 from bisect import bisect_right
-from contextlib import contextmanager, suppress
+from contextlib import suppress
 from copy import copy
 from dataclasses import dataclass
 from functools import lru_cache
@@ -89,9 +89,9 @@ class Budget:
         """Processor time that is left. It counts what this process took, and the programs that it started."""
         return self.limits.seconds - (_used.seconds() - self._begin)
 
-    def spend(self) -> None:
-        """Looks at the processor time, and at the memory of this process."""
-        seconds = self.seconds
+    def spend(self) -> float:
+        """Looks at the processor time, and at the memory of this process. Answers the seconds that are left."""
+        seconds = self.limits.seconds - (_used.seconds() - self._begin)
         if seconds <= 0:
             raise LimitMet(f'it took {self.limits.seconds:g} seconds of processor time: the rest of the file is not looked at')
         grown = _used.memory - self._size
@@ -99,6 +99,7 @@ class Budget:
             raise PartMet('reading it strictly would take more time or memory than there is')
         if grown > self.limits.memory // 2:
             raise LimitMet(f'it takes more than {self.limits.memory // 2:,} bytes of memory: the rest of the file is not looked at')
+        return seconds
 
     def count(self, steps: int) -> None:
         """Counts opcodes, and now and then looks at the time and the memory."""
@@ -107,14 +108,9 @@ class Budget:
             self._steps = 0
             self.spend()
 
-    @contextmanager
-    def half(self) -> Iterator[None]:
+    def half(self) -> '_Half':
         """Within it PartMet is raised where half of the time that is left is taken, or much memory."""
-        self._parts.append(self.seconds / 2)
-        try:
-            yield
-        finally:
-            self._parts.pop()
+        return _Half(self._parts, self.seconds / 2)
 
     def most_held(self) -> int:
         """How many unpacked bytes may be held at once: a quarter of the memory, since a pickle takes more than its bytes to be read."""
@@ -144,6 +140,20 @@ class Budget:
         self.members += 1
         if self.members > self.limits.members:
             raise LimitMet(f'it has more than {self.limits.members:,} members: the rest of the file is not looked at')
+
+
+class _Half:
+    """While this goes on, so many seconds are to be left."""
+
+    def __init__(self, parts: List[float], seconds: float) -> None:
+        self._parts = parts
+        self._seconds = seconds
+
+    def __enter__(self) -> None:
+        self._parts.append(self._seconds)
+
+    def __exit__(self, *error: object) -> None:
+        self._parts.pop()
 
 
 def _own_size() -> int:
@@ -270,6 +280,8 @@ class FileBlob(Blob):
     def read(self, offset: int, count: int) -> bytes:
         if offset < 0 or count <= 0:
             return b''
+        if self._content is not None:
+            return self._content[offset:offset + count]
         if self.size > _KEPT:
             return self._read(offset, min(count, self.size - offset))
         return self._kept()[offset:offset + count]

@@ -211,7 +211,8 @@ MAY_BE_KNOWN = re.compile(_MAY_BE_OPENED.pattern + b'|' + SURE, re.DOTALL)
 # (all but zlib, which has two first bytes of which the sum is to fit)
 MAY_BE_PACKED = re.compile(b'|'.join(each.pattern for each in _WITH_SIGN if each is not ZLIB) + b'|' + SURE, re.DOTALL)
 MAY_BE_STORE = re.compile(b'|'.join(each.pattern for each in STORES if not each.is_pickles), re.DOTALL)
-_BEGINS_STORE = re.compile(b'|'.join(each.pattern for each in STORES), re.DOTALL)
+# (A pickle and a few bytes: to ask what knows it is faster than its sign.)
+_IN_PICKLES = tuple(each for each in STORES if each.is_pickles)
 
 _BY_NAME = {each.name: each for each in (*CONTAINERS, *STORES)}
 
@@ -243,7 +244,7 @@ def store_of(head: bytes) -> Optional[Container]:
     >>> [str(store_of(head)) for head in (b'SQLite format 3\\0', b'PK\\3\\4')]
     ['sqlite', 'None']
     """
-    for each in STORES if _BEGINS_STORE.match(head) is not None else ():
+    for each in STORES if MAY_BE_STORE.match(head) is not None else _IN_PICKLES:
         if each.begins(head):
             return each
     return None

@@ -16,8 +16,9 @@ from collections import Counter
 from dataclasses import dataclass, replace
 from functools import reduce
 from importlib import import_module
+from io import FileIO
 from operator import or_
-from typing import BinaryIO, Callable, Iterator, List, Optional, Tuple
+from typing import BinaryIO, Callable, Iterator, List, Optional, Tuple, cast
 
 from ..sources import LIMIT
 from . import stores, zips
@@ -164,12 +165,13 @@ class Looker:
     # --- Pickles ---
 
     def is_read(self, blob: Blob, head: bytes, where: Place, names: Tuple[str, ...], reads: Reads = layout_of,
-                is_sure: bool = False) -> bool:
-        """Asks the program, and keeps its answer where the bytes are a pickle. False where they are none."""
+                is_sure: bool = False, calls: Optional[bytes] = None) -> bool:
+        """Asks the program, and keeps its answer where the bytes are a pickle. False where they are none. `calls` is its answer, if it was
+        asked."""
         self.at = where
         layout, told = self._layout(blob, reads)
         opcodes = JoinedBlob(blob, layout.raw) if layout is not None and layout.raw else blob
-        pickle = self._asked(opcodes, blob, where, is_sure or _begins_as_pickle(head, names))
+        pickle = self._asked(opcodes, blob, where, is_sure or _begins_as_pickle(head, names), calls)
         if pickle is None:
             return False
         self.pickles.append(pickle if pickle.size == blob.size else replace(pickle, size=blob.size))
@@ -197,7 +199,7 @@ class Looker:
             return layout, None
         return layout, f'another loader, which keeps its memo from pickle to pickle or knows no raw arrays, imports {other}'
 
-    def _asked(self, opcodes: Blob, blob: Blob, where: Place, is_pickle: bool) -> Optional[Pickle]:
+    def _asked(self, opcodes: Blob, blob: Blob, where: Place, is_pickle: bool, calls: Optional[bytes] = None) -> Optional[Pickle]:
         """What the program says of opcodes, with offsets in `blob`. None where they are no pickle."""
         offset_of = opcodes.offset_of if isinstance(opcodes, JoinedBlob) else None
         # (What is no file is copied into memory for the program.)
@@ -206,9 +208,10 @@ class Looker:
             first = min(most, _FIRST_BYTES)
             self.note(where, f'its opcodes have more than {most:,} bytes, which is too large: the first {first:,} are looked at', missed=True)
             opcodes = opcodes.part(0, first)
-        self.budget.look(max(0, opcodes.size - _GLANCE))
+        if opcodes.size > _GLANCE:
+            self.budget.look(opcodes.size - _GLANCE)
         with Asked(opcodes) as asked:
-            answer = asked.summary(self.budget, self.options.lines, offset_of, self.options.full)
+            answer = asked.summary(self.budget, self.options.lines, offset_of, self.options.full, calls)
             is_pickle = is_pickle or answer.is_sure or answer.end.is_stopped or answer.end.code in _FRAME_FAULTS
             if answer.trouble is not None:
                 self.note(where, answer.trouble, missed=True)
@@ -373,8 +376,10 @@ class Unpacked:
 
 def _begins_as_pickle(head: bytes, names: Tuple[str, ...]) -> bool:
     """Whether bytes are reported as a pickle whatever the program finds in them: by a name, or since they begin with PROTO."""
-    begins = head[:1] == b'\x80' and head[1:2] <= b'\x05' and not any(is_storage_name(name) for name in names)
-    return begins or any(is_pickle_name(name) for name in names)
+    for name in names:
+        if is_pickle_name(name):
+            return True
+    return head[:1] == b'\x80' and head[1:2] <= b'\x05' and not any(is_storage_name(name) for name in names)
 
 
 def _joined(begin: List[bytes], pieces: Iterator[bytes]) -> Iterator[bytes]:
@@ -384,7 +389,7 @@ def _joined(begin: List[bytes], pieces: Iterator[bytes]) -> Iterator[bytes]:
 
 # --- Files ---
 
-def _state(file: BinaryIO) -> Tuple[int, int, int, int]:
+def _state(file: FileIO) -> Tuple[int, int, int, int]:
     state = os.fstat(file.fileno())
     return state.st_mode, state.st_size, state.st_mtime_ns, state.st_ctime_ns
 
@@ -393,17 +398,12 @@ def _state(file: BinaryIO) -> Tuple[int, int, int, int]:
 _FLAGS = os.O_RDONLY | reduce(or_, (getattr(os, flag, 0) for flag in ('O_NONBLOCK', 'O_CLOEXEC', 'O_NOCTTY', 'O_BINARY')))
 
 
-def _opened(path: str) -> BinaryIO:
-    """A file that is open for reading. A FIFO does not make it wait."""
-    return os.fdopen(os.open(path, _FLAGS), 'rb', buffering=0)
-
-
 def _look_at_file(looker: Looker, path: str) -> Result:
-    with _opened(path) as file:
+    with FileIO(os.open(path, _FLAGS), 'rb') as file:  # (a FIFO does not make it wait)
         state = mode, size, modified, changed = _state(file)
         if not stat.S_ISREG(mode):
             return Result(path, left=left_out(mode))
-        result = _gone_through(looker, FileBlob(file, size, path), path, modified, changed)
+        result = _gone_through(looker, FileBlob(cast(BinaryIO, file), size, path), path, modified, changed)
         if _state(file) == state:
             return result
         return replace(result, notes=result.notes + (Note((), 'it changed while it was looked at', True),))

@@ -83,13 +83,15 @@ class Judge:
     """Which names are marked, and why.
 
     `denied` goes before `allowed`, and that before the names that are known: a team that allows `builtins.getattr` has looked at it. Where
-    there is a list of allowed names, all others are marked.
+    there is a list of allowed names, all others are marked. What is known to be reached through another module or through the inside of an object
+    is allowed by its name alone, by a pattern that says as much, or by `**`.
     """
 
     def __init__(self, allowed: Optional[Names] = None, denied: Optional[Names] = None, with_known: bool = True) -> None:
         self.allowed = allowed
         self._denied = denied or Names(())
         self._known = known_names() if with_known else Names(())
+        self._through = Names(text for text, _, _ in self._known.patterns if text.startswith('**.'))
         self._with_known = with_known
         self._marks: Dict[str, Optional[Tuple[str, str]]] = {}
 
@@ -107,7 +109,7 @@ class Judge:
         note = self._denied.note(name)
         if note is not None:
             return 'denied', f'denied{": " + note if note else ""}'
-        if self.allowed is not None and self.allowed.note(name) is not None:
+        if self.allowed is not None and any(self._allows(line, name) for line in self.allowed.lines_of(name)):
             return None
         known = self._known.note(name)
         if self.allowed is not None:
@@ -117,6 +119,10 @@ class Judge:
         if self._with_known and is_worked_out(name):
             return 'worked-out', 'what it imports is worked out while loading'
         return None
+
+    def _allows(self, line: str, name: str) -> bool:
+        """Whether a line that has a name allows it."""
+        return line in (name, '**') or self._through.note(name) is None or self._through.note(line) is not None
 
     def allows_done(self, what: str, name: str) -> bool:
         """Whether this may be done with what is imported by a name that is not marked."""

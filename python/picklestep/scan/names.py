@@ -59,6 +59,10 @@ class Names:
         word = _WORDS.get(what)
         return word is None or self.note(name) is None or word in self._words_of(name)
 
+    def lines_of(self, name: str) -> List[str]:
+        """The names and patterns that have this name."""
+        return [name] * (name in self.names) + [text for text, pattern, _ in self._patterns_of(name) if pattern.fullmatch(name)]
+
     # --- How a name is found ---
 
     def _look_up(self, name: str) -> Optional[str]:
@@ -69,8 +73,7 @@ class Names:
     def _words_of(self, name: str) -> FrozenSet[str]:
         """What all lines that have a name allow together."""
         if name not in self._found_words:
-            found = [text for text, pattern, _ in self._patterns_of(name) if pattern.fullmatch(name)]
-            self._found_words[name] = frozenset().union(*(self._words.get(text, frozenset()) for text in (name, *found)))
+            self._found_words[name] = frozenset().union(*(self._words.get(text, frozenset()) for text in (name, *self.lines_of(name))))
         return self._found_words[name]
 
     def _patterns_of(self, name: str) -> List[Tuple[str, Pattern[str], str]]:

@@ -13,15 +13,17 @@ from .. import library
 from ..answers import closing_in
 from ..errors import OutOfMemory, PicklestepError, ProgramError, TimedOut
 from ..program import Process
-from ..reaches import LineKey, given_in, headings_in, line_of, reach_of, reached_line_of, reached_lines, with_offset
+from ..reaches import LineKey, headings_in, line_of, number_in, offset_of, reach_of, reached_lines, text_of, with_offset
 from ..records import End, Extension, Global, Name, Ref
 from ..session import Session
-from ..texts import offset_of_item
+from ..texts import IN_FORM, offset_of_item
 from .begins import is_dotted
 from .blobs import CHUNK, Blob, Budget, FileBlob, Spooled, spooled
+from .canonical.formed import content_of
+from .canonical.joblib import SIGN
 from .results import Call, Import, Pickle, Place
 
-__all__ = ['Asked', 'Enough', 'Summary', 'WAITING', 'calls_words', 'is_plain_name', 'is_worked_out', 'shown_name', 'why_unread']
+__all__ = ['Asked', 'Enough', 'Summary', 'WAITING', 'calls_in_form', 'calls_words', 'is_plain_name', 'is_worked_out', 'shown_name', 'why_unread']
 
 # These lines are about an import.
 _IMPORTS = ('import', 'inst')
@@ -126,18 +128,20 @@ class Summary:
 
     def _take_lines(self, text: str, start: int, end: int, tail: str) -> str:
         """Counts lines, and answers the last ones. A pickle may have a hundred thousand lines and few names."""
-        again, budget = self._again, self._budget
+        again, left = self._again, self._budget.lines
         for key, count, match in reached_lines(text, start, end, each=self._lines is not None):
             self._count += count
-            budget.lines -= count
-            allowed = count + min(budget.lines, 0)
+            left -= count
+            allowed = count if left >= 0 else count + left
             if allowed > 0:
-                found = again.get(key) or self._found_by(match)
+                found = again.get(key) or self._found_by(key, match)
                 found.count += allowed
                 if self._lines is not None:
                     self._keep_line(match)
-            if budget.lines < 0:
-                raise Enough(f'the answers about the file have more than {budget.limits.lines:,} lines')
+            if left < 0:
+                self._budget.lines = left
+                raise Enough(f'the answers about the file have more than {self._budget.limits.lines:,} lines')
+        self._budget.lines = left
         return text[end - _CLOSING:end] if end - start >= _CLOSING else (tail + text[start:end])[-_CLOSING:]
 
     def _begin_part(self, heading: str, tail: str) -> None:
@@ -156,32 +160,35 @@ class Summary:
         if self._offset_of is not None and self.end.offset is not None:
             self.end = with_offset(self.end, self._offset_of(self.end.offset))
 
-    def _found_by(self, match: 're.Match[str]') -> '_Found':
+    def _found_by(self, key: LineKey, match: 're.Match[str]') -> '_Found':
         """What a line is counted by. It is kept with the first line of its kind about its name."""
-        offset, text, what, quoted = reached_line_of(match)
-        name = self._imported.get(given_in(text), '') if what in _CHANGES else quoted or ''
-        has_other_name = quoted is None and what in _WITH_NAME  # one that is no text: a number, or an object of the pickle
-        found = None if has_other_name else self._found.get((what, name, self._part))
+        what, quoted = key
+        if what in _CHANGES:
+            name = self._imported.get(number_in(match), '')
+            return self._found.get((what, name, self._part)) or self._first_of(what, name, _Known(name, False), match)
+        # (A name that is no text is a number, or an object of the pickle.)
+        found = None if quoted is None and what in _WITH_NAME else self._found.get((what, quoted or '', self._part))
         if found is None:
             known = _name_in(match, quoted) if what in _WITH_NAME else _NO_NAME
-            shown = name if what in _CHANGES else known.shown
-            key = (what, name or shown, self._part)
-            if key not in self._found:
-                self._keep(text)
-                self._found[key] = _Found(what, shown, self._place(offset), text, self._part)
-            found = self._found[key]
-            self.is_sure = self.is_sure or self._shows_pickle(what, known)
+            found = self._found.get((what, quoted or known.shown, self._part)) or self._first_of(what, quoted or known.shown, known, match)
         if what == 'import':
-            self._imported[given_in(text)] = found.name
+            self._imported[number_in(match)] = found.name
         elif quoted is not None:
-            self._again[what, quoted] = found
+            self._again[key] = found
+        return found
+
+    def _first_of(self, what: str, name: str, known: '_Known', match: 're.Match[str]') -> '_Found':
+        """Keeps the first line of its kind about a name."""
+        text = text_of(match)
+        self._keep(text)
+        self.is_sure = self.is_sure or self._shows_pickle(what, known)
+        found = self._found[what, name, self._part] = _Found(what, known.shown, self._place(offset_of(match)), text, self._part)
         return found
 
     def _keep_line(self, match: 're.Match[str]') -> None:
         """Keeps a whole line."""
         assert self._lines is not None
-        offset, text, _, _ = reached_line_of(match)
-        line = line_of(match) if self._offset_of is None else f'{self._place(offset):>5}: {text}'
+        line = line_of(match) if self._offset_of is None else f'{self._place(offset_of(match)):>5}: {text_of(match)}'
         self._keep(line)
         self._lines.append(line)
 
@@ -192,8 +199,8 @@ class Summary:
             return name.can_be_there and not self._leads_nowhere
         return what not in _WEAK and not self._leads_nowhere
 
-    def _place(self, offset: str) -> int:
-        return int(offset) if self._offset_of is None else self._offset_of(int(offset))
+    def _place(self, offset: int) -> int:
+        return offset if self._offset_of is None else self._offset_of(offset)
 
     def _keep(self, text: str) -> None:
         self._kept += len(text)
@@ -280,6 +287,14 @@ def calls_words(full: bool) -> List[str]:
 _ENDED = [getattr(signal, name) for name in ('SIGXCPU', 'SIGKILL') if hasattr(signal, name)]
 
 
+def calls_in_form(blob: Blob, budget: Budget) -> Optional[bytes]:
+    """What the program says that a small pickle calls, where it is in the form that picklers write and nothing in it can be a joblib array."""
+    content = content_of(blob)
+    if content is None or SIGN in content or library.answer(['form'], content) != IN_FORM or budget.spend() < _LITTLE_TIME:
+        return None
+    return library.answer(calls_words(False), content, budget.memory())
+
+
 class Asked:
     """Bytes that are asked about: a few of them in this process, others as a file that the program opens, from when that is needed.
 
@@ -289,7 +304,7 @@ class Asked:
 
     def __init__(self, blob: Blob) -> None:
         self._blob = blob
-        self._content = blob.read(0, blob.size) if blob.size <= library.MOST_BYTES else None
+        self._content = content_of(blob)
         self._copy: Optional[Spooled] = None
 
     def __enter__(self) -> Asked:
@@ -299,15 +314,16 @@ class Asked:
         if self._copy is not None:
             self._copy.file.close()
 
-    def summary(self, budget: Budget, keep_lines: bool = False, offset_of: Optional[Callable[[int], int]] = None, full: bool = False) -> Summary:
+    def summary(self, budget: Budget, keep_lines: bool = False, offset_of: Optional[Callable[[int], int]] = None, full: bool = False,
+                calls: Optional[bytes] = None) -> Summary:
         """What they import and call, as one pickle or several in a row. What was found before a limit or a failure is kept.
 
-        With `full` arguments are whole.
+        With `full` arguments are whole. `calls` is what the program says where they are not, if it was asked.
         """
         summary = Summary(budget, keep_lines, offset_of)
-        budget.spend()
         words = calls_words(full)
-        text = self._in_process(words, budget)
+        seconds = budget.spend()
+        text = self._in_process(words, budget, seconds) if calls is None or full else calls
         if text is None:
             self._ask_program(words, summary, budget)
             return summary
@@ -319,7 +335,7 @@ class Asked:
 
     def offset_of_item(self, item: int, budget: Budget) -> Optional[int]:
         """Where an opcode begins. `item` counts the opcodes before it. None where a limit is met first."""
-        text = self._in_process(['list', '--many'], budget)
+        text = self._in_process(['list', '--many'], budget, budget.seconds)
         if text is not None:
             return offset_of_item(text, item)
         try:
@@ -329,8 +345,9 @@ class Asked:
         except PicklestepError:
             return None
 
-    def _in_process(self, words: List[str], budget: Budget) -> Optional[bytes]:
-        if self._content is None or budget.seconds < _LITTLE_TIME:
+    def _in_process(self, words: List[str], budget: Budget, seconds: float) -> Optional[bytes]:
+        """The answer, where it can be had here within the time that is left."""
+        if self._content is None or seconds < _LITTLE_TIME:
             return None
         return library.answer(words, self._content, budget.memory())
 

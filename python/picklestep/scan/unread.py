@@ -170,22 +170,24 @@ _ENDS: Dict[str, bytes] = {
     'VHD': rb'conectix.{504}\Z',
 }
 _LATE = ((32_768, 'ISO 9660', re.compile(rb'[\0-\xff]CD001', re.DOTALL)), (65_600, 'btrfs', re.compile(rb'_BHRfS_M')))
+_FIRST_LATE = min(at for at, _, _ in _LATE)
 # So many bytes show how it ends.
 _SIZES_OF_ENDS = (512, 8)
 TAIL = max(_SIZES_OF_ENDS)
 
 
-def _joined(kinds: Dict[str, bytes]) -> 're.Pattern[bytes]':
-    """A pattern with a group for each kind."""
-    return re.compile(b'|'.join(b'(%b)' % pattern for pattern in kinds.values()), re.DOTALL)
+def _one_of(*tables: Dict[str, bytes]) -> 're.Pattern[bytes]':
+    """A pattern of all kinds of some tables. It has no groups, and so most bytes are known at once to be none."""
+    return re.compile(b'|'.join(pattern for table in tables for pattern in table.values()), re.DOTALL)
 
 
-def _found(match: 'Optional[re.Match[bytes]]', kinds: Dict[str, bytes]) -> Optional[str]:
-    return None if match is None or match.lastindex is None else tuple(kinds)[match.lastindex - 1]
+def _first_of(kinds: Dict[str, bytes], content: bytes, at: int = 0) -> Optional[str]:
+    """The first kind whose pattern fits, of those of a table."""
+    return next((kind for kind, pattern in kinds.items() if re.compile(pattern, re.DOTALL).match(content, at) is not None), None)
 
 
 SURE = b'|'.join(_SURE.values())
-_IS_SURE, _IS_LONG, _IS_FILE, _HAS_END = map(_joined, (_SURE, _LONG, _FILES, _ENDS))
+_IS_SURE, _IS_KNOWN, _HAS_END = _one_of(_SURE), _one_of(_SURE, _LONG, _FILES, {'compress': rb'\x1f\x9d'}), _one_of(_ENDS)
 
 
 def kind_of_short(head: bytes) -> Optional[str]:
@@ -194,7 +196,7 @@ def kind_of_short(head: bytes) -> Optional[str]:
     >>> kind_of_short(b'LZIP' + bytes(9)), kind_of_short(b'LZIP is a program'), kind_of_short(b'\\x50\\x2a\\x4d\\x18')
     ('lzip', None, 'zstd or lz4 (a frame that is skipped)')
     """
-    return _found(_IS_SURE.match(head), _SURE)
+    return _first_of(_SURE, head) if _IS_SURE.match(head) is not None else None
 
 
 def kind_of_long(head: bytes) -> Optional[str]:
@@ -203,19 +205,24 @@ def kind_of_long(head: bytes) -> Optional[str]:
     >>> kind_of_long(b'FEA1\\4\\0'), kind_of_long(b'FEA1 is a form of files'), kind_of_long(b'ORC')
     ('Feather', None, None)
     """
-    return kind_of_short(head) or _found(_IS_LONG.match(head), _LONG) or ('compress' if _is_compress(head) else None)
+    if _IS_KNOWN.match(head) is None:
+        return None
+    return _first_of(_SURE, head) or _first_of(_LONG, head) or ('compress' if _is_compress(head) else None)
 
 
 def kind_by_end(tail: bytes) -> Optional[str]:
     """What ends so."""
-    matches = (_HAS_END.match(tail, len(tail) - size) for size in _SIZES_OF_ENDS if size <= len(tail))
-    return next((_found(match, _ENDS) for match in matches if match is not None), None)
+    for size in _SIZES_OF_ENDS:
+        begin = len(tail) - size
+        if begin >= 0 and _HAS_END.match(tail, begin) is not None:
+            return _first_of(_ENDS, tail, begin)
+    return None
 
 
 def kind_of_file(blob: Blob, head: bytes) -> Optional[str]:
     """What a file or a member begins or ends like."""
-    found = kind_of_long(head) or _found(_IS_FILE.match(head), _FILES)
-    if found is None and blob.size > len(head):
+    found = kind_of_long(head) or _first_of(_FILES, head) if _IS_KNOWN.match(head) is not None else None
+    if found is None and blob.size > _FIRST_LATE:
         found = next((kind for at, kind, sign in _LATE if blob.size > at and sign.match(blob.read(at, 8))), None)
     return found or kind_by_end(blob.read(max(0, blob.size - TAIL), TAIL))
 

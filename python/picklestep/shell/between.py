@@ -160,7 +160,8 @@ class Between:
             self.sure = self._session.reach(place)
         if piece.put is not None:
             rest = piece.put.line[piece.put.line.index(':'):]
-            return f'{piece.offset:>5}{rest[:_OF_CODE]}{"    " * self._marks(place)}{rest[_OF_CODE:]}'
+            line = f'{piece.offset:>5}{rest[:_OF_CODE]}{"    " * self._marks(place)}{rest[_OF_CODE:]}'
+            return _whole(line, line)
         line = self._lines.raw(piece.old + place - piece.place)
         offset, _, rest = line.partition(':')
         if self._codes[place] == _FRAME:
@@ -168,7 +169,7 @@ class Between:
         mark = _MARK.search(rest) if self._codes[place] not in _VALUE_CODES else None
         if mark is not None:
             rest = f'{rest[:mark.start(1)]}{self._moved(int(mark[1]))})'
-        return f'{int(offset) + piece.shift:>5}:{rest}'
+        return _whole(f'{int(offset) + piece.shift:>5}:{rest}', line if piece.shift else '')
 
     def at(self, place: int) -> Line:
         """An opcode."""
@@ -224,7 +225,7 @@ class Between:
             place = self.makers.place(number)
             piece = self._piece(place)
             if piece.put is not None:
-                return f'#{number}{piece.put.object[2:]}'
+                return _whole(f'#{number}{piece.put.object[2:]}', piece.put.object)
             old = self._lines.makers.before(piece.old + place - piece.place)
         if old >= len(self._final):
             raise Unknown
@@ -234,7 +235,7 @@ class Between:
         if not is_told and not (number < self._made and self._is_left(number)):
             raise Unknown
         line = self._final.brief(old) if end - begin > _LONGEST else self._final.raw(old)
-        return f'#{number}{line[len(head[0]):]}'
+        return _whole(f'#{number}{line[len(head[0]):]}', line if number != old else '')
 
     def _is_left(self, number: int) -> bool:
         """Whether an object that was made before the edits is surely not changed behind them, as it surely was not before there were any.
@@ -353,6 +354,13 @@ def _are_same(lines: OpcodeLines, final: Lines, edits: Sequence[Done]) -> bool:
         if number >= len(final) or _kind(final.brief(number)) != _kind(edit.put.object):
             return False
     return True
+
+
+def _whole(line: str, was: str) -> str:
+    """A line that was another. Where a text in it may have been cut elsewhere it is unknown."""
+    if max(len(line), len(was)) > _LONGEST and was:
+        raise Unknown
+    return line
 
 
 def _kind(line: str) -> str:

@@ -5,9 +5,11 @@ from __future__ import annotations
 from bisect import bisect_left
 from dataclasses import dataclass
 from fnmatch import fnmatchcase
+from heapq import merge
 from typing import Callable, Dict, Iterator, Optional
 
 from ..records import Extension, Global, Name, Ref
+from ..view.document import around, in_a_line
 from ..view.lines import CODE_BY_NAME, Line
 from .opened import Opened
 
@@ -30,19 +32,6 @@ class Break:
         return f'{self.number}: {self.what} {self.text}{"" if self.is_on else " (off)"}'
 
 
-def _around(pickle: Opened, text: bytes, place: int, step: int) -> Iterator[int]:
-    """The places whose lines hold a text, from a place on, forwards or backwards."""
-    lines = pickle.lines
-    if step > 0:
-        at = lines.start(min(place, len(lines))) - 1
-        while (at := lines.text.find(text, at + 1)) >= 0:
-            yield lines.number_at(at)
-    else:
-        at = lines.start(max(0, place + 1))
-        while (at := lines.text.rfind(text, 0, at)) >= 0:
-            yield lines.number_at(at)
-
-
 def _at_place(pickle: Opened, text: str, place: int, step: int) -> Iterator[int]:
     if (int(text) - place) * step >= 0:
         yield int(text)
@@ -57,19 +46,20 @@ def _opcode(pickle: Opened, text: str, place: int, step: int) -> Iterator[int]:
 
 def _text(pickle: Opened, text: str, place: int, step: int) -> Iterator[int]:
     wanted = text.encode('utf-8', 'surrogatepass')
-    shown = ''.join(f'\\x{byte:02x}' if not 32 <= byte < 127 else f'\\{byte:c}' if byte in b"\\'" else chr(byte) for byte in wanted)
-    return (at for at in _around(pickle, shown.encode('ascii'), place, step) if shown in pickle.lines.at(at).argument)
+    shown = in_a_line(wanted)
+    in_lines = (at for at in around(pickle.lines, shown, place, step) if shown.decode('ascii') in pickle.lines.at(at).argument)
+    return iter(merge(in_lines, pickle.cut_with(wanted, place, step), reverse=step < 0))
 
 
 def _memo(pickle: Opened, text: str, place: int, step: int) -> Iterator[int]:
     def is_key(line: Line) -> bool:
         return line.name == 'MEMOIZE' and line.argument == f'(as {text})' or line.name.endswith(('PUT', 'GET')) and line.argument == text
 
-    return (at for at in _around(pickle, text.encode('ascii', 'replace'), place, step) if is_key(pickle.lines.at(at)))
+    return (at for at in around(pickle.lines, text.encode('ascii', 'replace'), place, step) if is_key(pickle.lines.at(at)))
 
 
 def _depth(pickle: Opened, text: str, place: int, step: int) -> Iterator[int]:
-    found = _around(pickle, b' ' * (4 * int(text) + 1), place, step)
+    found = around(pickle.lines, b' ' * (4 * int(text) + 1), place, step)
     return (at for at in found if pickle.lines.at(at).marks >= int(text))
 
 

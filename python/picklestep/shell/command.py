@@ -36,7 +36,7 @@ def main(arguments: List[str]) -> int:
             if not is_terminal():
                 return _obey_all(shell, 'standard input', _lines('standard input', sys.stdin))
             return _converse(shell)
-    except (OSError, PicklestepError) as error:
+    except (OSError, PicklestepError, WordError) as error:
         print(f'picklestep: {reason(error)}', file=sys.stderr)
         return 2
     except KeyboardInterrupt:

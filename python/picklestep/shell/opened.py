@@ -5,14 +5,16 @@ from __future__ import annotations
 import contextlib
 import re
 import threading
-from bisect import bisect_left
+from itertools import islice
 from typing import Any, Callable, Dict, Iterator, List, NamedTuple, Optional, Sequence, Set, Tuple
 
 from ..arguments import ArgumentValue
+from ..changes import changed
 from ..comparing import shown_value
-from ..errors import Refused
+from ..errors import NoResult, Refused
 from ..python_source.shapes import BRACKETS
 from ..records import Global, Object, Reach, Ref
+from ..session import SHIFTS
 from ..sources import Input, Source
 from ..texts import LinesError, object_of
 from ..values import PLAIN_KINDS, kind_value
@@ -22,9 +24,10 @@ from .between import MOST_EDITS, Between, Objects, Put, Unknown, can_tell
 from .history import History
 from .later import Later
 
-__all__ = ['SHIFTS', 'Edit', 'Opened']
+__all__ = ['Edit', 'Opened']
 
 _MOST_ITEMS = 4
+_MOST_KEY = 4  # levels of tuples and frozen sets
 
 
 class Edit(NamedTuple):
@@ -119,7 +122,7 @@ class Opened(Document):
             if self._base is None:
                 reading.result()
             else:
-                self._take(reading, self._base)
+                self._take_beside(reading, self._base)
 
     def take_read(self) -> bool:
         """Takes what was read after an edit, if it has been read by now. Answers whether the pickle is read."""
@@ -127,7 +130,7 @@ class Opened(Document):
             self.settle()
         return not self.is_unread
 
-    def _take(self, reading: Later[_Read], base: _Base) -> None:
+    def _take_beside(self, reading: Later[_Read], base: _Base) -> None:
         """Takes what was read beside the prompt. Where that failed, the edits since the last reading are taken back."""
         self._base = self._between = None
         try:
@@ -382,7 +385,7 @@ class Opened(Document):
                 put = Put.of(edit.word, edit.name, edit.values, edit.raw) if is_told and can_tell(code, edit.word, edit.name) else None
                 place = self._edit_one(edit)
                 done.append(Done(edit.word, place, edit.name, bool(done), self._put_code(edit.word, place, CODE_BY_NAME.get(edit.name, 0)), put))
-                self._here += SHIFTS.get(edit.word, 0) if edit.place < self._here else 0
+                self._here += SHIFTS[edit.word] if edit.place < self._here else 0
         except BaseException:
             back()
             self._return(here)
@@ -458,6 +461,20 @@ class Opened(Document):
             self.session.goto(here)
             self.place, self._heap = here, None
 
+    def refusal(self) -> str:
+        """Why the opcode at the cursor is refused; nothing where it is not."""
+        try:
+            self.session.step()
+        except Refused as error:
+            return error.text.partition(': ')[2]
+        self.session.back()
+        return ''
+
+    @property
+    def is_exact(self) -> bool:
+        """Whether objects are shown as they are at the cursor, and not as they are at the end."""
+        return self._is_exact()
+
     def _edit_one(self, edit: Edit) -> int:
         session = self.session
         if edit.word in ('replace', 'insert'):
@@ -466,7 +483,7 @@ class Opened(Document):
         elif edit.word == 'frame':
             place = session.frame(edit.place, edit.members)
         else:
-            place = session.delete(edit.place) if edit.word == 'delete' else session.unframe(edit.place)
+            place = getattr(session, edit.word)(edit.place)
         return place
 
     def undo_back(self, is_redo: bool) -> List[Done]:
@@ -489,7 +506,7 @@ class Opened(Document):
                 self._put_code(edit.what, edit.place, CODE_BY_NAME.get(edit.name, 0))
             else:
                 self._put_back(edit)
-            shift = SHIFTS.get(edit.what, 0) if edit.place < self._here else 0
+            shift = SHIFTS[edit.what] if edit.place < self._here else 0
             self._here += shift if is_redo else -shift
         count, turned = len(edits), list(edits)
         left, more = (self._undone[:-count], self._edits) if is_redo else (self._edits[:-count], self._undone)
@@ -525,11 +542,16 @@ class Opened(Document):
 
     def described(self, number: int, depth: int = 1) -> str:
         """An object in a few words: its value, or what is called."""
-        made = self.object_at(number)
-        if made is None:
-            return self.brief(number)[:120]
+        with contextlib.suppress(NoResult):  # (how it is changed is not known)
+            made = self.object_at(number)
+            if made is not None:
+                return self._described(made, depth)
+        return self.brief(number)[:120]
+
+    def _described(self, made: Object, depth: int) -> str:
         if made.kind in PLAIN_KINDS:
-            return shown_value(kind_value(made.kind, made.text))
+            value = kind_value(made.kind, made.text)
+            return shown_value(changed(value, made, self._key, self._key) if isinstance(value, bytearray) else value)
         if made.kind in ('global', 'stack-global', 'inst'):
             named = shown_value(self._named(made))
             return named if made.kind != 'inst' else named + self._inside(made.parts, depth, _CALL)
@@ -545,20 +567,38 @@ class Opened(Document):
         return Global(module, name)
 
     def _container(self, made: Object, depth: int) -> str:
-        pairs = [(change.key, change.value) for change in made.changes if change.key is not None]
+        held = changed(list(made.parts), made, self._key)
         if made.kind != 'dict':
-            return self._inside([*made.parts, *(change.value for change in made.changes)], depth, BRACKETS[made.kind], made.kind)
-        pairs = [*zip(made.parts[::2], made.parts[1::2]), *pairs]
-        if pairs and depth <= 0:
-            return f'dict of {len(pairs)}'
-        shown = [f'{self.described(key, 0)}: {self.described(value, depth - 1)}' for key, value in pairs[:_MOST_ITEMS]]
-        return '{' + ', '.join(shown + _more(len(pairs))) + '}'
+            members = list({self._key(number): number for number in reversed(held)}.values())[::-1] if 'set' in made.kind else held
+            return self._inside(members, depth, BRACKETS[made.kind], made.kind)
+        keys: Dict[Any, int] = {}
+        values: Dict[Any, int] = {}
+        for key, value in zip(held[::2], held[1::2]):
+            keys.setdefault(self._key(key), key)
+            values[self._key(key)] = value
+        if keys and depth <= 0:
+            return f'dict of {len(keys)}'
+        shown = [f'{self.described(key, 0)}: {self.described(value, depth - 1)}' for key, value in islice(zip(keys.values(), values.values()), _MOST_ITEMS)]
+        return '{' + ', '.join(shown + _more(len(keys))) + '}'
+
+    def _key(self, number: int, depth: int = _MOST_KEY) -> Any:
+        """An object as a key, a member or an index, so that those are the same that Python takes for the same: else a Ref."""
+        made = self.object_at(number)
+        value: Any = Ref(number)
+        if made is not None and made.kind in ('tuple', 'frozenset') and depth:
+            parts = [self._key(part, depth - 1) for part in made.parts]
+            return tuple(parts) if made.kind == 'tuple' else frozenset(parts)
+        if made is not None and made.kind == 'global':
+            value = self._named(made)
+        elif made is not None and made.kind in PLAIN_KINDS and made.kind != 'bytearray':
+            value = kind_value(made.kind, made.text)
+        return value if value == value else Ref(number)  # (NaN is itself alone)
 
     def _inside(self, numbers: Sequence[int], depth: int, brackets: Tuple[str, str], kind: str = '') -> str:
         if kind and numbers and depth <= 0:
             return f'{kind} of {len(numbers)}'
-        if kind == 'set' and not numbers:
-            return 'set()'
+        if 'set' in kind and not numbers:
+            return f'{kind}()'
         shown = [self.described(number, depth - 1) for number in numbers[:_MOST_ITEMS]] if depth > 0 else ['..'] * bool(numbers)
         comma = ',' if kind == 'tuple' and len(numbers) == 1 else ''
         return brackets[0] + ', '.join(shown + (_more(len(numbers)) if depth > 0 else [])) + comma + brackets[1]
@@ -586,8 +626,6 @@ _MOST_WALKED = 100_000
 _MOST_AHEAD = 20_000
 _SHOWN_AFTER = 3
 _KEY = re.compile('[0-9]+')
-# How many opcodes more there are after an edit.
-SHIFTS = {'insert': 1, 'frame': 1, 'delete': -1, 'unframe': -1}
 
 
 def _size(lines: Lines, number: int) -> int:

@@ -14,6 +14,7 @@ from ..diff import of_reaches
 from ..errors import NoResult, PicklestepError, Refused
 from ..records import Ref
 from ..python_source import source
+from ..session import SHIFTS
 from ..sources import Source
 from ..texts import LinesError, opcode_of, stored_under
 from ..view.document import Done
@@ -22,7 +23,7 @@ from .breaks import BREAKS, Break, next_break
 from .between import Unknown, line_put
 from .edits import OPCODES, EditError, of_object, of_value, of_words, unquoted
 from .explain import EFFECTS, EXPLAINED, taken
-from .opened import SHIFTS, Edit, Opened
+from .opened import Edit, Opened
 from .renames import Renaming, names_of, renaming
 from .words import WORDS, help_page, help_pages, whole_word
 
@@ -36,6 +37,7 @@ _MOST_BYTES = 256
 _TAKES = {'opcode': 'the name of one', 'import': 'a pattern, as os.*', 'call': 'a pattern, as os.*'}
 # Words that do nothing without what comes after them.
 _NEED = frozenset('goto until go clear off on find who show replace insert set rename frame'.split())
+_SHOW_OBJECTS = frozenset('step back goto until run go where explain show stack memo objects'.split())
 # Words that may do with what is known before the pickle is read after an edit.
 _UNREAD = frozenset('where step back goto until list stack insert replace delete set undo'.split())
 _OF_FRAMES = ('F6', 'F7', 'F8')
@@ -115,18 +117,25 @@ class Shell:
                     return self._obey_unread(name, text)
             self._settle()
             self._check_names()  # (of a rename that was interrupted)
-            return self._words[name](text)
+            return self._words[name](text) + self._note(name)
         except Refused as error:
             raise WordError(f'refused: {error.text}') from error
         except (EditError, ValueError, TypeError, OverflowError, OSError, PicklestepError) as error:
             raise WordError(str(error)) from error
+        except Exception as error:  # (edits are not lost for what went wrong in one word)
+            raise WordError(f'{name} failed: {type(error).__name__}: {error}') from error
+
+    def _note(self, name: str) -> str:
+        """What is to be known of the objects that a word has shown: where there are many, they are not those at the cursor."""
+        is_other = name in _SHOW_OBJECTS and self.pickle.place < len(self.pickle.lines) and not self.pickle.is_exact
+        return '\n(What objects hold is as it is at the end.)' if is_other else ''
 
     def _obey_unread(self, name: str, text: str) -> str:
         """Does what a word says by what is known before the pickle is read after an edit. Where that does not do, nothing is done."""
         listed, here = self._listed, self.pickle.session.where().place
         with self.pickle.unread():
             try:
-                return self._words[name](text)
+                return self._words[name](text) + self._note(name)
             except Unknown:
                 self._listed = listed
                 self.pickle.session.goto(here)
@@ -344,6 +353,8 @@ class Shell:
     def _do_calls(self, text: str) -> str:
         offsets, answer = self.pickle.reaches.offsets, self.pickle.reaches.answer
         first = self._count(text) - 1
+        if first < 0:
+            raise WordError('calls counts from 1')
         rows = [f'{offsets[at]:>7}: {answer[at].text}' for at in range(first, min(len(offsets), first + _MOST_LINES))]
         if first + _MOST_LINES < len(offsets):
             rows.append(f'.. {len(offsets) - first - _MOST_LINES} more: calls {first + _MOST_LINES + 1}')
@@ -391,9 +402,10 @@ class Shell:
                 made = self.pickle.final_object(number)
                 takes = self._numbered([f'#{part}' for part in made.parts] if made is not None else [])
                 rows.append(f'it makes #{number}' + (f' of {takes}' if takes else ''))
-            elif EFFECTS[line.name][0]:
-                takes = self._taken(line.name) if is_there else EFFECTS[line.name][0]
-                rows.append(f'it takes {takes}' if takes else 'it is refused here')
+            else:
+                why = self.pickle.refusal() if is_there else ''
+                takes = EFFECTS[line.name][0] and (self._taken(line.name) if is_there and not why else EFFECTS[line.name][0])
+                rows += [f'it is refused here: {why}'] if why else [f'it takes {takes}'] if takes else []
         return '\n'.join(rows)
 
     def _taken(self, name: str) -> str:
@@ -480,17 +492,17 @@ class Shell:
         shift = 0
         for edit in known:
             moved.append(edit._replace(place=edit.place + shift))
-            shift += SHIFTS.get(edit.word, 0)
+            shift += SHIFTS[edit.word]
         before = self._moved[0] if self.pickle.is_unread else []
         done = self.pickle.edit_all(moved)
-        moves = [(edit.place, SHIFTS.get(edit.word, 0)) for edit in moved]
+        moves = [(edit.place, SHIFTS[edit.word]) for edit in moved]
         self._moved = [*before, *moves], [], self._hidden
         self._move_breaks(moves, [], self._hidden)
         self._hidden_back.clear()
         return '\n'.join(self._echo(edit, place, old) for edit, place, old in zip(known, done, was))
 
     def _echo(self, edit: Edit, place: int, old: str) -> str:
-        if edit.word in ('delete', 'unframe'):
+        if SHIFTS[edit.word] < 0:
             return f'{place}: {old} is gone'
         if edit.word == 'frame':
             self._settle()
@@ -555,7 +567,7 @@ class Shell:
             ended = '' if end.is_stopped else f' before {end.text}'
             raise WordError('; '.join([f'nothing is imported from {words[0][:60]!r}{ended}', *self.pickle.kept]))
         places = [edit.place for edit in found.edits]
-        shifts = [0, *accumulate(SHIFTS.get(edit.word, 0) for edit in found.edits)]
+        shifts = [0, *accumulate(SHIFTS[edit.word] for edit in found.edits)]
         stays = [f'{place + shifts[bisect_right(places, place)]}: {self._was(place)} stays: it is data too' for place in found.stays]
         self._unchecked = found, self.pickle.edits_made
         rows = [self._edited(found.edits), *stays]
@@ -587,7 +599,7 @@ class Shell:
     def _undo(self, is_redo: bool) -> str:
         unread = self._moved[0] if self.pickle.is_unread else None
         edits = self.pickle.undo_back(is_redo)
-        moves = [(edit.place, SHIFTS.get(edit.what, 0) * (1 if is_redo else -1)) for edit in edits]
+        moves = [(edit.place, SHIFTS[edit.what] * (1 if is_redo else -1)) for edit in edits]
         self._moved = (moves, self._hidden_back, self._hidden) if is_redo else (moves, self._hidden, self._hidden_back)
         self._move_breaks(*self._moved)
         if unread is not None:  # (the edits before these may have to be taken back, too)
@@ -611,7 +623,10 @@ class Shell:
         return '\n'.join([*rows, *differences[:_MOST_LINES], *more, *self.pickle.kept])
 
     def _do_save(self, text: str) -> str:
-        path = shlex.split(text)[0] if text else self._path
+        words = shlex.split(text)
+        if len(words) > 1:
+            raise WordError(f'it is: {WORDS["save"].usage}, in quotes where it has blanks')
+        path = words[0] if words else self._path
         if not path:
             raise WordError('it has no file: save FILE')
         self.pickle.save(path, True)
@@ -619,7 +634,7 @@ class Shell:
         return f'saved {path}'
 
     def _do_quit(self, text: str) -> str:
-        if self.is_unsaved and self.ask is not None and not self.ask('There are unsaved edits. Quit without saving? (yes/no) '):
+        if self.ask is not None and self.is_open and self.is_unsaved and not self.ask('There are unsaved edits. Quit without saving? (yes/no) '):
             return 'not ended'
         self.is_over = True
         return ''

@@ -5,21 +5,21 @@ from __future__ import annotations
 import os
 from array import array
 from bisect import bisect_left, bisect_right
-from itertools import islice
+from itertools import chain, islice
 from pathlib import Path
-from typing import Any, Callable, Dict, List, NamedTuple, Optional, Set, Tuple
+from typing import Any, Callable, Dict, Iterator, List, NamedTuple, Optional, Set, Tuple
 
 from ..answers import Calls
 from ..errors import Refused
 from ..python_source import source
 from ..reaches import made_by
-from ..session import Session
+from ..session import SHIFTS, Session
 from ..sources import Input, Source
 from ..tasks import modes
 from ..texts import as_made, broken_places, held_in, holding
-from .lines import Lines, OpcodeLines, add_items, cut_text, lines_of, read_all, silent
+from .lines import Lines, OpcodeLines, add_items, cut_text, lines_of, read_all, read_answers, silent
 
-__all__ = ['MOST_EXACT', 'MOST_TEXT', 'Document', 'Done', 'Fields', 'Reaches', 'places_edited']
+__all__ = ['MOST_EXACT', 'MOST_TEXT', 'Document', 'Done', 'Fields', 'Reaches', 'around', 'in_a_line', 'places_edited']
 
 Fields = Dict[str, Any]
 
@@ -43,7 +43,6 @@ _MOST_SOURCE_LINES = 1000
 _MOST_SAID = 4000
 _IMPORTS = ('import', 'inst')
 _CALLS = ('inst', 'call', 'new', 'state', 'append', 'set', 'add')
-_PLACES = {'replace': 0, 'insert': 1, 'delete': -1, 'frame': 1, 'unframe': -1}
 
 
 class Reaches:
@@ -124,6 +123,13 @@ class Reaches:
         return None
 
 
+def _with_reaches(lines: OpcodeLines, final: Lines, calls: str, is_part: bool) -> Tuple[OpcodeLines, Lines, Reaches]:
+    """What the program says, with what is reached."""
+    reaches = Reaches(Calls(calls), is_part)
+    lines.closing += reaches.behind
+    return lines, final, reaches
+
+
 def _counted(kinds: List[str]) -> Tuple[int, int]:
     return sum(map(_IMPORTS.__contains__, kinds)), sum(map(_CALLS.__contains__, kinds))
 
@@ -175,35 +181,46 @@ class Document:
 
     def _read(self) -> None:
         """Reads the listing, the objects, and what is imported and called."""
-        if self._edits or self.version:
+        if not (self._edits or self.version):
+            self._read_from(self.session._input)
+        elif not self._read_at_once():
             self._content = self.version + 1, self.session.bytes()
             with Input(self._content[1]) as given:
                 self._read_from(given)
-        else:
-            self._read_from(self.session._input)
         self.version += 1
         self._heap: Optional[Lines] = None
         self.edited = places_edited(self._edits)
         if self._has_breaks:
             self.breaks = broken_places(self.session.items().text)
 
+    def _read_at_once(self) -> bool:
+        """Reads what the library says of a small pickle as the edits leave it. False where it is to be saved for the program: there is no library,
+        or the listing ends before its last opcode."""
+        with self.session._asked() as asked:
+            answers = read_answers(asked.in_process, self._options, self._codes)
+        if answers is None or len(answers[0]) < self.session.where().places:
+            return False
+        self._take(*_with_reaches(*answers), len(answers[0]))
+        return True
+
     def _read_from(self, given: Input) -> None:
-        self.lines, self._final, self.reaches, self.listed = self._lists(given, self.session.where().places, self._codes, self._told)
+        self._take(*self._lists(given, self.session.where().places, self._codes, self._told))
+
+    def _take(self, lines: OpcodeLines, final: Lines, reaches: Reaches, listed: int) -> None:
+        """Keeps what the program says."""
+        self.lines, self._final, self.reaches, self.listed = lines, final, reaches, listed
         here = self.session.where().place
         self._makers = self.lines.makers
         self._makers.finish(self._final, self._makes_object)
         self.session.goto(here)
 
-    def _lists(self, given: Input, places: int, codes: Optional[bytes], told: Callable[[str], None]) -> 'Tuple[OpcodeLines, Lines, Reaches, int]':
-        """The opcodes, the objects and what is reached, of an input of so many opcodes, and of how many opcodes `list` tells. It leaves the session
-        alone."""
-        lines, final, calls, is_part = read_all(given, self._options, told, codes)
-        listed = len(lines)
+    def _lists(self, given: Input, places: int, codes: Optional[bytes], told: Callable[[str], None]) -> Tuple[OpcodeLines, Lines, Reaches, int]:
+        """What the program says of an input of so many opcodes, and of how many of them `list` tells. The session is not asked."""
+        answers = read_all(given, self._options, told, codes)
+        listed = len(answers[0])
         if listed < places:
-            add_items(lines, given, self._options)
-        reaches = Reaches(Calls(calls), is_part)
-        lines.closing += reaches.behind
-        return lines, final, reaches, listed
+            add_items(answers[0], given, self._options)
+        return (*_with_reaches(*answers), listed)
 
     def _makes_object(self, place: int, number: int) -> bool:
         """Whether the opcode at a place makes the object of this number. It moves the session."""
@@ -390,10 +407,23 @@ class Document:
         return f'break {place}'
 
     def find(self, text: str, after: int) -> Optional[int]:
-        """The place that a search finds: an offset, a name or a text."""
+        """The place that a search finds: an offset, a name or a text. What an argument holds is found, also where its line does not have it whole."""
         if text.isdecimal() and len(self.lines) and int(text) <= self.lines.offset(len(self.lines) - 1):
             return self.lines.place_of(int(text))
-        return self.lines.find(_written(text), after) if text else None
+        if not text:
+            return None
+        data = text.encode('utf-8', 'surrogatepass')
+        cut = next(chain(self.cut_with(data, after + 1, 1), self.cut_with(data, 0, 1)), None)
+        places = [self.lines.find(in_a_line(data), after), self.lines.find(in_a_line(data, b''), after), cut]
+        ahead = [(place - after - 1) % len(self.lines) for place in places if place is not None]
+        return (after + 1 + min(ahead)) % len(self.lines) if ahead else None
+
+    def cut_with(self, text: bytes, place: int, step: int) -> Iterator[int]:
+        """The places whose arguments are not whole in their lines and hold a text, from a place on, forwards or backwards."""
+        for at in around(self.lines, b' bytes more', place, step):
+            end = self.lines.offset(at + 1) if at + 1 < len(self.lines) else None
+            if self.content().find(text, self.lines.offset(at) + 1, end) >= 0:
+                yield at
 
     # --- Edits ---
 
@@ -419,8 +449,8 @@ class Document:
             done = put(place, name, raw=bytes.fromhex(raw))
         elif what == 'frame':
             done = self.session.frame(place, count)
-        elif what in ('delete', 'unframe'):
-            done = self.session.delete(place) if what == 'delete' else self.session.unframe(place)
+        elif what in SHIFTS:
+            done = getattr(self.session, what)(place)
         else:
             raise ValueError('this is no edit')
         self._changed([*self._edits, Done(what, done, name if puts else '')], [], self.session.undo)
@@ -484,9 +514,21 @@ def _latest(edits: List[Done]) -> str:
     return str(edits[-1]) if edits else ''
 
 
-def _written(text: str) -> bytes:
-    """A text as the program writes it: its bytes, with escapes for those that are no signs of ASCII."""
-    return b''.join(b'%c' % byte if 0x20 <= byte <= 0x7e else b'\\x%02x' % byte for byte in text.encode('utf-8', 'surrogatepass'))
+def in_a_line(text: bytes, escaped: bytes = b"\\'") -> bytes:
+    """A text as the program writes it in quotes; with nothing that is escaped as it is typed, but for what is no sign of ASCII."""
+    return b''.join(b'\\x%02x' % byte if not 0x20 <= byte <= 0x7e else b'\\%c' % byte if byte in escaped else b'%c' % byte for byte in text)
+
+
+def around(lines: Lines, text: bytes, place: int, step: int) -> Iterator[int]:
+    """The places whose lines hold a text, from a place on, forwards or backwards."""
+    if step > 0:
+        at = lines.start(min(place, len(lines))) - 1
+        while (at := lines.text.find(text, at + 1)) >= 0:
+            yield lines.number_at(at)
+    else:
+        at = lines.start(max(0, place + 1))
+        while (at := lines.text.rfind(text, 0, at)) >= 0:
+            yield lines.number_at(at)
 
 
 def _last(answer: str) -> Fields:
@@ -500,7 +542,7 @@ def places_edited(edits: List[Done]) -> Set[int]:
     """The places that edits touched, each where it is after those that came later."""
     places: Set[int] = set()
     for what, at, *_ in edits:
-        shift = _PLACES[what]
+        shift = SHIFTS[what]
         if shift > 0:
             places = {place + 1 if place >= at else place for place in places}
         elif shift < 0:

@@ -17,7 +17,7 @@ from ..sources import Input
 from ..tasks import left_out
 from ..texts import ITEM_IN_BYTES, Line, begins_with_offset, frames_in, line_of, readonly_count
 
-__all__ = ['CODE_BY_NAME', 'CUT', 'Line', 'Lines', 'OpcodeLines', 'add_items', 'cut_text', 'line_of', 'lines_of', 'read_all', 'shown_code', 'silent']
+__all__ = ['CODE_BY_NAME', 'CUT', 'Line', 'Lines', 'OpcodeLines', 'add_items', 'cut_text', 'line_of', 'lines_of', 'read_all', 'read_answers', 'shown_code', 'silent']
 
 # The most bytes that are kept of a text.
 CUT = 500
@@ -227,8 +227,7 @@ def read_all(given: Input, options: Sequence[str] = (), told: Callable[[str], No
     """The lines of `list`, those of `objects` without its closing lines, the text of `calls`, and whether this is only its first lines. The
     program works on all of them at once where the input is not large. Of a pickle that is read unframed, `calls` comes after `list`, which says
     where the FRAMEs are that it leaves out. `codes` are those of all opcodes, where they are known."""
-    tasks = [['list', *options], ['objects', *options]]
-    of_calls = ['calls', *([] if '--many' in options else ['--first'])]
+    *tasks, of_calls = _words(options)
     is_framed = '--unframed' not in options
     with contextlib.ExitStack() as running:
         def start(words: List[str]) -> Process:
@@ -237,16 +236,36 @@ def read_all(given: Input, options: Sequence[str] = (), told: Callable[[str], No
             return process
         started = map(start, [*tasks, of_calls] if is_framed else tasks)  # (it starts each where it is asked for)
         processes = iter(list(started)) if os.stat(given.path).st_size <= _MOST_AT_ONCE else started
-        listing = _read_listing(next(processes), OpcodeLines(codes), told, os.stat(given.path).st_size)
-        objects = _read_objects(next(processes), told)
+        listing = _read_listing(bounded(next(processes).blocks(), os.stat(given.path).st_size), OpcodeLines(codes), told)
+        objects = _read_objects(next(processes).blocks(), told)
         told('calls ..')
         holes = running.enter_context(left_out(() if is_framed else frames_in(listing.text)))
-        calls, is_part = _read_calls(next(processes) if is_framed else start([*of_calls, *holes]))
+        calls, is_part = _read_calls((next(processes) if is_framed else start([*of_calls, *holes])).blocks())
     return listing, objects, calls, is_part
 
 
-def _read_listing(process: Process, listing: OpcodeLines, told: Callable[[str], None], size: int) -> OpcodeLines:
-    _read(listing, bounded(process.blocks(), size), told, 'list')
+def _words(options: Sequence[str]) -> List[List[str]]:
+    """What the program is asked about a pickle: `list`, `objects` and `calls`."""
+    return [['list', *options], ['objects', *options], ['calls', *([] if '--many' in options else ['--first'])]]
+
+
+def read_answers(answer: Callable[[List[str]], Optional[bytes]], options: Sequence[str] = (),
+                 codes: Optional[bytes] = None) -> 'Optional[Tuple[OpcodeLines, Lines, str, bool]]':
+    """The same of what is answered at once. None where something is not, and of a pickle that is read unframed."""
+    if '--unframed' in options:
+        return None
+    texts: List[List[bytes]] = []
+    for words in _words(options):
+        text = answer(words)
+        if text is None:
+            return None
+        texts.append([text])
+    listing, objects, calls = texts
+    return (_read_listing(listing, OpcodeLines(codes), silent), _read_objects(objects, silent), *_read_calls(calls))
+
+
+def _read_listing(blocks: Iterable[bytes], listing: OpcodeLines, told: Callable[[str], None]) -> OpcodeLines:
+    _read(listing, blocks, told, 'list')
     while len(listing) and not begins_with_offset(listing.raw(len(listing) - 1)):
         listing.closing.insert(0, listing.drop_last())
     if not listing.closing:
@@ -259,10 +278,10 @@ def _read_listing(process: Process, listing: OpcodeLines, told: Callable[[str], 
     return listing
 
 
-def _read_calls(process: Process) -> Tuple[str, bool]:
+def _read_calls(blocks: Iterable[bytes]) -> Tuple[str, bool]:
     """The text of `calls`, or its first lines where these are very long, and whether it is cut so."""
     text = bytearray()
-    for block in process.blocks():
+    for block in blocks:
         text += block
         if len(text) > _MOST_CALLS:
             return text[:text.rfind(b'\n') + 1].decode('ascii'), True
@@ -283,9 +302,9 @@ def add_items(listing: OpcodeLines, given: Input, options: Sequence[str] = ()) -
         begin = end
 
 
-def _read_objects(process: Process, told: Callable[[str], None]) -> Lines:
+def _read_objects(blocks: Iterable[bytes], told: Callable[[str], None]) -> Lines:
     objects = Lines()
-    _read(objects, process.blocks(), told, 'objects')
+    _read(objects, blocks, told, 'objects')
     while len(objects) and objects.text[objects.start(len(objects) - 1)] != ord('#'):
         objects.drop_last()
     return objects

@@ -7,7 +7,7 @@ import pickletools
 from typing import Any, Dict
 
 from ..python_source.builder import KINDS, MOST_SHORT, taken_count
-from ..python_source.code import HEAD
+from ..python_source.code import BEHIND, HEAD, HEAD_OF_CUT
 from ..python_source.helpers import HELPERS
 from ..python_source.literals import MOST_DECIMAL_BITS
 from ..python_source.names import TAKEN
@@ -27,7 +27,7 @@ def opcode_table() -> Dict[str, Dict[str, Any]]:
     """
     return {opcode.name: {'code': shown_code(opcode.code), 'form': opcode.arg.name if opcode.arg else '',
                           'makes': opcode.name not in MAKE_NONE, 'says': EXPLAINED[opcode.name],
-                          'takes': EFFECTS[opcode.name][0], 'leaves': EFFECTS[opcode.name][1]} for opcode in pickletools.opcodes}
+                          'takes': EFFECTS[opcode.name][0], 'leaves': EFFECTS[opcode.name][1]} for opcode in pickletools.opcodes if opcode.name in EXPLAINED}
 
 
 def source_facts() -> Dict[str, Any]:
@@ -39,7 +39,7 @@ def source_facts() -> Dict[str, Any]:
     (['tuple', 2], 'builtins len')
     """
     kinds = {opcode.name: [KINDS[opcode.name], taken_count(opcode)] for opcode in pickletools.opcodes if opcode.name in KINDS}
-    return {'head': HEAD, 'helpers': HELPERS, 'taken': {name: ' '.join(thing) for name, thing in TAKEN.items()},
+    return {'head': HEAD, 'headOfCut': HEAD_OF_CUT, 'behind': BEHIND, 'helpers': HELPERS, 'taken': {name: ' '.join(thing) for name, thing in TAKEN.items()},
             'keywords': [word for word in keyword.kwlist if word[0] != '_'], 'kinds': kinds,
             'most': {'columns': COLUMNS, 'depth': MOST_DEPTH, 'items': MOST_ITEMS, 'letters': MOST_LETTERS, 'short': MOST_SHORT,
                      'decimalBits': MOST_DECIMAL_BITS}}

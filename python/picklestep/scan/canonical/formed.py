@@ -10,11 +10,11 @@ from typing import Optional
 from ... import library
 from ...errors import OutOfMemory, PicklestepError, TimedOut
 from ...program import run_program
-from ...texts import LinesError, other_form
+from ...texts import IN_FORM, LinesError, other_form
 from ..blobs import Blob, Budget, FileBlob, JoinedBlob, PartMet, spooled
 from .forms import NotCanonical
 
-__all__ = ['BEHIND', 'require_form']
+__all__ = ['BEHIND', 'content_of', 'require_form']
 
 _WORDS = ('form',)
 # The reason of a pickle that is in the form, with something behind it.
@@ -25,12 +25,19 @@ _MEMORY_OF_A_BYTE = 32
 _WAITING = 5
 
 
+def content_of(blob: Blob) -> Optional[bytes]:
+    """All bytes, where they are so few that they are asked about in this process."""
+    return blob.read(0, blob.size) if blob.size <= library.MOST_BYTES else None
+
+
 def require_form(blob: Blob, budget: Optional[Budget] = None, begin: int = 0) -> None:
     """Raises NotCanonical unless the bytes are one pickle in the form. Its place counts from where `begin` bytes more are in front."""
-    content = blob.read(0, blob.size) if blob.size <= library.MOST_BYTES else None
+    content = content_of(blob)
     answer = None if content is None else library.answer(_WORDS, content)
     if answer is None:
         answer = _answer_of_program(blob, budget)
+    if answer == IN_FORM:
+        return
     try:
         other = other_form(answer.decode('ascii'))
     except (LinesError, UnicodeDecodeError) as error:

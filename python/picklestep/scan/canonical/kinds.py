@@ -22,6 +22,7 @@ _PACKED_ENDING = re.compile(rf'\.({"|".join(_PACKED_ENDINGS)})$', re.IGNORECASE)
 _BY_MORE = tuple((each, each.takes) for each in CONTAINERS if each.takes is not None)
 _STREAMS = tuple((each, each.stream.takes) for each in PACKED if each.stream is not None and each.stream.takes is not None)
 _BEGUN = tuple(each for each in CONTAINERS if each.begun)
+_BEGINNINGS = tuple(each.begun for each in _BEGUN)
 
 
 def kinds_of(blob: Blob, head: bytes, tries: bool = True) -> List[Container]:
@@ -31,7 +32,9 @@ def kinds_of(blob: Blob, head: bytes, tries: bool = True) -> List[Container]:
     """
     known = kind_by_sign(head)
     kinds = [known] if known is not None and _is_by_sign(known) and (tries or not _is_weak(known)) else []
-    kinds += [each for each, takes in _BY_MORE if takes(head)]
+    for each, takes in _BY_MORE:
+        if takes(head):
+            kinds.append(each)
     unread = kind_of_file(blob, head) if tries else kind_of_short(head)
     if unread is not None:
         kinds.append(named(unread))
@@ -62,7 +65,7 @@ def begun_form(head: bytes) -> Optional[Container]:
     >>> [str(begun_form(head)) for head in (b'\\x1f\\x8b\\0', b'BZh\\0', b'PK')]
     ['gzip', 'bz2', 'None']
     """
-    return next((each for each in _BEGUN if head.startswith(each.begun)), None)
+    return next((each for each in _BEGUN if head.startswith(each.begun)), None) if head.startswith(_BEGINNINGS) else None
 
 
 def asked_form(name: str) -> Optional[Container]:

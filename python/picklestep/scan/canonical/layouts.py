@@ -114,7 +114,8 @@ def another_import(layout: Layout, blob: Blob, budget: Optional[Budget] = None) 
 
     In a row of honest pickles a memo that is kept gives texts of earlier ones for names, so a name counts where its module can be there.
     """
-    has_raw = bool(layout.raw)
+    if not layout.raw and not layout.counts:
+        return None
     known = {module.partition('.')[0] for module, _ in layout.imports}
     names = {name for _, name in layout.imports}
     for part, keeps, begin in _readings(layout, blob):

@@ -8,11 +8,12 @@ from __future__ import annotations
 import re
 from typing import Any, Dict, List, NamedTuple, Optional, Sequence, Tuple
 
+from ...reaches import persistent_lines
 from ..blobs import Blob, Budget
 from .forms import Member, require, wrong
 from .pickles import Global, PDict, PList, Pickle, read_pickle
 
-__all__ = ['MAGIC', 'TAR_MEMBERS', 'Rows', 'legacy', 'tar_member', 'with_numbers']
+__all__ = ['MAGIC', 'TAR_MEMBERS', 'Rows', 'Storages', 'legacy', 'storages_in', 'storages_of', 'tar_member', 'with_numbers']
 
 # The number at the beginning of the layout before 1.6, in protocols 2 and later: LONG1 and its bytes.
 MAGIC = b'\x8a\x0al\xfc\x9cF\xf9 j\xa8P\x19'
@@ -27,6 +28,10 @@ _ITEMS = {
     'QUInt8Storage': 1, 'QInt32Storage': 4, 'QUInt4x2Storage': 1, 'QUInt2x4Storage': 1, 'UntypedStorage': 1, '_UntypedStorage': 1,
 }
 _MODULES = re.compile(r'torch(\.cuda|\.storage)?')
+# The id of a storage, as the program shows it where nothing of it is cut.
+_STORAGE = re.compile(rf"\('storage', global '{_MODULES.pattern.replace('(', '(?:')}' '(\w+)', '([^'\\]*)', '[^'\\]*', int ([0-9]+)\) as #[0-9]+")
+# How many bytes each storage has, and an item of it.
+Storages = Dict[str, Tuple[int, int]]
 
 
 class Rows(NamedTuple):
@@ -47,12 +52,12 @@ def _item(kind: Any) -> int:
     return _ITEMS[kind.name]
 
 
-def _storages(pickle: Pickle, parts: int) -> Dict[str, Tuple[int, int]]:
+def _storages(pickle: Pickle, parts: int) -> Storages:
     """The storages that a pickle names by persistent ids: how many bytes each has, and an item of it.
 
     Other ids than torch's are refused. The layout before 1.6 has a sixth part (a view), and ids of modules with their source.
     """
-    found: Dict[str, Tuple[int, int]] = {}
+    found: Storages = {}
     for key in pickle.persistent:
         if not isinstance(key, tuple) or not key:
             wrong('a persistent id that is no tuple')
@@ -65,21 +70,45 @@ def _storages(pickle: Pickle, parts: int) -> Dict[str, Tuple[int, int]]:
         is_storage = isinstance(name, str) and isinstance(_text(key[3]), str) and type(numel) is int and 0 <= numel < 2 ** 48
         require(is_storage, 'a persistent id that torch does not write')
         size = (numel * _item(key[1]), _item(key[1]))
-        require(found.setdefault(name, size) == size, f'two sizes for the storage {name!a}')
+        if found.setdefault(name, size) != size:
+            wrong(f'two sizes for the storage {name!a}')
     return found
 
 
-def with_numbers(pickle: Pickle, members: Sequence[Member], prefix: str) -> List[Member]:
+def storages_of(pickle: Pickle) -> Storages:
+    """The storages that the pickle of a zip archive names."""
+    return _storages(pickle, 5)
+
+
+def storages_in(calls: str) -> Optional[Storages]:
+    """The same by what the program says of a pickle in its form, where all persistent ids in it are texts and numbers as torch writes them.
+
+    >>> storages_in("9: persistent ('storage', global 'torch' 'FloatStorage', '0', 'cpu', int 6) as #5\\n1 imports, 0 calls\\n")
+    {'0': (24, 4)}
+    """
+    found: Storages = {}
+    for line in persistent_lines(calls):
+        match = _STORAGE.fullmatch(line)
+        if match is None or match[1] not in _ITEMS or int(match[3]) >= 2 ** 48:
+            return None
+        size = (int(match[3]) * _ITEMS[match[1]], _ITEMS[match[1]])
+        if found.setdefault(match[2], size) != size:
+            return None
+    return found
+
+
+def with_numbers(sizes: Storages, members: Sequence[Member], prefix: str) -> List[Member]:
     """The members of a zip archive, with those that are raw numbers of the exact size told as such."""
-    sizes = _storages(pickle, 5)
     told: List[Member] = []
     for member in members:
         size = sizes.pop(member.name[len(prefix):], None) if member.name.startswith(prefix) else None
         if size is not None:
-            require(member.method == 0 and member.size == size[0], f'{member.name!a} has another size than its tensor')
+            if member.method != 0 or member.size != size[0]:
+                wrong(f'{member.name!a} has another size than its tensor')
             member = member.as_numbers()
         told.append(member)
-    require(not sizes, f'the numbers of {len(sizes)} tensors are missing, such as {next(iter(sizes), "")!a}')
+    if sizes:
+        wrong(f'the numbers of {len(sizes)} tensors are missing, such as {next(iter(sizes))!a}')
     return told
 
 

@@ -10,18 +10,20 @@ torch/csrc/jit/serialization/unpickler.cpp.
 
 from __future__ import annotations
 
+import codecs
 import pickletools
 import re
 from dataclasses import dataclass, field, replace
-from typing import Any, Callable, Dict, List, Optional, Set, Tuple
+from typing import Any, Callable, Dict, List, Optional, Set, Tuple, Union
 
 from ..blobs import CHUNK, STEPS, Blob, Budget, BytesBlob
+from .standard import STANDARD_MODULES
 
 __all__ = ['Imports', 'Reach', 'imports_of', 'may_lead_on', 'reach_of']
 
 # Opcodes that are gone over. Where there are more, something may be reached.
 _MOST = 2_000_000
-# A longer line is no name and no number.
+# So much of a line is read: a longer one is no name.
 _LONGEST_LINE = 1 << 16
 # To begin takes as long as so many opcodes.
 _STEPS_OF_A_READING = 16
@@ -51,37 +53,54 @@ class _End(Exception):
     """No loader goes on here."""
 
 
+class _TooLong(Exception):
+    """A line is longer than is gone over."""
+
+
 # What is known of a value. Texts carry their bytes, and opaque ones may be anything that comes from elsewhere.
 _PLAIN, _TEXT, _OPAQUE, _TUPLE, _LIST, _DICT, _SET, _BYTES, _OTHER = 'P', 'T', 'O', 't', 'l', 'd', 's', 'b', 'F'
 _Value = Tuple[str, Optional[bytes]]
+_Key = Union[int, bytes]
 _ITERABLE = frozenset('TOtldsbF')
 _SPACE = b' \t\n\r\x0b\x0c'
-_KEY = re.compile(rb'[+-]?[0-9]+(_[0-9]+)*')
+_UP_TO_BLANK = bytes(range(0x21))
+_UTF_8 = codecs.getincrementaldecoder('utf-8')
+_KEY = re.compile(rb'[+]?[0-9]+(_[0-9]+)*')
 _MOST_DIGITS = 4300
 # No module of Python or of a package has such a sign in its name; headers of tables and lines of code have them.
 _NOT_IN_MODULES = re.compile(r"""[,;:"'()\[\]{}<>|&?*/=]""")
 _NUMBER = re.compile(rb'[+-]?[0-9a-zA-Z_.+-]*')
 
 
+def _decoded(text: bytes) -> Optional[str]:
+    """A text, or its beginning where it may be cut; None where no loader reads it."""
+    try:
+        return _UTF_8(errors='surrogatepass').decode(text, final=len(text) < _LONGEST_TEXT)
+    except UnicodeDecodeError:
+        return text.decode('utf-8', 'backslashreplace') if b'\\' in text else None
+
+
 def _may_name(text: bytes, is_module: bool) -> bool:
     """Whether something may be imported by this name: printable, no blanks, and in a module's none of the signs of text and code."""
-    try:
-        named = text.decode('raw-unicode-escape') if b'\\' in text else text.decode('utf-8')
-    except UnicodeDecodeError:
-        return False
-    if b'\\' not in text and is_module and _NOT_IN_MODULES.search(named):
+    named = _decoded(text)
+    if named is None or b'\\' not in text and is_module and _NOT_IN_MODULES.search(named):
         return False
     if not any(letter.isalnum() or letter == '_' for letter in named):
         return False
     return named.isprintable() and not any(letter.isspace() for letter in named)
 
 
-def _is_utf8(text: bytes) -> bool:
+def _is_standard(module: bytes) -> bool:
+    """Whether there is such a module, or one that it would be in: it is imported before what is in it is looked for, however odd that is."""
+    return module.partition(b'.')[0].decode('latin-1') in STANDARD_MODULES
+
+
+def _unescaped(line: bytes) -> bytes:
+    """What UNICODE makes of its line, in UTF-8. A line that no loader reads stays as it is."""
     try:
-        text.decode('utf-8')
+        return line.decode('raw-unicode-escape').encode('utf-8', 'surrogatepass')
     except UnicodeDecodeError:
-        return False
-    return True
+        return line
 
 
 def _shown(text: bytes) -> str:
@@ -119,7 +138,7 @@ class _Machine:
         self._frame_end: Optional[int] = None
         self._top: List[_Value] = []
         self._under: List[List[_Value]] = []
-        self._memo: Dict[int, _Value] = {}
+        self._memo: Dict[_Key, _Value] = {}
 
     def run(self) -> Optional[Reach]:
         """What is reached first."""
@@ -149,6 +168,8 @@ class _Machine:
                     self._even(code)
         except _End:
             return self.found
+        except _TooLong:
+            return Reach('a line longer than is gone over', self.begin)
         return self.found
 
     def _even(self, code: int) -> None:
@@ -277,22 +298,23 @@ class _Machine:
 
     # --- The memo ---
 
-    def key(self) -> int:
+    def key(self) -> _Key:
+        """A number, however it is spelled. (Python 2 takes any line for a key, and some later ones no number of many digits.)"""
         text = self.line()
+        if len(text) >= _LONGEST_LINE:
+            raise _TooLong
         for one in (text.strip(_SPACE), text.split(b'\0')[0].strip(_SPACE)):
-            if len(one) < _MOST_DIGITS and _KEY.fullmatch(one):
-                key = int(one)
-                if key < 0:
-                    raise _End
-                return key
-        raise _End
+            digits = one.replace(b'_', b'').lstrip(b'+').lstrip(b'0')
+            if _KEY.fullmatch(one):
+                return int(digits or b'0') if len(digits) <= _MOST_DIGITS else digits
+        return text
 
-    def get(self, key: int) -> None:
+    def get(self, key: _Key) -> None:
         if key not in self._memo:
             raise _End
         self._top.append(self._memo[key])
 
-    def put(self, key: int) -> None:
+    def put(self, key: _Key) -> None:
         self.need(1)
         self._memo[key] = self._top[-1]
 
@@ -302,13 +324,17 @@ class _Machine:
     # --- Numbers and texts ---
 
     def number(self) -> None:
-        text = self.line().split(b'\0')[0].strip(_SPACE)
+        text = self.line().split(b'\0')[0].strip(_SPACE).rstrip(b'L').rstrip(_SPACE)  # (of LONG blanks may be before the L)
         if not _NUMBER.fullmatch(text) and text.isascii():
             raise _End
         self.push(_PLAIN)
 
     def string(self) -> None:
-        text = self.line().strip(_SPACE)
+        line = self.line()
+        if len(line) >= _LONGEST_LINE:  # (its end is not known)
+            self.push(_TEXT)
+            return
+        text = line.lstrip(_SPACE).rstrip(_UP_TO_BLANK)
         if len(text) < 2 or text[:1] != text[-1:] or text[:1] not in (b"'", b'"'):
             raise _End
         self.push(_TEXT, text[1:-1])
@@ -336,11 +362,12 @@ class _Machine:
             self.push(_OPAQUE)
 
     def _imports(self, module: bytes, name: bytes) -> None:
-        if _may_name(module, True) and _may_name(name, False):
+        are_texts = _decoded(module) is not None and _decoded(name) is not None
+        if _may_name(module, True) and _may_name(name, False) or are_texts and _is_standard(module):
             if self.imported is not None:
                 self.imported.add((_shown(module), _shown(name)))
             self.reached(f'an import of {module.decode("latin-1")!a} {name.decode("latin-1")!a}')
-        elif _is_utf8(module) and _is_utf8(name):
+        elif are_texts:
             self.push(_OPAQUE)  # nothing has such a name, but a loader may put something of its own in its place
         else:
             raise _End
@@ -446,7 +473,7 @@ _OPCODES: Dict[str, Callable[[_Machine], Any]] = {
     'BINFLOAT': _plain(8), 'INT': _Machine.number, 'LONG': _Machine.number, 'FLOAT': _Machine.number,
     'LONG1': lambda m: m.counted(1, _PLAIN), 'LONG4': lambda m: m.counted(4, _PLAIN, True),
     'STRING': _Machine.string, 'BINSTRING': lambda m: m.counted(4, _TEXT, True), 'SHORT_BINSTRING': lambda m: m.counted(1, _TEXT),
-    'UNICODE': lambda m: m.push(_TEXT, m.line()), 'BINUNICODE': lambda m: m.counted(4, _TEXT),
+    'UNICODE': lambda m: m.push(_TEXT, _unescaped(m.line())), 'BINUNICODE': lambda m: m.counted(4, _TEXT),
     'SHORT_BINUNICODE': lambda m: m.counted(1, _TEXT), 'BINUNICODE8': lambda m: m.counted(8, _TEXT),
     'BINBYTES': lambda m: m.counted(4, _BYTES), 'SHORT_BINBYTES': lambda m: m.counted(1, _BYTES), 'BINBYTES8': lambda m: m.counted(8, _BYTES),
     'BYTEARRAY8': lambda m: m.counted(8, _BYTES), 'NEXT_BUFFER': lambda m: m.push(_OPAQUE), 'READONLY_BUFFER': _Machine.readonly,
@@ -466,7 +493,7 @@ _OPCODES: Dict[str, Callable[[_Machine], Any]] = {
 
 _DO: List[Optional[Callable[[_Machine], Any]]] = [None] * 256
 for _each in pickletools.opcodes:
-    _DO[ord(_each.code)] = _OPCODES[_each.name]
+    _DO[ord(_each.code)] = _OPCODES.get(_each.name)
 
 # Opcodes that are one byte, and put something of their own on the stack; a row of each.
 _MARK = 0x28
@@ -482,6 +509,9 @@ def reach_of(blob: Blob, budget: Optional[Budget] = None, extends: bool = True) 
 
     Without `extends` no loader knows a number of copyreg.
     """
+    first = blob.read(0, 1)
+    if first and _DO[first[0]] is None:
+        return None, 0
     stops, framed = 0, True
     for way in _WAYS if extends else _WITHOUT_NUMBERS:
         # (Ways that differ in frames, or in the memo of a second pickle, read alike where there is none.)
@@ -516,6 +546,9 @@ def imports_of(blob: Blob, keeps: bool, budget: Optional[Budget] = None, known: 
     framed = True
     if budget is not None:
         budget.count(_STEPS_OF_A_READING)
+    first = blob.read(0, 1)
+    if first and _DO[first[0]] is None:
+        return found
     for way in _WAYS:
         if way.keeps != keeps or way.drops and not framed:
             continue

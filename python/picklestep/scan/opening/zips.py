@@ -5,7 +5,7 @@ from __future__ import annotations
 import zlib
 from collections import Counter
 from functools import partial
-from typing import Optional, Set, Tuple
+from typing import NamedTuple, Optional, Set, Tuple
 
 from .. import zips
 from ..begins import HEAD, may_be_pickle
@@ -13,11 +13,12 @@ from ..blobs import Blob
 from ..canonical import Form, Member, NotCanonical, torch
 from ..canonical import zips as strict_zips
 from ..canonical.forms import WRITERS
-from ..canonical.layouts import alone, of_one
+from ..canonical.layouts import Layout, alone, of_one
 from ..canonical.pickles import read_pickle
 from ..containers import Held, kind_of
 from ..looking import Looker, Reads, Unpacked
 from ..packed import Unpacking
+from ..reading import calls_in_form
 from ..results import Place
 
 __all__ = ['look_at_end', 'look_into']
@@ -60,10 +61,10 @@ def look_into(looker: Looker, held: Held) -> bool:
         _look_into_odd(looker, held)
         return True
     members, pickle = form.members, ''
-    reads: Reads = alone
+    read = _AsPickle(alone)
     if form.is_torch:
         pickle = form.members[0].name.partition('/')[0] + '/data.pkl' if form.members else ''
-        members, reads = _with_numbers(looker, blob, form, pickle, where)
+        members, read = _with_numbers(looker, blob, form, pickle, where)
     for member in members:
         looker.budget.member()
         if member.role == 'folder':
@@ -72,24 +73,36 @@ def look_into(looker: Looker, held: Held) -> bool:
         if member.role == 'numbers':
             looker.look_at_numbers(blob.part(member.offset, member.size), inner, (member.name,), depth + 1)
         else:
-            _look_at_member(looker, held, member, inner, reads if member.name == pickle else None)
+            _look_at_member(looker, held, member, inner, read if member.name == pickle else None)
     return True
 
 
-def _with_numbers(looker: Looker, blob: Blob, form: Form, pickle: str, where: Place) -> Tuple[Tuple[Member, ...], Reads]:
+class _AsPickle(NamedTuple):
+    """How a member is read as a pickle, and what the program said of it, if it was asked."""
+
+    reads: Reads
+    calls: Optional[bytes] = None
+
+
+def _with_numbers(looker: Looker, blob: Blob, form: Form, pickle: str, where: Place) -> Tuple[Tuple[Member, ...], _AsPickle]:
     """The members of torch's archive, with those that are the storages of its pickle, and how that is read."""
     member = next((member for member in form.members if member.name == pickle), None)
     if member is None or member.method != zips.STORED:
-        return form.members, alone
+        return form.members, _AsPickle(alone)
+    part, prefix = blob.part(member.offset, member.size), pickle[:-len('data.pkl')] + 'data/'
     try:
-        read = read_pickle(blob.part(member.offset, member.size), 0, None, looker.budget)
-        return tuple(torch.with_numbers(read, form.members, pickle[:-len('data.pkl')] + 'data/')), partial(of_one, read)
+        calls = calls_in_form(part, looker.budget)
+        sizes = None if calls is None else torch.storages_in(calls.decode('ascii'))
+        if sizes is not None:
+            return tuple(torch.with_numbers(sizes, form.members, prefix)), _AsPickle(lambda blob, budget: Layout(pickles=1), calls)
+        read = read_pickle(part, 0, None, looker.budget)
+        return tuple(torch.with_numbers(torch.storages_of(read), form.members, prefix)), _AsPickle(partial(of_one, read))
     except NotCanonical as reason:
         looker.tell(where, WRITERS['torch'], reason)
-        return form.members, alone
+        return form.members, _AsPickle(alone)
 
 
-def _look_at_member(looker: Looker, held: Held, member: Member, where: Place, reads: Optional[Reads]) -> None:
+def _look_at_member(looker: Looker, held: Held, member: Member, where: Place, read: Optional[_AsPickle]) -> None:
     """Looks at a member. Its size and checksum must be those of the directory."""
     looker.at = where
     start = zips.unpacker_of(held.blob, member.method, member.offset)
@@ -101,8 +114,8 @@ def _look_at_member(looker: Looker, held: Held, member: Member, where: Place, re
         for piece in unpacking.pieces():
             unpacked.take(piece)
             looker.budget.spend()
-        if reads is not None:
-            looker.is_read(packed, packed.read(0, HEAD), where, (member.name,), reads)
+        if read is not None:
+            looker.is_read(packed, packed.read(0, HEAD), where, (member.name,), read.reads, calls=read.calls)
         else:
             looker.look_at(packed, where, (member.name,), held.depth + 1)
     else:

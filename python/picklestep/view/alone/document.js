@@ -371,11 +371,25 @@ class Document {
     return `${word} ${place}`;
   }
 
-  // The place that a search finds: an offset, a name or a text.
+  // The place that a search finds: an offset, a name or a text. What an argument holds is found, also where its line does not have it whole.
   find(text, after) {
-    const last = this.lines.length - 1;
-    if (/^[0-9]+$/.test(text) && last >= 0 && Number(text) <= this.lines.offset(last)) return this.lines.placeOf(Number(text));
-    return text ? this.lines.find(written(text), after) : null;
+    const count = this.lines.length;
+    if (/^[0-9]+$/.test(text) && count && Number(text) <= this.lines.offset(count - 1)) return this.lines.placeOf(Number(text));
+    if (!text) return null;
+    const bytes = new TextEncoder().encode(text);
+    const cut = this.cutWith(bytes, after + 1) ?? this.cutWith(bytes, 0);
+    const places = [this.lines.find(inALine(bytes), after), this.lines.find(inALine(bytes, ''), after), cut].filter((place) => place !== null);
+    return places.length ? (after + 1 + Math.min(...places.map((place) => (place - after - 1 + count) % count))) % count : null;
+  }
+
+  // The first place from one on whose argument is not whole in its line and holds bytes.
+  cutWith(bytes, place) {
+    const cut = new TextEncoder().encode(' bytes more');
+    for (let at = this.lines.seek(cut, this.lines.start(Math.min(place, this.lines.length))); at >= 0; at = this.lines.seek(cut, at + 1)) {
+      const found = this.lines.numberAt(at), end = found + 1 < this.lines.length ? this.lines.offset(found + 1) : this.content.length;
+      if (seekIn(this.content.subarray(this.lines.offset(found) + 1, end), bytes, 0) >= 0) return found;
+    }
+    return null;
   }
 
   // --- Edits ---
@@ -449,7 +463,8 @@ function editedPlaces(edits) {
 
 const codeOf = (shown) => (shown.length > 1 ? parseInt(shown.slice(2), 16) : shown.charCodeAt(0));
 
-// A text as the program writes it: its bytes, with escapes for those that are no signs of ASCII.
-function written(text) {
-  return [...new TextEncoder().encode(text)].map((byte) => (byte < 32 || byte > 126 ? '\\x' + byte.toString(16).padStart(2, '0') : String.fromCharCode(byte))).join('');
+// A text as the program writes it in quotes; with nothing that is escaped as it is typed, but for what is no sign of ASCII.
+function inALine(bytes, escaped = "\\'") {
+  const sign = (byte) => (escaped.includes(String.fromCharCode(byte)) ? '\\' : '') + String.fromCharCode(byte);
+  return [...bytes].map((byte) => (byte < 32 || byte > 126 ? '\\x' + byte.toString(16).padStart(2, '0') : sign(byte))).join('');
 }

@@ -165,14 +165,18 @@ class Lines {
 
   // The first position from one on where bytes are found, or -1.
   seek(bytes, from) {
-    const text = this.text.all();
-    for (let at = text.indexOf(bytes[0], from); at >= 0; at = text.indexOf(bytes[0], at + 1)) {
-      let same = 1;
-      while (same < bytes.length && text[at + same] === bytes[same]) same += 1;
-      if (same === bytes.length) return at;
-    }
-    return -1;
+    return seekIn(this.text.all(), bytes, from);
   }
+}
+
+// The first position from one on in which bytes are found in others, or -1.
+function seekIn(text, bytes, from) {
+  for (let at = text.indexOf(bytes[0], from); at >= 0; at = text.indexOf(bytes[0], at + 1)) {
+    let same = 1;
+    while (same < bytes.length && text[at + same] === bytes[same]) same += 1;
+    if (same === bytes.length) return at;
+  }
+  return -1;
 }
 
 const LINE_END = new Uint8Array([NEWLINE]);

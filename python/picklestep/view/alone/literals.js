@@ -108,8 +108,7 @@ function floatSource(value, isNegative) {
 
 const C_NUMBER = /^[ \t\v\f\r]*([+-]?)(0x[0-9a-f]+|0[0-7]*|[1-9][0-9]*)$/i;
 const PYTHON_NUMBER = /^[ \t\n\v\f\r]*([+-]?)(0x(?:_?[0-9a-f])+|0o(?:_?[0-7])+|0b(?:_?[01])+|[1-9](?:_?[0-9])*|0(?:_?0)*)[ \t\n\v\f\r]*$/i;
-const DIGITS = '[0-9](?:_?[0-9])*';
-const PYTHON_FLOAT = new RegExp(`^[ \\t\\n\\v\\f\\r]*([+-]?)((?:${DIGITS}\\.?(?:${DIGITS})?|\\.${DIGITS})(?:e[+-]?${DIGITS})?|inf(?:inity)?|nan)[ \\t\\n\\v\\f\\r]*$`, 'i');
+const C_FLOAT = /^([+-]?)((?:[0-9]+\.?[0-9]*|\.[0-9]+)(?:e[+-]?[0-9]+)?|inf(?:inity)?|nan)$/i;
 
 const upToNul = (line) => line.split('\0', 1)[0];
 
@@ -140,11 +139,13 @@ function intLine(line) {
   return line.length === 2 && (number === 0n || number === 1n) ? (number ? 'True' : 'False') : wholeSource(number);
 }
 
+// A float as C's `PyOS_string_to_double` reads it.
 function floatLine(line) {
-  const match = PYTHON_FLOAT.exec(upToNul(line));
-  if (!match) throw new Unreadable('no number');
-  const isNegative = match[1] === '-', digits = match[2].toLowerCase().replaceAll('_', '');
-  const size = digits.startsWith('inf') ? Infinity : Number(digits); // (of 'nan' that is none)
+  const match = C_FLOAT.exec(upToNul(line));
+  const digits = match ? match[2].toLowerCase() : '', isInfinite = digits.startsWith('inf');
+  const size = isInfinite ? Infinity : Number(digits); // (of 'nan' that is none)
+  if (!match || (size === Infinity && !isInfinite)) throw new Unreadable('no number');
+  const isNegative = match[1] === '-';
   return floatSource(isNegative ? -size : size, isNegative);
 }
 
@@ -180,7 +181,7 @@ function unicodeLine(line) {
 const LINES = {
   INT: [intLine, (bytes) => `int(${pythonBytes(bytes)}, 0)`],
   LONG: [(line) => wholeSource(pythonWhole(upToNul(line.replace(/L$/, '')))), (bytes) => `int(${pythonBytes(bytes)}, 0)`],
-  FLOAT: [floatLine, (bytes) => `float(${pythonBytes(bytes)})`],
+  FLOAT: [floatLine, (bytes) => `float(${pythonBytes(bytes)} + b' is no float')`],
   STRING: [(line) => asciiText(unescapedLine(line)), failingString],
   UNICODE: [unicodeLine, (bytes) => `${pythonBytes(bytes)}.decode('raw-unicode-escape')`],
 };

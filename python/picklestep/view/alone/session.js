@@ -95,7 +95,7 @@ class Replayed {
     if (['step', 'back', 'goto', 'run'].includes(word) && moved) {
       if (/^goto /.test(this.past.at(-1) || '')) this.past.pop();
       this.past.push(`goto ${moved[1]}`);
-    } else if (['break', 'clear', 'replace', 'insert', 'delete', 'frame', 'unframe', 'undo', 'redo'].includes(word) && !answer.startsWith('refused: ')) {
+    } else if (['break', 'clear', ...Object.keys(SHIFTS), 'undo', 'redo'].includes(word) && !answer.startsWith('refused: ')) {
       this.past.push(line);
     }
   }

@@ -27,6 +27,13 @@ class Writer {
   constructor(names) {
     this.names = names;
     this.lines = [];
+    this.isCut = false;
+  }
+
+  // What stands for so many that are not shown.
+  cut(count, before = '') {
+    this.isCut = true;
+    return `${before}cut(${count})`;
   }
 
   // A statement ends, with its opcode's offset where it reaches out of the pickle.
@@ -45,12 +52,16 @@ class Writer {
 
   // A long plain value.
   atom({ text, isShortened }) {
+    if (isShortened) this.isCut = true;
     if (isShortened || lettersOf(text) <= MOST.letters + 20) return text;
     const [, isBytes, quote] = /^(b?)(['"]?)/.exec(text);
-    if (!quote || !text.endsWith(quote)) return cutSource(text, lettersOf(text)).text;
+    if (!quote || !text.endsWith(quote)) {
+      this.isCut = true;
+      return cutSource(text, lettersOf(text)).text;
+    }
     const signs = signsOfLiteral(text), first = signs.slice(0, MOST.letters);
     if (signs.length <= MOST.letters) return text;
-    return `${isBytes ? pythonBytes(latin(first.join(''))) : signsSource(first)} + cut(${signs.length - MOST.letters})`;
+    return this.cut(signs.length - MOST.letters, `${isBytes ? pythonBytes(latin(first.join(''))) : signsSource(first)} + `);
   }
 
   // The literal of a container, and how deep it is.
@@ -60,13 +71,13 @@ class Writer {
     const depth = 1 + inner.reduce((most, node) => Math.max(most, node.depth), 0);
     if (!isDict) return [bracketed(start, end, this.shown(items), kind === 'tuple'), depth];
     const keys = keysOf(items.slice(0, 2 * MOST.items)), more = items.length / 2 - keys.length;
-    return [bracketed(start, end, [...keys.map((key, at) => `${key}: ${items[2 * at + 1]}`), ...(more ? [`**cut(${more})`] : [])]), depth];
+    return [bracketed(start, end, [...keys.map((key, at) => `${key}: ${items[2 * at + 1]}`), ...(more ? [this.cut(more, '**')] : [])]), depth];
   }
 
   // How entries appear, as many as are shown, and how many more there are.
   shown(entries) {
     const more = entries.length - MOST.items;
-    return [...entries.slice(0, MOST.items).map(String), ...(more > 0 ? [`*cut(${more})`] : [])];
+    return [...entries.slice(0, MOST.items).map(String), ...(more > 0 ? [this.cut(more, '*')] : [])];
   }
 
   call({ number, method, called, items, spread, keywords, offset }) {
@@ -92,7 +103,7 @@ class Writer {
   pair({ target, items, offset }) {
     const count = items.length / 2, shown = Math.min(count, MOST.items);
     for (let at = 0; at < shown; at += 1) this.end(`${target}[${items[2 * at]}] = ${items[2 * at + 1]}`, offset);
-    if (shown < count) this.end(`${target}.update(cut(${count - shown}))`, offset);
+    if (shown < count) this.end(`${target}.update(${this.cut(count - shown)})`, offset);
   }
 }
 
@@ -113,10 +124,10 @@ function sourceOf(content, offsets, closing, { opcodes, facts, saidAt }) {
   const writer = new Writer(builder.names);
   for (const event of builder.events) event.write(writer);
   if (early) {
-    writer.lines.push(`# ${early}: reading ends here, and the stack is`);
+    writer.lines.push(`# ${early}: reading ends here${early.startsWith('F1 ') ? '' : facts.behind}, and the stack is`);
     writer.end(`stack = [${left.map(String).join(', ')}]`, null);
   }
   if (kept) writer.lines.push(`# ${kept} bytes after STOP are not read`);
   const head = Object.entries(facts.helpers).filter(([need]) => builder.needs.has(need)).map(([, text]) => text);
-  return `${facts.head}${head.join('')}${writer.lines.join('\n')}\n`;
+  return `${writer.isCut ? facts.headOfCut : facts.head}${head.join('')}${writer.lines.join('\n')}\n`;
 }

@@ -9,3 +9,4 @@ invariant-items g l =
     → ((g.I.ItemSource.unread l.reader).loose ≡ false)
     × Walked (manner begun.detail l.holes) l.many begun.rest begun.told (g.S.Sink.told l.page) (g.I.ItemSource.unread l.reader).rest (g.I.ItemSource.unread l.reader).left l.place l.offset l.machine.state l.course l.stop)
     × (length (g.I.ItemSource.unread l.reader).rest + l.place ≤ length (g.I.ItemSource.unread l.fn.from.reader).rest + l.fn.from.place)
+    × ((l.machine.rest ≡ (g.I.ItemSource.unread l.reader).rest) × (l.machine.place ≡ l.place))
