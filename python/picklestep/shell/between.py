@@ -2,13 +2,15 @@
 
 It is told of edits that put, replace or take away opcodes which push one plain value each. These leave what is before them as it is. Behind them
 no mark is set or taken otherwise and nothing else is stored, where no POP comes: lines have other offsets, and objects other numbers. Whether an
-opcode is refused only the session knows, so what is shown of those behind an edit it has to have stepped over. All else is unknown, and waits.
+opcode is refused only the session knows, so what is shown of those behind an edit it has to have stepped over. Where objects are shown as they are
+at the end, plain ones stay, and those that nothing behind the edits can change. All else is unknown, and waits.
 """
 
 from __future__ import annotations
 
 import pickletools
 import re
+import sys
 from bisect import bisect_right
 from typing import Any, Callable, Dict, List, NamedTuple, Optional, Protocol, Sequence, Tuple
 
@@ -26,10 +28,11 @@ MOST_EDITS = 100
 _LONGEST = 400
 _VALUES = frozenset(
     'NONE NEWTRUE NEWFALSE INT BININT BININT1 BININT2 LONG LONG1 LONG4 FLOAT BINFLOAT STRING BINSTRING SHORT_BINSTRING UNICODE BINUNICODE '
-    'SHORT_BINUNICODE BINUNICODE8 BINBYTES SHORT_BINBYTES BINBYTES8 BYTEARRAY8'.split())
+    'SHORT_BINUNICODE BINUNICODE8 BINBYTES SHORT_BINBYTES BINBYTES8'.split())  # (a byte array may grow)
+_STAY = PLAIN_KINDS - {'bytearray'}
 _QUIET = _VALUES | frozenset(
     'PROTO FRAME MARK PUT BINPUT LONG_BINPUT MEMOIZE GET BINGET LONG_BINGET DUP POP_MARK EMPTY_TUPLE TUPLE TUPLE1 TUPLE2 TUPLE3 EMPTY_LIST LIST '
-    'EMPTY_DICT DICT EMPTY_SET FROZENSET STOP'.split())  # (they reach out of nothing)
+    'EMPTY_DICT DICT EMPTY_SET FROZENSET BYTEARRAY8 STOP'.split())  # (they reach out of nothing)
 _FILLS = frozenset(('APPENDS', 'SETITEMS', 'ADDITEMS'))
 _PUTS = {'insert': 1, 'replace': 1, 'delete': 0}
 # What changes an object that is not right below a mark, or puts one on the stack that was below others; and what pushes an object and takes none.
@@ -231,7 +234,7 @@ class Between:
             raise Unknown
         begin, end = self._final.span(old)
         head = self._final.text[begin:begin + 40].decode('ascii').split('\n')[0].split(' ')
-        is_told = self._is_same or head[1] in PLAIN_KINDS or head[1] == 'tuple' and number < self._made
+        is_told = self._is_same or head[1] in _STAY or head[1] == 'tuple' and number < self._made
         if not is_told and not (number < self._made and self._is_left(number)):
             raise Unknown
         line = self._final.brief(old) if end - begin > _LONGEST else self._final.raw(old)
@@ -289,7 +292,7 @@ class Objects:
         self._between = between
 
     def __len__(self) -> int:
-        return 1 << 60
+        return sys.maxsize
 
     def __getattr__(self, name: str) -> Any:
         raise Unknown(name)
