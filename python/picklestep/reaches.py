@@ -21,8 +21,6 @@ _NAMED = rf'(?: ((?:raw )?{QUOTED} (?:(?:raw )?{QUOTED}|#[0-9]+)))?'
 _REACHED = re.compile(rf'^ *([0-9]+): ((\w+){_NAMED}.*)$', re.MULTILINE)
 _BEGIN = re.compile(rf' *([0-9]+): (\w+){_NAMED}')
 _PERSISTENT = re.compile(r'^ *[0-9]+: persistent (.*)$', re.MULTILINE)
-# In a line so much is before the colon behind its offset, with the end of the line before. (Offsets from 100,000 on take more.)
-_OFFSET = 6
 # Most calls are made again and again.
 _IN_ROWS = frozenset({'call', 'new', 'inst'})
 # What may be the number of an object, beside texts.
@@ -281,28 +279,30 @@ LineKey = Tuple[str, Optional[str]]
 def reached_lines(text: str, start: int, end: int, each: bool = False) -> 'Iterator[Tuple[LineKey, int, re.Match[str]]]':
     """The lines in a part of a text, each with its key and the match of its beginning: a pickle may have a hundred thousand lines and few names.
 
-    The number says how many lines of that key are counted by it, which come one after another. With `each` every line comes by itself.
+    The number says how many lines of that key are counted by it, which come one after another (and have offsets of as many digits). With `each`
+    every line comes by itself.
 
     >>> [found[:2] for found in reached_lines("0: new 'a' 'b' () as #2\\n9: new 'a' 'b' (#2) as #4\\n12: state #4 to #2\\n", 0, 70)]
     [(('new', "'a' 'b'"), 2), (('state', None), 1)]
     """
-    begin, find, starts = _BEGIN.match, text.find, text.startswith
-    at = start
-    while at < end:
-        match = begin(text, at, end)
-        if match is None:
-            at = find('\n', at, end) + 1 or end
+    key: LineKey = '', None
+    match: 're.Match[str]'
+    begin, count, said, at, end_of_said = _BEGIN.match, 0, '', 0, 0
+    for line in text[start:end].split('\n'):
+        if said and line[at:end_of_said] == said:
+            count += 1
             continue
-        key: LineKey = match[2], match[3]
-        what, name = key
-        stop, count = find('\n', match.end(), end), 1
-        if name is not None and what in _IN_ROWS and not each:
-            said = f': {what} {name} '
-            while stop >= 0 and (starts(said, stop + _OFFSET) or starts(said, find(': ', stop, end))):
-                count += 1
-                stop = find('\n', stop + _OFFSET, end)
+        if count:
+            yield key, count, match
+        found, count, said = begin(line), 0, ''
+        if found is not None:
+            match, count = found, 1
+            key = match[2], match[3]
+            if not each and key[1] is not None and key[0] in _IN_ROWS:
+                said, at = f': {key[0]} {key[1]} ', match.start(2) - 2
+                end_of_said = at + len(said)
+    if count:
         yield key, count, match
-        at = stop + 1 or end
 
 
 def persistent_lines(text: str) -> Iterator[str]:
@@ -321,23 +321,17 @@ def offset_of(match: 're.Match[str]') -> int:
 
 def text_of(match: 're.Match[str]') -> str:
     """What stands behind the offset in the first line that matched."""
-    return match.string[match.start(2):_end_of_line(match)]
+    return match.string[match.start(2):]
 
 
 def line_of(match: 're.Match[str]') -> str:
     """The first line that matched."""
-    return match.string[match.start():_end_of_line(match)]
+    return match.string
 
 
 def number_in(match: 're.Match[str]') -> str:
     """The number of the object in which the first line that matched ends, which it makes or gives something, as text."""
-    text, end = match.string, _end_of_line(match)
-    return text[text.rfind('#', match.end(2), end) + 1:end]
-
-
-def _end_of_line(match: 're.Match[str]') -> int:
-    end = match.string.find('\n', match.end())
-    return len(match.string) if end < 0 else end
+    return match.string.rpartition('#')[2]
 
 
 def made_by(text: str) -> Optional[int]:

@@ -15,7 +15,7 @@ from . import joblib, torch
 from .formed import BEHIND, require_form
 from .forms import NotCanonical, require
 from .pickles import Pickle, read_pickle
-from .wide import imports_of
+from .wide import imports_of, may_be_opcode
 
 __all__ = ['Layout', 'alone', 'another_import', 'layout_of', 'of_torch_tar']
 
@@ -129,11 +129,15 @@ def another_import(layout: Layout, blob: Blob, budget: Optional[Budget] = None) 
 
 
 def _readings(layout: Layout, blob: Blob) -> Iterator[Tuple[Blob, bool, int]]:
-    """What is read, whether with a memo that is kept, and up to where it is known: all, and each raw range by itself, as a pickle is."""
+    """What is read, whether with a memo that is kept, and up to where it is known: all, and each raw range by itself, as a pickle is.
+
+    Where no loader takes the first raw byte for an opcode, all end there, and what is before it they read alike.
+    """
     if layout.raw:
         begin = min(start for start, _ in layout.raw)
-        yield blob, False, begin
-        yield blob, True, begin
+        if layout.counts or may_be_opcode(blob.read(begin, 1)):
+            yield blob, False, begin
+            yield blob, True, begin
         for start, end in layout.raw:
             yield blob.part(start, end - start), False, 0
     elif layout.counts:

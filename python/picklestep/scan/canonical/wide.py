@@ -19,7 +19,7 @@ from typing import Any, Callable, Dict, List, Optional, Set, Tuple, Union
 from ..blobs import CHUNK, STEPS, Blob, Budget, BytesBlob
 from .standard import STANDARD_MODULES
 
-__all__ = ['Imports', 'Reach', 'imports_of', 'may_lead_on', 'reach_of']
+__all__ = ['Imports', 'Reach', 'imports_of', 'may_be_opcode', 'may_lead_on', 'reach_of']
 
 # Opcodes that are gone over. Where there are more, something may be reached.
 _MOST = 2_000_000
@@ -504,13 +504,17 @@ _WAYS = (_Way(), _Way(keeps=True), _Way(drops=True), _Way(drops=True, keeps=True
 _WITHOUT_NUMBERS = tuple(replace(way, extends=False) for way in _WAYS)
 
 
+def may_be_opcode(begin: bytes) -> bool:
+    """Whether some loader takes the first of these bytes for an opcode. (Where there is none, another may stand there by now.)"""
+    return not begin or _DO[begin[0]] is not None
+
+
 def reach_of(blob: Blob, budget: Optional[Budget] = None, extends: bool = True) -> Tuple[Optional[Reach], int]:
     """What some loader reaches first, or None where none reaches an import or a call; and how many pickles end before that.
 
     Without `extends` no loader knows a number of copyreg.
     """
-    first = blob.read(0, 1)
-    if first and _DO[first[0]] is None:
+    if not may_be_opcode(blob.read(0, 1)):
         return None, 0
     stops, framed = 0, True
     for way in _WAYS if extends else _WITHOUT_NUMBERS:
@@ -546,8 +550,7 @@ def imports_of(blob: Blob, keeps: bool, budget: Optional[Budget] = None, known: 
     framed = True
     if budget is not None:
         budget.count(_STEPS_OF_A_READING)
-    first = blob.read(0, 1)
-    if first and _DO[first[0]] is None:
+    if not may_be_opcode(blob.read(0, 1)):
         return found
     for way in _WAYS:
         if way.keeps != keeps or way.drops and not framed:
