@@ -24,13 +24,19 @@ SCAN = ["python/picklestep/scan/**/*.py", "python/tests/*.py", "python/pyproject
 CHECKLISTS = [
     (
         "To add an opcode",
-        r"\b(STACK_GLOBAL|StackGlobal)\b",
-        ["crates/*/src/**/*.rt", "crates/*/specs/**/*.antt", "bench/*", "equipment/**/*.py", "python/picklestep/**/*.py", "python/tests/*.py"],
+        r"(?m)^ +BinInt2 +\{|_of op\.BinInt2\b|'BININT2': (\('|')",
+        ["crates/*/src/**/*.rt", "crates/*/specs/**/*.antt", "bench/*", "equipment/**/*.py", "python/picklestep/**/*.py"],
     ),
     (
         "To add a word of the debugger",
         r"(?i)unframe(?![rd])",
-        ["crates/*/src/**/*.rt", "crates/*/specs/**/*.antt", "share/**/*", "equipment/*.txt", "equipment/*.py", "python/picklestep/**/*", "python/tests/*.py"],
+        ["crates/pickle_script/**/*.rt", "crates/pickle_script/**/*.antt", "share/**/*", "equipment/*.txt", "equipment/*.py", "python/picklestep/**/*",
+         "python/tests/test_sessions.py"],
+    ),
+    (
+        "To add an edit",
+        r"\b(Edit::|edit\.)Unframe\b|\b(mod|pub fn) unframe\b|fn unframing\b",
+        ["crates/*_tests/src/**/*.rt", "crates/real_pickles/src/*.rt", "crates/pickle_doc/src/*.rt", "crates/pickle_doc/specs/*.antt"],
     ),
     (
         "To add a question of the debugger",

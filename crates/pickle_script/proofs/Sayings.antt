@@ -7,8 +7,7 @@ use Rattle.pickle_script.specs.declared.line.Place.{Place}
 use Rattle.pickle_script.specs.declared.line.Action.TheVariants as action
 use Rattle.pickle_script.specs.declared.line.Syntax.{Syntax}
 use Rattle.pickle_script.specs.declared.keyword.PlaceWord.{PlaceWord}
-use Rattle.pickle_script.specs.declared.keyword.PlaceWord.TheVariants as placed
-use Rattle.pickle_script.specs.Grammar.{op_in, alone, place_action, number_first, place_first, show_says, place_says, frame_says, and_then, AnswersWords}
+use Rattle.pickle_script.specs.Grammar.{op_in, alone, number_first, place_first, show_says, place_says, frame_says, and_then, AnswersWords}
 
 -- a line without an operation
 abbrev IsFree : Result Line Syntax → Type 0
@@ -22,13 +21,6 @@ answered (Err f) answer free e = e
 free_alone : (l : Line) (words : List (List ℕ)) → op_in l ≡ None → IsFree (alone l words)
 free_alone l [] h = h
 free_alone l (w ∷ words) h = tt
-
-free_place : (p : Place) (w : PlaceWord) → op_in (line.At p (place_action w)) ≡ None
-free_place p placed.Goto = refl
-free_place p placed.Break = refl
-free_place p placed.Clear = refl
-free_place p placed.Delete = refl
-free_place p placed.Unframe = refl
 
 free_then : {A : Type 0} (r : Result A Syntax) (f : A → Result Line Syntax) → ((x : A) → IsFree (f x)) → IsFree (and_then r f)
 free_then (Ok x) f h = h x
@@ -45,7 +37,7 @@ show_answers words answer e =
 pub place_answers : (w : PlaceWord) (words : List (List ℕ)) (answer : Result Line Syntax) → answer ≡ place_says w words → AnswersWords (place_says w words) answer
 place_answers w words answer e =
     answered (place_says w words) answer
-    (free_then (place_first words) (λ (p : Place × List (List ℕ)). alone (line.At p.0 (place_action w)) p.1) (λ p. free_alone (line.At p.0 (place_action w)) p.1 (free_place p.0 w))) e
+    (free_then (place_first words) (λ (p : Place × List (List ℕ)). alone (line.At p.0 (action.Word w)) p.1) (λ p. free_alone (line.At p.0 (action.Word w)) p.1 refl)) e
 
 pub frame_answers : (words : List (List ℕ)) (answer : Result Line Syntax) → answer ≡ frame_says words → AnswersWords (frame_says words) answer
 frame_answers words answer e =

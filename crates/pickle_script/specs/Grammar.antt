@@ -91,28 +91,22 @@ op_word w =
     else if bytes_eq w (codes "insert") then Some op.Insert
     else None
 
--- what each of them does
-abbrev pub place_action : PlaceWord → Action
-place_action placed.Goto = action.Goto
-place_action placed.Break = action.Break
-place_action placed.Clear = action.Clear
-place_action placed.Delete = action.Delete
-place_action placed.Unframe = action.Unframe
+-- the command that each of them is at place k
+abbrev pub word_at : PlaceWord → ℕ → Command
+word_at placed.Goto k = command.Goto k
+word_at placed.Break k = command.Break k
+word_at placed.Clear k = command.Clear k
+word_at placed.Delete k = command.Edit (edit.Delete k)
+word_at placed.Unframe k = command.Edit (edit.Unframe k)
 
-abbrev pub op_action : OpWord → Operation → Action
-op_action op.Replace o = action.Replace o
-op_action op.Insert o = action.Insert o
+abbrev pub op_at : OpWord → ℕ → Operation → Command
+op_at op.Replace k o = command.Edit (edit.Replace k o)
+op_at op.Insert k o = command.Edit (edit.Insert k o)
 
--- the command that does this at place k
 abbrev pub command_at : Action → ℕ → Command
-command_at action.Goto k = command.Goto k
-command_at action.Break k = command.Break k
-command_at action.Clear k = command.Clear k
-command_at (action.Replace o) k = command.Edit (edit.Replace k o)
-command_at (action.Insert o) k = command.Edit (edit.Insert k o)
-command_at action.Delete k = command.Edit (edit.Delete k)
+command_at (action.Word w) k = word_at w k
+command_at (action.Put w o) k = op_at w k o
 command_at (action.Frame n) k = command.Edit (edit.Frame k n)
-command_at action.Unframe k = command.Edit (edit.Unframe k)
 
 -- ---- one word after another
 
@@ -149,7 +143,7 @@ show_says words = and_then (number_first words) (λ (p : ℕ × List (List ℕ))
 
 -- one place
 abbrev pub place_says : PlaceWord → List (List ℕ) → Result Line Syntax
-place_says w words = and_then (place_first words) (λ (p : Place × List (List ℕ)). alone (line.At p.0 (place_action w)) p.1)
+place_says w words = and_then (place_first words) (λ (p : Place × List (List ℕ)). alone (line.At p.0 (action.Word w)) p.1)
 
 -- a place and a count
 abbrev pub frame_says : List (List ℕ) → Result Line Syntax
@@ -180,7 +174,7 @@ abbrev pub op_says : OpWord → List (List ℕ) → Result Line Syntax
 op_says w words =
     and_then (place_first words) (λ (p : Place × List (List ℕ)).
     and_then (name_first p.1) (λ (q : Opcode × List (List ℕ)).
-    and_then (arg_last q.1) (λ (arg : List ℕ). Ok (line.At p.0 (op_action w (record { opcode = q.0; arg = arg }))))))
+    and_then (arg_last q.1) (λ (arg : List ℕ). Ok (line.At p.0 (action.Put w (record { opcode = q.0; arg = arg }))))))
 
 -- by each first word; an unknown one is a fault whatever comes after it
 abbrev pub word_says : List ℕ → List (List ℕ) → Result Line Syntax
@@ -209,8 +203,7 @@ line_says bytes = if nat_lt longest (length bytes) then Err syntax.LineTooLong e
 
 -- the operation that a line names
 abbrev pub op_in : Line → Option Operation
-op_in (line.At p (action.Replace o)) = Some o
-op_in (line.At p (action.Insert o)) = Some o
+op_in (line.At p (action.Put w o)) = Some o
 op_in _ = None
 
 -- an operation in an answer is spelled

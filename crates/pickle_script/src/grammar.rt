@@ -2,12 +2,10 @@
 
 ghost use Rattle.std.specs.Prelude.{◌≡◌, ℕ, List, MatchResult, Ok, Err};
 ghost use Rattle.hex.specs.Hex.{decode_of, is_hex_digit};
-ghost use Rattle.pickle_script.specs.Grammar.{words_of, alone, number_first, place_of, place_first, show_says, place_says, frame_says, name_first, arg_last, last_bytes, bytes_of_word, op_action, op_says, word_says, line_says, AnswersWords};
+ghost use Rattle.pickle_script.specs.Grammar.{words_of, alone, number_first, place_of, place_first, show_says, place_says, frame_says, name_first, arg_last, last_bytes, bytes_of_word, op_says, word_says, line_says, AnswersWords};
 ghost use Rattle.pickle_script.specs.Inside.Words.{is_hex, fault_syntax};
 
-use crate::keyword::{
-    OpWord, PlaceWord, command_word, op_action, op_word, place_action, place_word, query_word,
-};
+use crate::keyword::{OpWord, PlaceWord, command_word, op_word, place_word, query_word};
 use crate::line::{Action, Line, Place, Query, Syntax};
 use crate::words::{LONGEST, first_word};
 use pickle_ops::{OpFault, Opcode, decimal_of, op_of};
@@ -72,7 +70,7 @@ fn read_place(word: PlaceWord, rest: &[u8]) -> Result<Line, Syntax>
     ensures { result ≡ place_says word (words_of rest.now) }
 {
     let (place, rest) = place_first(rest)?;
-    alone(Line::At(place, place_action(word)), rest)
+    alone(Line::At(place, Action::Word(word)), rest)
 }
 
 /// What a line says by a place and a count.
@@ -122,7 +120,8 @@ fn is_hex(word: &[u8]) -> bool
 /// The digits of the whole argument, none where it is empty; nothing may come after them. It takes no memory, so that
 /// running out of memory hides no fault of a word.
 fn hex_last(rest: &[u8]) -> Result<&[u8], Syntax>
-    ensures { MatchResult result (λ text. (bytes : List ℕ) × (arg_last (words_of rest.now) ≡ Ok bytes) × (decode_of text.now ≡ Ok bytes)) (λ f. arg_last (words_of rest.now) ≡ Err f) }
+    ensures { MatchResult result (λ text. (bytes : List ℕ) × (arg_last (words_of rest.now) ≡ Ok bytes) × (decode_of text.now ≡ Ok bytes))
+        (λ f. arg_last (words_of rest.now) ≡ Err f) }
 {
     match first_word(rest) {
         None => Ok(&[]),
@@ -132,7 +131,8 @@ fn hex_last(rest: &[u8]) -> Result<&[u8], Syntax>
 
 /// The digits of the last word.
 fn last_word<'a>(word: &'a [u8], rest: &[u8]) -> Result<&'a [u8], Syntax>
-    ensures { MatchResult result (λ text. (bytes : List ℕ) × (last_bytes (bytes_of_word word.now) (words_of rest.now) ≡ Ok bytes) × (decode_of text.now ≡ Ok bytes)) (λ f. last_bytes (bytes_of_word word.now) (words_of rest.now) ≡ Err f) }
+    ensures { MatchResult result (λ text. (bytes : List ℕ) × (last_bytes (bytes_of_word word.now) (words_of rest.now) ≡ Ok bytes)
+        × (decode_of text.now ≡ Ok bytes)) (λ f. last_bytes (bytes_of_word word.now) (words_of rest.now) ≡ Err f) }
 {
     if !is_hex(word) {
         return Err(Syntax::BadHex);
@@ -161,10 +161,10 @@ fn make_op(
     opcode: Opcode,
     arg: &[u8],
 ) -> Result<Line, Syntax>
-    ensures { AnswersWords (Ok (Line.At place (op_action word (record { opcode = opcode; arg = arg.now })))) result }
+    ensures { AnswersWords (Ok (Line.At place (Action.Put word (record { opcode = opcode; arg = arg.now })))) result }
 {
     match op_of(alloc, opcode, arg) {
-        Ok(op) => Ok(Line::At(place, op_action(word, op))),
+        Ok(op) => Ok(Line::At(place, Action::Put(word, op))),
         Err(fault) => Err(syntax_of(fault)),
     }
 }
@@ -177,7 +177,8 @@ fn make_line(
     opcode: Opcode,
     hex: &[u8],
 ) -> Result<Line, Syntax>
-    ensures { (bytes : List ℕ) → decode_of hex.now ≡ Ok bytes → AnswersWords (Ok (Line.At place (op_action word (record { opcode = opcode; arg = bytes })))) result }
+    ensures { (bytes : List ℕ) → decode_of hex.now ≡ Ok bytes
+        → AnswersWords (Ok (Line.At place (Action.Put word (record { opcode = opcode; arg = bytes })))) result }
 {
     match hex::decode(alloc, hex) {
         Ok(arg) => make_op(alloc, word, place, opcode, arg.as_slice()),

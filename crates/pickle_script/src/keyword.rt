@@ -1,26 +1,34 @@
 //! The first word of a line.
 
 ghost use Rattle.std.specs.Prelude.{◌≡◌};
-ghost use Rattle.pickle_script.specs.Grammar.{command_word, query_word, place_word, op_word, place_action, op_action};
+ghost use Rattle.pickle_script.specs.Grammar.{command_word, query_word, place_word, op_word, word_at, op_at};
 
-use crate::line::{Action, Query};
+use crate::line::Query;
+use pickle_doc::Edit;
 use pickle_ops::Op;
 use pickle_session::Command;
 
 /// A word before a place.
-#[derive(Clone, Copy)]
-pub(crate) enum PlaceWord {
+#[derive(Clone, Copy, Debug, PartialEq, Eq)]
+pub enum PlaceWord {
+    /// `goto K`
     Goto,
+    /// `break K`
     Break,
+    /// `clear K`
     Clear,
+    /// `delete K`
     Delete,
+    /// `unframe K`
     Unframe,
 }
 
-/// A word before a place, a name and bytes.
-#[derive(Clone, Copy)]
-pub(crate) enum OpWord {
+/// A word before a place, a name and bytes, which are the whole argument: no text of an argument has to be read.
+#[derive(Clone, Copy, Debug, PartialEq, Eq)]
+pub enum OpWord {
+    /// `replace K NAME HEX`
     Replace,
+    /// `insert K NAME HEX`
     Insert,
 }
 
@@ -88,25 +96,29 @@ pub(crate) fn op_word(word: &[u8]) -> Option<OpWord>
     })
 }
 
-/// What a word says that is done at a place.
-pub(crate) fn place_action(word: PlaceWord) -> Action
-    ensures { result ≡ place_action word }
-{
-    match word {
-        PlaceWord::Goto => Action::Goto,
-        PlaceWord::Break => Action::Break,
-        PlaceWord::Clear => Action::Clear,
-        PlaceWord::Delete => Action::Delete,
-        PlaceWord::Unframe => Action::Unframe,
+impl PlaceWord {
+    /// The command that does this at place k.
+    pub fn at(self, k: usize) -> Command
+        ensures { result ≡ word_at self k }
+    {
+        match self {
+            PlaceWord::Goto => Command::Goto(k),
+            PlaceWord::Break => Command::Break(k),
+            PlaceWord::Clear => Command::Clear(k),
+            PlaceWord::Delete => Command::Edit(Edit::Delete(k)),
+            PlaceWord::Unframe => Command::Edit(Edit::Unframe(k)),
+        }
     }
 }
 
-/// What a word says with an operation that is done at a place.
-pub(crate) fn op_action(word: OpWord, op: Op) -> Action
-    ensures { result ≡ op_action word op }
-{
-    match word {
-        OpWord::Replace => Action::Replace(op),
-        OpWord::Insert => Action::Insert(op),
+impl OpWord {
+    /// The command that does this with an operation at place k.
+    pub fn at(self, k: usize, op: Op) -> Command
+        ensures { result ≡ op_at self k op }
+    {
+        match self {
+            OpWord::Replace => Command::Edit(Edit::Replace(k, op)),
+            OpWord::Insert => Command::Edit(Edit::Insert(k, op)),
+        }
     }
 }

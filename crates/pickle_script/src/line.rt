@@ -3,6 +3,7 @@
 ghost use Rattle.std.specs.Prelude.{◌≡◌};
 ghost use Rattle.pickle_script.specs.Grammar.{command_at};
 
+use crate::keyword::{OpWord, PlaceWord};
 use pickle_doc::Edit;
 use pickle_ops::{Op, OpFault};
 use pickle_session::Command;
@@ -34,26 +35,15 @@ pub enum Place {
     Offset(u64),
 }
 
-/// What is done at a place. Each is the command of the same name. The place is read apart from it: a command generic
-/// over its place would carry that parameter through the session.
+/// What is done at a place, which is read apart from it: a command generic over its place would carry that parameter through the session.
 #[derive(Debug, Drop)]
 pub enum Action {
-    /// `goto K`
-    Goto,
-    /// `break K`
-    Break,
-    /// `clear K`
-    Clear,
-    /// `replace K NAME HEX`, where HEX is the whole argument: no text of an argument has to be read.
-    Replace(Op),
-    /// `insert K NAME HEX`
-    Insert(Op),
-    /// `delete K`
-    Delete,
+    /// What a word says alone.
+    Word(PlaceWord),
+    /// What a word says with an operation.
+    Put(OpWord, Op),
     /// `frame K COUNT`
     Frame(usize),
-    /// `unframe K`
-    Unframe,
 }
 
 impl Action {
@@ -62,14 +52,9 @@ impl Action {
         ensures { result ≡ command_at self k }
     {
         match self {
-            Action::Goto => Command::Goto(k),
-            Action::Break => Command::Break(k),
-            Action::Clear => Command::Clear(k),
-            Action::Replace(op) => Command::Edit(Edit::Replace(k, op)),
-            Action::Insert(op) => Command::Edit(Edit::Insert(k, op)),
-            Action::Delete => Command::Edit(Edit::Delete(k)),
+            Action::Word(word) => word.at(k),
+            Action::Put(word, op) => word.at(k, op),
             Action::Frame(count) => Command::Edit(Edit::Frame(k, count)),
-            Action::Unframe => Command::Edit(Edit::Unframe(k)),
         }
     }
 }

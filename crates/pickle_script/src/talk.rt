@@ -220,11 +220,14 @@ fn go_on<P: Past, S: Asker<K>, K: Page>(
 ) -> Result<u8, Stop>
     requires pending { pending.old ≡ record { line = []; refused = false } }
     requires handed { (K.told page.old).held ≡ 0 }
-    ensures finishes { IfOk result (λ status. Finishes session.old session.new status (S.remaining source.old) (S.remaining source.new) (K.told page.old) (K.told page.new)) }
-    ensures reading { result ≡ Err Stop.Read → StopsReading session.old session.new (S.remaining source.old) (S.remaining source.new) (K.told page.old) (K.told page.new) }
+    ensures finishes { IfOk result (λ status. Finishes session.old session.new status (S.remaining source.old) (S.remaining source.new)
+        (K.told page.old) (K.told page.new)) }
+    ensures reading { result ≡ Err Stop.Read → StopsReading session.old session.new (S.remaining source.old) (S.remaining source.new)
+        (K.told page.old) (K.told page.new) }
     ensures read { result ≡ Err Stop.Read → HasFailed (S.failures source.old) (S.failures source.new) }
     ensures calm { result ≢ Err Stop.Read → S.failures source.new ≡ S.failures source.old }
-    ensures writing { result ≡ Err Stop.Write → StopsWriting session.old session.new (S.remaining source.old) (S.remaining source.new) (K.told page.old) (K.told page.new) }
+    ensures writing { result ≡ Err Stop.Write → StopsWriting session.old session.new (S.remaining source.old) (S.remaining source.new)
+        (K.told page.old) (K.told page.new) }
     ensures others { (result ≢ Err Stop.Memory) × (result ≢ Err Stop.TooLarge) }
     ensures handed { result ≢ Err Stop.Write → (K.told page.new).held ≡ 0 }
 {
@@ -259,13 +262,16 @@ pub fn converse<P: Past, S: Asker<K>, K: Page>(
     page: &mut K,
 ) -> Result<u8, Stop>
     requires handed { (K.told page.old).held ≡ 0 }
-    ensures finishes { IfOk result (λ status. Finishes session.old session.new status (S.remaining source.old) (S.remaining source.new) (K.told page.old) (K.told page.new)) }
+    ensures finishes { IfOk result (λ status. Finishes session.old session.new status (S.remaining source.old) (S.remaining source.new)
+        (K.told page.old) (K.told page.new)) }
 
     // Read and Write come only where that device has failed.
-    ensures reading { result ≡ Err Stop.Read → StopsReading session.old session.new (S.remaining source.old) (S.remaining source.new) (K.told page.old) (K.told page.new) }
+    ensures reading { result ≡ Err Stop.Read → StopsReading session.old session.new (S.remaining source.old) (S.remaining source.new)
+        (K.told page.old) (K.told page.new) }
     ensures read { result ≡ Err Stop.Read → HasFailed (S.failures source.old) (S.failures source.new) }
     ensures calm { result ≢ Err Stop.Read → S.failures source.new ≡ S.failures source.old }
-    ensures writing { result ≡ Err Stop.Write → StopsWriting session.old session.new (S.remaining source.old) (S.remaining source.new) (K.told page.old) (K.told page.new) }
+    ensures writing { result ≡ Err Stop.Write → StopsWriting session.old session.new (S.remaining source.old) (S.remaining source.new)
+        (K.told page.old) (K.told page.new) }
 
     // Without memory nothing is read, obeyed or written.
     ensures memory { result ≡ Err Stop.Memory → (session.new ≡ session.old) × (source.new ≡ source.old) × (page.new ≡ page.old) }

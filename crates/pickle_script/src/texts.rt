@@ -87,31 +87,3 @@ pub fn objects_many<S: Page>(alloc: Global, bytes: &[u8], page: &mut S) -> Resul
 {
     write_text(alloc, Text::Objects, true, false, bytes, page)
 }
-
-/// Writes whether the pickle is in the form that picklers write, as `write_text` does.
-pub fn form<S: Page>(alloc: Global, bytes: &[u8], page: &mut S) -> Result<u8, Stop>
-    ensures { AnswersText Text.Form false false bytes.now S.told page.old page.new result }
-{
-    write_text(alloc, Text::Form, false, false, bytes, page)
-}
-
-/// Writes what the pickles would import and call in this reading, as `write_text` does: the lines of all of them, with arguments cut or in
-/// full, and the counts once.
-pub fn calls<S: Page>(
-    alloc: Global,
-    pickles: Pickles,
-    detail: Detail,
-    bytes: &[u8],
-    page: &mut S,
-) -> Result<u8, Stop>
-    ensures { AnswersText (Text.Calls pickles detail) false false bytes.now S.told page.old page.new result }
-{
-    write_text(
-        alloc,
-        Text::Calls(pickles, detail),
-        false,
-        false,
-        bytes,
-        page,
-    )
-}
