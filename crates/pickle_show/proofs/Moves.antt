@@ -3,7 +3,7 @@ use Rattle.std.proofs.Common.{◌≡◌, ◌∙◌, ℕ, ◌+◌, ◌-◌, ◌<�
 use Rattle.std.specs.Prelude.{if◌then◌else◌, ◌==◌, slice_get, slice_set}
 use Rattle.std.specs.Option.{option_map_or}
 use Rattle.std.proofs.Math.ListN.{set, length-set}
-use Rattle.std.proofs.lemmas.Bool.{lt-ltb, le-ltb}
+use Rattle.std.proofs.lemmas.Bool.{lt-ltb, le-ltb, ne_eqb}
 use Rattle.std.proofs.lemmas.List.{take_at}
 use Rattle.pickle_ops.specs.Spelling.{Operation}
 use Rattle.pickle_ops.specs.declared.kind.Kind.{Kind}
@@ -133,12 +133,12 @@ followed_pop : (top : List ℕ) (s : State) (opened : List ℕ) (offset : ℕ) �
     → cond (ltb 0 (length top)) None (unless (ltb 0 (length s.marked)) refusal.Underflow None) ≡ None
     → followed opened (length s.marked) (length (cond (ltb 0 (length top)) (without 1 s) (cut s)).marked) offset ≡ (if length top == 0 then take (length opened - 1) opened else opened)
 followed_pop [] s opened offset is e = followed_less s.marked refusal.Underflow None opened offset e
-followed_pop (x ∷ xs) s opened offset is e = followed_same s.marked opened offset
+followed_pop (x ∷ xs) s opened offset is e = rw (lt-ltb 0 (length (x ∷ xs)) (omega arith), ne_eqb (length (x ∷ xs)) 0 (λ e. omega (arith, e))) (followed_same s.marked opened offset)
 
 -- what becomes of the offsets of the open marks is known by the row, before it moves
 pub followed_is : (r : Row) (k : Kind) (place : ℕ) (s : State) (opened : List ℕ) (offset : ℕ) → refusal_of r s ≡ None
     → followed opened (length s.marked) (length (next_of r k place s).marked) offset ≡ followed_by r s opened offset
-followed_is row.Mark k place s opened offset e = followed_more _ s.marked opened offset
+followed_is row.Mark k place s opened offset e = followed_more (record { section = s.top; place = place }) s.marked opened offset
 followed_is (row.Cut c) k place s opened offset e = followed_less s.marked _ _ opened offset e
 followed_is (row.CutChange f) k place s opened offset e = followed_less s.marked _ _ opened offset e
 followed_is row.PopMark k place s opened offset e = followed_less s.marked _ _ opened offset e
