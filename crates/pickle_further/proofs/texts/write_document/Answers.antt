@@ -6,7 +6,7 @@ use Rattle.pickle_further.proofs.texts.write_document.Goals as goal
 
 pub run_items-requires : goal.run_items-requires
 run_items-requires g c κs =
-    ((refl, tt), (rw c.new.ensures (bytes_give _ _ c.args.bytes.now (λ i. omega (arith, c.type_inv.bytes i)) c.requires), (rw c.new.ensures refl, rw c.start-machine.ensures refl)))
+    ((refl, tt), (rw c.new.ensures (bytes_give _ _ c.args.bytes.now (λ i. omega (arith, c.type_inv.bytes i)) c.requires), (rw c.new.ensures refl, (rw c.new-slim.ensures refl, rw (c.new.ensures, c.new-slim.ensures) (refl, refl)))))
 
 pub returns-in_err-ran-clause-err : goal.returns-in_err-ran-clause-err
 returns-in_err-ran-clause-err g c =
