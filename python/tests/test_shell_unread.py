@@ -6,17 +6,21 @@ import contextlib
 import datetime
 import pickle
 import random
+import tempfile
 import threading
 import unittest
 from collections import Counter
+from pathlib import Path
 from typing import Iterator, List
 from unittest import mock
 
+from picklestep import Session
 from picklestep.shell import between
 from picklestep.shell.opened import Opened
 from picklestep.shell.shell import Shell, WordError
 from picklestep.view import document
 from pickles import real_pickles
+from terminals import Terminal
 
 RECORDS = [{'id': n, 'name': f'user{n}', 'score': n * 0.5, 'tags': ['a', 'b', str(n)], 'of': (n, str(n)), 'in': {1, n}, 'day': datetime.date(2020, 1, 1 + n)}
            for n in range(20)]
@@ -157,6 +161,32 @@ class Unread(unittest.TestCase):
                 shell.obey('find STOP')
             self.assertEqual((shell.obey('break'), shell.pickle.content(), shell.pickle.edits_made), ('1: at 60', data, ()))
             self.assertIn('>      50', shell.obey('where'))
+
+
+class AtATerminal(unittest.TestCase):
+    """Over a pseudo-terminal."""
+
+    def test_lines_that_are_typed_at_once(self) -> None:
+        """However much of a large pickle is read by then, each shows what a shell shows that opens the edited pickle."""
+        data = pickle.dumps([number % 256 for number in range(120_000)], 4)
+        edits = (("insert 60000 'x'", lambda session: session.insert(60000, 'SHORT_BINUNICODE', 'x')), ('set 5 to 77', lambda session: session.replace(
+            9, 'BININT1', 77)), ('delete 60003', lambda session: session.delete(60003)), ('undo', lambda session: session.undo()))
+        with tempfile.TemporaryDirectory() as folder, Session(data) as session:
+            Path(folder, 'a.pickle').write_bytes(data)
+            terminal = Terminal(['a.pickle'], folder)
+            self.addCleanup(terminal.process.wait)
+            self.addCleanup(terminal.process.kill)
+            terminal.until('(pickle) ')
+            terminal.type('goto 60000')
+            for line, edit in edits:
+                terminal.type(line)
+                edit(session)
+                with self.subTest(line), Shell(session.bytes(), '') as fresh:
+                    fresh.obey('goto 60000')
+                    looks = ('where', 'list 59990 60009', 'stack')
+                    self.assertEqual([*map(terminal.type, looks)], [*map(fresh.obey, looks)])
+            self.assertEqual((terminal.type('save b.pickle'), Path(folder, 'b.pickle').read_bytes()), ('saved b.pickle', session.bytes()))
+            self.assertEqual((terminal.type('quit'), terminal.close()), ('', 0))
 
 
 if __name__ == '__main__':

@@ -206,7 +206,7 @@ class Between:
         if piece.put is not None:
             return []
         found = self._reaches.texts_at(line.offset - piece.shift)
-        if place < self._first or line.name in _QUIET and not found:
+        if place < self._first or line.name in _QUIET and not found or self._is_same and line.name in _FILLS:
             return found
         mark = _MARK.search(line.argument)
         if line.name in _FILLS and not found and mark is not None and int(mark[1]) < self._lines.offset(self._first):
