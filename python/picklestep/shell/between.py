@@ -81,7 +81,7 @@ class _Piece(NamedTuple):
     place: int
     offset: int
     old: int
-    count: int
+    length: int
     shift: int
     put: Optional[Put]
 
@@ -118,9 +118,9 @@ class Between:
             raise Unknown
         self._places = [piece.place for piece in self._pieces]
         begins = self._pieces[0].put is None and not self._pieces[0].old
-        self._first = self._pieces[0].count if begins else 0
+        self._first = self._pieces[0].length if begins else 0
         old = [piece for piece in self._pieces if piece.put is None]
-        ends = {0, *(piece.old for piece in old), *(piece.old + piece.count for piece in old), len(lines)} - {0, len(lines)}
+        ends = {0, *(piece.old for piece in old), *(piece.old + piece.length for piece in old), len(lines)} - {0, len(lines)}
         self._edited = sorted(ends if begins else {0, *ends})
         self.makers = Makers(codes)
         self.makers.finish(final, lambda place, number: False)
@@ -191,7 +191,7 @@ class Between:
         """The offset of an opcode that was at one."""
         place = self._lines.place_of(offset)
         for piece in reversed(self._pieces):
-            if piece.put is None and piece.old <= place < piece.old + piece.count:
+            if piece.put is None and piece.old <= place < piece.old + piece.length:
                 return offset + piece.shift
         raise Unknown
 
@@ -200,7 +200,7 @@ class Between:
         if any(offset <= self._lines.offset(old) <= offset + 9 + length for old in self._edited):
             raise Unknown
 
-    def reached(self, place: int, line: Line) -> List[str]:
+    def calls_at(self, place: int, line: Line) -> List[str]:
         """What `calls` says of an opcode."""
         piece = self._piece(place)
         if piece.put is not None:

@@ -362,9 +362,9 @@ class Opened(Document):
         """What is imported, in its order."""
         return (self.reaches.answer[at] for at, kind in enumerate(self.reaches.kinds) if kind in ('import', 'inst'))
 
-    def reached(self, place: int, line: Line) -> List[str]:
+    def calls_at(self, place: int, line: Line) -> List[str]:
         """What `calls` says of the opcode at a place, of which this is the line."""
-        return self.reaches.texts_at(line.offset) if self._shown is None else self._shown.reached(place, line)
+        return self.reaches.texts_at(line.offset) if self._shown is None else self._shown.calls_at(place, line)
 
     def edit_all(self, edits: Sequence[Edit]) -> List[int]:
         """Makes edits, all or none, with the cursor before them, and goes back to the opcode where it was. Answers their places."""

@@ -184,7 +184,7 @@ class Shell:
         """An opcode in a line, with what it imports or calls."""
         line = self.pickle.lines.at(place)
         marks = '>' if place == here else ' ', '*' if any(point.is_on and point.what == 'at' and int(point.text) == place for point in self._breaks) else ' '
-        reached = ''.join(f'   <- {text}' for text in self.pickle.reached(place, line))
+        reached = ''.join(f'   <- {text}' for text in self.pickle.calls_at(place, line))
         argument = f' {_argument(self.pickle.lines.raw(place), line.argument)}' if line.argument else ''
         return f'{"".join(marks)} {place:>6} {line.offset:>5}: {"  " * line.marks}{line.name}{argument}{reached}'
 
@@ -393,7 +393,7 @@ class Shell:
         if place >= len(self.pickle.lines):
             return '\n'.join([f'the end: {self.pickle.session.where().end.text}', *self.pickle.kept])
         line = self.pickle.lines.at(place)
-        rows = [f'{line.name}: {EXPLAINED[line.name]}', *(f'here: {reached}' for reached in self.pickle.reached(place, line))]
+        rows = [f'{line.name}: {EXPLAINED[line.name]}', *(f'here: {reached}' for reached in self.pickle.calls_at(place, line))]
         if place == self._now()[0]:
             rows.append(f'the stack before it: {self._top()}')
         number = self.pickle.makes(place)
