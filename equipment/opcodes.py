@@ -155,10 +155,12 @@ def fault_of_names(root: Path, file: str, others: set[str]) -> str:
 
 
 def fault_of_rows(root: Path) -> str:
-    """The unit tests have a row for each opcode, which a comment names."""
+    """The unit tests have a row for each row of the table, with each kind and each form that go with it: a comment names the opcode."""
     text = (root / "crates/unit_tests/src/machine/rows.rt").read_text(encoding="utf-8")
-    found = re.findall(r"^    // ([A-Z][A-Z0-9_]+)$", text, re.MULTILINE)
-    return difference(found, [record.name for record in records(root)])
+    tested = set(re.findall(r"^    // ([A-Z][A-Z0-9_]+)$", text, re.MULTILINE))
+    table = {record.name: (record.row, record.kind, record.form) for record in records(root)}
+    shapes = {table.get(name) for name in tested}
+    return difference(sorted(tested - set(table)), []) or difference([name for name, shape in table.items() if shape not in shapes], [])
 
 
 def fault_of_sets(root: Path) -> str:
@@ -190,7 +192,7 @@ def trials(root: Path, program: str, folder: Path) -> list[Trial]:
     return [
         Trial("the table of opcodes, against pickletools", functools.partial(fault_of_table, root)),
         Trial("each opcode as it is listed and put in, against pickletools", functools.partial(fault_of_program, program, folder)),
-        Trial("the rows of the unit tests, one for each opcode", functools.partial(fault_of_rows, root)),
+        Trial("the rows of the unit tests, for each row, kind and form", functools.partial(fault_of_rows, root)),
         Trial("the opcodes that count_calls.py knows of", functools.partial(fault_of_sets, root)),
         Trial("the opcodes that make no object, on the page", functools.partial(fault_of_page, root)),
         Trial("the arguments that the fuzzer makes", functools.partial(fault_of_fuzzer, root)),
