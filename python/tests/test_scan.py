@@ -314,6 +314,8 @@ class Containers(ScanCase):
                      "S'quoted'\ntext\n", 'float x;\n', 'configuration of it\nall\n', 'N/A,2\n', 'Persons\nsome of them\n', 'g++ -O2\n'):
             with self.subTest(text):
                 self.assertEqual(self.look('notes', text.encode()).pickles, ())
+        for letter in 'gpNIV':  # (of base64, a long line of which nobody is asked for a key that is there)
+            self.assertEqual(self.look('notes', letter.encode() + b'AAA' * 40_000).pickles, (), letter)
 
     def test_where_an_opcode_is_refused(self) -> None:
         result = self.look('a.pkl', b'N0' * 1000 + b'Xabcd'.replace(b'abcd', bytes(4)) + b'0a')

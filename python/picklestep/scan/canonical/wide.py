@@ -309,6 +309,15 @@ class _Machine:
                 return int(digits or b'0') if len(digits) <= _MOST_DIGITS else digits
         return text
 
+    def get_line(self) -> None:
+        if not self._memo:
+            raise _End
+        self.get(self.key())
+
+    def put_line(self) -> None:
+        self.need(1)
+        self.put(self.key())
+
     def get(self, key: _Key) -> None:
         if key not in self._memo:
             raise _End
@@ -482,8 +491,8 @@ _OPCODES: Dict[str, Callable[[_Machine], Any]] = {
     'FROZENSET': lambda m: m.cut(_OTHER), 'TUPLE1': lambda m: m.tuple_(1), 'TUPLE2': lambda m: m.tuple_(2), 'TUPLE3': lambda m: m.tuple_(3),
     'APPEND': _Machine.append, 'APPENDS': lambda m: m.fill_marked('lbF'), 'SETITEM': _Machine.set_item,
     'SETITEMS': lambda m: m.fill_marked('dlbF'), 'ADDITEMS': lambda m: m.fill_marked('sF'),
-    'GET': lambda m: m.get(m.key()), 'BINGET': lambda m: m.get(m.read(1)[0]),
-    'LONG_BINGET': lambda m: m.get(int.from_bytes(m.read(4), 'little')), 'PUT': lambda m: m.put(m.key()), 'BINPUT': lambda m: m.put(m.read(1)[0]),
+    'GET': _Machine.get_line, 'BINGET': lambda m: m.get(m.read(1)[0]),
+    'LONG_BINGET': lambda m: m.get(int.from_bytes(m.read(4), 'little')), 'PUT': _Machine.put_line, 'BINPUT': lambda m: m.put(m.read(1)[0]),
     'LONG_BINPUT': lambda m: m.put(int.from_bytes(m.read(4), 'little')),
     'MEMOIZE': _Machine.memoize,
     'GLOBAL': _Machine.global_, 'INST': _Machine.global_, 'STACK_GLOBAL': _Machine.stack_global, 'EXT1': lambda m: m.extension(1),
