@@ -35,7 +35,8 @@ pub record Reports (F O : Type 0) : Type 0 where
   pub took : F → List ℕ → Told
   pub loses : F → List ℕ → Stop → Bool
 
-abbrev pub reports : {F O : Type 0} → (F → List ℕ → Option (List ℕ)) → (F → List ℕ → Kind → Bool) → (O → Option (List ℕ)) → (O → ℕ) → (F → List ℕ → Told) → (F → List ℕ → Stop → Bool) → Reports F O
+abbrev pub reports : {F O : Type 0} → (F → List ℕ → Option (List ℕ)) → (F → List ℕ → Kind → Bool) → (O → Option (List ℕ)) → (O → ℕ) → (F → List ℕ → Told)
+    → (F → List ℕ → Stop → Bool) → Reports F O
 reports bytes_of refuses remaining failures took loses =
     record { bytes_of = bytes_of; refuses = refuses; file = λ opened. gives (remaining opened) (failures opened); took = took; loses = loses }
 

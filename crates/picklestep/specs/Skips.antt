@@ -27,7 +27,9 @@ abbrev pub StandFor : (List ℕ → List ℕ → Type 0) → List (List ℕ) →
 StandFor Read [] out = out ≡ []
 StandFor Read (word ∷ []) out = out ≡ word ∷ []
 StandFor Read (word ∷ next ∷ more) out =
-    ((word ≡ skip_word) × ((path : List ℕ) × (next ≡ 64 ∷ path) × ((bytes : List ℕ) × Read path bytes × ((rest : List (List ℕ)) × StandFor Read more rest × (out ≡ skips (lines bytes) ++ rest)))))
+    ((word ≡ skip_word)
+    × ((path : List ℕ) × (next ≡ 64 ∷ path)
+    × ((bytes : List ℕ) × Read path bytes × ((rest : List (List ℕ)) × StandFor Read more rest × (out ≡ skips (lines bytes) ++ rest)))))
     ⊎ ((word ≡ skip_word → (path : List ℕ) → next ≢ 64 ∷ path) × ((rest : List (List ℕ)) × StandFor Read (next ∷ more) rest × (out ≡ word ∷ rest)))
 
 -- these were added for the first of some words, and the rest is still to come

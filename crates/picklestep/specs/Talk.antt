@@ -24,7 +24,8 @@ use Rattle.picklestep.specs.Files.{Gives, Reports, IsRead, IsUnread}
 -- has taken
 abbrev pub Saves : {F : Type 0} → (F → List ℕ → Told) → Option (List ℕ) → F → F → List ℕ → Type 0
 Saves took None files files' bytes = files' ≡ files
-Saves took (Some path) files files' bytes = Wrote (took files path) (took files' path) bytes × ((name : List ℕ) → name ≢ path → took files' name ≡ took files name)
+Saves took (Some path) files files' bytes = Wrote (took files path) (took files' path) bytes
+    × ((name : List ℕ) → name ≢ path → took files' name ≡ took files name)
 
 -- ---- a conversation with a session
 
@@ -57,7 +58,8 @@ pub record IsLost (s after : SessionState) (save : Option (List ℕ)) {F O : Typ
 
 -- nothing was saved of it, since it stopped, or the file did
 abbrev pub IsUnsaved : SessionState → SessionState → Option (List ℕ) → {F O : Type 0} → Reports F O → F → F → Gives → Gives → Told → Told → Stop → Type 0
-IsUnsaved s after save r files files' input input' old new e = ((files' ≡ files) × Cuts s after input input' old new e) ⊎ IsLost s after save r files files' input input' old new e
+IsUnsaved s after save r files files' input input' old new e = ((files' ≡ files) × Cuts s after input input' old new e)
+    ⊎ IsLost s after save r files files' input input' old new e
 
 -- ---- a conversation about bytes
 
@@ -106,7 +108,8 @@ Talks many loose bytes options r files files' input input' old new result =
 abbrev pub TalksOfFile : GivenFile → Options → {F O : Type 0} → Reports F O → F → F → Gives → Gives → Told → Told → Result ℕ Stop → Type 0
 TalksOfFile input options r files files' source source' old new result =
     (IsErrAnd result (IsUnread r files (string_bytes input.file)) × Untouched files files' source source' old new)
-    ⊎ ((bytes : List ℕ) × IsRead (r.bytes_of files (string_bytes input.file)) bytes × Talks input.many input.unframed bytes options r files files' source source' old new result)
+    ⊎ ((bytes : List ℕ) × IsRead (r.bytes_of files (string_bytes input.file)) bytes
+    × Talks input.many input.unframed bytes options r files files' source source' old new result)
 
 -- ---- a task
 

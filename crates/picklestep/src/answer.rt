@@ -78,7 +78,10 @@ fn answer_words<R: Asker<Buffered<K>>, K: Sink + Drop, F: Files, E: Sink>(
     errors: &mut E,
 ) -> u8
     requires handed { (⟦<Buffered<K> as Sink>⟧.told page.old).held ≡ 0 }
-    ensures { AnswersWords (reports F.bytes_of F.refuses F.Opened.remaining F.Opened.failures F.took F.loses) (map (λ w. w.now) words.now) files.old files.new (gives (R.remaining source.old) (R.failures source.old)) (gives (R.remaining source.new) (R.failures source.new)) (K.told (device_of page.old)) (K.told (device_of page.new)) (E.told errors.old) (E.told errors.new) result }
+    ensures { AnswersWords (reports F.bytes_of F.refuses F.Opened.remaining F.Opened.failures F.took F.loses)
+        (map (λ w. w.now) words.now) files.old files.new (gives (R.remaining source.old) (R.failures source.old))
+        (gives (R.remaining source.new) (R.failures source.new)) (K.told (device_of page.old)) (K.told (device_of page.new)) (E.told errors.old)
+        (E.told errors.new) result }
 {
     match task_of(alloc, words) {
         Ok(task) => {
@@ -111,7 +114,10 @@ pub fn answer<R: Asker<Buffered<K>>, K: Sink + Drop, F: Files, E: Sink>(
     errors: &mut E,
 ) -> u8
     requires handed { (⟦<Buffered<K> as Sink>⟧.told page.old).held ≡ 0 }
-    ensures { Answers (reports F.bytes_of F.refuses F.Opened.remaining F.Opened.failures F.took F.loses) (map string_bytes given.now) files.old files.new (gives (R.remaining source.old) (R.failures source.old)) (gives (R.remaining source.new) (R.failures source.new)) (K.told (device_of page.old)) (K.told (device_of page.new)) (E.told errors.old) (E.told errors.new) result }
+    ensures { Answers (reports F.bytes_of F.refuses F.Opened.remaining F.Opened.failures F.took F.loses)
+        (map string_bytes given.now) files.old files.new (gives (R.remaining source.old) (R.failures source.old))
+        (gives (R.remaining source.new) (R.failures source.new)) (K.told (device_of page.old)) (K.told (device_of page.new)) (E.told errors.old)
+        (E.told errors.new) result }
 {
     let words = match with_files(alloc, files, given) {
         Ok(words) => words,

@@ -24,7 +24,8 @@ fn answer_text<R: Source, K: Sink + Drop>(
     page: &mut Buffered<K>,
 ) -> Result<u8, Stop>
     requires handed { (⟦<Buffered<K> as Sink>⟧.told page.old).held ≡ 0 }
-    ensures answers { AnswersInput (IsTextOf text many loose) (gives (R.remaining source.old) (R.failures source.old)) (gives (R.remaining source.new) (R.failures source.new)) (K.told (device_of page.old)) (K.told (device_of page.new)) result }
+    ensures answers { AnswersInput (IsTextOf text many loose) (gives (R.remaining source.old) (R.failures source.old))
+        (gives (R.remaining source.new) (R.failures source.new)) (K.told (device_of page.old)) (K.told (device_of page.new)) result }
     ensures handed { result ≢ Err Stop.Write → (⟦<Buffered<K> as Sink>⟧.told page.new).held ≡ 0 }
 {
     let bytes = read_limited(alloc, source, LIMIT)?;
@@ -41,7 +42,8 @@ fn answer_calls<R: Source, K: Sink + Drop>(
     page: &mut Buffered<K>,
 ) -> Result<u8, Stop>
     requires handed { (⟦<Buffered<K> as Sink>⟧.told page.old).held ≡ 0 }
-    ensures answers { AnswersInput (is_calls options.now) (gives (R.remaining source.old) (R.failures source.old)) (gives (R.remaining source.new) (R.failures source.new)) (K.told (device_of page.old)) (K.told (device_of page.new)) result }
+    ensures answers { AnswersInput (is_calls options.now) (gives (R.remaining source.old) (R.failures source.old))
+        (gives (R.remaining source.new) (R.failures source.new)) (K.told (device_of page.old)) (K.told (device_of page.new)) result }
     ensures handed { result ≢ Err Stop.Write → (⟦<Buffered<K> as Sink>⟧.told page.new).held ≡ 0 }
 {
     let mut bytes = read_limited(alloc, source, LIMIT)?;
@@ -77,7 +79,8 @@ fn answer_task<R: Source, K: Sink + Drop>(
 ) -> Result<u8, Stop>
     requires text { asks_for_text task.now ≡ true }
     requires handed { (⟦<Buffered<K> as Sink>⟧.told page.old).held ≡ 0 }
-    ensures answers { AnswersTask task.now (gives (R.remaining source.old) (R.failures source.old)) (gives (R.remaining source.new) (R.failures source.new)) (K.told (device_of page.old)) (K.told (device_of page.new)) result }
+    ensures answers { AnswersTask task.now (gives (R.remaining source.old) (R.failures source.old))
+        (gives (R.remaining source.new) (R.failures source.new)) (K.told (device_of page.old)) (K.told (device_of page.new)) result }
     ensures handed { result ≢ Err Stop.Write → (⟦<Buffered<K> as Sink>⟧.told page.new).held ≡ 0 }
 {
     match task {
@@ -104,7 +107,8 @@ pub fn answer_file<K: Sink + Drop, F: Files>(
 ) -> Result<u8, Stop>
     requires text { asks_for_text task.now ≡ true }
     requires handed { (⟦<Buffered<K> as Sink>⟧.told page.old).held ≡ 0 }
-    ensures answers { AnswersFile task.now (reports F.bytes_of F.refuses F.Opened.remaining F.Opened.failures F.took F.loses) files.now (K.told (device_of page.old)) (K.told (device_of page.new)) result }
+    ensures answers { AnswersFile task.now (reports F.bytes_of F.refuses F.Opened.remaining F.Opened.failures F.took F.loses) files.now
+        (K.told (device_of page.old)) (K.told (device_of page.new)) result }
     ensures handed { result ≢ Err Stop.Write → (⟦<Buffered<K> as Sink>⟧.told page.new).held ≡ 0 }
 {
     let mut source = open_file(files, input_of(task).file.as_str())?;

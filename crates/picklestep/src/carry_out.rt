@@ -27,7 +27,9 @@ pub fn carry_out<R: Asker<Buffered<K>>, K: Sink + Drop, F: Files>(
 ) -> Result<u8, Stop>
     requires bounded { IsBounded task.now }
     requires handed { (⟦<Buffered<K> as Sink>⟧.told page.old).held ≡ 0 }
-    ensures does { CarriesOut task.now (reports F.bytes_of F.refuses F.Opened.remaining F.Opened.failures F.took F.loses) files.old files.new (gives (R.remaining source.old) (R.failures source.old)) (gives (R.remaining source.new) (R.failures source.new)) (K.told (device_of page.old)) (K.told (device_of page.new)) result }
+    ensures does { CarriesOut task.now (reports F.bytes_of F.refuses F.Opened.remaining F.Opened.failures F.took F.loses) files.old files.new
+        (gives (R.remaining source.old) (R.failures source.old)) (gives (R.remaining source.new) (R.failures source.new))
+        (K.told (device_of page.old)) (K.told (device_of page.new)) result }
 
     // Unless a device fails the page holds nothing back.
     ensures handed { result ≢ Err Stop.Write → (⟦<Buffered<K> as Sink>⟧.told page.new).held ≡ 0 }

@@ -88,7 +88,8 @@ pub fn read_file<F: Files>(alloc: Global, files: &F, path: &str) -> Result<Vec<u
 /// Writes all bytes of a document to a page, and hands them on. `Stop::Write` where the page fails, which took a beginning of them then.
 #[tactic(auto, using(crate::proofs::AtDevice::handing_steps))]
 pub fn write_document<K: Page>(document: &Document, page: &mut K) -> Result<(), Stop>
-    ensures writes { OnOk result ((between : Told) × Wrote (K.told page.old) between (document_bytes document.now.contents) × Wrote between (K.told page.new) []) }
+    ensures writes { OnOk result ((between : Told) × Wrote (K.told page.old) between (document_bytes document.now.contents)
+        × Wrote between (K.told page.new) []) }
     ensures handed { OnOk result ((K.told page.new).held ≡ 0) }
     ensures stop { IfErr result (λ e. e ≡ Stop.Write) }
     ensures failed { OnErr result (Broke (K.told page.old) (K.told page.new) (document_bytes document.now.contents)) }

@@ -58,7 +58,8 @@ fn push_file<F: Files>(
     path: &str,
     words: &mut Vec<String>,
 ) -> Result<(), Stop>
-    ensures added { OnOk result ((bytes : List ℕ) × IsRead (F.bytes_of files.now path.now) bytes × (map string_bytes words.new.items ≡ map string_bytes words.old.items ++ skips (lines bytes))) }
+    ensures added { OnOk result ((bytes : List ℕ) × IsRead (F.bytes_of files.now path.now) bytes
+        × (map string_bytes words.new.items ≡ map string_bytes words.old.items ++ skips (lines bytes))) }
     ensures lacks { IfErr result (LacksLines (reports F.bytes_of F.refuses F.Opened.remaining F.Opened.failures F.took F.loses) files.now path.now) }
 {
     let bytes = read_file(alloc, files, path)?;
@@ -88,9 +89,11 @@ fn push_first<F: Files>(
     behind: &[String],
     words: &mut Vec<String>,
 ) -> Result<usize, Stop>
-    ensures added { IfOk result (λ n. AddsFor (λ path bytes. IsRead (F.bytes_of files.now path) bytes) (word.now ∷ map string_bytes behind.now) (map string_bytes (drop n behind.now)) (map string_bytes words.old.items) (map string_bytes words.new.items)) }
+    ensures added { IfOk result (λ n. AddsFor (λ path bytes. IsRead (F.bytes_of files.now path) bytes) (word.now ∷ map string_bytes behind.now)
+        (map string_bytes (drop n behind.now)) (map string_bytes words.old.items) (map string_bytes words.new.items)) }
     ensures within { IfOk result (λ n. n ≤ length behind.now) }
-    ensures lacks { IfErr result (LacksWords (reports F.bytes_of F.refuses F.Opened.remaining F.Opened.failures F.took F.loses) files.now (word.now ∷ map string_bytes behind.now)) }
+    ensures lacks { IfErr result (LacksWords (reports F.bytes_of F.refuses F.Opened.remaining F.Opened.failures F.took F.loses) files.now
+        (word.now ∷ map string_bytes behind.now)) }
 {
     if let Some((next, _)) = behind.split_first() {
         if let Some(path) = path_in(word, next.as_str()) {
@@ -104,8 +107,10 @@ fn push_first<F: Files>(
 
 /// The words in whose place these stand. The stops are those of `push_file`.
 pub fn with_files<F: Files>(alloc: Global, files: &F, given: &[String]) -> Result<Vec<String>, Stop>
-    ensures stand { IfOk result (λ words. StandFor (λ path bytes. IsRead (F.bytes_of files.now path) bytes) (map string_bytes given.now) (map string_bytes words.items)) }
-    ensures lacks { IfErr result (LacksWords (reports F.bytes_of F.refuses F.Opened.remaining F.Opened.failures F.took F.loses) files.now (map string_bytes given.now)) }
+    ensures stand { IfOk result (λ words. StandFor (λ path bytes. IsRead (F.bytes_of files.now path) bytes) (map string_bytes given.now)
+        (map string_bytes words.items)) }
+    ensures lacks { IfErr result (LacksWords (reports F.bytes_of F.refuses F.Opened.remaining F.Opened.failures F.took F.loses) files.now
+        (map string_bytes given.now)) }
 {
     let mut words = Vec::new(alloc);
     let mut i = 0;

@@ -314,7 +314,8 @@ pub fn task_of(alloc: Global, words: &[&str]) -> Result<Task, Usage>
     ensures bounded { IfOk result IsBounded }
 
     // Words that clap's definition takes, and whose matches name a task, are refused only where memory runs out.
-    ensures refuses { (task : Task) → takes program (map (λ w. w.now) words.now) ≡ true → IsNamed (subcommand_of program (map (λ w. w.now) words.now)) task → IfErr result IsMemory }
+    ensures refuses { (task : Task) → takes program (map (λ w. w.now) words.now) ≡ true
+        → IsNamed (subcommand_of program (map (λ w. w.now) words.now)) task → IfErr result IsMemory }
 {
     let mut command = command_line(alloc)?;
     let matches = command.try_get_matches_from_mut(words)?;

@@ -19,7 +19,8 @@ use std::alloc::Global;
 
 /// A text of the document of a session, and its status.
 fn text_of<P: Past>(alloc: Global, text: Text, session: &Session<P>) -> Result<(Vec<u8>, u8), Stop>
-    ensures { IfOk result (λ r. CompletesText text session.now.session.document.many session.now.session.document.loose (document_bytes session.now.session.document) (took []) (took r.0.items) r.1) }
+    ensures { IfOk result (λ r. CompletesText text session.now.session.document.many session.now.session.document.loose
+        (document_bytes session.now.session.document) (took []) (took r.0.items) r.1) }
 {
     let mut page = Buffered::new(alloc, ToWrite::new(Vec::new(alloc)))?;
     let status = write_session_text(alloc, text, session, &mut page)?;
@@ -110,7 +111,8 @@ pub fn fill_calls_in(
     out: &mut [u8],
     written: &mut Written,
 ) -> u8
-    ensures { FillsOf (pickles_of options) (λ p. IsTextAfter (asked_text.Calls p (detail_of options)) (is_many options) (is_loose options) bytes.now script.now) bytes.now out.old out.new written.new result }
+    ensures { FillsOf (pickles_of options) (λ p. IsTextAfter (asked_text.Calls p (detail_of options)) (is_many options)
+        (is_loose options) bytes.now script.now) bytes.now out.old out.new written.new result }
 {
     match asked::pickles_of(options) {
         Some(pickles) => {

@@ -257,7 +257,8 @@ pub extern "C" fn picklestep_calls_with(
     out: &mut [u8],
     written: &mut Written,
 ) -> u8
-    ensures { FillsOf (pickles_left options holes.now) (λ p. IsCallsOf (detail_of options) (holes_of holes.now) p bytes.now) bytes.now out.old out.new written.new result }
+    ensures { FillsOf (pickles_left options holes.now) (λ p. IsCallsOf (detail_of options)
+        (holes_of holes.now) p bytes.now) bytes.now out.old out.new written.new result }
 {
     texts::fill_left(alloc, options, holes, bytes, out, written)
 }
@@ -287,7 +288,8 @@ pub extern "C" fn picklestep_edited_list_with(
     out: &mut [u8],
     written: &mut Written,
 ) -> u8
-    ensures { FillsIn options (IsTextAfter asked_text.Listing (is_many options) (is_loose options) bytes.now script.now) bytes.now out.old out.new written.new result }
+    ensures { FillsIn options
+        (IsTextAfter asked_text.Listing (is_many options) (is_loose options) bytes.now script.now) bytes.now out.old out.new written.new result }
 {
     edited::fill_after_in(alloc, Text::Listing, options, bytes, script, out, written)
 }
@@ -302,7 +304,8 @@ pub extern "C" fn picklestep_edited_objects_with(
     out: &mut [u8],
     written: &mut Written,
 ) -> u8
-    ensures { FillsIn options (IsTextAfter asked_text.Objects (is_many options) (is_loose options) bytes.now script.now) bytes.now out.old out.new written.new result }
+    ensures { FillsIn options
+        (IsTextAfter asked_text.Objects (is_many options) (is_loose options) bytes.now script.now) bytes.now out.old out.new written.new result }
 {
     edited::fill_after_in(alloc, Text::Objects, options, bytes, script, out, written)
 }
@@ -317,7 +320,8 @@ pub extern "C" fn picklestep_edited_calls_with(
     out: &mut [u8],
     written: &mut Written,
 ) -> u8
-    ensures { FillsOf (pickles_of options) (λ p. IsTextAfter (asked_text.Calls p (detail_of options)) (is_many options) (is_loose options) bytes.now script.now) bytes.now out.old out.new written.new result }
+    ensures { FillsOf (pickles_of options) (λ p. IsTextAfter (asked_text.Calls p (detail_of options)) (is_many options)
+        (is_loose options) bytes.now script.now) bytes.now out.old out.new written.new result }
 {
     edited::fill_calls_in(alloc, options, bytes, script, out, written)
 }

@@ -157,7 +157,8 @@ pub fn fill_left(
     out: &mut [u8],
     written: &mut Written,
 ) -> u8
-    ensures { FillsOf (pickles_left options given.now) (λ p. IsCallsOf (detail_of options) (holes_of given.now) p bytes.now) bytes.now out.old out.new written.new result }
+    ensures { FillsOf (pickles_left options given.now) (λ p. IsCallsOf (detail_of options)
+        (holes_of given.now) p bytes.now) bytes.now out.old out.new written.new result }
 {
     match asked::pickles_left(options, given) {
         Some(pickles) => {
