@@ -3,5 +3,4 @@
 mod devices;
 mod lists;
 mod opcodes;
-mod python;
 mod whole;
