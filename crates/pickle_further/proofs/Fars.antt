@@ -37,8 +37,6 @@ use Rattle.pickle_machine.specs.declared.loader.LoaderMove.{LoaderMove}
 use Rattle.pickle_machine.specs.Held.{Held}
 use Rattle.pickle_machine.specs.Loader.{asks_less, ends_odd, fill_of, drop_row, drops_two, is_inst, import_move, fill_move, loader_move, move_as, cleared}
 use Rattle.pickle_machine.specs.LoaderLaws.{one_move}
-use Rattle.pickle_show.specs.declared.event.Before.{Before}
-use Rattle.pickle_show.specs.Event.{event_of}
 use Rattle.pickle_machine.proofs.Naming.{step_names}
 use Rattle.pickle_lenient.specs.Row.{is_far}
 use Rattle.pickle_further.specs.Far.{with_far, IsApart, counted, ComesTo}
@@ -177,18 +175,6 @@ move_same o r far s = go s.stopped
     go : (b : Bool) → loader_move o r (if b then begun s else s) ≡ loader_move o r (if b then begun (with_far far s) else with_far far s)
     go true = refl
     go false = move_within o r far s
-
--- and the event
-pub event_same : (r : Row) (b : Before) (far : List (ℕ × ℕ)) (t : State) → event_of r b t ≡ event_of r b (with_far far t)
-event_same (row.Change filling.Append) b far t = refl
-event_same (row.Change filling.SetItem) b far t = refl
-event_same (row.Change filling.Add) b far t = refl
-event_same (row.Change filling.Build) b far t = refl
-event_same (row.CutChange filling.Append) b far t = refl
-event_same (row.CutChange filling.SetItem) b far t = refl
-event_same (row.CutChange filling.Add) b far t = refl
-event_same (row.CutChange filling.Build) b far t = refl
-event_same _ b far t = refl
 
 -- how many entries there are
 pub counts_all : (near far : List (ℕ × ℕ)) (key m n : ℕ) → m ≡ length near → n ≡ length far → key ≡ m + n → row.Put key ≡ counted row.Memoize (near ++ far)

@@ -1,5 +1,5 @@
 -- What a look, and what a class, says of an object.
-use Rattle.std.proofs.Common.{◌≡◌, ℕ, Bool, true, false, List, [], Option, Some, None, refl, sym, ap, ◌∙◌}
+use Rattle.std.proofs.Common.{◌≡◌, ℕ, Bool, false, List, [], Option, Some, None, refl, sym, ap, ◌∙◌}
 use Rattle.std.specs.Prelude.{◌&&◌, ◌||◌, if◌then◌else◌, codes, slice_get}
 use Rattle.std.specs.Option.{option_map, option_map_or}
 use Rattle.pickle_io.specs.Text.{◌⧺◌}
@@ -15,13 +15,12 @@ use Rattle.pickle_ops.specs.KindRef.{kind_view, parts_shown, shown, looked, look
 use Rattle.pickle_machine.specs.Seen.{class_at}
 use Rattle.pickle_machine.specs.Loader.{view_at, loose_at}
 use Rattle.pickle_machine.specs.Loader.{views as loader_views}
-use Rattle.pickle_show.specs.declared.event.Event.{Event}
 use Rattle.pickle_show.specs.declared.event.Event.TheVariants as event
 use Rattle.pickle_show.specs.declared.naming.Naming.{Naming}
 use Rattle.pickle_show.specs.Event.{views, is_view, is_shown, object_is, made_as, made_event}
-use Rattle.pickle_show.specs.Naming.{Spelled, spelled_of, spelled_at}
+use Rattle.pickle_show.specs.Naming.{spelled_of, spelled_at}
 use Rattle.pickle_show.specs.ObjectText.{id_text}
-use Rattle.pickle_show.specs.Brief.{of_object, kind_name, name_text, kind_brief, brief_text, kind_value, value_text}
+use Rattle.pickle_show.specs.Brief.{kind_name, name_text, kind_brief, brief_text, kind_value, value_text}
 use Rattle.pickle_show.specs.CallsLine.{made_words, made_text, made_at}
 
 -- ---- whatever is said of a kind and of the parts that are shown

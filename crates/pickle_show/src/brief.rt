@@ -9,10 +9,9 @@ ghost use Rattle.pickle_io.specs.Device.{Writes, each};
 ghost use Rattle.pickle_show.specs.Brief.{over_text, cut_quoted, cut_after, cut_text, cut_long, shown_quoted, payload_after, shown_text, text_after, shown_long, long_after, kind_brief, brief_text, next_brief, comma_list, more_text, cut_list, shown_list, briefs_text, kind_value, value_text};
 
 use crate::front::front;
-use crate::kind::write_kind;
 use crate::name::{inner, write_global_after, write_stack_after};
 use crate::naming::{Detail, Naming};
-use crate::words::{write_id, write_with_number};
+use crate::words::{write_id, write_with_float, write_with_number, write_with_signed};
 use pickle_io::{Failed, Page, write_all, write_quoted};
 use pickle_machine::Inspect;
 use pickle_names::{Coding, Reading, read, write_text, write_value as write_text_value};
@@ -170,7 +169,7 @@ fn write_long_after<S: Page>(detail: Detail, bytes: &[u8], page: &mut S) -> Resu
 }
 
 /// Writes an object of this kind with these parts in brief.
-#[tactic(auto, unfolding(crate::specs::Brief::kind_brief))]
+#[tactic(auto, unfolding(crate::specs::Brief::kind_brief, crate::specs::ObjectText::kind_text))]
 fn write_kind_brief<M: Inspect, S: Page>(
     naming: Naming,
     machine: &M,
@@ -183,15 +182,15 @@ fn write_kind_brief<M: Inspect, S: Page>(
 {
     let detail = naming.detail;
     match kind {
-        KindRef::None => write_kind(kind, page),
-        KindRef::True => write_kind(kind, page),
-        KindRef::False => write_kind(kind, page),
-        KindRef::Int(_) => write_kind(kind, page),
+        KindRef::None => write_all(page, b"none"),
+        KindRef::True => write_all(page, b"true"),
+        KindRef::False => write_all(page, b"false"),
+        KindRef::Int(number) => write_with_signed(b"int ", number, page),
         KindRef::Long(bytes) => write_long_after(detail, bytes, page),
         KindRef::IntLine(text) => write_payload_after(detail, b"int-line ", text, page),
         KindRef::LongLine(text) => write_payload_after(detail, b"long-line ", text, page),
         KindRef::FloatLine(text) => write_payload_after(detail, b"float-line ", text, page),
-        KindRef::Float(_) => write_kind(kind, page),
+        KindRef::Float(bytes) => write_with_float(b"float ", bytes, page),
         KindRef::LegacyString(text) => {
             write_text_after(detail, b"string ", Coding::Ascii, text, page)
         }
@@ -220,7 +219,7 @@ fn write_kind_brief<M: Inspect, S: Page>(
             parts,
             page,
         ),
-        KindRef::Ext(_) => write_kind(kind, page),
+        KindRef::Ext(code) => write_with_signed(b"ext ", code, page),
         _ => write_id(u64::from(id), page),
     }
 }

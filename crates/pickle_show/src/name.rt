@@ -10,9 +10,8 @@ ghost use Rattle.pickle_show.specs.Brief.{kind_name, name_text};
 ghost use Rattle.pickle_show.specs.Naming.{inner, spelled_of, spelled_at, said_text, pair_text, is_text, said_names, short_of, may_be_name, by_both, renamed_by, pair_renamed, member_text, import_text, import_for, renamed_text, names_by, names_text, global_pair, inst_pair, stack_pair, spelled_view, pair_view, new_view, is_as_said};
 
 use crate::event::part;
-use crate::kind::write_kind;
 use crate::naming::Naming;
-use crate::words::write_id;
+use crate::words::{write_id, write_with_signed};
 use arrayvec::ArrayVec;
 use pickle_io::{Failed, Page, write_all, write_quoted};
 use pickle_machine::Inspect;
@@ -538,7 +537,7 @@ fn write_stack<M: Inspect, S: Page>(
 }
 
 /// Writes the name of an object of this kind with these parts.
-#[tactic(auto, unfolding(crate::specs::Brief::kind_name))]
+#[tactic(auto, unfolding(crate::specs::Brief::kind_name, crate::specs::ObjectText::kind_text))]
 fn write_kind_name<M: Inspect, S: Page>(
     naming: Naming,
     machine: &M,
@@ -552,7 +551,7 @@ fn write_kind_name<M: Inspect, S: Page>(
     match kind {
         KindRef::Global(names) => write_global(naming, id, names.first(), names.second(), page),
         KindRef::StackGlobal => write_stack(naming, id, machine, parts, page),
-        KindRef::Ext(_) => write_kind(kind, page),
+        KindRef::Ext(code) => write_with_signed(b"ext ", code, page),
         _ => write_id(u64::from(id), page),
     }
 }

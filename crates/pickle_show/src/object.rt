@@ -95,7 +95,7 @@ pub fn write_object<S: Page>(id: u64, object: &Object, page: &mut S) -> Result<(
 {
     write_id(id, page)?;
     write_all(page, b" ")?;
-    write_kind(object.kind().by_ref(), page)?;
+    write_kind(object.kind(), page)?;
     write_parts(object.parts(), page)?;
     write_changes(object.changes(), page)
 }
