@@ -18,7 +18,7 @@ pub returns-in_err-write_from : goal.returns-in_err-write_from
 returns-in_err-write_from g c =
     let on : is_open c.args.ran.ending ≡ true = sym c.is_open.ensures ∙ c.if-not-is_open.false in
     let cut = rw (c.split_at.ensures.back, c.new-machine.ensures, c.in_ok-whole.ensures) at c.in_err-write_from.ensures in
-    λ a b w. rw (parts_open _ _ _ _ _ _ w on) (stopped _ _ _ _ _ c.from_residual.ensures.1 (cut_before _ _ _ _ _ cut))
+    λ a b w. rw (parts_open _ _ _ _ _ _ w on) (stopped _ _ _ _ _ c.from_residual-in_err-write_from.ensures.1 (cut_before _ _ _ _ _ cut))
 
 pub returns : goal.returns
 returns g c =
