@@ -386,4 +386,4 @@ top_name s id names e =
     let within : slice_index s.top (length s.top - 1) < length s.heap = All-get_or (λ id. id < length s.heap) s.top (length s.top - 1) 0 top.1 names.top in
     subst (λ (z : ℕ). z < length s.heap) top.0 within
 
-pub ruleset far_rules = (within_ok, within_refused, first_ok, first_refused, get_done, get_misses, get_stopped, put_done, put_misses, put_stopped, apart_none, begins_held, move_same, event_same, counts_all, counts_other, apart_clear, apart_put_on, apart_insert, apart_within, found_name, top_name)
+pub ruleset far_rules = (within_ok, within_refused, first_ok, first_refused, get_done, get_misses, get_stopped, put_done, put_misses, put_stopped, apart_none, begins_held, move_same, counts_all, counts_other, apart_clear, apart_put_on, apart_insert, apart_within, found_name, top_name)
