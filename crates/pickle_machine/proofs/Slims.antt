@@ -219,9 +219,9 @@ pub record Grown (bytes : List ℕ) (origins : List Origin) (parts : List ℕ) (
 grown_by : (b : Bool) (bytes : List ℕ) (offset place : ℕ) (origins : List Origin) (parts rest : List ℕ) (op : Operation) (s : State)
     → makes (row_of op) s ≡ b → IsSpelled op → drop offset bytes ≡ spelling op ++ rest → Grown bytes origins parts s
     → Grown bytes
-        (if b then origins ++ record { offset = offset; end = length (if b then parts ++ kept_of (row_of op) (class_of (kind_of op)) s.buffers s else parts) } ∷ [] else origins)
-        (if b then parts ++ kept_of (row_of op) (class_of (kind_of op)) s.buffers s else parts)
-        (next_of (row_of op) (kind_of op) place s)
+    (if b then origins ++ record { offset = offset; end = length (if b then parts ++ kept_of (row_of op) (class_of (kind_of op)) s.buffers s else parts) } ∷ [] else origins)
+    (if b then parts ++ kept_of (row_of op) (class_of (kind_of op)) s.buffers s else parts)
+    (next_of (row_of op) (kind_of op) place s)
 grown_by true bytes offset place origins parts rest op s e spelled stands g =
     let kept : List ℕ = kept_of (row_of op) (class_of (kind_of op)) s.buffers s in
     let d : Origin = record { offset = offset; end = length (parts ++ kept) } in
@@ -274,34 +274,34 @@ keeps_on many bytes offset place buffers b1 b2 lean l1 l2 origins more parts kep
     let lean1 : l1 ≡ outline t = one ∙ ap (λ (u : State). outline (fresh u)) k.outline ∙ fresh_reads_outlines s in
     let count1 : b1 ≡ t.buffers = count ∙ ap (λ (u : State). fresh_buffers u.stopped buffers) k.outline ∙ ap (λ (n : ℕ). fresh_buffers s.stopped n) k.numbered ∙ fresh_count s.stopped s in
     let lean2 : l2 ≡ outline (next_of r k0 place t) =
-        two ∙ ap (λ (u : State). outline (next_of r (sample c) place u)) lean1 ∙ ap (λ (x : Class). outline (next_of r (sample x) place (outline t))) class ∙ moves_read_outlines r k0 place t in
+    two ∙ ap (λ (u : State). outline (next_of r (sample c) place u)) lean1 ∙ ap (λ (x : Class). outline (next_of r (sample x) place (outline t))) class ∙ moves_read_outlines r k0 place t in
     let same : makes r l1 ≡ makes r t = ap (λ (u : State). makes r u) lean1 ∙ makes_same r t in
     let numbers : kept_of r c b1 l1 ≡ kept_of r (class_of k0) t.buffers t =
-        ap (λ (u : State). kept_of r c b1 u) lean1 ∙ kept_same r c b1 t ∙ ap (λ (x : Class). kept_of r x b1 t) class ∙ ap (λ (n : ℕ). kept_of r (class_of k0) n t) count1 in
+    ap (λ (u : State). kept_of r c b1 u) lean1 ∙ kept_same r c b1 t ∙ ap (λ (x : Class). kept_of r x b1 t) class ∙ ap (λ (n : ℕ). kept_of r (class_of k0) n t) count1 in
     let unread : drop offset bytes ≡ spelling op ++ rest = sym k.unread ∙ stands in
     let G : List Object → Type 0 = λ h. AreKept bytes parts 0 origins (map shown h) in
     let g : Grown bytes origins parts t = record { ends = k.ends; heap = subst G (sym (fresh_heap s.stopped s)) k.heap } in
     let grown = grown_by (makes r t) bytes offset place origins parts rest op t refl spelled unread g in
     let kept' : kept ≡ (if makes r t then parts ++ kept_of r (class_of k0) t.buffers t else parts) =
-        keep ∙ ap (λ (b : Bool). if b then parts ++ kept_of r c b1 l1 else parts) same ∙ ap (λ (l : List ℕ). if makes r t then parts ++ l else parts) numbers in
+    keep ∙ ap (λ (b : Bool). if b then parts ++ kept_of r c b1 l1 else parts) same ∙ ap (λ (l : List ℕ). if makes r t then parts ++ l else parts) numbers in
     let more' : more ≡ (if makes r t then origins ++ record { offset = offset; end = length (if makes r t then parts ++ kept_of r (class_of k0) t.buffers t else parts) } ∷ [] else origins) =
-        from ∙ ap (λ (b : Bool). if b then origins ++ record { offset = offset; end = length kept } ∷ [] else origins) same
-        ∙ ap (λ (l : List ℕ). if makes r t then origins ++ record { offset = offset; end = length l } ∷ [] else origins) kept' in
+    from ∙ ap (λ (b : Bool). if b then origins ++ record { offset = offset; end = length kept } ∷ [] else origins) same
+    ∙ ap (λ (l : List ℕ). if makes r t then origins ++ record { offset = offset; end = length l } ∷ [] else origins) kept' in
     let moved : (reading many bytes place).place ≡ place = k.moved in
     let state : next op (reading many bytes place).place s ≡ next_of r k0 place t = ap (λ (n : ℕ). next_of r k0 n t) moved in
     let fits = fits_bytes op offset bytes rest unread k.within in
     rw (is, state, moved, more', kept')
-      (record {
-        outline = lean2;
-        numbered = sum ∙ ap (λ (n : ℕ). more_buffers r n) count1 ∙ counted r k0 place t;
-        unread = sym (ap (λ (l : List ℕ). drop (size_of op) l) refl ∙ behind op (drop offset bytes) rest unread) ∙ drop-drop (size_of op) offset bytes;
-        moved = refl;
-        counted = omega (arith, k.counted);
-        within = fits;
-        small = k.small;
-        ends = grown.ends;
-        heap = grown.heap;
-      })
+    (record {
+      outline = lean2;
+      numbered = sum ∙ ap (λ (n : ℕ). more_buffers r n) count1 ∙ counted r k0 place t;
+      unread = sym (ap (λ (l : List ℕ). drop (size_of op) l) refl ∙ behind op (drop offset bytes) rest unread) ∙ drop-drop (size_of op) offset bytes;
+      moved = refl;
+      counted = omega (arith, k.counted);
+      within = fits;
+      small = k.small;
+      ends = grown.ends;
+      heap = grown.heap;
+    })
 
 -- nothing is read yet
 pub reading_start : (many : Bool) (bytes : List ℕ) → reading many bytes 0 ≡ record { state = start many; rest = bytes; place = 0 }
@@ -312,17 +312,17 @@ pub keeps_start : (many : Bool) (bytes : List ℕ) (lean : State) (origins : Lis
     → Keeps bytes 0 0 lean 0 origins parts (reading many bytes 0)
 keeps_start many bytes lean origins parts l o p h =
     rw (reading_start many bytes, l, o, p)
-      (record {
-        outline = refl;
-        numbered = refl;
-        unread = refl;
-        moved = refl;
-        counted = omega arith;
-        within = omega arith;
-        small = h;
-        ends = refl;
-        heap = tt;
-      })
+    (record {
+      outline = refl;
+      numbered = refl;
+      unread = refl;
+      moved = refl;
+      counted = omega arith;
+      within = omega arith;
+      small = h;
+      ends = refl;
+      heap = tt;
+    })
 
 -- the lean machine refuses what the machine refuses
 pub good_lean : (r : Row) (lean l1 s : State) → lean ≡ outline s → l1 ≡ outline (fresh lean) → refusal_of r (fresh s) ≡ None → refusal_of r l1 ≡ None
@@ -354,7 +354,7 @@ whole_on many bytes n op rest now r s t spelled front state here place row moved
     let is = read_on many bytes n op rest spelled (sym here ∙ front) in
     let went : next_of r (kind_of op) n (fresh s) ≡ t = taken_by _ _ t moved in
     let same : next op (reading many bytes n).place (reading many bytes n).state ≡ t =
-        ap (λ (m : ℕ). next op m (reading many bytes n).state) place ∙ ap (λ (u : State). next op n u) (sym state) ∙ ap (λ (x : Row). next_of x (kind_of op) n (fresh s)) (sym row) ∙ went in
+    ap (λ (m : ℕ). next op m (reading many bytes n).state) place ∙ ap (λ (u : State). next op n u) (sym state) ∙ ap (λ (x : Row). next_of x (kind_of op) n (fresh s)) (sym row) ∙ went in
     (sym (ap (λ (x : Reading). x.state) is ∙ same), ap (λ (l : List ℕ). drop (size_of op) l) here ∙ sym (ap (λ (x : Reading). x.rest) is), ap (λ (x : Reading). x.place) is ∙ ap (λ (m : ℕ). m + 1) place)
 
 pub refusal_begun : (r : Row) (lean s : State) → lean ≡ outline s → lean.stopped ≡ true → refusal_of r (begun s) ≡ refusal_of r (fresh s)

@@ -322,12 +322,7 @@ impl<'a> Slim<'a> {
 
 /// Runs the first opcodes of bytes, this many. No opcode is refused or missing that was run before; it would be answered as if there were no
 /// memory.
-fn run_first(
-    alloc: Global,
-    many: bool,
-    bytes: &[u8],
-    count: usize,
-) -> Result<Machine, AllocError>
+fn run_first(alloc: Global, many: bool, bytes: &[u8], count: usize) -> Result<Machine, AllocError>
     ensures { IfOk result (λ m. m.state ≡ (reading many bytes.now count).state) }
 {
     let mut machine = Machine::start(alloc, many);

@@ -14,5 +14,5 @@ opcodes-init c =
 pub opcodes-preserved : goal.opcodes-preserved
 opcodes-preserved c =
     let w = whole_on c.args.many c.args.bytes.now c.opcodes.place c.in-Ok.op c.in-Ok.ensures.found.front.0 c.opcodes.rest.now c.of_ref-row.result c.opcodes.machine.state c.step_as.new.self.state c.in-Ok.ensures.found.spelled c.in-Ok.ensures.found.front.1
-        c.opcodes.invariant.0 c.opcodes.invariant.1 c.opcodes.invariant.2 c.of_ref-row.ensures c.in_default-step_as.ensures.ok in
+    c.opcodes.invariant.0 c.opcodes.invariant.1 c.opcodes.invariant.2 c.of_ref-row.ensures c.in_default-step_as.ensures.ok in
     (w.0, rw c.size.ensures (between_to_end c.opcodes.rest.now (size_of c.in-Ok.op) (length c.opcodes.rest.now) (omega arith) ∙ w.1), w.2)

@@ -34,9 +34,9 @@ invariant_of-self c =
     let origins = rw c.requires.row at c.in-Ok.ensures.origins in
     let buffers = rw c.requires.row at c.in-Ok.ensures.buffers in
     rw c.arg-arg.ensures.value
-      (keeps_on c.self.inside.many c.self.inside.bytes.now c.self.inside.offset c.self.inside.place c.self.inside.buffers c.go_on_fresh.new.buffers c.move_on-moved.new.buffers c.self.inside.lean c.go_on_fresh.new.lean c.move_on-moved.new.lean
-        c.self.inside.origins.items c.move_on-moved.new.origins.items c.self.inside.parts.items c.move_on-moved.new.parts.items next.0 c.args.op.now c.of-class.result
-        c.self.invariant c.arg-arg.ensures.spelled next.1 class c.go_on_fresh.ensures.lean c.go_on_fresh.ensures.buffers lean parts origins buffers)
+    (keeps_on c.self.inside.many c.self.inside.bytes.now c.self.inside.offset c.self.inside.place c.self.inside.buffers c.go_on_fresh.new.buffers c.move_on-moved.new.buffers c.self.inside.lean c.go_on_fresh.new.lean c.move_on-moved.new.lean
+    c.self.inside.origins.items c.move_on-moved.new.origins.items c.self.inside.parts.items c.move_on-moved.new.parts.items next.0 c.args.op.now c.of-class.result
+    c.self.invariant c.arg-arg.ensures.spelled next.1 class c.go_on_fresh.ensures.lean c.go_on_fresh.ensures.buffers lean parts origins buffers)
 
 pub returns-in-Ok : goal.returns-in-Ok
 returns-in-Ok c =

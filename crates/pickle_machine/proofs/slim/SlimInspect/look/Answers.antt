@@ -30,8 +30,8 @@ returns-in-Some c =
     let e : slice_get c.self.inside.origins.items c.args.id ≡ Some c.in-Some.origin = ap (λ (l : List Origin). slice_get l c.args.id) (sym c.as_slice-origins.ensures.value) ∙ sym c.origin_at.ensures ∙ c.in-Some.is in
     let t = look_there c.self.inside.bytes.now c.self.inside.parts.items c.self.inside.origins.items (reading c.self.inside.many c.self.inside.bytes.now c.self.inside.place).state.heap c.args.id c.in-Some.origin c.self.invariant.heap e in
     let kept : c.kept_at-kept.result.now ≡ between (start_of 0 c.self.inside.origins.items c.args.id) c.in-Some.origin.end c.self.inside.parts.items =
-        c.kept_at-kept.ensures ∙ ap (λ (l : List Origin). between (start_of 0 l c.args.id) c.in-Some.origin.end c.as_slice.result.now) c.as_slice-origins.ensures.value
-        ∙ ap (λ (l : List ℕ). between (start_of 0 c.self.inside.origins.items c.args.id) c.in-Some.origin.end l) c.as_slice.ensures.value in
+    c.kept_at-kept.ensures ∙ ap (λ (l : List Origin). between (start_of 0 l c.args.id) c.in-Some.origin.end c.as_slice.result.now) c.as_slice-origins.ensures.value
+    ∙ ap (λ (l : List ℕ). between (start_of 0 c.self.inside.origins.items c.args.id) c.in-Some.origin.end l) c.as_slice.ensures.value in
     let P : List ℕ → Type 0 = λ l. IsKept c.self.inside.bytes.now l c.in-Some.origin.offset t.0 in
     let k = subst P (sym kept) t.4 in
     rw (← c.self.view_is) (c.look_at.ensures t.0 k ∙ sym t.1)
