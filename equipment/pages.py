@@ -41,7 +41,7 @@ CHECKLISTS = [
     (
         "To add a question of the debugger",
         r"(?m)\b(write_where|where_text|def where_of)\b|\b(PlainWord|Query)::Where\b|\b(plain|query)\.Where\b|^debug> where$|Ic where\b|(?<!obey\()(?<!type\()[\"']where(\\n)?[\"']|`where`: where",
-        ["crates/pickle*/src/**/*.rt", "crates/pickle*/specs/**/*.antt", "crates/pickle*/proofs/**/*.antt", "share/**/*", "equipment/*.txt", "equipment/*.py", "python/picklestep/*.py", "python/tests/*.py"],
+        ["crates/pickle*/src/**/*.rt", "crates/pickle*/specs/**/*.antt", "crates/pickle*/proofs/**/*.antt", "share/**/*", "equipment/*.txt", "equipment/*.py", "python/picklestep/*.py", "python/tests/test_sessions.py"],
     ),
     (
         "To add a text or a command",
@@ -200,7 +200,9 @@ def fault_of_checklist(root: Path, page: str, heading: str, sample: str, pattern
     for pattern in patterns:
         for file in root.glob(pattern):
             name = str(file.relative_to(root))
-            if file.is_file() and file.suffix != ".pyc" and name != "equipment/pages.py" and has_sample(file, sample):
+            # (what was built of a crate has its sources once more)
+            is_source = file.is_file() and file.suffix != ".pyc" and "out" not in file.relative_to(root).parts
+            if is_source and name != "equipment/pages.py" and has_sample(file, sample):
                 found.add(name)
     for name in sorted(named - found):
         if not (root / name).is_file():

@@ -101,7 +101,7 @@ class Room:
         text = (self.root / "picklestep").read_text("utf-8")
         for place, words in (
             ("root=${here%/*}", f"root={shlex.quote(str(self.root))}"),
-            ('. "$root/equipment/program.sh"', f"choose_program() {{ chosen={shlex.quote(str(self.program))}; }}"),
+            ('. "$root/equipment/program.sh"', f"choose_program() {{ chosen={shlex.quote(str(self.program))}; }}\nname_program() {{ :; }}"),
         ):
             if text.count(place) != 1:
                 raise ValueError(f"./picklestep has no line {place}, or two")

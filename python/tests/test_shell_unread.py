@@ -8,6 +8,7 @@ import pickle
 import random
 import tempfile
 import threading
+import time
 import unittest
 from collections import Counter
 from pathlib import Path
@@ -149,6 +150,20 @@ class Unread(unittest.TestCase):
                 shell.obey('undo')
                 self.assertFalse(shell.pickle.is_unread)
                 self.assertEqual((shell.obey('where'), shell.pickle.content()), (shown, data))
+
+    def test_the_cursor_is_back_where_it_was(self) -> None:
+        """Also where the next line comes while it goes back from the edit."""
+        data = pickle.dumps(list(range(300)), 4)
+        returned = Opened._return
+
+        def late(opened: Opened, here: int) -> None:
+            time.sleep(0.05)
+            returned(opened, here)
+
+        with mock.patch.object(Opened, '_return', late), Shell(data, '') as shell:
+            for line in ('run', 'insert 2 NONE', 'where'):
+                shell.obey(line)
+            self.assertEqual(shell.pickle.session.where().place, shell.pickle.session.where().places)
 
     def test_reading_fails(self) -> None:
         """All edits since the last reading are taken back, and breaks are at their opcodes."""

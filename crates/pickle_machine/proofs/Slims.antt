@@ -1,14 +1,13 @@
 -- What the machine keeps that reads its objects again from the bytes.
-use Rattle.std.proofs.Common.{◌≡◌, ℕ, zero, suc, ◌+◌, ◌-◌, ◌<◌, ◌≤◌, ◌^◌, Bool, true, false, not, List, [], ◌∷◌, ◌++◌, length, take, drop, Option, Some, None, Ok, refl, sym, ap, subst, ◌∙◌, arith, set, length-append, add-one}
+use Rattle.std.proofs.Common.{◌≡◌, ℕ, zero, suc, ◌+◌, ◌<◌, ◌≤◌, ◌^◌, Bool, true, false, not, List, [], ◌∷◌, ◌++◌, length, drop, Option, Some, None, Ok, refl, sym, ap, subst, ◌∙◌, arith, set, length-append, add-one}
 use Rattle.std.proofs.lemmas.Option.{slice_get-map}
-use Rattle.std.proofs.lemmas.List.{length-map, map-append, take-append-le, drop-drop, length-drop}
+use Rattle.std.proofs.lemmas.List.{map-append, take-append-le, drop-drop, length-drop}
 use Rattle.std.proofs.lemmas.Slice.{between_is, between_to_end}
-use Rattle.std.proofs.Math.Seq.{drop-append_seam, take-length}
+use Rattle.std.proofs.Math.Seq.{drop-append_seam}
 use Rattle.std.specs.Prelude.{map, slice_get, if◌then◌else◌}
 use Rattle.std.specs.List.{between}
 use Rattle.std.specs.Option.{option_map, option_map_or}
 use Rattle.pickle_ops.specs.Spelling.{Operation, IsSpelled, spelling, size_of, Front, Whole, Reads, HasFault}
-use Rattle.pickle_ops.specs.Front.{front_of}
 use Rattle.pickle_ops.proofs.Fronts.{found_front, spellings_are_read_again}
 use Rattle.pickle_ops.specs.declared.fault.FrontFault.{FrontFault}
 use Rattle.pickle_ops.specs.declared.kind.Kind.{Kind}
@@ -26,7 +25,7 @@ use Rattle.pickle_machine.specs.declared.slim.Origin.{Origin}
 use Rattle.pickle_machine.specs.State.{State, start}
 use Rattle.pickle_machine.specs.declared.refusal.Refusal.{Refusal}
 use Rattle.pickle_machine.specs.Loader.{move_as}
-use Rattle.pickle_machine.specs.Move.{outcome, refusal_of, next_of, next, fresh, begun, push, without, last_of, cut, changed, changes_of, deep, object_meets}
+use Rattle.pickle_machine.specs.Move.{outcome, refusal_of, next_of, next, fresh, begun, push, without, last_of, cut, changed, deep, object_meets}
 use Rattle.pickle_machine.specs.Reading.{Reading, reading, read_front}
 use Rattle.pickle_machine.specs.Inside.Origins.{kept_kind, kept_object, IsKept, AreKept, start_of, last_end, if_parted, kept_of, makes, more_parts, more_origins, more_buffers, fresh_buffers, Keeps}
 use Rattle.pickle_machine.specs.Outline.{outline, sample, bared}
@@ -371,17 +370,17 @@ class_bared_in (Some o) = ap Some (class_of_sample (class_of o.kind))
 pub class_bared : (heap : List Object) (id : ℕ) → class_at (map bared heap) id ≡ class_at heap id
 class_bared heap id = ap (λ (g : Option Object). option_map (λ (o : Object). class_of o.kind) g) (slice_get-map bared heap id) ∙ class_bared_in (slice_get heap id)
 
-pub look_same : (bytes kept : List ℕ) (offset : ℕ) (o : Object) (op : Operation) (n : ℕ) (k : Kind) → IsKept bytes kept offset o → Reads (between offset (length bytes) bytes) op n → k ≡ kept_kind (row_of op) (kind_of op) kept
+pub look_same : (bytes kept : List ℕ) (offset : ℕ) (o : Object) (op : Operation) (n : ℕ) (k : Kind) → IsKept bytes kept offset o → Reads (drop offset bytes) op n → k ≡ kept_kind (row_of op) (kind_of op) kept
     → record { kind = k; parts = parts_shown k kept; changes = [] } ≡ o
 look_same bytes kept offset o op n k is read e =
     let P : List ℕ → Type 0 = λ l. Reads l op n in
-    let same : op ≡ is.op = ((spellings_are_read_again is.op is.rest is.spelled).1 op n (subst P (between_to_end bytes offset (length bytes) (omega arith) ∙ is.stands) read)).0 in
+    let same : op ≡ is.op = ((spellings_are_read_again is.op is.rest is.spelled).1 op n (subst P is.stands read)).0 in
     ap (λ (x : Kind). record { kind = x; parts = parts_shown x kept; changes = [] }) (e ∙ ap (λ (p : Operation). kept_kind (row_of p) (kind_of p) kept) same) ∙ sym is.same
 
-pub look_none : (bytes kept : List ℕ) (offset : ℕ) (o : Object) (f : FrontFault) → IsKept bytes kept offset o → HasFault (between offset (length bytes) bytes) f → ⊥
+pub look_none : (bytes kept : List ℕ) (offset : ℕ) (o : Object) (f : FrontFault) → IsKept bytes kept offset o → HasFault (drop offset bytes) f → ⊥
 look_none bytes kept offset o f is fault =
     let P : List ℕ → Type 0 = λ l. HasFault l f in
-    (spellings_are_read_again is.op is.rest is.spelled).2 f (subst P (between_to_end bytes offset (length bytes) (omega arith) ∙ is.stands) fault)
+    (spellings_are_read_again is.op is.rest is.spelled).2 f (subst P is.stands fault)
 
 -- what is looked at of an object that is there, and of none
 pub look_there : (bytes parts : List ℕ) (ds : List Origin) (heap : List Object) (i : ℕ) (d : Origin) → AreKept bytes parts 0 ds (map shown heap) → slice_get ds i ≡ Some d

@@ -4,3 +4,4 @@ pub mod Records
 pub mod Memo
 pub mod Slots
 pub mod Origins
+pub mod LongOps

@@ -1,7 +1,7 @@
 -- A run over bytes, opcode by opcode: where it stands is read from the bytes and from how many opcodes were run.
 -- Source: own.
 use Rattle.std.specs.Prelude.{ℕ, zero, suc, ◌+◌, Bool, List}
-use Rattle.pickle_ops.specs.Spelling.{Front, Ended, Unknown, Cut, Whole}
+use Rattle.pickle_ops.specs.Spelling.{Front, Whole}
 use Rattle.pickle_ops.specs.Front.{front_of}
 use Rattle.pickle_machine.specs.State.{State, start}
 use Rattle.pickle_machine.specs.Move.{next}

@@ -11,6 +11,7 @@ ghost use Rattle.pickle_machine.specs.Outline.{outline, sample};
 ghost use Rattle.pickle_machine.specs.Inside.Origins.{kept_kind, if_parted, kept_of, makes, more_parts, more_origins, more_buffers, fresh_buffers, start_of, IsKept};
 ghost use Rattle.pickle_machine.specs.Reading.{reading};
 
+use crate::again::Again;
 use crate::check::{Operands, first_refusal};
 use crate::inspect::Inspect;
 use crate::lean::Lean;
@@ -193,7 +194,7 @@ fn go_on_fresh(buffers: &mut u32, lean: &mut Lean)
 /// object it shows what it reads there, and its parts where they are shown. What was put into an object is not kept.
 #[derive(Drop)]
 pub struct Slim<'a> {
-    bytes: &'a [u8],
+    bytes: Again<'a>,
     many: bool,
     offset: u32,
     place: usize,
@@ -209,9 +210,9 @@ impl<'a> Model for Slim<'a> {
 
     ghost Value = { Reading };
 
-    ghost view = { λ m. reading m.many m.bytes.now m.place };
+    ghost view = { λ m. reading m.many m.bytes m.place };
 
-    ghost invariant = { λ m. Keeps m.bytes.now m.offset m.place m.lean m.buffers m.origins.items m.parts.items (reading m.many m.bytes.now m.place) };
+    ghost invariant = { λ m. Keeps m.bytes m.offset m.place m.lean m.buffers m.origins.items m.parts.items (reading m.many m.bytes m.place) };
 }
 
 impl<'a> Slim<'a> {
@@ -227,7 +228,7 @@ impl<'a> Slim<'a> {
         ensures { result ≡ record { state = start many; rest = bytes.now; place = 0 } }
     {
         Slim {
-            bytes,
+            bytes: Again::new(alloc, bytes),
             many,
             offset: 0,
             place: 0,
@@ -267,6 +268,8 @@ impl<'a> Slim<'a> {
         let place = self.place;
         let arg = op.arg();
         let size = (arg.len() + 1) as u32;
+        // Without memory for it, its end is searched for wherever it is shown.
+        let _ = self.bytes.keep(offset, op);
         go_on_fresh(&mut self.buffers, &mut self.lean);
         let moved = move_on(
             row,
@@ -285,7 +288,7 @@ impl<'a> Slim<'a> {
                 Ok(())
             }
             Err(error) => {
-                let start = Slim::new(alloc, self.many, self.bytes);
+                let start = Slim::new(alloc, self.many, self.bytes.bytes());
                 *self = start;
                 Err(error)
             }
@@ -316,7 +319,7 @@ impl<'a> Slim<'a> {
     pub fn whole(&self, alloc: Global) -> Result<Machine, AllocError>
         ensures { IfOk result (λ m. m.state ≡ self.now.state) }
     {
-        run_first(alloc, self.many, self.bytes, self.place)
+        run_first(alloc, self.many, self.bytes.bytes(), self.place)
     }
 }
 
@@ -344,11 +347,11 @@ fn run_first(alloc: Global, many: bool, bytes: &[u8], count: usize) -> Result<Ma
 }
 
 /// What is shown of an object that the opcode at this offset made, of which these numbers are kept.
-fn look_at<'a>(bytes: &'a [u8], offset: u32, kept: &'a [ObjId]) -> Option<Look<'a>>
+fn look_at<'a>(bytes: &'a Again<'_>, offset: u32, kept: &'a [ObjId]) -> Option<Look<'a>>
     requires { (o : Object) × IsKept bytes.now kept.now offset o }
     ensures { (o : Object) → IsKept bytes.now kept.now offset o → option_map look_shown result ≡ Some o }
 {
-    match peek_op(&bytes[offset as usize..]) {
+    match bytes.op_at(offset) {
         Ok(op) => Some(Look {
             kind: kind_kept(&op, kept),
             parts: kept,
@@ -410,7 +413,7 @@ impl<'a> Inspect for Slim<'a> {
         match origin_at(origins, id as usize) {
             Some(origin) => {
                 let kept = kept_at(origins, self.parts.as_slice(), id as usize, origin.end);
-                look_at(self.bytes, origin.offset, kept)
+                look_at(&self.bytes, origin.offset, kept)
             }
             None => None,
         }

@@ -132,8 +132,9 @@ class Shell:
 
     def _obey_unread(self, name: str, text: str) -> str:
         """Does what a word says by what is known before the pickle is read after an edit. Where that does not do, nothing is done."""
-        listed, here = self._listed, self.pickle.session.where().place
-        with self.pickle.unread():
+        listed = self._listed
+        with self.pickle.unread():  # (from here on the cursor is back where it was before the edit)
+            here = self.pickle.session.where().place
             try:
                 return self._words[name](text) + self._note(name)
             except Unknown:

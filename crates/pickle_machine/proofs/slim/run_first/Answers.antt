@@ -1,4 +1,4 @@
-use Rattle.std.proofs.Common.{◌≡◌, sym, ap, ◌∙◌, length, arith}
+use Rattle.std.proofs.Common.{sym, ap, ◌∙◌, length, arith}
 use Rattle.std.proofs.lemmas.Slice.{between_to_end}
 use Rattle.pickle_ops.specs.Spelling.{size_of}
 use Rattle.pickle_machine.specs.Held.{Held}
