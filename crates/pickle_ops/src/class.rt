@@ -86,6 +86,7 @@ impl Class {
 
     /// The class of the object that an opcode makes, whatever its argument.
     #[tactic(auto, using(crate::proofs::Classes::class_rules))]
+    #[inline(always)]
     pub fn of(opcode: Opcode) -> Class
         ensures { (arg : List ℕ) → result ≡ class_of (kind_of_opcode opcode arg) }
     {

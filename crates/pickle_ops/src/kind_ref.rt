@@ -75,7 +75,7 @@ pub enum KindRef<'a> {
     ReadOnly,
 }
 
-/// What is looked at of an object: its kind, and its parts where `shows_parts` says that they are shown.
+/// What is looked at of an object: its kind, and its parts where `parts_shown` says that they are shown.
 #[derive(Clone, Copy)]
 pub struct Look<'a> {
     /// What it is.
