@@ -655,7 +655,7 @@ class Alone(Driven):
         self.load()
         self.limit_memory(600)
         large = b'(' + b'K\x01' * 200_000 + b't.'
-        self.choose(self.file('largest.pickle', b'(' + b'K\x01' * 2_000_000 + b't.'))
+        self.choose(self.file('largest.pickle', b'(' + b'K\x01' * 5_000_000 + b't.'))
         self.said('not done: out of memory')
         self.give(self.file('large.pickle', large))
         self.browser.key('Delete')
@@ -668,7 +668,7 @@ class Alone(Driven):
             self.assertRegex(self.texts('#where')[0], '^at [01] of 200003, ')
         self.assertEqual(self.browser.js("document.querySelector('#undo').disabled"), True)
         self.limit_memory(1200)
-        self.choose(self.file('largest.pickle', b'(' + b'K\x01' * 2_000_000 + b't.'))
+        self.choose(self.file('largest.pickle', b'(' + b'K\x01' * 5_000_000 + b't.'))
         self.browser.wait("document.querySelector('#rest').textContent === 'The first part is shown alone: out of memory'")
         self.browser.wait(f"document.querySelector('#reached').textContent === 'imports 0 of 0, calls 0 of 0 in this part: {UNKNOWN}: out of memory'")
         self.give(self.file('a.pickle', SYSTEM))
