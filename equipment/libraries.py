@@ -55,7 +55,7 @@ EDITS = b"insert 0 GLOBAL 6f730a6765746377640a\ngoto 1\nstep\ninsert 2 NONE\nund
 WARNINGS = ("-Wall", "-Wextra", "-Werror")
 OF_STOPS = {1: b"picklestep: out of memory\n", 2: b"picklestep: too large\n", 4: b"no task\n"}
 SEED_OF_LAWS, CASES_OF_LAWS = 2, 400
-LIMITS = (1, 1 << 16, 1 << 20, 8 << 20, 32 << 20)
+LIMITS = (1, 1 << 16, 1 << 20, 4 << 20, 8 << 20)
 EXAMPLE = b"    0: import 'posix' 'system' as #0\n   23: call 'posix' 'system' ('id') as #3\n1 imports, 1 calls\n"
 
 

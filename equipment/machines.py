@@ -353,7 +353,7 @@ def large(machines: Machines) -> Asked:
     if not file.exists():
         file.parent.mkdir(parents=True, exist_ok=True)
         file.write_bytes(b"\x80\x04](" + b"\x8c\x03abc\x94" * 1_000_000 + b"e.")
-    return Asked(("calls",), file)
+    return Asked(("objects",), file)
 
 
 def is_out_of_memory(found: Answer) -> str:
