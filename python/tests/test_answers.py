@@ -460,6 +460,14 @@ class Parts(unittest.TestCase):
         with self.assertRaises(ValueError):
             picklestep.calls(b'N.', first=True, memo_kept=True)
 
+    def test_long_lines_that_are_shown_again_and_again(self) -> None:
+        """Their ends are not searched for each time, which would take tens of seconds."""
+        line = b'1' * (1 << 20)
+        for argument in (b'V%s\n', b"S'%s'\n", b'L%sL\n', b'F%s\n', b'I%s\n', b'P%s\n', b'(i%s\nx\n'):
+            content = b'(' + argument % line + b'tq\0cm\nn\nq\1' + b'h\1h\0R0' * 10_000 + b'N.'
+            with self.subTest(argument):
+                self.assertEqual(sum(reach.text.startswith("call 'm' 'n' (") for reach in picklestep.calls(content, timeout=5)), 10_000)
+
     def test_arguments_in_full(self) -> None:
         content = b'cm\nn\n(' + b'X' + (70).to_bytes(4, 'little') + b'a' * 70 + b'N' * 17 + b'tR.'
         cut, full = picklestep.calls(content)[1], picklestep.calls(content, full=True)[1]
