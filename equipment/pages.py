@@ -20,7 +20,7 @@ COLUMNS = 100
 # What scan has.
 SCAN = ["python/picklestep/scan/**/*.py", "python/tests/*.py", "python/pyproject.toml"]
 
-# The checklists of docs/DESIGN.md: the heading, how the sample is named, and the files that are looked through.
+# The checklists of the program, in docs/DESIGN.md: the heading, how the sample is named, and the files that are looked through.
 CHECKLISTS = [
     (
         "To add an opcode",
@@ -48,8 +48,12 @@ CHECKLISTS = [
         r"\b(?:Text|Task)::Calls\b|\btext\.Calls\b|\bIsCallsText\b|\bpub fn calls<|\bcalls\(alloc, pickles\b|[\"']calls[\"':]|Cm calls|objects calls",
         ["crates/*/src/**/*.rt", "crates/*/specs/**/*.antt", "share/**/*", "equipment/*.py", "python/picklestep/*.py"],
     ),
+]
+
+# Those of the package, in python/CONTRIBUTING.md.
+CHECKLISTS_OF_PACKAGE = [
     ("To add a container", r"(?i)zfile", SCAN),
-    ("To add a server", r"(?i)memcached(?!_vanish)", SCAN),
+    ("To add a source", r"(?i)memcached(?!_vanish)", SCAN),
     (
         "To add a word of the package",
         r"(?m)['\"]mend['\":]|prog='picklestep mend'|Cm mend|diff mend |^  mend ",
@@ -239,15 +243,16 @@ def fault_of_index(root: Path) -> str:
 def trials(root: Path, program: str, folder: Path) -> list[Trial]:
     """What is checked. FOLDER gets the pickles of docs/CODES.md."""
     pages = [root / "README.md", *sorted((root / "docs").glob("*.md"))]
-    others = [page for page in sorted(root.glob("*.md")) if page not in pages]
-    found = [Trial(f"the links of {page.name}", functools.partial(fault_of_links, page)) for page in [*pages, *others]]
+    others = [page for page in sorted([*root.glob("*.md"), *root.glob("python/*.md")]) if page not in pages]
+    found = [Trial(f"the links of {page.relative_to(root)}", functools.partial(fault_of_links, page)) for page in [*pages, *others]]
     found.append(Trial("the length of the pages", functools.partial(fault_of_length, pages)))
     for example in examples((root / "docs" / "CODES.md").read_text(encoding="utf-8")):
         name = f"the example of {example.code}, {' '.join([example.pickle, *example.commands])}"
         found.append(Trial(name, functools.partial(fault_of_example, program, example, folder / "code.pickle")))
-    design = (root / "docs" / "DESIGN.md").read_text(encoding="utf-8")
-    for checklist in CHECKLISTS:
-        found.append(Trial(f"the checklist '{checklist[0]}'", functools.partial(fault_of_checklist, root, design, *checklist)))
+    for name, checklists in (("docs/DESIGN.md", CHECKLISTS), ("python/CONTRIBUTING.md", CHECKLISTS_OF_PACKAGE)):
+        page = (root / name).read_text(encoding="utf-8")
+        for checklist in checklists:
+            found.append(Trial(f"the checklist '{checklist[0]}'", functools.partial(fault_of_checklist, root, page, *checklist)))
     found.append(Trial("the version of the change log", functools.partial(fault_of_version, root)))
     found.append(Trial("the index of definitions", functools.partial(fault_of_index, root)))
     return found

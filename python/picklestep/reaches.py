@@ -10,7 +10,7 @@ from .records import Brief, Briefs, End, Extension, Global, Name, Reach, Ref, Va
 from .texts import NUMBER, QUOTED, LineReader, LinesError, number_of, unquoted
 
 __all__ = ['Heading', 'LineKey', 'REACHES', 'before_headings', 'counts_in', 'headings_in', 'line_of', 'lowered', 'made_by', 'number_in', 'offset_of',
-           'persistent_lines', 'reach_of', 'reached_lines', 'text_of', 'unnumbered', 'with_offset']
+           'persistent_lines', 'reach_of', 'reached_lines', 'storage_of', 'text_of', 'unnumbered', 'with_offset']
 
 # What is under these headings the strict reading does not reach. Each has the words of the second, and hardly any other line.
 _HEADING = re.compile(r'^(a loader(?: that buffers frames| that keeps its buffer)? may go on):$', re.MULTILINE)
@@ -21,6 +21,8 @@ _NAMED = rf'(?: ((?:raw )?{QUOTED} (?:(?:raw )?{QUOTED}|#[0-9]+)))?'
 _REACHED = re.compile(rf'^ *([0-9]+): ((\w+){_NAMED}.*)$', re.MULTILINE)
 _BEGIN = re.compile(rf' *([0-9]+): (\w+){_NAMED}')
 _PERSISTENT = re.compile(r'^ *[0-9]+: persistent (.*)$', re.MULTILINE)
+# A persistent id as torch writes it, where nothing of it is cut.
+_STORAGE = re.compile(r"\('storage', global '([\w.]+)' '(\w+)', '([^'\\]*)', '[^'\\]*', int ([0-9]+)\) as #[0-9]+")
 # Most calls are made again and again.
 _IN_ROWS = frozenset({'call', 'new', 'inst'})
 # What may be the number of an object, beside texts.
@@ -312,6 +314,25 @@ def persistent_lines(text: str) -> Iterator[str]:
     ["'a' as #1"]
     """
     return (match[1] for match in _PERSISTENT.finditer(text))
+
+
+class ShownStorage(NamedTuple):
+    """A storage of torch: its kind as a module and a name in it, its key, and how many items it has."""
+
+    module: str
+    kind: str
+    key: str
+    count: int
+
+
+def storage_of(line: str) -> Optional[ShownStorage]:
+    """The storage that such a line shows; None where it shows another id.
+
+    >>> storage_of("('storage', global 'torch' 'FloatStorage', '0', 'cpu', int 6) as #5")
+    ShownStorage(module='torch', kind='FloatStorage', key='0', count=6)
+    """
+    match = _STORAGE.fullmatch(line)
+    return None if match is None else ShownStorage(match[1], match[2], match[3], int(match[4]))
 
 
 def offset_of(match: 're.Match[str]') -> int:

@@ -13,9 +13,9 @@ from typing import Callable, Dict, Generic, Iterator, List, NamedTuple, Optional
 
 from .records import Argument, Change, End, Item, Mark, Object, Opcode, OtherForm, Ref, Shown, Where
 
-__all__ = ['Closing', 'FRAME_SIZE', 'HELD', 'IN_FORM', 'MOST_OFFSET', 'HeldObject', 'ITEMS', 'ITEM_IN_BYTES', 'Line', 'LineReader',
+__all__ = ['Closing', 'FRAME_SIZE', 'HELD', 'IN_FORM', 'MARK', 'MOST_OFFSET', 'HeldObject', 'ITEMS', 'ITEM_IN_BYTES', 'Line', 'LineReader',
            'LinesError', 'NAMED_BY_TEXTS', 'NUMBER', 'OBJECTS', 'OFFSET_IN_BYTES', 'OPCODES', 'QUOTED', 'SHOWN', 'as_made', 'begins_with_offset',
-           'broken_places', 'closing_of', 'container_in', 'end_of', 'frames_in', 'held_in', 'holding', 'left_in', 'line_of',
+           'broken_places', 'closing_of', 'container_in', 'end_of', 'frames_in', 'held_in', 'holding', 'key_in', 'left_in', 'line_of',
            'lines_with_offsets', 'memo_of', 'number_of', 'object_of', 'offset_of_item', 'opcode_of', 'other_form', 'readonly_count',
            'results_in', 'stack_of', 'stored_under', 'unquoted', 'where_of']
 
@@ -184,7 +184,19 @@ def line_of(line: str) -> Line:
 
 # The codes as a listing shows them.
 _CODES = {**{f'\\x{code:02x}': bytes((code,)) for code in range(256)}, **{chr(code): bytes((code,)) for code in range(33, 127)}}
+# In the line of an opcode: the offset of the mark that it cuts.
+MARK = re.compile(r'\(MARK at ([0-9]+)\)$')
+_DIGITS = re.compile('[0-9]+')
 _OPCODE = re.compile(r'^ *([0-9]+): (\S+) +([A-Z][A-Z0-9_]*)(?: +(-?[0-9]+)$| +(.*))?$', re.MULTILINE)
+
+
+def key_in(line: str) -> str:
+    """The key of the memo in the line of an opcode that stores an object there.
+
+    >>> key_in('    2: q    BINPUT     17'), key_in('    2: \\\\x94 MEMOIZE    (as 0)')
+    ('17', '0')
+    """
+    return _DIGITS.findall(line)[-1]
 
 
 def _item_at(match: 're.Match[str]') -> Item:

@@ -9,14 +9,13 @@ at the end, plain ones stay, and those that nothing behind the edits can change.
 from __future__ import annotations
 
 import pickletools
-import re
 import sys
 from bisect import bisect_right
 from typing import Any, Callable, Dict, List, NamedTuple, Optional, Protocol, Sequence, Tuple
 
 from ..arguments import ArgumentValue, encoded
 from ..tasks import listing, objects
-from ..texts import line_of
+from ..texts import MARK, key_in, line_of
 from ..values import PLAIN_KINDS
 from ..view.document import MOST_EXACT, MOST_TEXT, Done, Reaches
 from ..view.lines import CODE_BY_NAME, Line, Lines, Makers, OpcodeLines, lines_of
@@ -40,8 +39,6 @@ _NEAR = [CODE_BY_NAME[name] for name in ('APPEND', 'SETITEM', 'BUILD', 'POP', 'D
 _PUSHES = frozenset(ord(each.code) for each in pickletools.opcodes if not each.stack_before and [*each.stack_after] not in ([], [pickletools.markobject]))
 _GETS = [(CODE_BY_NAME[name], name.encode('ascii')) for name in ('GET', 'BINGET', 'LONG_BINGET')]
 _POP, _FRAME, _READONLY = (CODE_BY_NAME[name] for name in ('POP', 'FRAME', 'READONLY_BUFFER'))
-_KEYS = re.compile('[0-9]+')
-_MARK = re.compile(r'\(MARK at ([0-9]+)\)$')
 _OF_CODE = 7  # (letters from the colon of a line to its name)
 
 
@@ -169,7 +166,7 @@ class Between:
         offset, _, rest = line.partition(':')
         if self._codes[place] == _FRAME:
             self._frame(int(offset), int(rest.rpartition(' ')[2]))
-        mark = _MARK.search(rest) if self._codes[place] not in _VALUE_CODES else None
+        mark = MARK.search(rest) if self._codes[place] not in _VALUE_CODES else None
         if mark is not None:
             rest = f'{rest[:mark.start(1)]}{self._moved(int(mark[1]))})'
         return _whole(f'{int(offset) + piece.shift:>5}:{rest}', line if piece.shift else '')
@@ -208,7 +205,7 @@ class Between:
         found = self._reaches.texts_at(line.offset - piece.shift)
         if place < self._first or line.name in _QUIET and not found or self._is_same and line.name in _FILLS:
             return found
-        mark = _MARK.search(line.argument)
+        mark = MARK.search(line.argument)
         if line.name in _FILLS and not found and mark is not None and int(mark[1]) < self._lines.offset(self._first):
             return found
         raise Unknown
@@ -263,7 +260,7 @@ class Between:
         """Whether an object may be got from the memo behind the edits, or is stored there."""
         begin = self._lines.start(self._first)
         for place in self._session.stores_of(number):
-            key = int(_KEYS.findall(self._lines.raw(place))[-1])
+            key = int(key_in(self._lines.raw(place)))
             if place >= self._first or any(self._codes.find(code, self._first) >= 0 and self._lines.text.find(b'%-10b %d\n' % (name, key), begin) >= 0
                                            for code, name in _GETS if key < 256 or name != b'BINGET'):
                 return True

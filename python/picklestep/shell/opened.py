@@ -3,7 +3,6 @@
 from __future__ import annotations
 
 import contextlib
-import re
 import threading
 from itertools import islice
 from typing import Any, Callable, Dict, Iterator, List, NamedTuple, Optional, Sequence, Set, Tuple
@@ -16,7 +15,7 @@ from ..python_source.shapes import BRACKETS
 from ..records import Global, Object, Reach, Ref
 from ..session import SHIFTS
 from ..sources import Input, Source
-from ..texts import LinesError, object_of
+from ..texts import LinesError, key_in, object_of
 from ..values import PLAIN_KINDS, kind_value
 from ..view.document import Document, Done, Reaches, places_edited
 from ..view.lines import CODE_BY_NAME, Line, Lines, OpcodeLines
@@ -356,7 +355,7 @@ class Opened(Document):
     def stored(self, begin: int, end: int, most: int) -> Tuple[int, List[Tuple[str, int]]]:
         """How many objects these opcodes store in the memo, and the last of them, each with its key."""
         places, objects = self._history.result().stored(begin, end)
-        return len(places), [(_KEY.findall(self.lines.raw(place))[-1], number) for place, number in zip(places[-most:], objects[-most:])]
+        return len(places), [(key_in(self.lines.raw(place)), number) for place, number in zip(places[-most:], objects[-most:])]
 
     def imports(self) -> Iterator[Reach]:
         """What is imported, in its order."""
@@ -625,7 +624,6 @@ _MOST_WALKED = 100_000
 # So far from the cursor something is shown before the pickle is read, and so many opcodes are shown behind one.
 _MOST_AHEAD = 20_000
 _SHOWN_AFTER = 3
-_KEY = re.compile('[0-9]+')
 
 
 def _size(lines: Lines, number: int) -> int:

@@ -8,7 +8,7 @@ from __future__ import annotations
 import re
 from typing import Any, Dict, List, NamedTuple, Optional, Sequence, Tuple
 
-from ...reaches import persistent_lines
+from ...reaches import persistent_lines, storage_of
 from ..blobs import Blob, Budget
 from .forms import Member, require, wrong
 from .pickles import Global, PDict, PList, Pickle, read_pickle
@@ -28,8 +28,6 @@ _ITEMS = {
     'QUInt8Storage': 1, 'QInt32Storage': 4, 'QUInt4x2Storage': 1, 'QUInt2x4Storage': 1, 'UntypedStorage': 1, '_UntypedStorage': 1,
 }
 _MODULES = re.compile(r'torch(\.cuda|\.storage)?')
-# The id of a storage, as the program shows it where nothing of it is cut.
-_STORAGE = re.compile(rf"\('storage', global '{_MODULES.pattern.replace('(', '(?:')}' '(\w+)', '([^'\\]*)', '[^'\\]*', int ([0-9]+)\) as #[0-9]+")
 # How many bytes each storage has, and an item of it.
 Storages = Dict[str, Tuple[int, int]]
 
@@ -88,11 +86,11 @@ def storages_in(calls: str) -> Optional[Storages]:
     """
     found: Storages = {}
     for line in persistent_lines(calls):
-        match = _STORAGE.fullmatch(line)
-        if match is None or match[1] not in _ITEMS or int(match[3]) >= 2 ** 48:
+        shown = storage_of(line)
+        if shown is None or not _MODULES.fullmatch(shown.module) or shown.kind not in _ITEMS or shown.count >= 2 ** 48:
             return None
-        size = (int(match[3]) * _ITEMS[match[1]], _ITEMS[match[1]])
-        if found.setdefault(match[2], size) != size:
+        size = (shown.count * _ITEMS[shown.kind], _ITEMS[shown.kind])
+        if found.setdefault(shown.key, size) != size:
             return None
     return found
 
