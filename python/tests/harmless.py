@@ -286,6 +286,22 @@ def executed(text: str, persistent_load: Optional[Callable[[Any], Any]] = None, 
     return names
 
 
+class Named:
+    """What has names that are no names in Python."""
+
+    first = 1
+
+
+setattr(Named, 'class', 2)
+setattr(Named, 'é', 3)
+renewed = 0
+
+
+def renew(value: Any) -> None:
+    """This module has another thing under a name."""
+    globals()['renewed'] = value
+
+
 class Watcher:
     """What it is made with, as that was when it was made: a call that comes too early or too late shows."""
 

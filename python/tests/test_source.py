@@ -111,6 +111,28 @@ class Equality(unittest.TestCase):
         for kind in (b'Plain', b'Slotted', b'Mixed', b'WithState'):
             self.assert_same([b'charmless\n' + kind + b'\n)\x81' + state + b'b.' for state in states])
 
+    def test_names_as_they_are_when_they_are_imported(self) -> None:
+        """A part of a dotted name need be no name in Python, and what a module has under a name may change."""
+        renew = b'charmless\nrenew\n'
+        self.assert_same([b'\x80\x04charmless\nNamed.%b\n.' % name for name in (b'first', b'class', b'\xc3\xa9', b'none', b'class.real', b'')])
+        self.assert_same([b'\x80\x04charmless\nNamed.none\n0N.', b'charmless\nnone\n0N.'])
+        self.assert_same([renew + b'K\0\x85Rcharmless\nrenewed\n' + renew + b'K\5\x85Rcharmless\nrenewed\n\x87.',
+                          b'\x80\x04charmless\nNamed.first\ncharmless\nNamed\nN}X\5\0\0\0firstK\5s\x86b\x86charmless\nNamed\nN}X\5\0\0\0firstK\1s\x86b\x86.'])
+
+    def test_what_is_no_tuple_and_no_value(self) -> None:
+        kind = b'cbuiltins\nint\n'
+        self.assert_same([kind + given + call + b'.' for given in (b')', b']', b'](K\5e', b'}', b'K\5', b'N', b'(K\5t', b'cbuiltins\ntuple\n)R',
+                                                                   b'cbuiltins\nlist\n)R') for call in (b'R', b'\x81', b'}\x92')])
+        self.assert_same([b'cbuiltins\ndict\n)' + given + b'\x92.' for given in (b'cbuiltins\ndict\n)R', b'cbuiltins\nlist\n)R', b'}X\1\0\0\0aNs')])
+        odd = (b'X\1\0\0\0\xff', b'Iabc\n', b'U\1\xff', b'V\\u1\n')
+        self.assert_same([each + b'0N.' for each in odd])
+        self.assert_same([b'](' + b'(X\1\0\0\0aX\1\0\0\0bt' * before + b'(X\1\0\0\0a' + each + b't' + b'(X\1\0\0\0aX\1\0\0\0bt' * 30 + b'e0N.'
+                          for each in odd for before in (0, 30)])
+
+    def test_names_of_results_are_taken(self) -> None:
+        lines = source(b'N.K\x05.ca\nresult_2\n.', many=True).text.splitlines()
+        self.assertEqual([line.partition('  # ')[0] for line in lines[2:]], ['result_2 = 5', 'from a import result_2 as result_2_2', 'result_3 = result_2_2'])
+
     def assert_same(self, pickles: List[bytes]) -> None:
         """Each gives what it loads to, or fails as loading does."""
         for data in pickles:
@@ -416,7 +438,7 @@ def _made(text: str) -> List[int]:
     for statement in ast.parse(text).body:
         if isinstance(statement, ast.Assign) and isinstance(statement.targets[0], ast.Name) and _COMMENT.search(lines[(statement.end_lineno or 0) - 1]):
             shown = ast.unparse(statement)
-            if 'getattr(import_module(' not in shown and not shown.endswith('.toreadonly()'):
+            if re.match('_[0-9]+ = ', shown) and 'import_module(' not in shown and not shown.endswith('.toreadonly()'):
                 found.append(int(shown.partition(' ')[0][1:]))
     return sorted(found)
 

@@ -16,9 +16,9 @@ from typing import Any, Callable, Dict, List, Optional, Sequence, Set, Tuple, Un
 
 from ..listed import offset_of
 from ..texts import opcode_of
-from .literals import of_bytes, of_float, of_floats, of_integer, of_line, of_text
+from .literals import Failing, of_bytes, of_float, of_floats, of_integer, of_line, of_text
 from .names import Names, python3_name
-from .nodes import Arguments, Called, Entry, Event, Filled, Formed, Insides, Needed, Node, Paired, Statement, is_pure
+from .nodes import Arguments, Called, Entry, Event, Filled, Formed, Insides, Needed, Node, Paired, Statement, is_dict, is_pure, is_tuple
 from .shapes import ALIKE, GETS, LETTERS, RUNS, RUNS_WITHOUT_UNITS, Part, Shape, argument_at, decoded, shape_of
 
 __all__ = ['Builder', 'KINDS', 'MOST_SHORT', 'taken_count']
@@ -77,6 +77,7 @@ class Builder:
     def _begin(self) -> None:
         """A pickle begins."""
         self.stack.clear()
+        self._names.begin()
         self._marks: List[int] = []
         self._memo: List[_Stored] = []  # by keys, and those behind a gap
         self._far: Dict[int, _Stored] = {}
@@ -255,8 +256,8 @@ class Builder:
         for number, (code, at) in enumerate(zip(codes, shape.values)):
             if code in GETS:
                 values[number] = self._taken(columns[at], stored, odd)
-            elif code not in _SHORT and max(map(len, values[number])) > MOST_SHORT:
-                odd.update(place for place, value in enumerate(values[number]) if len(value) > MOST_SHORT)
+            elif code not in _SHORT and (max(map(len, values[number])) > MOST_SHORT or Failing in set(map(type, values[number]))):
+                odd.update(place for place, value in enumerate(values[number]) if len(value) > MOST_SHORT or type(value) is Failing)
         if not odd:
             numbers = range(self._made + shape.part.number, self._made + shape.made * count, shape.made)
             nodes = list(map(Formed, repeat(shape), numbers, zip(*values) if values else repeat(())))
@@ -289,10 +290,16 @@ class Builder:
             return column
         return list(found.values()) * len(column) if len(found) == 1 else list(map(found.__getitem__, column))
 
-    @staticmethod
-    def _text(quoted: str, number: int) -> Entry:
+    def _text(self, quoted: str, number: int) -> Entry:
         """A text as its source, or as a node where that is long."""
-        text = of_text(quoted) if '\\' in quoted else quoted
+        return self._value(of_text(quoted) if '\\' in quoted else quoted, number)
+
+    def _value(self, text: str, number: int) -> Entry:
+        """A plain value as its source, or as a node where that is long. What is none has a statement of its own: loading ends there."""
+        if isinstance(text, Failing):
+            node = Node.atom(number, str(text))
+            self._name_now(node)
+            return node
         return text if len(text) <= MOST_SHORT else Node.atom(number, text)
 
     # --- Numbers one after another ---
@@ -332,7 +339,7 @@ class Builder:
     # --- Plain values ---
 
     def _push_value(self, text: str) -> None:
-        self.stack.append(text if len(text) <= MOST_SHORT else Node.atom(self._made, text))
+        self.stack.append(self._value(text, self._made))
         self._made += 1
 
     def _on_bytearray8(self, line: str) -> None:
@@ -525,8 +532,8 @@ class Builder:
         is_dotted = self._protocol >= 4
         found = (module, name) if self._protocol >= 3 else python3_name(module, name)
         statement, text = self._names.bind(*found, self._made, is_dotted)
-        if 'import_module' in statement and not statement.startswith('from'):
-            self.needs.add('import_module')
+        if not statement.startswith('from'):
+            self.needs |= {'import_module', 'reduce'} if 'reduce(getattr, ' in statement else {'import_module'}
         note = '' if found == (module, name) else f', in the pickle {module!r} {name!r}'
         self.events.append(Statement(statement.replace('{', '{{').replace('}', '}}'), (), offset, note))
         return text
@@ -550,7 +557,7 @@ class Builder:
         self._call_of_own(line, 'extension', [line[line.rindex(' ') + 1:]])
 
     def _on_persid(self, line: str) -> None:
-        self._call_of_own(line, 'persistent_load', [of_line('PERSID', line[line.index("'"):])])
+        self._call_of_own(line, 'persistent_load', [str(of_line('PERSID', line[line.index("'"):]))])
 
     def _on_binpersid(self, line: str) -> None:
         self._call_of_own(line, 'persistent_load', self._last(1))
@@ -566,6 +573,10 @@ class Builder:
         for several in (arguments.spread, arguments.keywords):
             if isinstance(several, Formed):
                 several.open()
+        if arguments.spread is not None and not is_tuple(arguments.spread):
+            self.needs.add('arguments')
+        if arguments.keywords is not None and not is_dict(arguments.keywords):
+            self.needs.add('keywords')
         self.events.append(Called(self._made, form, function, arguments, offset_of(line)))
         self._push_name()
 

@@ -9,6 +9,27 @@ __all__ = ['HELPERS']
 _IMPORT_MODULE = '''from importlib import import_module
 '''
 
+_REDUCE = '''from functools import reduce
+'''
+
+_ARGUMENTS = '''
+def arguments(items):
+    """What a call takes as its arguments: only a tuple."""
+    if not isinstance(items, tuple):
+        raise TypeError('the arguments are no tuple')
+    return items
+
+'''
+
+_KEYWORDS = '''
+def keywords(items):
+    """What NEWOBJ_EX takes as keywords: only a dictionary."""
+    if not isinstance(items, dict):
+        raise TypeError('the keywords are no dictionary')
+    return items
+
+'''
+
 _EXTENSION = '''
 def extension(code):
     """What EXT1, EXT2 and EXT4 stand for."""
@@ -72,5 +93,6 @@ _BUFFERS = '''# buffers is to be given: an iterator over the buffers that are ke
 
 # By what a source needs, in the order in which they are written.
 HELPERS: Dict[str, str] = {
-    'persistent_load': _PERSISTENT, 'buffers': _BUFFERS, 'import_module': _IMPORT_MODULE, 'extension': _EXTENSION, 'instantiate': _INSTANTIATE,
+    'persistent_load': _PERSISTENT, 'buffers': _BUFFERS, 'import_module': _IMPORT_MODULE, 'reduce': _REDUCE,
+    'arguments': _ARGUMENTS, 'keywords': _KEYWORDS, 'extension': _EXTENSION, 'instantiate': _INSTANTIATE,
     'set_state': _SET_STATE, 'extend': _EXTEND, 'add_items': _ADD_ITEMS}

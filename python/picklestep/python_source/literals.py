@@ -9,10 +9,14 @@ from typing import List, Sequence
 from ..texts import unquoted
 from ..values import PlainValue, Unreadable, read_form, unescaped
 
-__all__ = ['MOST_DECIMAL_BITS', 'literal', 'of_bytes', 'of_float', 'of_floats', 'of_integer', 'of_line', 'of_text']
+__all__ = ['Failing', 'MOST_DECIMAL_BITS', 'literal', 'of_bytes', 'of_float', 'of_floats', 'of_integer', 'of_line', 'of_text']
 
 # Python shows integers up to this many bits in decimal digits (it has a limit of 4,300 digits). Larger ones are hexadecimal.
 MOST_DECIMAL_BITS = 14000
+
+
+class Failing(str):
+    """The source of what is no value: it raises where a loader does."""
 
 
 def literal(value: PlainValue) -> str:
@@ -54,7 +58,7 @@ def of_text(quoted: str) -> str:
     try:
         return repr(data.decode('utf-8', 'surrogatepass'))
     except UnicodeDecodeError:
-        return f"{data!r}.decode('utf-8', 'surrogatepass')"
+        return Failing(f"{data!r}.decode('utf-8', 'surrogatepass')")
 
 
 def of_bytes(quoted: str) -> str:
@@ -68,7 +72,7 @@ def of_line(name: str, quoted: str) -> str:
     try:
         return literal(read_form(name, data))
     except Unreadable:
-        return _failing_string(data) if name == 'STRING' else _FAILING.get(name, "{!r}.decode('ascii')").format(data)
+        return Failing(_failing_string(data) if name == 'STRING' else _FAILING.get(name, "{!r}.decode('ascii')").format(data))
 
 
 def _failing_string(data: bytes) -> str:

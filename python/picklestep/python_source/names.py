@@ -4,7 +4,7 @@ from __future__ import annotations
 
 import keyword
 import re
-from typing import Dict, Tuple
+from typing import Dict, List, Set, Tuple
 
 from _compat_pickle import IMPORT_MAPPING, NAME_MAPPING
 
@@ -13,7 +13,7 @@ __all__ = ['Names', 'TAKEN', 'is_identifier', 'python3_name']
 _IDENTIFIER = re.compile(r'[A-Za-z_][A-Za-z0-9_]*', re.ASCII)
 # The most letters of a name that stands wherever it is used.
 _MOST_NAME = 1000
-_OWN = re.compile(r'_[0-9]+')
+_OWN = re.compile(r'(result)?_[0-9]+')
 
 # What Python 3.9 to 3.14 have without an import. One list, so that a source is the same whichever of them writes it.
 _BUILTINS = '''
@@ -34,9 +34,9 @@ _BUILTINS = '''
 
 # The names that a source has from the start, with the module and the name of each thing.
 TAKEN: Dict[str, Tuple[str, str]] = {
-    **{name: ('builtins', name) for name in _BUILTINS}, 'import_module': ('importlib', 'import_module'),
-    **{name: ('', name) for name in ('add_items', 'buffers', 'cut', 'extend', 'extension', 'instantiate', 'persistent_load', 'result', 'set_state',
-                                     'stack')}}
+    **{name: ('builtins', name) for name in _BUILTINS}, 'import_module': ('importlib', 'import_module'), 'reduce': ('functools', 'reduce'),
+    **{name: ('', name) for name in ('add_items', 'arguments', 'buffers', 'cut', 'extend', 'extension', 'instantiate', 'keywords',
+                                     'persistent_load', 'result', 'set_state', 'stack')}}
 
 
 def is_identifier(text: str) -> bool:
@@ -55,24 +55,37 @@ def python3_name(module: str, name: str) -> Tuple[str, str]:
 
 
 class Names:
-    """The names of a source, each for one thing."""
+    """The names of a source, each for one thing as it is when it is imported: what a module has under a name may change, so that a name which
+    a pickle imports again is another one."""
 
     def __init__(self) -> None:
         self._taken = dict(TAKEN)
+        self._imported: Set[str] = set()
+
+    def begin(self) -> None:
+        """A pickle begins: what those before it imported is used no more."""
+        self._imported.clear()
 
     def bind(self, module: str, name: str, number: int, is_dotted: bool) -> Tuple[str, str]:
         """The statement that imports a name, and how the thing is called then. `number` is that of the object."""
         first, *rest = name.split('.') if is_dotted else [name]
         parts = [*module.split('.'), first, *rest]
         if not all(map(is_identifier, parts)) or module == '__future__':
-            return f'_{number} = getattr(import_module({module!r}), {name!r})', f'_{number}'
-        if len(name) > _MOST_NAME:
-            more = f'; _{number} = _{number}.{".".join(rest)}' if rest else ''
-            return f'from {module} import {first} as _{number}{more}', f'_{number}'
-        known = self._taken.setdefault(first, (module, first))
-        if known == (module, first) and not _OWN.fullmatch(first):
-            return f'from {module} import {first}', '.'.join([first, *rest])
-        other = f'{first}_{number}'
-        while self._taken.setdefault(other, (module, first)) != (module, first):
-            other += '_'
-        return f'from {module} import {first} as {other}', '.'.join([other, *rest])
+            found = f'reduce(getattr, {name!r}.split(\'.\'), import_module({module!r}))' if rest else f'getattr(import_module({module!r}), {name!r})'
+            return f'_{number} = {found}', f'_{number}'
+        own = f'_{number}' if len(name) > _MOST_NAME else self._own(module, first, rest, number)
+        if own == first:
+            return f'from {module} import {first}', first
+        return f'from {module} import {first} as {own}' + (f'; {own} = {".".join([own, *rest])}' if rest else ''), own
+
+    def _own(self, module: str, first: str, rest: List[str], number: int) -> str:
+        """A name that is free, or that of the thing itself."""
+        thing = (module, first)
+        if not rest and first not in self._imported and not _OWN.fullmatch(first) and self._taken.setdefault(first, thing) == thing:
+            self._imported.add(first)
+            return first
+        own = f'{[first, *rest][-1]}_{number}'
+        while self._taken.setdefault(own, ('', own)) != ('', own) or own in self._imported:
+            own += '_'
+        self._imported.add(own)
+        return own

@@ -7,7 +7,7 @@ from typing import Dict, List, Optional, Sequence, Tuple, Union
 
 from .shapes import Part, Shape
 
-__all__ = ['Arguments', 'Called', 'Entry', 'Event', 'Filled', 'Formed', 'Insides', 'Needed', 'Node', 'Paired', 'Statement', 'is_pure']
+__all__ = ['Arguments', 'Called', 'Entry', 'Event', 'Filled', 'Formed', 'Insides', 'Needed', 'Node', 'Paired', 'Statement', 'is_dict', 'is_pure', 'is_tuple']
 
 
 class Node:
@@ -98,6 +98,16 @@ Entry = Union[str, Node]
 def is_pure(entries: Sequence[Entry]) -> bool:
     """Whether keys or members are plain values and tuples of them, so that it does not matter when they are hashed."""
     return all(type(entry) is str or entry.is_pure for entry in entries)  # type: ignore[union-attr]
+
+
+def is_tuple(entry: Entry) -> bool:
+    """Whether it is a tuple that the pickle builds itself. (Of what a call made nobody knows it.)"""
+    return entry == '()' if isinstance(entry, str) else entry.kind == 'tuple'
+
+
+def is_dict(entry: Entry) -> bool:
+    """Whether it is a dictionary that the pickle builds itself."""
+    return isinstance(entry, Node) and entry.kind == 'dict'
 
 
 @dataclass(frozen=True)

@@ -7,7 +7,7 @@ from operator import itemgetter, mod
 from typing import Any, Callable, Dict, Iterable, List, Optional, Sequence, Union
 
 from .names import is_identifier
-from .nodes import Arguments, Called, Entry, Event, Filled, Formed, Insides, Needed, Node, Paired, Statement
+from .nodes import Arguments, Called, Entry, Event, Filled, Formed, Insides, Needed, Node, Paired, Statement, is_dict, is_tuple
 from .shapes import BRACKETS, Part, Shape
 
 __all__ = ['COLUMNS', 'MOST_DEPTH', 'MOST_ITEMS', 'MOST_LETTERS', 'Writer']
@@ -144,7 +144,7 @@ class Writer:
         if isinstance(spread, Node) and spread.kind == 'tuple' and not spread.is_named:
             texts += self._shown(spread.items)
         elif spread is not None and spread != '()':
-            texts.append('*' + str(spread))
+            texts.append(f'*{spread}' if is_tuple(spread) else f'*arguments({spread})')
         if keywords is not None:
             texts += self._keywords(keywords)
         return texts
@@ -155,8 +155,10 @@ class Writer:
         return [str(entry) for entry in shown] + ([self._cut(len(entries) - len(shown), '*')] if len(shown) < len(entries) else [])
 
     def _keywords(self, keywords: Entry) -> List[str]:
-        if not isinstance(keywords, Node) or keywords.is_named or keywords.kind != 'dict':
-            return ['**' + str(keywords)]
+        if not isinstance(keywords, Node) or not is_dict(keywords):
+            return [f'**keywords({keywords})']
+        if keywords.is_named:
+            return [f'**{keywords}']
         names = [key[1:-1] if isinstance(key, str) and key[:1] == "'" else '' for key in keywords.items[::2]]
         if len(set(names)) == len(names) <= MOST_ITEMS and all(map(is_identifier, names)):
             return [f'{name}={str(value)}' for name, value in zip(names, keywords.items[1::2])]

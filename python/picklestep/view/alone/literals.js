@@ -16,6 +16,17 @@ class Shortened {
   }
 }
 
+// The source of what is no value: it raises where a loader does.
+class Failing {
+  constructor(source) {
+    this.source = source;
+  }
+
+  toString() {
+    return this.source;
+  }
+}
+
 // An argument of which a loader makes no value.
 class Unreadable extends Error {}
 
@@ -29,7 +40,7 @@ function textSource(bytes) {
   const text = binary(bytes);
   if (PLAIN.test(text)) return `'${text}'`;
   const signs = signsOf(bytes);
-  return signs === null ? `${bytesSource(bytes)}.decode('utf-8', 'surrogatepass')` : signsSource(signs);
+  return signs === null ? new Failing(`${bytesSource(bytes)}.decode('utf-8', 'surrogatepass')`) : signsSource(signs);
 }
 
 function signsSource(signs) {
@@ -38,7 +49,7 @@ function signsSource(signs) {
 }
 
 function longText(bytes) {
-  if (!isUtf8(bytes)) return cutSource(beginningOf(bytes), sizeOfSource(bytes) + ".decode('utf-8', 'surrogatepass')".length);
+  if (!isUtf8(bytes)) return new Failing(cutSource(beginningOf(bytes), sizeOfSource(bytes) + ".decode('utf-8', 'surrogatepass')".length));
   let letters = 0, end = 0;
   for (let at = 0; at < bytes.length; at += 1) {
     if ((bytes[at] & 0xc0) === 0x80) continue;
@@ -201,7 +212,7 @@ function lineSource(name, bytes) {
   try {
     return read(binary(bytes));
   } catch (error) {
-    if (error instanceof Unreadable) return failing(bytes);
+    if (error instanceof Unreadable) return new Failing(failing(bytes));
     throw error;
   }
 }

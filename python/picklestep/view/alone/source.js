@@ -83,13 +83,14 @@ class Writer {
   call({ number, method, called, items, spread, keywords, offset }) {
     const texts = this.shown(items);
     if (spread !== null && spread.kind === 'tuple' && !spread.isNamed) texts.push(...this.shown(spread.items));
-    else if (spread !== null && spread !== '()') texts.push(`*${spread}`);
+    else if (spread !== null && spread !== '()') texts.push(isTuple(spread) ? `*${spread}` : `*arguments(${spread})`);
     if (keywords !== null) texts.push(...this.keywords(keywords));
     this.end(`_${number} = ${bracketed(`${called}${method}(`, ')', texts)}`, offset);
   }
 
   keywords(keywords) {
-    if (keywords.kind !== 'dict' || keywords.isNamed) return [`**${keywords}`];
+    if (keywords.kind !== 'dict') return [`**keywords(${keywords})`];
+    if (keywords.isNamed) return [`**${keywords}`];
     const names = keysOf(keywords.items).map((key) => (!isNode(key) && key[0] === "'" ? key.slice(1, -1) : ''));
     const areNames = new Set(names).size === names.length && names.length <= MOST.items && names.every((name) => this.names.isIdentifier(name));
     return areNames ? names.map((name, at) => `${name}=${keywords.items[2 * at + 1]}`) : [`**${keywords}`];

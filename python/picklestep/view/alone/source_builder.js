@@ -19,6 +19,7 @@ class Builder {
   begin() {
     Object.assign(this, { marks: [], memo: new Map(), protocol: 0 });
     this.stack.length = 0;
+    this.names.begin();
   }
 
   // Reads the opcode at an offset.
@@ -83,8 +84,13 @@ class Builder {
   }
 
   pushValue(source) {
-    if (typeof source === 'string' && lettersOf(source) <= MOST.short) this.push(source);
-    else this.pushAtom(source).isPure = true;
+    if (typeof source === 'string' && lettersOf(source) <= MOST.short) {
+      this.push(source);
+      return;
+    }
+    const node = this.pushAtom(source instanceof Failing ? source.source : source);
+    node.isPure = true;
+    if (source instanceof Failing) this.nameNow(node); // (loading ends there)
   }
 
   pushAtom(source) {
@@ -201,7 +207,7 @@ class Builder {
   import(module, name) {
     const found = this.protocol >= 3 ? null : oldNames(this.saidAt(this.offset));
     const bound = this.names.bind(...(found || [module, name]), this.made, this.protocol >= 4);
-    if (bound.needsModule) this.needs.add('import_module');
+    for (const need of bound.needs) this.needs.add(need);
     this.events.push(new Statement(() => bound.statement, [], this.offset, found ? `, in the pickle ${module.shown} ${name.shown}` : ''));
     return bound.text;
   }
@@ -231,6 +237,8 @@ class Builder {
 
   call(method, called, words) {
     for (const entry of [called, ...(words.items || []), words.spread || '', words.keywords || '']) this.take(entry);
+    if (words.spread && !isTuple(words.spread)) this.needs.add('arguments');
+    if (words.keywords && words.keywords.kind !== 'dict') this.needs.add('keywords');
     this.events.push(new Called(this.made, method, called, words, this.offset));
     this.pushName();
   }
@@ -285,7 +293,7 @@ const HANDLERS = {
   APPEND: (built) => built.fill([built.stack.pop()], 'append'), APPENDS: (built) => built.fill(built.cut(), 'append'),
   ADDITEMS: (built) => built.fill(built.cut(), 'add'), SETITEM: (built) => built.set(built.last(2)), SETITEMS: (built) => built.set(built.cut()),
   GLOBAL: (built) => built.pushName(built.importNamed()), STACK_GLOBAL: (built) => built.importTexts(), INST: (built) => built.instantiateNamed(),
-  PERSID: (built) => built.callOwn('persistent_load', [lineSource('PERSID', built.line())]),
+  PERSID: (built) => built.callOwn('persistent_load', [String(lineSource('PERSID', built.line()))]),
   BINPERSID: (built) => built.callOwn('persistent_load', built.last(1)), BUILD: (built) => built.build(),
   REDUCE: (built) => { const [called, spread] = built.last(2); built.call('', called, { spread }); },
   NEWOBJ: (built) => { const [kind, spread] = built.last(2); built.call('.__new__', kind, { items: [kind], spread }); },

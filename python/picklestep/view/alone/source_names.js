@@ -3,7 +3,7 @@
 
 const IDENTIFIER = /^[A-Za-z_][A-Za-z0-9_]*$/;
 const MOST_NAME = 1000; // letters of a name that stands wherever it is used
-const OWN = /^_[0-9]+$/;
+const OWN = /^(result)?_[0-9]+$/;
 const IS_UTF8 = '[\\0-\\x7f]|[\\xc2-\\xdf][\\x80-\\xbf]|\\xe0[\\xa0-\\xbf][\\x80-\\xbf]|[\\xe1-\\xec\\xee\\xef][\\x80-\\xbf]{2}|' +
   '\\xed[\\x80-\\x9f][\\x80-\\xbf]|\\xf0[\\x90-\\xbf][\\x80-\\xbf]{2}|[\\xf1-\\xf3][\\x80-\\xbf]{3}|\\xf4[\\x80-\\x8f][\\x80-\\xbf]{2}';
 const LITERAL_SIGN = /\\(?:x([0-9a-f]{2})|u([0-9a-f]{4})|U([0-9a-f]{8})|([^]))|[^]/gu;
@@ -39,11 +39,17 @@ function oldNames(said) {
   return match && match[6] ? [match[2], match[3]].map((shown) => nameOfLine(unquoted(shown))) : null;
 }
 
-// The names of a source, each for one thing.
+// The names of a source, each for one thing as it is when it is imported: a name which a pickle imports again is another one.
 class Names {
   constructor({ taken, keywords }) {
     this.taken = new Map(Object.entries(taken));
     this.keywords = new Set(keywords);
+    this.imported = new Set();
+  }
+
+  // A pickle begins: what those before it imported is used no more.
+  begin() {
+    this.imported.clear();
   }
 
   isIdentifier(text) {
@@ -56,19 +62,30 @@ class Names {
     return this.taken.get(name);
   }
 
-  // The statement that imports a name, and how the thing is called then.
+  // The statement that imports a name, how the thing is called then, and which helpers that takes.
   bind(module, name, number, isDotted) {
     const [first, ...rest] = isDotted ? name.value.split('.') : [name.value];
     const isNamed = [...module.value.split('.'), first, ...rest].every((part) => this.isIdentifier(part)) && module.value !== '__future__';
-    if (!isNamed) return { statement: `_${number} = getattr(import_module(${module.shown}), ${name.shown})`, text: `_${number}`, needsModule: true };
-    if (name.value.length > MOST_NAME) {
-      const more = rest.length ? `; _${number} = _${number}.${rest.join('.')}` : '';
-      return { statement: `from ${module.value} import ${first} as _${number}${more}`, text: `_${number}` };
+    if (!isNamed) {
+      const from = `import_module(${module.shown})`;
+      const found = rest.length ? `reduce(getattr, ${name.shown}.split('.'), ${from})` : `getattr(${from}, ${name.shown})`;
+      return { statement: `_${number} = ${found}`, text: `_${number}`, needs: rest.length ? ['import_module', 'reduce'] : ['import_module'] };
     }
-    const thing = `${module.value} ${first}`, from = `from ${module.value} import ${first}`;
-    if (this.settle(first, thing) === thing && !OWN.test(first)) return { statement: from, text: [first, ...rest].join('.') };
-    let other = `${first}_${number}`;
-    while (this.settle(other, thing) !== thing) other += '_';
-    return { statement: `${from} as ${other}`, text: [other, ...rest].join('.') };
+    const own = name.value.length > MOST_NAME ? `_${number}` : this.own(module.value, first, rest, number);
+    const more = rest.length ? `; ${own} = ${[own, ...rest].join('.')}` : '';
+    return { statement: `from ${module.value} import ${first}${own === first ? '' : ` as ${own}${more}`}`, text: own, needs: [] };
+  }
+
+  // A name that is free, or that of the thing itself.
+  own(module, first, rest, number) {
+    const thing = `${module} ${first}`;
+    if (!rest.length && !this.imported.has(first) && !OWN.test(first) && this.settle(first, thing) === thing) {
+      this.imported.add(first);
+      return first;
+    }
+    let own = `${[first, ...rest].at(-1)}_${number}`;
+    while (this.settle(own, ` ${own}`) !== ` ${own}` || this.imported.has(own)) own += '_';
+    this.imported.add(own);
+    return own;
   }
 }

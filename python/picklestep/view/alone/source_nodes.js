@@ -21,6 +21,7 @@ class Node {
 }
 
 const isNode = (entry) => typeof entry !== 'string';
+const isTuple = (entry) => entry === '()' || entry.kind === 'tuple'; // one that the pickle builds itself
 const arePure = (entries) => entries.every((entry) => !isNode(entry) || entry.isPure);
 const keysOf = (items) => items.filter((_, at) => at % 2 === 0);
 
