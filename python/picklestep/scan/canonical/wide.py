@@ -65,7 +65,8 @@ _ITERABLE = frozenset('TOtldsbF')
 _SPACE = b' \t\n\r\x0b\x0c'
 _UP_TO_BLANK = bytes(range(0x21))
 _UTF_8 = codecs.getincrementaldecoder('utf-8')
-_KEY = re.compile(rb'[+]?[0-9]+(_[0-9]+)*')
+_KEY = re.compile(rb'[+]?[0-9]+(_[0-9]+)*|-[0_]*0')
+_SHOWN_KEY = re.compile(rb'0|[1-9][0-9]{,18}')
 _MOST_DIGITS = 4300
 # No module of Python or of a package has such a sign in its name; headers of tables and lines of code have them.
 _NOT_IN_MODULES = re.compile(r"""[,;:"'()\[\]{}<>|&?*/=]""")
@@ -103,6 +104,11 @@ def _unescaped(line: bytes) -> bytes:
         return line
 
 
+def _legacy(text: bytes) -> bytes:
+    """A legacy string in UTF-8. What is no UTF-8 a loader may take for Latin-1, by its `encoding`."""
+    return text if _decoded(text) is not None else text.decode('latin-1').encode('utf-8')
+
+
 def _shown(text: bytes) -> str:
     return text.decode('utf-8', 'backslashreplace')
 
@@ -110,12 +116,13 @@ def _shown(text: bytes) -> str:
 @dataclass(frozen=True)
 class _Way:
     """How a loader reads: whether it drops the rest of a frame, reads bytes across the end of one, keeps the memo from pickle to pickle,
-    and knows numbers of copyreg."""
+    knows numbers of copyreg, and takes lines for keys of the memo as they are spelled, as Python 2 does."""
 
     drops: bool = False
     across: bool = True
     keeps: bool = False
     extends: bool = True
+    spells: bool = False
 
 
 class _Machine:
@@ -127,7 +134,8 @@ class _Machine:
         self.budget = budget
         self.imported = imported
         self.stops = 0
-        self.framed = False
+        self.is_framed = False
+        self.is_spelled = False  # a key of the memo is spelled otherwise than numbers are shown
         self.at = 0
         self.begin = 0
         self.found: Optional[Reach] = None
@@ -289,7 +297,7 @@ class _Machine:
         size = int.from_bytes(self.read(8), 'little')
         if size >= _ENDLESS:
             raise _End
-        self.framed = True
+        self.is_framed = True
         if self.way.drops:
             self._jump(size)
             if self.at + size > self.blob.size:
@@ -303,8 +311,13 @@ class _Machine:
         text = self.line()
         if len(text) >= _LONGEST_LINE:
             raise _TooLong
+        if _SHOWN_KEY.fullmatch(text):
+            return int(text)
+        self.is_spelled = True
+        if self.way.spells:
+            return text
         for one in (text.strip(_SPACE), text.split(b'\0')[0].strip(_SPACE)):
-            digits = one.replace(b'_', b'').lstrip(b'+').lstrip(b'0')
+            digits = one.replace(b'_', b'').lstrip(b'+-').lstrip(b'0')
             if _KEY.fullmatch(one):
                 return int(digits or b'0') if len(digits) <= _MOST_DIGITS else digits
         return text
@@ -346,7 +359,12 @@ class _Machine:
         text = line.lstrip(_SPACE).rstrip(_UP_TO_BLANK)
         if len(text) < 2 or text[:1] != text[-1:] or text[:1] not in (b"'", b'"'):
             raise _End
-        self.push(_TEXT, text[1:-1])
+        self.push(_TEXT, _legacy(text[1:-1]))
+
+    def legacy(self, width: int) -> None:
+        self.counted(width, _TEXT, width == 4)
+        kind, text = self._top.pop()
+        self.push(kind, _legacy(text or b''))
 
     def counted(self, width: int, kind: str, signed: bool = False) -> None:
         length = int.from_bytes(self.read(width), 'little', signed=signed)
@@ -372,7 +390,8 @@ class _Machine:
 
     def _imports(self, module: bytes, name: bytes) -> None:
         are_texts = _decoded(module) is not None and _decoded(name) is not None
-        if _may_name(module, True) and _may_name(name, False) or are_texts and _is_standard(module):
+        # (In Python 2 a name need be no text.)
+        if _may_name(module, True) and _may_name(name, False) or _is_standard(module):
             if self.imported is not None:
                 self.imported.add((_shown(module), _shown(name)))
             self.reached(f'an import of {module.decode("latin-1")!a} {name.decode("latin-1")!a}')
@@ -481,7 +500,7 @@ _OPCODES: Dict[str, Callable[[_Machine], Any]] = {
     'NONE': _plain(0), 'NEWTRUE': _plain(0), 'NEWFALSE': _plain(0), 'BININT': _plain(4), 'BININT1': _plain(1), 'BININT2': _plain(2),
     'BINFLOAT': _plain(8), 'INT': _Machine.number, 'LONG': _Machine.number, 'FLOAT': _Machine.number,
     'LONG1': lambda m: m.counted(1, _PLAIN), 'LONG4': lambda m: m.counted(4, _PLAIN, True),
-    'STRING': _Machine.string, 'BINSTRING': lambda m: m.counted(4, _TEXT, True), 'SHORT_BINSTRING': lambda m: m.counted(1, _TEXT),
+    'STRING': _Machine.string, 'BINSTRING': lambda m: m.legacy(4), 'SHORT_BINSTRING': lambda m: m.legacy(1),
     'UNICODE': lambda m: m.push(_TEXT, _unescaped(m.line())), 'BINUNICODE': lambda m: m.counted(4, _TEXT),
     'SHORT_BINUNICODE': lambda m: m.counted(1, _TEXT), 'BINUNICODE8': lambda m: m.counted(8, _TEXT),
     'BINBYTES': lambda m: m.counted(4, _BYTES), 'SHORT_BINBYTES': lambda m: m.counted(1, _BYTES), 'BINBYTES8': lambda m: m.counted(8, _BYTES),
@@ -508,8 +527,8 @@ for _each in pickletools.opcodes:
 _MARK = 0x28
 _EVEN = {code: bytes([code]) * 256 for code in (_MARK, *b'N)]}\x88\x89\x8f')}
 
-_WAYS = (_Way(), _Way(keeps=True), _Way(drops=True), _Way(drops=True, keeps=True), _Way(drops=True, across=False),
-         _Way(drops=True, across=False, keeps=True))
+_WAYS = (_Way(), _Way(keeps=True), _Way(spells=True), _Way(spells=True, keeps=True), _Way(drops=True), _Way(drops=True, keeps=True),
+         _Way(drops=True, across=False), _Way(drops=True, across=False, keeps=True))
 _WITHOUT_NUMBERS = tuple(replace(way, extends=False) for way in _WAYS)
 
 
@@ -525,17 +544,17 @@ def reach_of(blob: Blob, budget: Optional[Budget] = None, extends: bool = True) 
     """
     if not may_be_opcode(blob.read(0, 1)):
         return None, 0
-    stops, framed = 0, True
+    stops, is_framed, is_spelled = 0, True, False
     for way in _WAYS if extends else _WITHOUT_NUMBERS:
-        # (Ways that differ in frames, or in the memo of a second pickle, read alike where there is none.)
-        if way.drops and not framed or way.keeps and not stops:
+        # (Ways that differ in frames, in the memo of a second pickle, or in odd keys of it read alike where there is none.)
+        if way.drops and not is_framed or way.keeps and not stops or way.spells and not is_spelled:
             continue
         machine = _Machine(blob, way, budget)
         found = machine.run()
         stops = max(stops, machine.stops)
         if found is not None:
             return found, stops
-        framed = machine.framed or way.drops
+        is_framed, is_spelled = machine.is_framed or way.drops, is_spelled or machine.is_spelled
     return None, stops
 
 
@@ -545,7 +564,7 @@ def may_lead_on(head: bytes, is_whole: bool) -> bool:
         machine = _Machine(BytesBlob(head), way, None)
         if machine.run() is not None or machine.stops:
             return True
-        if not is_whole and (machine.framed or machine.at + _LONGEST_NUMBER >= len(head)):
+        if not is_whole and (machine.is_framed or machine.at + _LONGEST_NUMBER >= len(head)):
             return True
     return False
 
@@ -556,18 +575,18 @@ def imports_of(blob: Blob, keeps: bool, budget: Optional[Budget] = None, known: 
     Up to `known` the bytes are opcodes that all loaders read alike.
     """
     found = Imports()
-    framed = True
+    is_framed, is_spelled = True, False
     if budget is not None:
         budget.count(_STEPS_OF_A_READING)
     if not may_be_opcode(blob.read(0, 1)):
         return found
     for way in _WAYS:
-        if way.keeps != keeps or way.drops and not framed:
+        if way.keeps != keeps or way.drops and not is_framed or way.spells and not is_spelled:
             continue
         machine = _Machine(blob, way, budget, found.names)
         machine.known = known
         reach = machine.run()
         if reach is not None:
             found.limit = reach.offset
-        framed = machine.framed or way.drops
+        is_framed, is_spelled = machine.is_framed or way.drops, is_spelled or machine.is_spelled
     return found
