@@ -40,7 +40,7 @@ CHECKLISTS = [
     ),
     (
         "To add a question of the debugger",
-        r"(?m)\b(write_where|where_text|def where_of)\b|\b(PlainWord|Query)::Where\b|\b(plain|query)\.Where\b|^debug> where$|Ic where\b|(?<!obey\()(?<!type\()[\"']where(\\n)?[\"']|`where`: where",
+        r"(?m)\b(write_where|where_text|def where_of)\b|\bQuery::Where\b|\b(plain|query)\.Where\b|^debug> where$|Ic where\b|(?<!obey\()(?<!type\()[\"']where(\\n)?[\"']|`where`: where",
         ["crates/pickle*/src/**/*.rt", "crates/pickle*/specs/**/*.antt", "crates/pickle*/proofs/**/*.antt", "share/**/*", "equipment/*.txt", "equipment/*.py", "python/picklestep/*.py", "python/tests/test_sessions.py"],
     ),
     (
