@@ -70,17 +70,17 @@ class Live {
 class Replayed {
   static async start(module, words, file) {
     const replayed = new Replayed();
-    Object.assign(replayed, { module, words, file, past: [] });
+    Object.assign(replayed, { module, words, file, said: [] });
     await replayed.say('where');
     return replayed;
   }
 
   async say(line) {
     const heard = new Heard();
-    const parts = [lineOf([...this.past, line].join('\n'))];
+    const parts = [lineOf([...this.said, line].join('\n'))];
     new Host(this.words, this.file, { input: () => parts.shift() || NONE, output: (bytes) => heard.take(bytes) }).run(this.module);
     let at = 0;
-    for (let before = this.past.length; before > 0; before -= 1) at = heard.text.indexOf('\n', at) + 1; // (each of these has one line)
+    for (let before = this.said.length; before > 0; before -= 1) at = heard.text.indexOf('\n', at) + 1; // (each of these has one line)
     const answer = heard.text.slice(at);
     this.keep(line, answer);
     return answer;
@@ -93,10 +93,10 @@ class Replayed {
     const word = line.split(' ')[0];
     const moved = /^at ([0-9]+)/.exec(answer);
     if (['step', 'back', 'goto', 'run'].includes(word) && moved) {
-      if (/^goto /.test(this.past.at(-1) || '')) this.past.pop();
-      this.past.push(`goto ${moved[1]}`);
+      if (/^goto /.test(this.said.at(-1) || '')) this.said.pop();
+      this.said.push(`goto ${moved[1]}`);
     } else if (['break', 'clear', ...Object.keys(SHIFTS), 'undo', 'redo'].includes(word) && !answer.startsWith('refused: ')) {
-      this.past.push(line);
+      this.said.push(line);
     }
   }
 }
