@@ -116,13 +116,15 @@ def _shown(text: bytes) -> str:
 @dataclass(frozen=True)
 class _Way:
     """How a loader reads: whether it drops the rest of a frame, reads bytes across the end of one, keeps the memo from pickle to pickle,
-    knows numbers of copyreg, and takes lines for keys of the memo as they are spelled, as Python 2 does."""
+    knows numbers of copyreg, and takes lines for keys of the memo as they are spelled. That do `pickle` and `cPickle` of Python 2, of which
+    the latter also keeps them apart from keys that are numbers."""
 
     drops: bool = False
     across: bool = True
     keeps: bool = False
     extends: bool = True
     spells: bool = False
+    parts: bool = False
 
 
 class _Machine:
@@ -136,6 +138,7 @@ class _Machine:
         self.stops = 0
         self.is_framed = False
         self.is_spelled = False  # a key of the memo is spelled otherwise than numbers are shown
+        self.has_lines = self.has_numbers = False  # which keys of the memo there are
         self.at = 0
         self.begin = 0
         self.found: Optional[Reach] = None
@@ -311,8 +314,9 @@ class _Machine:
         text = self.line()
         if len(text) >= _LONGEST_LINE:
             raise _TooLong
+        self.has_lines = True
         if _SHOWN_KEY.fullmatch(text):
-            return int(text)
+            return text if self.way.parts else int(text)
         self.is_spelled = True
         if self.way.spells:
             return text
@@ -330,6 +334,10 @@ class _Machine:
     def put_line(self) -> None:
         self.need(1)
         self.put(self.key())
+
+    def number_key(self, width: int) -> int:
+        self.has_numbers = True
+        return int.from_bytes(self.read(width), 'little')
 
     def get(self, key: _Key) -> None:
         if key not in self._memo:
@@ -510,9 +518,8 @@ _OPCODES: Dict[str, Callable[[_Machine], Any]] = {
     'FROZENSET': lambda m: m.cut(_OTHER), 'TUPLE1': lambda m: m.tuple_(1), 'TUPLE2': lambda m: m.tuple_(2), 'TUPLE3': lambda m: m.tuple_(3),
     'APPEND': _Machine.append, 'APPENDS': lambda m: m.fill_marked('lbF'), 'SETITEM': _Machine.set_item,
     'SETITEMS': lambda m: m.fill_marked('dlbF'), 'ADDITEMS': lambda m: m.fill_marked('sF'),
-    'GET': _Machine.get_line, 'BINGET': lambda m: m.get(m.read(1)[0]),
-    'LONG_BINGET': lambda m: m.get(int.from_bytes(m.read(4), 'little')), 'PUT': _Machine.put_line, 'BINPUT': lambda m: m.put(m.read(1)[0]),
-    'LONG_BINPUT': lambda m: m.put(int.from_bytes(m.read(4), 'little')),
+    'GET': _Machine.get_line, 'BINGET': lambda m: m.get(m.number_key(1)), 'LONG_BINGET': lambda m: m.get(m.number_key(4)),
+    'PUT': _Machine.put_line, 'BINPUT': lambda m: m.put(m.number_key(1)), 'LONG_BINPUT': lambda m: m.put(m.number_key(4)),
     'MEMOIZE': _Machine.memoize,
     'GLOBAL': _Machine.global_, 'INST': _Machine.global_, 'STACK_GLOBAL': _Machine.stack_global, 'EXT1': lambda m: m.extension(1),
     'EXT2': lambda m: m.extension(2), 'EXT4': lambda m: m.extension(4), 'PERSID': _Machine.persistent_line, 'BINPERSID': _Machine.persistent,
@@ -527,9 +534,32 @@ for _each in pickletools.opcodes:
 _MARK = 0x28
 _EVEN = {code: bytes([code]) * 256 for code in (_MARK, *b'N)]}\x88\x89\x8f')}
 
-_WAYS = (_Way(), _Way(keeps=True), _Way(spells=True), _Way(spells=True, keeps=True), _Way(drops=True), _Way(drops=True, keeps=True),
-         _Way(drops=True, across=False), _Way(drops=True, across=False, keeps=True))
+_WAYS = tuple(replace(way, keeps=keeps) for way in (_Way(), _Way(spells=True), _Way(spells=True, parts=True), _Way(drops=True),
+                                                    _Way(drops=True, across=False)) for keeps in (False, True))
 _WITHOUT_NUMBERS = tuple(replace(way, extends=False) for way in _WAYS)
+
+
+@dataclass
+class _Seen:
+    """What readings met in which ways differ: all read alike where there is no frame, no odd key of the memo, and no second pickle."""
+
+    is_framed: bool = False
+    is_spelled: bool = False
+    is_mixed: bool = False
+    stops: int = 0
+
+    def add(self, machine: _Machine) -> None:
+        """A way was gone."""
+        self.is_framed |= machine.is_framed
+        self.is_spelled |= machine.is_spelled
+        self.is_mixed |= machine.has_lines and machine.has_numbers
+        self.stops = max(self.stops, machine.stops)
+
+    def may_differ(self, way: _Way) -> bool:
+        """Whether a way may lead elsewhere than those before it."""
+        if way.parts:
+            return self.is_mixed
+        return not (way.drops and not self.is_framed or way.spells and not self.is_spelled)
 
 
 def may_be_opcode(begin: bytes) -> bool:
@@ -544,18 +574,16 @@ def reach_of(blob: Blob, budget: Optional[Budget] = None, extends: bool = True) 
     """
     if not may_be_opcode(blob.read(0, 1)):
         return None, 0
-    stops, is_framed, is_spelled = 0, True, False
+    seen = _Seen()
     for way in _WAYS if extends else _WITHOUT_NUMBERS:
-        # (Ways that differ in frames, in the memo of a second pickle, or in odd keys of it read alike where there is none.)
-        if way.drops and not is_framed or way.keeps and not stops or way.spells and not is_spelled:
+        if not seen.may_differ(way) or way.keeps and not seen.stops:
             continue
         machine = _Machine(blob, way, budget)
         found = machine.run()
-        stops = max(stops, machine.stops)
+        seen.add(machine)
         if found is not None:
-            return found, stops
-        is_framed, is_spelled = machine.is_framed or way.drops, is_spelled or machine.is_spelled
-    return None, stops
+            return found, seen.stops
+    return None, seen.stops
 
 
 def may_lead_on(head: bytes, is_whole: bool) -> bool:
@@ -575,18 +603,18 @@ def imports_of(blob: Blob, keeps: bool, budget: Optional[Budget] = None, known: 
     Up to `known` the bytes are opcodes that all loaders read alike.
     """
     found = Imports()
-    is_framed, is_spelled = True, False
+    seen = _Seen()
     if budget is not None:
         budget.count(_STEPS_OF_A_READING)
     if not may_be_opcode(blob.read(0, 1)):
         return found
     for way in _WAYS:
-        if way.keeps != keeps or way.drops and not is_framed or way.spells and not is_spelled:
+        if way.keeps != keeps or not seen.may_differ(way):
             continue
         machine = _Machine(blob, way, budget, found.names)
         machine.known = known
         reach = machine.run()
         if reach is not None:
             found.limit = reach.offset
-        is_framed, is_spelled = machine.is_framed or way.drops, is_spelled or machine.is_spelled
+        seen.add(machine)
     return found
