@@ -135,7 +135,8 @@ fn run_part<'a, I: ItemSource<'a>, S: Page>(
 }
 
 /// Writes the lines of the items that a source gives from the first on, as several pickles or as one, and not the last lines. The machine,
-/// which has done nothing yet and is over the same bytes, runs the items; each line is written when its item was stepped, and no item, no step and no line is kept.
+/// which has done nothing yet and is over the same bytes, runs the items; each line is written when its item was stepped, and no item, no
+/// step and no line is kept.
 /// The run ends at the end of the items, at an item that is refused, or where of several pickles STOP leaves a frame unfinished, since
 /// loaders disagree about what is behind it. The machine then stands behind the last item that was run. The source is to give a document
 /// that is not too large, with its frames. It is what is left of a file without these holes, and the lines have the offsets of the file.
