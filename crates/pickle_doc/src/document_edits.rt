@@ -14,9 +14,9 @@ use std::alloc::AllocError;
 impl Document {
     ghost use Rattle.std.specs.Prelude.{◌≡◌, true, ◌+◌, ◌^◌, ◌⊎◌, ◌<◌, ◌≤◌, length, IfOk, IfErr, OnOk, OnErr, Some, None, if◌then◌else◌};
     ghost use Rattle.pickle_doc.specs.Document.{items_of, document_bytes, IsDocument, IsReadAgain, size_limit};
-    ghost use Rattle.pickle_doc.specs.Edit.{with_units, raised_next, new_item, replaced, inserted, deleted, framed, unframed};
+    ghost use Rattle.pickle_doc.specs.Edit.{with_units, raised_next, replaced, deleted, unframed};
     ghost use Rattle.pickle_doc.specs.Edit.{replace_fault, insert_fault, delete_fault, frame_fault, unframe_fault};
-    ghost use Rattle.pickle_doc.specs.Edit.{edit_place, adds_item, edit_fault, edited, raised_next_by, KeepsRoom};
+    ghost use Rattle.pickle_doc.specs.Edit.{edit_place, adds_item, edit_fault, IsRefusedBy, with_inserted, with_framed, edited, raised_next_by, KeepsRoom};
     ghost use Rattle.pickle_doc.specs.Swap.{EditLeads, record_place};
 
     /// Why an edit is refused; none where it can be made, if there is memory. This takes none.
@@ -78,7 +78,8 @@ impl Document {
     /// Makes an edit, and gives the record that leads back: the first fault that applies refuses it, or else `Memory` (M)
     /// does, only where an item is added, there is no room, and none could be had. Then nothing is changed.
     pub fn edit(&mut self, edit: Edit<Op>) -> Result<EditRecord, EditFault>
-        ensures fault { IfErr result (λ f. (edit_fault edit self.old.contents ≡ Some f) ⊎ ((f ≡ EditFault.Memory) × (adds_item edit ≡ true) × (edit_fault edit self.old.contents ≡ None))) }
+        ensures fault { IfErr result (λ f. (edit_fault edit self.old.contents ≡ Some f)
+            ⊎ ((f ≡ EditFault.Memory) × (adds_item edit ≡ true) × (edit_fault edit self.old.contents ≡ None))) }
         ensures memory { OnErr result (edit_fault edit self.old.contents ≡ None → self.old.room ≡ 0) }
         ensures err { OnErr result (self.new ≡ self.old) }
         ensures none { OnOk result (edit_fault edit self.old.contents ≡ None) }
@@ -121,11 +122,11 @@ impl Document {
     /// given, `TooLarge` (E8) where there would be more bytes than `LIMIT`; then `Memory` (M), only where there is no room and
     /// none could be had. Then nothing is changed.
     pub fn insert(&mut self, k: usize, op: Op) -> Result<EditRecord, EditFault>
-        ensures fault { IfErr result (λ f. (insert_fault self.old.contents k op ≡ Some f) ⊎ ((f ≡ EditFault.Memory) × (insert_fault self.old.contents k op ≡ None))) }
+        ensures fault { IfErr result (IsRefusedBy (insert_fault self.old.contents k op)) }
         ensures memory { OnErr result (insert_fault self.old.contents k op ≡ None → self.old.room ≡ 0) }
         ensures err { OnErr result (self.new ≡ self.old) }
         ensures none { OnOk result (insert_fault self.old.contents k op ≡ None) }
-        ensures ok { OnOk result (self.new.contents ≡ raised_next (with_units self.old.contents (inserted k (new_item self.old.contents op) self.old.contents.units))) }
+        ensures ok { OnOk result (self.new.contents ≡ with_inserted k op self.old.contents) }
         ensures place { IfOk result (λ r. record_place r ≡ k) }
         ensures back { IfOk result (λ r. EditLeads r self.new.contents (raised_next self.old.contents)) }
         ensures again { OnOk result (IsReadAgain self.new.contents) }
@@ -160,11 +161,11 @@ impl Document {
     /// tail, `TooManyItems` (E7) where all identities are given, `TooLarge` (E8) where there would be more bytes than `LIMIT`; then
     /// `Memory` (M), only where there is no room and none could be had. Then nothing is changed.
     pub fn frame(&mut self, k: usize, count: usize) -> Result<EditRecord, EditFault>
-        ensures fault { IfErr result (λ f. (frame_fault self.old.contents k count ≡ Some f) ⊎ ((f ≡ EditFault.Memory) × (frame_fault self.old.contents k count ≡ None))) }
+        ensures fault { IfErr result (IsRefusedBy (frame_fault self.old.contents k count)) }
         ensures memory { OnErr result (frame_fault self.old.contents k count ≡ None → self.old.room ≡ 0) }
         ensures err { OnErr result (self.new ≡ self.old) }
         ensures none { OnOk result (frame_fault self.old.contents k count ≡ None) }
-        ensures ok { OnOk result (self.new.contents ≡ raised_next (with_units self.old.contents (framed k count self.old.contents.next self.old.contents.units))) }
+        ensures ok { OnOk result (self.new.contents ≡ with_framed k count self.old.contents) }
         ensures place { IfOk result (λ r. record_place r ≡ k) }
         ensures back { IfOk result (λ r. EditLeads r self.new.contents (raised_next self.old.contents)) }
         ensures again { OnOk result (IsReadAgain self.new.contents) }

@@ -171,8 +171,18 @@ other_run o r =
 abbrev pub begin_run : Run
 begin_run =
     record {
-        first = 0; last = 1; begun = false; left = 0; loose = 0; fresh = false; filled = false; called = false;
-        dropping = false; pair = false; sets = false }
+      first = 0;
+      last = 1;
+      begun = false;
+      left = 0;
+      loose = 0;
+      fresh = false;
+      filled = false;
+      called = false;
+      dropping = false;
+      pair = false;
+      sets = false;
+    }
 
 abbrev pub drops_after : Operation → Run → Bool
 drops_after o r = is_drop o.opcode && (r.dropping || not r.called)

@@ -62,7 +62,7 @@ kept_with how bytes loss o = record { text = o.text ⧺ kept_behind how bytes lo
 unfoldable pub kept_calls : Manner → List ℕ → Output
 kept_calls how bytes =
     kept_with how bytes (first_loss how.detail bytes)
-        (tale_calls how bytes (tale_of how.holes (ignoring pickles.OneMemo) (standing_first how.detail pickles.OneMemo bytes)))
+    (tale_calls how bytes (tale_of how.holes (ignoring pickles.OneMemo) (standing_first how.detail pickles.OneMemo bytes)))
 
 -- ---- of bytes
 

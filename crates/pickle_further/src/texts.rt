@@ -68,14 +68,15 @@ fn write_parts<S: Page>(
     pickles: Pickles,
     bytes: &[u8],
     ran: Ran,
-    slim: &Slim<'_>,
+    slim: Slim<'_>,
     page: &mut S,
 ) -> Result<(), TextStop>
     requires small { length bytes.now ≤ size_limit }
     requires offset { ran.offset ≤ length bytes.now }
     requires place { ran.place ≤ length bytes.now }
-    requires heap { length slim.now.state.heap ≤ ran.place }
-    ensures { (a b : Told) → (w : IsRun (manner detail holes.now) (are_many pickles) bytes.now a b slim.now.state ran) → PutsText (S.told page.old) (S.told page.new) (parts (manner detail holes.now) pickles w.d) result }
+    requires heap { length slim.state.heap ≤ ran.place }
+    ensures { (a b : Told) → (w : IsRun (manner detail holes.now) (are_many pickles) bytes.now a b slim.entry.state ran)
+        → PutsText (S.told page.old) (S.told page.new) (parts (manner detail holes.now) pickles w.d) result }
 {
     if !is_open(ran.ending) {
         return Ok(());
@@ -91,7 +92,7 @@ fn write_parts<S: Page>(
     };
     let rest = bytes.split_at(ran.offset as usize).1;
     // Loaders go on with all that the objects hold, which the slim machine does not keep.
-    let mut machine = LoaderMachine::new(alloc, slim.whole(alloc)?);
+    let mut machine = LoaderMachine::new(alloc, slim.into_whole(alloc)?);
     write_from(
         alloc,
         holes,
@@ -134,7 +135,7 @@ fn write_document<S: Page>(
         page,
     )?;
     let status = write_end(holes, bytes, ran.course, ran.ending, page)?;
-    write_parts(alloc, detail, holes, pickles, bytes, ran, &slim, page)?;
+    write_parts(alloc, detail, holes, pickles, bytes, ran, slim, page)?;
     Ok(status)
 }
 

@@ -60,8 +60,11 @@ fn run_part<'a, I: ItemSource<'a>, S: Page>(
 ) -> Result<Part<SoFar<I>, Ran>, TextStop>
     requires walked { (begun : Begun) × HasWalked holes.now many begun I.unread (S.told page.old) machine.old.state from }
     requires along { GoesAlong machine.old (I.unread from.reader) from.place }
-    ensures ok { (begun : Begun) → HasWalked holes.now many begun I.unread (S.told page.old) machine.old.state from → IfOk result (IsPart (HasWalked holes.now many begun I.unread (S.told page.new) machine.new.state) (IsRun (manner begun.detail holes.now) many begun.rest begun.told (S.told page.new) machine.new.state)) }
-    ensures err { (begun : Begun) → HasWalked holes.now many begun I.unread (S.told page.old) machine.old.state from → IfErr result (CutsCalls (manner begun.detail holes.now) many begun.rest begun.told (S.told page.new)) }
+    ensures ok { (begun : Begun) → HasWalked holes.now many begun I.unread (S.told page.old) machine.old.state from
+        → IfOk result (IsPart (HasWalked holes.now many begun I.unread (S.told page.new) machine.new.state)
+        (IsRun (manner begun.detail holes.now) many begun.rest begun.told (S.told page.new) machine.new.state)) }
+    ensures err { (begun : Begun) → HasWalked holes.now many begun I.unread (S.told page.old) machine.old.state from
+        → IfErr result (CutsCalls (manner begun.detail holes.now) many begun.rest begun.told (S.told page.new)) }
     ensures along { IfOk result (IsPart (λ far. GoesAlong machine.new (I.unread far.reader) far.place) (λ _. ⊤)) }
     ensures less { IfOk result (IsPart (λ far. length (I.unread far.reader).rest < length (I.unread from.reader).rest) (λ _. ⊤)) }
 {

@@ -47,5 +47,5 @@ abbrev pub HasListed : {I : Type 0} → Bool → Begun → (I → Unread) → To
 HasListed many begun unread told far =
     ((unread far.reader).loose ≡ begun.unread.loose)
     × Listed many begun.unread.loose begun.unread.rest begun.told told (unread far.reader).rest (unread far.reader).left
-        far.place far.offset far.lean far.opened.items far.highest
+    far.place far.offset far.lean far.opened.items far.highest
     × (length begun.unread.rest ≤ size_limit)

@@ -49,7 +49,7 @@ abbrev pub HasWalked : {I : Type 0} → List Hole → Bool → Begun → (I → 
 HasWalked holes many begun unread told s far =
     ((unread far.reader).loose ≡ false)
     × Walked (manner begun.detail holes) many begun.rest begun.told told (unread far.reader).rest (unread far.reader).left
-        far.place far.offset s far.course far.stop
+    far.place far.offset s far.course far.stop
     × (length begun.rest ≤ size_limit)
 
 -- a machine that reads its objects again from the bytes has read as many items as were run, and the source gives the bytes that are left
