@@ -5,9 +5,9 @@ ghost use Rattle.pickle_machine.specs.State.{start};
 ghost use Rattle.pickle_show.specs.Source.{GivesDocument};
 ghost use Rattle.pickle_show.specs.CallsWritten.{CutsCalls};
 ghost use Rattle.pickle_show.specs.Manner.{manner};
-ghost use Rattle.pickle_show.specs.Ran.{IsRun};
+ghost use Rattle.pickle_show.specs.Ran.{IsRun, GoesAlong};
 ghost use Rattle.pickle_show.specs.Inside.Part.{IsPart};
-ghost use Rattle.pickle_show.specs.Inside.Walked.{Begun, HasWalked, GoesAlong};
+ghost use Rattle.pickle_show.specs.Inside.Walked.{Begun, HasWalked};
 
 use crate::calls_line::write_line;
 use crate::course::Course;

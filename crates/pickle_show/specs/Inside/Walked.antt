@@ -8,7 +8,6 @@ use Rattle.pickle_doc.specs.Unread.{Unread}
 use Rattle.pickle_holes.specs.declared.hole.Hole.{Hole}
 use Rattle.pickle_machine.specs.State.{State, start}
 use Rattle.pickle_machine.specs.Run.{run}
-use Rattle.pickle_machine.specs.Reading.{Reading}
 use Rattle.pickle_show.specs.declared.calls.SoFar.{SoFar}
 use Rattle.pickle_show.specs.declared.course.Course.{Course}
 use Rattle.pickle_show.specs.declared.naming.Detail.{Detail}
@@ -51,7 +50,3 @@ HasWalked holes many begun unread told s far =
     × Walked (manner begun.detail holes) many begun.rest begun.told told (unread far.reader).rest (unread far.reader).left
     far.place far.offset s far.course far.stop
     × (length begun.rest ≤ size_limit)
-
--- a machine that reads its objects again from the bytes has read as many items as were run, and the source gives the bytes that are left
-abbrev pub GoesAlong : Reading → Unread → ℕ → Type 0
-GoesAlong machine unread place = (machine.rest ≡ unread.rest) × (machine.place ≡ place)
