@@ -1,5 +1,5 @@
 -- What the functions are said to do, piece by piece.
-use Rattle.std.specs.Prelude.{◌≡◌, ◌⊎◌, ℕ, ◌+◌, ◌-◌, ◌*◌, ◌^◌, ◌≤◌, ◌<◌, ◌==◌, if◌then◌else◌, List, ◌++◌, length, Option, Some, None, ⊤}
+use Rattle.std.specs.Prelude.{◌≡◌, ◌⊎◌, ℕ, ◌+◌, ◌-◌, ◌*◌, ◌^◌, ◌≤◌, ◌<◌, ◌==◌, if◌then◌else◌, List, ◌++◌, length, drop, Option, Some, None, ⊤}
 use Rattle.std.specs.Option.{option_map, option_map_or}
 use Rattle.pickle_io.specs.Device.{Told, Wrote}
 use Rattle.pickle_ops.specs.declared.fault.FrontFault.TheVariants as front
@@ -9,6 +9,7 @@ use Rattle.pickle_lenient.specs.declared.fault.NotTaken.{NotTaken}
 use Rattle.pickle_lenient.specs.declared.fault.NotTaken.TheVariants as stop
 use Rattle.pickle_holes.specs.declared.hole.Hole.{Hole}
 use Rattle.pickle_show.specs.declared.course.Course.{Course}
+use Rattle.pickle_show.specs.declared.calls.Ran.{Ran}
 use Rattle.pickle_show.specs.declared.naming.Naming.{Naming}
 use Rattle.pickle_show.specs.declared.naming.Detail.{Detail}
 use Rattle.pickle_show.specs.Naming.{begin}
@@ -28,6 +29,10 @@ standing s rest at naming = record { state = s; rest = rest; at = at; naming = n
 -- at the first of these bytes, before anything was read
 abbrev pub standing_begun : State → List ℕ → Detail → Standing
 standing_begun s bytes how = standing s bytes (record { offset = 0; place = 0; left = 0 }) (begin how 0)
+
+-- behind the items of these bytes that were run, in this state
+abbrev pub standing_behind : List ℕ → State → Ran → Standing
+standing_behind bytes s r = standing s (drop r.offset bytes) (record { offset = r.offset; place = r.place; left = 0 }) r.course.naming
 
 -- where the first item is whose reading loses bytes, if there is one
 abbrev pub loss_from : Way → Standing → Option ℕ
