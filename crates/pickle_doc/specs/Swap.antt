@@ -56,6 +56,10 @@ pub record EditLeads (r : EditRecord) (d e : Contents) : Type 0 where
   pub within : length (document_bytes e) ≤ size_limit
   pub before : AgreeBefore r.place (items_of d) (items_of e)
 
+-- the record leads from a document somewhere where it has room for this many more items
+abbrev pub LeadsWithin : EditRecord → Contents → ℕ → Type 0
+LeadsWithin r d room = (e : Contents) × EditLeads r d e × (length (items_of e) ≤ length (items_of d) + room)
+
 -- ---- laws
 
 -- this many identities were given

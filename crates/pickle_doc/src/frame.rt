@@ -3,7 +3,7 @@
 ghost use Rattle.std.specs.Prelude.{◌≡◌, ◌+◌, ◌^◌, ◌<◌, ◌≤◌, length, None};
 ghost use Rattle.pickle_doc.specs.DocUnit.{flat};
 ghost use Rattle.pickle_doc.specs.Document.{items_of, document_bytes, IsDocument, size_limit};
-ghost use Rattle.pickle_doc.specs.Edit.{with_units, raised_next, framed, frame_fault};
+ghost use Rattle.pickle_doc.specs.Edit.{raised_next, framed, frame_fault, with_framed};
 ghost use Rattle.pickle_doc.specs.Swap.{EditLeads, record_place};
 
 use crate::document::Document;
@@ -46,7 +46,7 @@ pub(crate) fn framing(document: &Document, k: usize, count: usize) -> EditRecord
     requires small { length (document_bytes document.now.contents) ≤ size_limit }
     ensures few { document.now.contents.next < 2 ^ 32 }
     ensures place { record_place result ≡ k }
-    ensures leads { EditLeads result (raised_next document.now.contents) (raised_next (with_units document.now.contents (framed k count document.now.contents.next document.now.contents.units))) }
+    ensures leads { EditLeads result (raised_next document.now.contents) (with_framed k count document.now.contents) }
     ensures room { length (flat (framed k count document.now.contents.next document.now.contents.units)) ≡ length (items_of document.now.contents) + 1 }
 {
     let number = document.offset_of(k + count) - document.offset_of(k);

@@ -3,7 +3,7 @@
 ghost use Rattle.std.specs.Prelude.{◌≡◌, ◌+◌, ◌^◌, ◌<◌, ◌≤◌, length, None};
 ghost use Rattle.pickle_doc.specs.DocUnit.{flat};
 ghost use Rattle.pickle_doc.specs.Document.{items_of, document_bytes, IsDocument, size_limit};
-ghost use Rattle.pickle_doc.specs.Edit.{with_units, raised_next, new_item, inserted, insert_fault};
+ghost use Rattle.pickle_doc.specs.Edit.{raised_next, new_item, inserted, insert_fault, with_inserted};
 ghost use Rattle.pickle_doc.specs.Swap.{EditLeads, record_place};
 
 use crate::document::Document;
@@ -39,7 +39,7 @@ pub(crate) fn insertion(document: &Document, k: usize, op: Op) -> EditRecord
     requires small { length (document_bytes document.now.contents) ≤ size_limit }
     ensures few { document.now.contents.next < 2 ^ 32 }
     ensures place { record_place result ≡ k }
-    ensures leads { EditLeads result (raised_next document.now.contents) (raised_next (with_units document.now.contents (inserted k (new_item document.now.contents op) document.now.contents.units))) }
+    ensures leads { EditLeads result (raised_next document.now.contents) (with_inserted k op document.now.contents) }
     ensures room { length (flat (inserted k (new_item document.now.contents op) document.now.contents.units)) ≡ length (items_of document.now.contents) + 1 }
 {
     let size = op.arg().len() as u64 + 1;

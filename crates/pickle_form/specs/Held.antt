@@ -275,7 +275,8 @@ other_row protocol row.Buffer r h = None
 other_row protocol row.ReadOnly r h = if_deep 1 (above h) (if_so is_buffer (deep 0 h) reason.NotBuffer None)
 other_row protocol (row.Take t) r h = if_deep (count_of t) (above h) (other_taking t h)
 other_row protocol (row.Cut c) r h = if_mark h (other_cutting protocol r c h)
-other_row protocol (row.Change f) r h = if_deep (values_of f + 1) (above h) (if_so (is_target f) (deep (values_of f) h) reason.WrongTarget (other_state protocol f h))
+other_row protocol (row.Change f) r h =
+    if_deep (values_of f + 1) (above h) (if_so (is_target f) (deep (values_of f) h) reason.WrongTarget (other_state protocol f h))
 other_row protocol (row.CutChange f) r h =
     if_mark h (if_deep 1 (between h) (if_paired f (above h) (if_so (is_target f) (under h) reason.WrongTarget (other_batch protocol f h))))
 -- in protocol 0 a mark is dropped by POP

@@ -163,12 +163,26 @@ other_put o r = unless (not (is_put o.opcode) || r.fresh || (r.filled && first_h
 
 -- what is other in an opcode behind these
 abbrev pub other_run : Operation → Run → Option Reason
-other_run o r = or_else (other_proto o r) (or_else (other_protocol o r) (or_else (other_frame o r) (or_else (other_drop o r) (or_else (other_setter o r) (other_put o r)))))
+other_run o r =
+    or_else (other_proto o r) (or_else (other_protocol o r) (or_else (other_frame o r) (or_else (other_drop o r) (or_else (other_setter o r) (other_put o r)))))
 
 -- ---- behind it
 
 abbrev pub begin_run : Run
-begin_run = record { first = 0; last = 1; begun = false; left = 0; loose = 0; fresh = false; filled = false; called = false; dropping = false; pair = false; sets = false }
+begin_run =
+    record {
+      first = 0;
+      last = 1;
+      begun = false;
+      left = 0;
+      loose = 0;
+      fresh = false;
+      filled = false;
+      called = false;
+      dropping = false;
+      pair = false;
+      sets = false;
+    }
 
 abbrev pub drops_after : Operation → Run → Bool
 drops_after o r = is_drop o.opcode && (r.dropping || not r.called)

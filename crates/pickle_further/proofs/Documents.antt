@@ -1,5 +1,5 @@
 -- The text of a document, with what is behind its end.
-use Rattle.std.proofs.Common.{◌≡◌, ℕ, true, false, List, [], ◌++◌, drop, Ok, refl, sym, ap, ◌∙◌}
+use Rattle.std.proofs.Common.{◌≡◌, ℕ, true, false, List, [], ◌++◌, Ok, refl, sym, ap, ◌∙◌}
 use Rattle.std.specs.Prelude.{Result, Err, IfOk, IfErr, if◌then◌else◌}
 use Rattle.pickle_io.specs.Text.{◌⧺◌}
 use Rattle.pickle_io.specs.Device.{Told, Wrote, Broke}
@@ -16,24 +16,20 @@ use Rattle.pickle_show.specs.Ran.{IsRun}
 use Rattle.pickle_show.proofs.Walking.{run_whole, run_answers}
 use Rattle.pickle_further.specs.declared.way.Pickles.{Pickles}
 use Rattle.pickle_further.specs.declared.way.Pickles.TheVariants as pickles
-use Rattle.pickle_further.specs.Going.{Standing}
 use Rattle.pickle_further.specs.Parts.{are_many, ignoring, text_from, is_open, lost_text, parts_to, parts}
 use Rattle.pickle_further.specs.CallsText.{CutsText, document_calls, CompletesDocument, CutsDocument, CompletesText, CutsCallsText}
-use Rattle.pickle_further.specs.Inside.{standing}
+use Rattle.pickle_further.specs.Inside.{standing_behind}
 use Rattle.pickle_further.proofs.Pieces.{cut_after, cut_before}
 
-abbrev pub standing_of : List ℕ → State → Ran → Standing
-standing_of bytes s r = standing s (drop r.offset bytes) (record { offset = r.offset; place = r.place; left = 0 }) r.course.naming
-
 pub parts_are : {how : Manner} (p : Pickles) (bytes : List ℕ) (a b : Told) (s : State) (r : Ran) → (w : IsRun how (are_many p) bytes a b s r)
-    → parts how p w.d ≡ (if is_open r.ending then text_from how.holes (ignoring p) (standing_of bytes s r) ++ lost_text how p bytes else [])
+    → parts how p w.d ≡ (if is_open r.ending then text_from how.holes (ignoring p) (standing_behind bytes s r) ++ lost_text how p bytes else [])
 unfolding parts ◌⧺◌
 parts_are {how = how} p bytes a b s r w =
     let ends : parts how p w.d ≡ parts_to how p w.d (record { place = r.place; ending = r.ending }) = ap (parts_to how p w.d) w.ends in
     ends ∙ rw (w.reached, w.offset, w.naming, sym w.reads.whole) refl
 
 pub parts_open : {how : Manner} (p : Pickles) (bytes : List ℕ) (a b : Told) (s : State) (r : Ran) → (w : IsRun how (are_many p) bytes a b s r) → is_open r.ending ≡ true
-    → parts how p w.d ≡ text_from how.holes (ignoring p) (standing_of bytes s r) ++ lost_text how p bytes
+    → parts how p w.d ≡ text_from how.holes (ignoring p) (standing_behind bytes s r) ++ lost_text how p bytes
 parts_open p bytes a b s r w is = parts_are p bytes a b s r w ∙ rw is refl
 
 pub parts_closed : {how : Manner} (p : Pickles) (bytes : List ℕ) (a b : Told) (s : State) (r : Ran) → (w : IsRun how (are_many p) bytes a b s r) → is_open r.ending ≡ false → parts how p w.d ≡ []

@@ -45,7 +45,8 @@ abbrev pub first_loss : Detail → List ℕ → Option ℕ
 first_loss how bytes = option_map (λ (p : Standing). p.at.offset) (loss_at how (buffering pickles.OneMemo) bytes)
 
 unfoldable pub loss_text : Manner → List ℕ → ℕ → List ℕ
-loss_text how bytes offset = loss_line (in_file how.holes offset) ⧺ (lost_by how (buffering pickles.OneMemo) bytes ⧺ lost_by how (holding pickles.OneMemo) bytes)
+loss_text how bytes offset =
+    loss_line (in_file how.holes offset) ⧺ (lost_by how (buffering pickles.OneMemo) bytes ⧺ lost_by how (holding pickles.OneMemo) bytes)
 
 abbrev pub kept_behind : Manner → List ℕ → Option ℕ → List ℕ
 kept_behind how bytes None = []
@@ -60,7 +61,8 @@ kept_with how bytes loss o = record { text = o.text ⧺ kept_behind how bytes lo
 
 unfoldable pub kept_calls : Manner → List ℕ → Output
 kept_calls how bytes =
-    kept_with how bytes (first_loss how.detail bytes) (tale_calls how bytes (tale_of how.holes (ignoring pickles.OneMemo) (standing_first how.detail pickles.OneMemo bytes)))
+    kept_with how bytes (first_loss how.detail bytes)
+    (tale_calls how bytes (tale_of how.holes (ignoring pickles.OneMemo) (standing_first how.detail pickles.OneMemo bytes)))
 
 -- ---- of bytes
 

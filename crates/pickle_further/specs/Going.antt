@@ -156,7 +156,8 @@ tale_after e t =
 
 -- an item, and unless it ended there what comes then
 abbrev pub tale_with : List Hole → Standing → Going → Tale → Tale
-tale_with holes p g more = tale_after (counted_text (in_file holes p.at.offset) p.naming g.state.heap g.gone.event) (option_map_or tale_over g.gone.closing more)
+tale_with holes p g more =
+    tale_after (counted_text (in_file holes p.at.offset) p.naming g.state.heap g.gone.event) (option_map_or tale_over g.gone.closing more)
 
 -- at most n items: more than there are bytes there are not
 unfoldable pub tale : List Hole → ℕ → Way → Standing → Tale

@@ -1,6 +1,6 @@
 -- What the functions are said to do, piece by piece.
-use Rattle.std.specs.Prelude.{◌≡◌, ◌⊎◌, ℕ, ◌+◌, ◌-◌, ◌*◌, ◌^◌, ◌≤◌, ◌<◌, ◌==◌, if◌then◌else◌, List, ◌++◌, length, Option, Some, None, ⊤}
-use Rattle.std.specs.Option.{option_map_or}
+use Rattle.std.specs.Prelude.{◌≡◌, ◌⊎◌, ℕ, ◌+◌, ◌-◌, ◌*◌, ◌^◌, ◌≤◌, ◌<◌, ◌==◌, if◌then◌else◌, List, ◌++◌, length, drop, Option, Some, None, ⊤}
+use Rattle.std.specs.Option.{option_map, option_map_or}
 use Rattle.pickle_io.specs.Device.{Told, Wrote}
 use Rattle.pickle_ops.specs.declared.fault.FrontFault.TheVariants as front
 use Rattle.pickle_doc.specs.declared.fault.TailFault.TheVariants as tail
@@ -9,7 +9,10 @@ use Rattle.pickle_lenient.specs.declared.fault.NotTaken.{NotTaken}
 use Rattle.pickle_lenient.specs.declared.fault.NotTaken.TheVariants as stop
 use Rattle.pickle_holes.specs.declared.hole.Hole.{Hole}
 use Rattle.pickle_show.specs.declared.course.Course.{Course}
+use Rattle.pickle_show.specs.declared.calls.Ran.{Ran}
 use Rattle.pickle_show.specs.declared.naming.Naming.{Naming}
+use Rattle.pickle_show.specs.declared.naming.Detail.{Detail}
+use Rattle.pickle_show.specs.Naming.{begin}
 use Rattle.pickle_show.specs.declared.report.Closing.{Closing}
 use Rattle.pickle_show.specs.declared.report.Closing.TheVariants as closing
 use Rattle.pickle_further.specs.declared.way.Way.{Way}
@@ -17,10 +20,23 @@ use Rattle.pickle_further.specs.declared.way.Spot.{Spot}
 use Rattle.pickle_further.specs.declared.engine.TaleEnd.{TaleEnd}
 use Rattle.pickle_further.specs.declared.going.Gone.{Gone}
 use Rattle.pickle_further.specs.declared.seek.Visited.{Visited}
-use Rattle.pickle_further.specs.Going.{Standing, Going, going, Tale, tale, tale_with, stands_after, nothing}
+use Rattle.pickle_further.specs.declared.seek.Sought.TheVariants as sought
+use Rattle.pickle_further.specs.Going.{Standing, Going, going, Tale, tale, tale_with, stands_after, nothing, search_from}
 
 abbrev pub standing : State → List ℕ → Spot → Naming → Standing
 standing s rest at naming = record { state = s; rest = rest; at = at; naming = naming }
+
+-- at the first of these bytes, before anything was read
+abbrev pub standing_begun : State → List ℕ → Detail → Standing
+standing_begun s bytes how = standing s bytes (record { offset = 0; place = 0; left = 0 }) (begin how 0)
+
+-- behind the items of these bytes that were run, in this state
+abbrev pub standing_behind : List ℕ → State → Ran → Standing
+standing_behind bytes s r = standing s (drop r.offset bytes) (record { offset = r.offset; place = r.place; left = 0 }) r.course.naming
+
+-- where the first item is whose reading loses bytes, if there is one
+abbrev pub loss_from : Way → Standing → Option ℕ
+loss_from w p = option_map (λ (q : Standing). q.at.offset) (search_from sought.Lost w p)
 
 -- it ended before an item, which told nothing
 pub record IsOver (gone : Gone) : Type 0 where
@@ -36,6 +52,10 @@ pub record Goes (g : Going) (gone : Gone) (t : State) : Type 0 where
 abbrev pub standing_of : State → Visited → Standing
 standing_of s v = standing s v.rest.now v.at v.naming
 
+-- from this state it was gone over, to that one
+abbrev pub IsGoneOver : Way → State → Visited → State → Type 0
+IsGoneOver w s v t = Goes (going w (standing_of s v)) v.gone t
+
 -- nothing was read for a fault
 abbrev pub EndsAtFault : NotTaken → ℕ → Gone → Type 0
 EndsAtFault (stop.Fault f) offset gone = gone ≡ nothing (closing.Fault (tail.Front f) offset)
@@ -47,6 +67,10 @@ here gone p = record { gone = gone; state = p.state }
 
 abbrev pub tale_here : List Hole → ℕ → Way → Standing → Gone → Tale
 tale_here holes n w p gone = tale_with holes p (here gone p) (tale holes n w (stands_after p (here gone p)))
+
+-- the same of all items behind it
+abbrev pub tale_at : List Hole → Way → Standing → Gone → Tale
+tale_at holes w p gone = tale_here holes (length p.rest) w p gone
 
 -- why it ends after this item, n being how many more may come
 abbrev pub ended : Gone → ℕ → ℕ → Option Closing
@@ -66,11 +90,11 @@ pub record HasRoom (s : State) (v : Visited) : Type 0 where
 -- an item is the one behind another, which led to this state, and was gone over
 pub record IsNext (w : Way) (s : State) (v : Visited) (t : State) (next : Visited) : Type 0 where
   pub stands : standing_of s next ≡ stands_after (standing_of s v) (here v.gone (standing_of s v))
-  pub goes : Goes (going w (standing_of s next)) next.gone t
+  pub goes : IsGoneOver w s next t
 
 -- the item that is to be found was found, and gone over
 abbrev pub Finds : Way → Option Standing → Option Visited → State → Type 0
-Finds w (Some p) (Some v) t = (s : State) × (p ≡ standing_of s v) × Goes (going w (standing_of s v)) v.gone t
+Finds w (Some p) (Some v) t = (s : State) × (p ≡ standing_of s v) × IsGoneOver w s v t
 Finds w (Some p) None t = ⊥
 Finds w None (Some v) t = ⊥
 Finds w None None t = ⊤

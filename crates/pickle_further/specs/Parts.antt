@@ -88,7 +88,12 @@ holding p = record { pickles = p; frames = frames.Held }
 -- before item k of a document
 abbrev pub standing_at : Detail → Contents → ℕ → State → Standing
 standing_at how d k s =
-    record { state = s; rest = drop (offset_of d k) (document_bytes d); at = record { offset = offset_of d k; place = k; left = 0 }; naming = naming_at how d k }
+    record {
+      state = s;
+      rest = drop (offset_of d k) (document_bytes d);
+      at = record { offset = offset_of d k; place = k; left = 0 };
+      naming = naming_at how d k;
+    }
 
 abbrev pub behind_at : Manner → Pickles → Contents → ℕ → Option State → List ℕ
 behind_at how p d k (Some s) = text_from how.holes (ignoring p) (standing_at how.detail d k s)

@@ -189,7 +189,8 @@ fn go_near(
 ) -> Result<Gone, TextStop>
     requires heap { length machine.old.state.heap < 2 ^ 32 - 2 }
     requires near { is_far item.row ≡ false }
-    ensures ok { IfOk result (λ g. (p : Standing) → p.state ≡ machine.old.state → p.at.place ≡ place → length (drop item.size p.rest) ≡ more → Goes (gone_as way p (near_item item) (loader_move item.op.opcode item.row (fresh p.state))) g machine.new.state) }
+    ensures ok { IfOk result (λ g. (p : Standing) → p.state ≡ machine.old.state → p.at.place ≡ place → length (drop item.size p.rest) ≡ more
+        → Goes (gone_as way p (near_item item) (loader_move item.op.opcode item.row (fresh p.state))) g machine.new.state) }
     ensures size { IfOk result (λ g. g.size ≤ item.size) }
     ensures err { IfErr result (λ e. e ≡ TextStop.Memory) }
     ensures objects { length machine.new.state.heap ≤ length machine.old.state.heap + 2 }
@@ -252,7 +253,8 @@ fn go_over(
 ) -> Result<Gone, TextStop>
     requires heap { length machine.old.state.heap < 2 ^ 32 - 2 }
     requires far { is_far item.row ≡ true → item.op ≡ frame_op 0 }
-    ensures ok { IfOk result (λ g. (p : Standing) → p.state ≡ machine.old.state → p.at ≡ at → length (drop item.size p.rest) ≡ more → Goes (gone_as way p item (loader_move item.op.opcode item.row (fresh p.state))) g machine.new.state) }
+    ensures ok { IfOk result (λ g. (p : Standing) → p.state ≡ machine.old.state → p.at ≡ at → length (drop item.size p.rest) ≡ more
+        → Goes (gone_as way p item (loader_move item.op.opcode item.row (fresh p.state))) g machine.new.state) }
     ensures size { IfOk result (λ g. g.size ≤ item.size) }
     ensures err { IfErr result (λ e. e ≡ TextStop.Memory) }
     ensures objects { length machine.new.state.heap ≤ length machine.old.state.heap + 2 }

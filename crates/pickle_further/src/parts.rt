@@ -2,14 +2,13 @@
 //! those in the file.
 
 ghost use Rattle.std.specs.Prelude.{◌≡◌, ◌≤◌, ◌^◌, length, Some, IfOk, IfErr};
-ghost use Rattle.std.specs.Option.{option_map};
 ghost use Rattle.pickle_io.specs.Device.{Writes};
 ghost use Rattle.pickle_further.specs.CallsText.{PutsText};
-ghost use Rattle.pickle_further.specs.Going.{Standing, going, search_from};
+ghost use Rattle.pickle_further.specs.Going.{search_from};
 ghost use Rattle.pickle_further.specs.Parts.{stop_words, stop_line, ends_line, part_end, ignored_words, buffered_words, held_words, header_words, header, tale_text, told_text, text_from, found_text};
 ghost use Rattle.pickle_machine.specs.State.{State};
 ghost use Rattle.pickle_show.specs.Naming.{begin};
-ghost use Rattle.pickle_further.specs.Inside.{standing, standing_of, tale_here, Goes, HasRoom};
+ghost use Rattle.pickle_further.specs.Inside.{standing, standing_begun, standing_of, loss_from, tale_at, IsGoneOver, HasRoom};
 
 use crate::engine::write_items;
 use crate::going::go;
@@ -122,7 +121,8 @@ fn write_tale<S: Page>(
     page: &mut S,
 ) -> Result<(), TextStop>
     requires { HasRoom machine.old.state item }
-    ensures { PutsText (S.told page.old) (S.told page.new) (tale_text holes.now (tale_here holes.now (length item.entry.rest.now) way (standing_of machine.old.state item.entry) item.entry.gone)) result }
+    ensures { PutsText (S.told page.old) (S.told page.new)
+        (tale_text holes.now (tale_at holes.now way (standing_of machine.old.state item.entry) item.entry.gone)) result }
 {
     let end = write_items(
         alloc,
@@ -149,7 +149,8 @@ fn write_told<S: Page>(
     page: &mut S,
 ) -> Result<(), TextStop>
     requires { HasRoom machine.old.state item }
-    ensures { (s : State) → Goes (going way (standing_of s item.entry)) item.entry.gone machine.old.state → PutsText (S.told page.old) (S.told page.new) (told_text holes.now way (Some (standing_of s item.entry))) result }
+    ensures { (s : State) → IsGoneOver way s item.entry machine.old.state
+        → PutsText (S.told page.old) (S.told page.new) (told_text holes.now way (Some (standing_of s item.entry))) result }
 {
     write_header(way.frames, page)?;
     write_tale(alloc, holes, way, item, machine, page)
@@ -165,7 +166,8 @@ fn write_visited<S: Page>(
     page: &mut S,
 ) -> Result<(), TextStop>
     requires { HasRoom machine.old.state item }
-    ensures { (s : State) → Goes (going way (standing_of s item.entry)) item.entry.gone machine.old.state → PutsText (S.told page.old) (S.told page.new) (text_from holes.now way (standing_of s item.entry)) result }
+    ensures { (s : State) → IsGoneOver way s item.entry machine.old.state
+        → PutsText (S.told page.old) (S.told page.new) (text_from holes.now way (standing_of s item.entry)) result }
 {
     match seek(alloc, way, Sought::Event, item, machine)? {
         Some(found) => write_told(alloc, holes, way, found, machine, page),
@@ -213,7 +215,8 @@ pub fn write_found<S: Page>(
 ) -> Result<(), TextStop>
     requires few { length bytes.now ≤ 2 ^ 30 }
     requires heap { length machine.old.state.heap ≤ 2 ^ 30 }
-    ensures { PutsText (S.told page.old) (S.told page.new) (found_text holes.now way (search_from Sought.Lost way (standing machine.old.state bytes.now (record { offset = 0; place = 0; left = 0 }) (begin detail 0)))) result }
+    ensures { PutsText (S.told page.old) (S.told page.new)
+        (found_text holes.now way (search_from Sought.Lost way (standing_begun machine.old.state bytes.now detail))) result }
 {
     let at = Spot {
         offset: 0,
@@ -244,7 +247,7 @@ pub fn find_loss(
 ) -> Result<Option<u64>, TextStop>
     requires few { length bytes.now ≤ 2 ^ 30 }
     requires heap { length machine.old.state.heap ≤ 2 ^ 30 }
-    ensures ok { IfOk result (λ x. x ≡ option_map (λ (p : Standing). p.at.offset) (search_from Sought.Lost way (standing machine.old.state bytes.now (record { offset = 0; place = 0; left = 0 }) (begin detail 0)))) }
+    ensures ok { IfOk result (λ x. x ≡ loss_from way (standing_begun machine.old.state bytes.now detail)) }
     ensures err { IfErr result (λ e. e ≡ TextStop.Memory) }
 {
     let at = Spot {

@@ -2,8 +2,8 @@
 
 ghost use Rattle.std.specs.Prelude.{◌≡◌, ◌<◌, None, length, IfOk, IfErr};
 ghost use Rattle.pickle_machine.specs.State.{State};
-ghost use Rattle.pickle_further.specs.Going.{going, is_sought, search_from};
-ghost use Rattle.pickle_further.specs.Inside.{HasRoom, Goes, standing_of, IsNext, Finds, FindsRoom};
+ghost use Rattle.pickle_further.specs.Going.{is_sought, search_from};
+ghost use Rattle.pickle_further.specs.Inside.{HasRoom, IsGoneOver, standing_of, IsNext, Finds, FindsRoom};
 
 use crate::engine::spot_after;
 use crate::going::{Gone, go};
@@ -80,7 +80,8 @@ pub fn seek<'a>(
     machine: &mut LoaderMachine,
 ) -> Result<Option<Visited<'a>>, TextStop>
     requires room { HasRoom machine.old.state first }
-    ensures finds { IfOk result (λ found. (s : State) → Goes (going way (standing_of s first.entry)) first.entry.gone machine.old.state → Finds way (search_from sought way (standing_of s first.entry)) found machine.new.state) }
+    ensures finds { IfOk result (λ found. (s : State) → IsGoneOver way s first.entry machine.old.state
+        → Finds way (search_from sought way (standing_of s first.entry)) found machine.new.state) }
     ensures room { IfOk result (FindsRoom machine.new.state) }
     ensures err { IfErr result (λ e. e ≡ TextStop.Memory) }
 {

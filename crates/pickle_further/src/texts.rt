@@ -5,7 +5,8 @@ ghost use Rattle.pickle_io.specs.Device.{Told, Writes};
 ghost use Rattle.pickle_doc.specs.Document.{size_limit};
 ghost use Rattle.pickle_show.specs.Manner.{manner};
 ghost use Rattle.pickle_show.specs.Ran.{IsRun};
-ghost use Rattle.pickle_further.specs.Parts.{are_many, is_open, lost_by, parts};
+ghost use Rattle.pickle_further.specs.Parts.{are_many, ignoring, text_from, is_open, lost_by, parts};
+ghost use Rattle.pickle_further.specs.Inside.{standing_behind};
 ghost use Rattle.pickle_further.specs.CallsText.{CompletesText, CutsCallsText, CompletesDocument, CutsDocument, PutsText, first_loss, loss_words, loss_line, loss_text, kept_behind, kept_status};
 
 use crate::engine::write_items;
@@ -60,26 +61,24 @@ fn write_lost<S: Page>(
     write_found(alloc, detail, holes, way, bytes, &mut machine, page)
 }
 
-/// Writes what loaders may do behind the end of the lines.
-fn write_parts<S: Page>(
+/// Writes what loaders may do that ignore frames, behind the items that were run. Their machine has all that the objects hold, which the
+/// slim one does not keep, and both are gone when it returns.
+fn write_ignoring<S: Page>(
     alloc: Global,
-    detail: Detail,
     holes: &Holes,
     pickles: Pickles,
     bytes: &[u8],
     ran: Ran,
-    slim: &Slim<'_>,
+    slim: Slim<'_>,
     page: &mut S,
 ) -> Result<(), TextStop>
     requires small { length bytes.now ≤ size_limit }
     requires offset { ran.offset ≤ length bytes.now }
     requires place { ran.place ≤ length bytes.now }
-    requires heap { length slim.now.state.heap ≤ ran.place }
-    ensures { (a b : Told) → (w : IsRun (manner detail holes.now) (are_many pickles) bytes.now a b slim.now.state ran) → PutsText (S.told page.old) (S.told page.new) (parts (manner detail holes.now) pickles w.d) result }
+    requires heap { length slim.state.heap ≤ ran.place }
+    ensures { PutsText (S.told page.old) (S.told page.new)
+        (text_from holes.now (ignoring pickles) (standing_behind bytes.now slim.entry.state ran)) result }
 {
-    if !is_open(ran.ending) {
-        return Ok(());
-    }
     let way = Way {
         pickles,
         frames: Frames::Ignored,
@@ -90,8 +89,7 @@ fn write_parts<S: Page>(
         left: 0,
     };
     let rest = bytes.split_at(ran.offset as usize).1;
-    // Loaders go on with all that the objects hold, which the slim machine does not keep.
-    let mut machine = LoaderMachine::new(alloc, slim.whole(alloc)?);
+    let mut machine = LoaderMachine::new(alloc, slim.into_whole(alloc)?);
     write_from(
         alloc,
         holes,
@@ -101,7 +99,31 @@ fn write_parts<S: Page>(
         ran.course.naming,
         &mut machine,
         page,
-    )?;
+    )
+}
+
+/// Writes what loaders may do behind the end of the lines.
+fn write_parts<S: Page>(
+    alloc: Global,
+    detail: Detail,
+    holes: &Holes,
+    pickles: Pickles,
+    bytes: &[u8],
+    ran: Ran,
+    slim: Slim<'_>,
+    page: &mut S,
+) -> Result<(), TextStop>
+    requires small { length bytes.now ≤ size_limit }
+    requires offset { ran.offset ≤ length bytes.now }
+    requires place { ran.place ≤ length bytes.now }
+    requires heap { length slim.state.heap ≤ ran.place }
+    ensures { (a b : Told) → (w : IsRun (manner detail holes.now) (are_many pickles) bytes.now a b slim.entry.state ran)
+        → PutsText (S.told page.old) (S.told page.new) (parts (manner detail holes.now) pickles w.d) result }
+{
+    if !is_open(ran.ending) {
+        return Ok(());
+    }
+    write_ignoring(alloc, holes, pickles, bytes, ran, slim, page)?;
     let way = Way {
         pickles,
         frames: Frames::Buffered,
@@ -134,7 +156,7 @@ fn write_document<S: Page>(
         page,
     )?;
     let status = write_end(holes, bytes, ran.course, ran.ending, page)?;
-    write_parts(alloc, detail, holes, pickles, bytes, ran, &slim, page)?;
+    write_parts(alloc, detail, holes, pickles, bytes, ran, slim, page)?;
     Ok(status)
 }
 

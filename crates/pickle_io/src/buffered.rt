@@ -1,7 +1,7 @@
 //! A sink that hands on what it takes in blocks.
 
 ghost use Rattle.std.specs.Prelude.{◌≡◌, ◌+◌, ◌≤◌, [], ◌++◌, length, take, drop, OnOk};
-ghost use Rattle.pickle_io.specs.Device.{Writes, holding};
+ghost use Rattle.pickle_io.specs.Device.{Writes, holding, held_in};
 
 use crate::page::Page;
 use crate::sink::{Failed, Sink};
@@ -105,14 +105,14 @@ pub struct Buffered<S> {
 }
 
 impl<S: Sink + Drop> Buffered<S> {
-    ghost use Rattle.std.specs.Prelude.{◌≡◌, ◌≤◌, ◌+◌, ◌-◌, [], drop, take, length, IfOk, OnOk};
-    ghost use Rattle.pickle_io.specs.Device.{Writes, holding};
+    ghost use Rattle.std.specs.Prelude.{◌≡◌, ◌≤◌, ◌+◌, ◌-◌, [], length, IfOk, OnOk};
+    ghost use Rattle.pickle_io.specs.Device.{Writes, holding, held_in};
 
     /// It holds nothing. An error comes only where memory runs out.
     pub fn new(alloc: Global, sink: S) -> Result<Buffered<S>, AllocError>
         ensures sink { IfOk result (λ b. b.sink ≡ sink) }
-        ensures held { IfOk result (λ b. drop b.start (take b.len b.text.items) ≡ []) }
-        ensures none { IfOk result (λ b. (holding (S.told b.sink) (drop b.start (take b.len b.text.items))).held ≡ (S.told sink).held) }
+        ensures held { IfOk result (λ b. held_in b.text.items b.start b.len ≡ []) }
+        ensures none { IfOk result (λ b. (holding (S.told b.sink) (held_in b.text.items b.start b.len)).held ≡ (S.told sink).held) }
     {
         Buffered::with_room(alloc, sink, ROOM)
     }
@@ -120,8 +120,8 @@ impl<S: Sink + Drop> Buffered<S> {
     /// The same with room for this many bytes, or for a line where that is more. An error comes only where memory runs out.
     pub fn with_room(alloc: Global, sink: S, room: usize) -> Result<Buffered<S>, AllocError>
         ensures sink { IfOk result (λ b. b.sink ≡ sink) }
-        ensures held { IfOk result (λ b. drop b.start (take b.len b.text.items) ≡ []) }
-        ensures none { IfOk result (λ b. (holding (S.told b.sink) (drop b.start (take b.len b.text.items))).held ≡ (S.told sink).held) }
+        ensures held { IfOk result (λ b. held_in b.text.items b.start b.len ≡ []) }
+        ensures none { IfOk result (λ b. (holding (S.told b.sink) (held_in b.text.items b.start b.len)).held ≡ (S.told sink).held) }
     {
         let mut text = Vec::new(alloc);
         text.resize(room.max(LINE), 0)?;
@@ -156,8 +156,9 @@ impl<S: Sink + Drop> Buffered<S> {
     /// Hands on all that it holds. `Failed` comes from its sink; what was not taken it holds still.
     #[inline(never)]
     fn empty(&mut self) -> Result<(), Failed>
-        ensures told { Writes (holding (S.told self.old.sink) (drop self.old.start (take self.old.len self.old.text.items))) (holding (S.told self.new.sink) (drop self.new.start (take self.new.len self.new.text.items))) result [] }
-        ensures held { OnOk result (drop self.new.start (take self.new.len self.new.text.items) ≡ []) }
+        ensures told { Writes (holding (S.told self.old.sink) (held_in self.old.text.items self.old.start self.old.len))
+            (holding (S.told self.new.sink) (held_in self.new.text.items self.new.start self.new.len)) result [] }
+        ensures held { OnOk result (held_in self.new.text.items self.new.start self.new.len ≡ []) }
         ensures none { OnOk result ((self.new.len ≡ 0) × (self.new.start ≡ 0)) }
         ensures room { length self.new.text.items ≡ length self.old.text.items }
     {
@@ -172,7 +173,7 @@ impl<S: Sink + Drop> Buffered<S> {
 }
 
 impl<S: Sink + Drop> Sink for Buffered<S> {
-    ghost told = { λ b. holding (S.told b.sink) (drop b.start (take b.len b.text.items)) };
+    ghost told = { λ b. holding (S.told b.sink) (held_in b.text.items b.start b.len) };
 
     fn write(&mut self, bytes: &[u8]) -> Result<usize, Failed> {
         if self.len == self.text.len() {

@@ -4,10 +4,10 @@
 -- Buffered: the first `left` bytes are in a buffer. A read of n bytes (an opcode's code, an argument of fixed length, the bytes of a
 -- length, those that it counts) is made in the buffer if it has so many; else what is left of it is lost, and the n bytes are those
 -- behind it. A line ends in the buffer if a newline is there; else what is left is lost, and the line is read behind it. Only the bytes
--- of a byte string (BINBYTES, BYTEARRAY8 and their like) are read from the buffer and go on behind it. After FRAME so many bytes as it says are in the buffer: those that are
--- there, if they are enough; else they are lost, and the buffer is filled anew, at the end of the file with what there is
--- (Lib/pickle.py, `_Unframer.load_frame`). STOP loses what is left, since the next load has a buffer of its own (`pickle.load`; in Python
--- each `load`). Held: the same, but STOP leaves the buffer, as where one `Unpickler` in C loads again.
+-- of a byte string (BINBYTES, BYTEARRAY8 and their like) are read from the buffer and go on behind it. After FRAME so many bytes as it
+-- says are in the buffer: those that are there, if they are enough; else they are lost, and the buffer is filled anew, at the end of the
+-- file with what there is (Lib/pickle.py, `_Unframer.load_frame`). STOP loses what is left, since the next load has a buffer of its own
+-- (`pickle.load`; in Python each `load`). Held: the same, but STOP leaves the buffer, as where one `Unpickler` in C loads again.
 -- Source: Modules/_pickle.c: `_Unpickler_ReadImpl`, `_Unpickler_ReadInto`, `_Unpickler_Readline`, `_Unpickler_ReadFromFile`,
 -- `load_frame`, of a file without `peek`.
 use Rattle.std.specs.Prelude.{◌≡◌, ℕ, ◌+◌, ◌-◌, ◌<◌, ◌≤◌, ◌&&◌, ◌||◌, nat_lt, nat_le, if◌then◌else◌, Bool, true, false, List, [], ◌∷◌, ◌++◌, length, take, drop, position, Option, Some, None, Result, Ok, Err, ⊤}

@@ -80,7 +80,8 @@ fn read_mended(alloc: Global, code: u8, rest: &[u8]) -> Result<LenientOp, NotTak
     requires small { length rest.now < 2 ^ 62 }
     ensures ok { IfOk result (λ r. (cut_line (code ∷ rest.now) ≡ Ok (record { op = r.op; row = r.row; size = r.size })) × (r.size ≡ length rest.now + 1)) }
     ensures near { IfOk result (λ r. is_far r.row ≡ false) }
-    ensures err { IfErr result (λ e. e ≢ NotTaken.Memory → (cut_line (code ∷ rest.now) ≡ Err FrontFault.Truncated) × (e ≡ NotTaken.Fault FrontFault.Truncated)) }
+    ensures err { IfErr result (λ e. e ≢ NotTaken.Memory
+        → (cut_line (code ∷ rest.now) ≡ Err FrontFault.Truncated) × (e ≡ NotTaken.Fault FrontFault.Truncated)) }
 {
     let line = mended(alloc, code, rest)?;
     match peek_op(line.as_slice()) {

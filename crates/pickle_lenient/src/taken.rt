@@ -170,8 +170,10 @@ fn take_across(
     requires small { length bytes.now < 2 ^ 62 }
     requires parts { bytes.now ≡ buffer.now ++ behind.now }
     requires sizes { length bytes.now ≡ length buffer.now + length behind.now }
-    ensures ok { IfOk result (IsAnswer bytes.now (across ends bytes.now (length buffer.now - first_read buffer.now) (lenient (take (first_read buffer.now) buffer.now ++ behind.now)))) }
-    ensures err { IfErr result (IsNoAnswer (across ends bytes.now (length buffer.now - first_read buffer.now) (lenient (take (first_read buffer.now) buffer.now ++ behind.now)))) }
+    ensures ok { IfOk result (IsAnswer bytes.now (across ends bytes.now (length buffer.now - first_read buffer.now)
+        (lenient (take (first_read buffer.now) buffer.now ++ behind.now)))) }
+    ensures err { IfErr result (IsNoAnswer (across ends bytes.now (length buffer.now - first_read buffer.now)
+        (lenient (take (first_read buffer.now) buffer.now ++ behind.now)))) }
 {
     let read = first_read(buffer);
     let gap = buffer.len() - read;

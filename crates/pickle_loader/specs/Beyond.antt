@@ -125,4 +125,5 @@ Comes w V s u m proto x (Ok t) = IsWhole t × Moves w V (told_of u.acts ++ acts_
 -- event of that move tells, or raises and did a beginning of it; and where the loader ends after the move it raises
 abbrev pub AStepBeyond : Type 0
 AStepBeyond = (w : World) (V : ℕ → Value) (s : State) (u : Unpickler) (o : Operation) (place : ℕ) → HasValue o → IsWhole s → s.stopped ≡ false → IsSame w V s u
-    → Comes w V s u (loader_move o.opcode (row_of o) s) (protocol_after o.opcode o.arg u.proto) (load_op w o u) (moved_so (loader_move o.opcode (row_of o) s) (used_op (loader_move o.opcode (row_of o) s) o) place s)
+    → Comes w V s u (loader_move o.opcode (row_of o) s) (protocol_after o.opcode o.arg u.proto) (load_op w o u)
+    (moved_so (loader_move o.opcode (row_of o) s) (used_op (loader_move o.opcode (row_of o) s) o) place s)

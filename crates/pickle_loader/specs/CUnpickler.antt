@@ -202,7 +202,8 @@ abbrev pub load_global : World → List ℕ → List ℕ → CUnpickler → CSte
 load_global w first second c = get w (Find c.proto (Line first) (Line second)) c
 
 abbrev pub load_stack_global : World → CUnpickler → CStep
-load_stack_global w c = pop 2 c (λ vs q. only_if (is_str w (item 1 vs)) q (only_if (is_str w (item 0 vs)) q (get w (Find q.proto (Given (item 0 vs)) (Given (item 1 vs))) q)))
+load_stack_global w c =
+    pop 2 c (λ vs q. only_if (is_str w (item 1 vs)) q (only_if (is_str w (item 0 vs)) q (get w (Find q.proto (Given (item 0 vs)) (Given (item 1 vs))) q)))
 
 -- "EXT specifies code <= 0"
 abbrev pub load_extension : World → ℤ → CUnpickler → CStep

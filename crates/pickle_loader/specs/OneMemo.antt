@@ -24,4 +24,5 @@ NothingElseWithOneMemo = (how : Manner) (w : World) (f : Frames) (bytes : List �
 abbrev pub NothingElseWithOneMemoInC : Type 0
 NothingElseWithOneMemoInC = (how : Manner) (w : World) (f : Frames) (bytes : List ℕ) (o : Output) → IsCallsText how pickles.OneMemo bytes o → o.status ≡ 0
     → (V : ℕ → Value)
-    × IsToldFrom w V (ignoring pickles.OneMemo) (standing_first how.detail pickles.OneMemo bytes) (λ n. seen_loaded (c_load_way w (way_of pickles.OneMemo f) bytes n).now)
+    × IsToldFrom w V (ignoring pickles.OneMemo) (standing_first how.detail pickles.OneMemo bytes)
+    (λ n. seen_loaded (c_load_way w (way_of pickles.OneMemo f) bytes n).now)

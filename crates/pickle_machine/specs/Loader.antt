@@ -121,9 +121,12 @@ fills filling.Build = false
 fills _ = true
 
 -- n objects go into this one, as the machine refuses: into a view; or into any that may be filled, and the last has no partner
+abbrev pub fills_more : Filling → ℕ → ℕ → List Object → Bool
+fills_more f n target heap = fills f && (nat_lt 0 (parts_in f n) && (view_at heap target || (is_odd f n && opaque_at heap target)))
+
 abbrev pub fill_when : Filling → ℕ → ℕ → List Object → Option Fill
 fill_when f n target heap =
-    if fills f && (nat_lt 0 (parts_in f n) && (view_at heap target || (is_odd f n && opaque_at heap target)))
+    if fills_more f n target heap
     then Some (record { filling = f; count = parts_in f n; target = target })
     else None
 

@@ -94,10 +94,7 @@ impl<'a> Again<'a> {
     {
         let rest = self.bytes.split_at(offset as usize).1;
         match long_at(self.long.as_slice(), offset) {
-            Some(long) => match peek_known(rest, long.size as usize) {
-                Some(op) => Ok(op),
-                None => peek_op(rest),
-            },
+            Some(long) => Ok(peek_known(rest, long.size as usize)),
             None => peek_op(rest),
         }
     }

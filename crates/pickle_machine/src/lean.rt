@@ -50,7 +50,17 @@ impl Model for Lean {
 
     ghost Value = { State };
 
-    ghost view = { λ m. record { heap = map sample_object m.classes.items; top = m.stack.top; marked = m.stack.marked; memo = m.memo; buffers = 0; results = []; many = m.many; stopped = m.stopped; left = [] } };
+    ghost view = { λ m. record {
+      heap = map sample_object m.classes.items;
+      top = m.stack.top;
+      marked = m.stack.marked;
+      memo = m.memo;
+      buffers = 0;
+      results = [];
+      many = m.many;
+      stopped = m.stopped;
+      left = [];
+    } };
 }
 
 #[tactic(auto, using(crate::proofs::Leans::lean_rules))]

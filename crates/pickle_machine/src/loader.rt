@@ -1,10 +1,10 @@
 //! What loaders take that the machine refuses: the same moves, by rows that ask for less.
 
-ghost use Rattle.std.specs.Prelude.{◌≡◌, ◌<◌, length, nat_le, nat_lt, ◌&&◌, ◌||◌};
+ghost use Rattle.std.specs.Prelude.{◌≡◌, ◌<◌, length, nat_le, ◌&&◌, ◌||◌};
 ghost use Rattle.std.specs.Option.{option_map_or};
 ghost use Rattle.pickle_machine.specs.State.{State};
 ghost use Rattle.pickle_machine.specs.Move.{deep, under, begun};
-ghost use Rattle.pickle_machine.specs.Loader.{opaque_at, views, view_at, loose_at, iterates, iterates_at, keyed_at, takes_call, takes_call_with, takes_obj, is_string, string_at, takes_string, asks_less, parts_in, is_odd, fills, fill_when, fill_of, drop_row, drops_two, ends_odd, is_inst, import_move, fill_move, loader_move};
+ghost use Rattle.pickle_machine.specs.Loader.{opaque_at, views, view_at, loose_at, iterates, iterates_at, keyed_at, takes_call, takes_call_with, takes_obj, is_string, string_at, takes_string, asks_less, parts_in, is_odd, fills, fills_more, fill_when, fill_of, drop_row, drops_two, ends_odd, is_inst, import_move, fill_move, loader_move};
 
 use crate::check::Operands;
 use crate::machine::{Core, Machine};
@@ -147,7 +147,7 @@ fn fills(filling: Filling) -> bool
 
 /// Whether these objects go into that one although the machine refuses it.
 fn fills_more(filling: Filling, objects: usize, target: ObjId, heap: &[Object]) -> bool
-    ensures { result ≡ (fills filling && (nat_lt 0 (parts_in filling objects) && (view_at heap.now target || (is_odd filling objects && opaque_at heap.now target)))) }
+    ensures { result ≡ fills_more filling objects target heap.now }
 {
     fills(filling)
         && (parts_in(filling, objects) > 0

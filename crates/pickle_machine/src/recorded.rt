@@ -14,9 +14,9 @@ impl Core {
     ghost use Rattle.std.specs.Prelude.{◌≡◌, ◌<◌, length, IfOk, OnErr, None, Some, false};
     ghost use Rattle.pickle_ops.specs.Row.{values_of};
     ghost use Rattle.pickle_machine.specs.State.{top_mark_place};
-    ghost use Rattle.pickle_machine.specs.Move.{refusal_of, last_of, cut, changes_of, deep};
+    ghost use Rattle.pickle_machine.specs.Move.{refusal_of, last_of, cut, deep};
     ghost use Rattle.pickle_machine.specs.Held.{is_free_within};
-    ghost use Rattle.pickle_machine.specs.Inside.Records.{recorded, filled, lost, stored_entry, record_of};
+    ghost use Rattle.pickle_machine.specs.Inside.Records.{recorded, lost, stored_entry, record_of};
 
     /// The record of a step of this effect.
     #[inline(always)]
@@ -61,7 +61,7 @@ impl Core {
     /// The record where the last objects of the top section go as a change into the one below them.
     fn fill_record(&self, filling: Filling) -> StepRecord
         requires { values_of filling < length self.now.state.top }
-        ensures { result ≡ filled (deep (values_of filling) self.now.state.top) (length (changes_of filling (last_of (values_of filling) self.now.state))) (last_of (values_of filling) self.now.state) None self.now.state }
+        ensures { result ≡ record_of (Row.Change filling) self.now.state }
     {
         let top = self.stack.top();
         let target = deep(top, filling.values());
@@ -80,7 +80,7 @@ impl Core {
     fn fill_cut_record(&self, alloc: Global, filling: Filling) -> Result<StepRecord, AllocError>
         requires marked { 0 < length self.now.state.marked }
         requires below { 0 < length (cut self.now.state).top }
-        ensures { IfOk result (λ r. r ≡ filled (deep 0 (cut self.now.state).top) (length (changes_of filling self.now.state.top)) self.now.state.top (Some (top_mark_place self.now.state.marked)) self.now.state) }
+        ensures { IfOk result (λ r. r ≡ record_of (Row.CutChange filling) self.now.state) }
     {
         let below = self.stack.under();
         let target = below[below.len() - 1];

@@ -220,7 +220,8 @@ impl<'a> Slim<'a> {
     ghost use Rattle.pickle_ops.specs.Spelling.{spelling, size_of};
     ghost use Rattle.pickle_ops.specs.Row.{row_of};
     ghost use Rattle.pickle_machine.specs.State.{start};
-    ghost use Rattle.pickle_machine.specs.Move.{refusal_of, refusal_at, fresh, next, move};
+    ghost use Rattle.pickle_machine.specs.Move.{refusal_of, refusal_at, fresh, move};
+    ghost use Rattle.pickle_machine.specs.Reading.{reading, read_op};
 
     /// The machine that has done nothing, for several pickles or for one, over these bytes.
     pub fn new(alloc: Global, many: bool, bytes: &'a [u8]) -> Slim<'a>
@@ -261,7 +262,7 @@ impl<'a> Slim<'a> {
         requires row { row ≡ row_of op.now }
         requires good { refusal_of row (fresh self.old.state) ≡ None }
         requires next { (rest : List ℕ) × (self.old.rest ≡ spelling op.now ++ rest) }
-        ensures { OnOk result (self.new ≡ record { state = next op.now self.old.place self.old.state; rest = drop (size_of op.now) self.old.rest; place = self.old.place + 1 }) }
+        ensures { OnOk result (self.new ≡ read_op op.now self.old) }
     {
         let class = Class::of(op.opcode());
         let offset = self.offset;
@@ -315,11 +316,21 @@ impl<'a> Slim<'a> {
         Ok(())
     }
 
-    /// The whole machine in this state: it runs the opcodes again, from the first on. An error comes only where memory runs out.
-    pub fn whole(&self, alloc: Global) -> Result<Machine, AllocError>
-        ensures { IfOk result (λ m. m.state ≡ self.now.state) }
+    /// What it ran, and how many opcodes of it. All that it kept is given up.
+    fn into_run(self) -> (bool, &'a [u8], usize)
+        ensures { self.entry ≡ reading result.0 result.1.now result.2 }
     {
-        run_first(alloc, self.many, self.bytes.bytes(), self.place)
+        (self.many, self.bytes.bytes(), self.place)
+    }
+
+    /// The whole machine in this state, in place of this one: it runs the opcodes again, from the first on. An error comes only where
+    /// memory runs out.
+    pub fn into_whole(self, alloc: Global) -> Result<Machine, AllocError>
+        ensures { IfOk result (λ m. m.state ≡ self.entry.state) }
+    {
+        // The two are not there at once.
+        let (many, bytes, place) = self.into_run();
+        run_first(alloc, many, bytes, place)
     }
 }
 

@@ -30,7 +30,8 @@ by_names old new (r ∷ rows) otherwise from name =
 -- what is imported for names of Python 2, where that is not what they say
 unfoldable pub renamed : List ℕ → List ℕ → Option Import
 renamed from name =
-    by_names (λ r. record { from = r.0.now; name = r.1.now }) (λ r. record { from = r.2.now; name = r.3.now }) NAMES (by_modules (λ r. r.0.now) (λ r. r.1.now) MODULES from name) from name
+    by_names (λ r. record { from = r.0.now; name = r.1.now }) (λ r. record { from = r.2.now; name = r.3.now }) NAMES
+    (by_modules (λ r. r.0.now) (λ r. r.1.now) MODULES from name) from name
 
 -- the module of a member that is longer than any with a row: by the first row of the module alone
 abbrev pub from_of : Import → List ℕ

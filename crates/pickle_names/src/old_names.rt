@@ -67,7 +67,9 @@ fn by_names<'a>(
     from: &[u8],
     name: &[u8],
 ) -> Option<NewNames<'a>>
-    ensures { option_map import_of result ≡ by_names (λ r. record { from = r.0.now; name = r.1.now }) (λ r. record { from = r.2.now; name = r.3.now }) rows.now (option_map import_of otherwise.entry) from.now name.now }
+    ensures { option_map import_of result
+        ≡ by_names (λ r. record { from = r.0.now; name = r.1.now }) (λ r. record { from = r.2.now; name = r.3.now }) rows.now
+        (option_map import_of otherwise.entry) from.now name.now }
 {
     for row in rows {
         if is_for(row, from, name) {

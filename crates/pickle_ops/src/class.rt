@@ -76,7 +76,39 @@ macro_rules! class {
     ($plain:tt) => { Class::Plain };
 }
 
+/// The class of a kind, which a `Kind` or a `KindRef` has.
+macro_rules! class_by_kind {
+    ($value:ident of $kind:ident) => {
+        match $value {
+            $kind::LegacyString(_) => class!(LegacyString),
+            $kind::LegacyLine(_) => class!(LegacyLine),
+            $kind::Text(_) => class!(Text),
+            $kind::TextLine(_) => class!(TextLine),
+            $kind::Bytes(_) => class!(Bytes),
+            $kind::ByteArray(_) => class!(ByteArray),
+            $kind::Tuple => class!(Tuple),
+            $kind::List => class!(List),
+            $kind::Set => class!(Set),
+            $kind::Dict => class!(Dict),
+            $kind::Global(_) => class!(Global),
+            $kind::StackGlobal => class!(StackGlobal),
+            $kind::Call => class!(Call),
+            $kind::New => class!(New),
+            $kind::NewEx => class!(NewEx),
+            $kind::Inst(_) => class!(Inst),
+            $kind::Obj => class!(Obj),
+            $kind::PersistentLine(_) => class!(PersistentLine),
+            $kind::Persistent => class!(Persistent),
+            $kind::Ext(_) => class!(Ext),
+            $kind::Buffer(_) => class!(Buffer),
+            $kind::ReadOnly => class!(ReadOnly),
+            _ => Class::Plain,
+        }
+    };
+}
+
 pub(crate) use class;
+pub(crate) use class_by_kind;
 
 impl Class {
     ghost use Rattle.std.specs.Prelude.{◌≡◌, List, ℕ};

@@ -1,6 +1,6 @@
 //! What an object is.
 
-use crate::class::{Class, Demand, class};
+use crate::class::{Class, Demand, class, class_by_kind};
 use crate::payload::{Payload, Texts};
 
 /// What an object is, with the bytes or the number that its opcode gave it. Bytes are kept as they are in the
@@ -81,31 +81,7 @@ impl Kind {
     pub fn class(&self) -> Class
         ensures { result ≡ class_of self.now }
     {
-        match self {
-            Kind::LegacyString(_) => class!(LegacyString),
-            Kind::LegacyLine(_) => class!(LegacyLine),
-            Kind::Text(_) => class!(Text),
-            Kind::TextLine(_) => class!(TextLine),
-            Kind::Bytes(_) => class!(Bytes),
-            Kind::ByteArray(_) => class!(ByteArray),
-            Kind::Tuple => class!(Tuple),
-            Kind::List => class!(List),
-            Kind::Set => class!(Set),
-            Kind::Dict => class!(Dict),
-            Kind::Global(_) => class!(Global),
-            Kind::StackGlobal => class!(StackGlobal),
-            Kind::Call => class!(Call),
-            Kind::New => class!(New),
-            Kind::NewEx => class!(NewEx),
-            Kind::Inst(_) => class!(Inst),
-            Kind::Obj => class!(Obj),
-            Kind::PersistentLine(_) => class!(PersistentLine),
-            Kind::Persistent => class!(Persistent),
-            Kind::Ext(_) => class!(Ext),
-            Kind::Buffer(_) => class!(Buffer),
-            Kind::ReadOnly => class!(ReadOnly),
-            _ => Class::Plain,
-        }
+        class_by_kind!(self of Kind)
     }
 
     /// Whether it comes from elsewhere or from a call, so that it may be of any type.

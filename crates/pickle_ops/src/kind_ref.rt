@@ -2,9 +2,9 @@
 
 ghost use Rattle.std.specs.Prelude.{◌≡◌};
 ghost use Rattle.pickle_ops.specs.KindRef.{kind_view};
-ghost use Rattle.pickle_ops.specs.Table.{int_kind};
+ghost use Rattle.pickle_ops.specs.Table.{int_kind, said_kind};
 
-use crate::class::{Class, class};
+use crate::class::{Class, class, class_by_kind};
 use crate::kind::Kind;
 use crate::object::ObjId;
 use crate::opcodes;
@@ -41,37 +41,69 @@ impl<'a> TextsRef<'a> {
 /// What an object is, as `Kind` has it, with bytes that stay where they are: in an object, or in the bytes that its opcode was read from.
 #[derive(Clone, Copy)]
 pub enum KindRef<'a> {
+    /// What NONE makes.
     None,
+    /// What NEWTRUE makes, and INT of the line `01`.
     True,
+    /// What NEWFALSE makes, and INT of the line `00`.
     False,
+    /// A number that an opcode gives in bytes.
     Int(i64),
+    /// A number of any length, by its bytes in two's complement.
     Long(&'a [u8]),
+    /// A number of INT, by its line.
     IntLine(&'a [u8]),
+    /// A number of LONG, by its line.
     LongLine(&'a [u8]),
+    /// A number of FLOAT, by its line.
     FloatLine(&'a [u8]),
+    /// A floating point number, by its eight bytes.
     Float(&'a [u8]),
+    /// A string of Python 2, by its bytes.
     LegacyString(&'a [u8]),
+    /// A string of Python 2, by its line with the quotes.
     LegacyLine(&'a [u8]),
+    /// A text, by its bytes.
     Text(&'a [u8]),
+    /// A text, by its line.
     TextLine(&'a [u8]),
+    /// Bytes.
     Bytes(&'a [u8]),
+    /// Bytes that can be written to.
     ByteArray(&'a [u8]),
+    /// A tuple.
     Tuple,
+    /// A list.
     List,
+    /// A set.
     Set,
+    /// A set that cannot be changed.
     FrozenSet,
+    /// A dictionary.
     Dict,
+    /// The member of a module, by their names.
     Global(TextsRef<'a>),
+    /// The member of a module, whose names are parts.
     StackGlobal,
+    /// What a call gives.
     Call,
+    /// A new instance.
     New,
+    /// A new instance, whose arguments have names.
     NewEx,
+    /// An instance of a member of a module, by their names.
     Inst(TextsRef<'a>),
+    /// An instance of a class that is a part.
     Obj,
+    /// What the program keeps elsewhere, by the line that names it.
     PersistentLine(&'a [u8]),
+    /// What the program keeps elsewhere, under the object that is its part.
     Persistent,
+    /// What the registry of extensions has under this code.
     Ext(i64),
+    /// A buffer outside of the pickle, by its number.
     Buffer(u64),
+    /// A view that cannot be written to.
     ReadOnly,
 }
 
@@ -95,22 +127,33 @@ macro_rules! kind_ref {
     ($op:ident ($kind:ident integer)) => { KindRef::$kind($op.integer()) };
 }
 
-/// The kind of the object that the line of INT makes: two spellings stand for truth values.
+/// The truth value that the line of INT says, if it is one of the two spellings that stand for them.
+pub(crate) fn truth_of(line: &[u8]) -> Option<bool>
+    ensures { said_kind result line.now ≡ int_kind line.now }
+{
+    if line.len() == 2 && line[0] == b'0' && line[1] == b'0' {
+        return Some(false);
+    }
+    if line.len() == 2 && line[0] == b'0' && line[1] == b'1' {
+        return Some(true);
+    }
+    None
+}
+
+/// The kind of the object that the line of INT makes.
 fn int_kind<'a>(line: &'a [u8]) -> KindRef<'a>
     ensures { kind_view result ≡ int_kind line.now }
 {
-    if line.len() == 2 && line[0] == b'0' && line[1] == b'0' {
-        return KindRef::False;
+    match truth_of(line) {
+        Some(false) => KindRef::False,
+        Some(true) => KindRef::True,
+        None => KindRef::IntLine(line),
     }
-    if line.len() == 2 && line[0] == b'0' && line[1] == b'1' {
-        return KindRef::True;
-    }
-    KindRef::IntLine(line)
 }
 
 impl<'a> KindRef<'a> {
     ghost use Rattle.std.specs.Prelude.{◌≡◌};
-    ghost use Rattle.pickle_ops.specs.Kind.{class_of, is_opaque};
+    ghost use Rattle.pickle_ops.specs.Kind.{class_of};
     ghost use Rattle.pickle_ops.specs.KindRef.{kind_view};
     ghost use Rattle.pickle_ops.specs.Row.{kind_of};
 
@@ -126,31 +169,7 @@ impl<'a> KindRef<'a> {
     pub fn class(self) -> Class
         ensures { result ≡ class_of (kind_view self.entry) }
     {
-        match self {
-            KindRef::LegacyString(_) => class!(LegacyString),
-            KindRef::LegacyLine(_) => class!(LegacyLine),
-            KindRef::Text(_) => class!(Text),
-            KindRef::TextLine(_) => class!(TextLine),
-            KindRef::Bytes(_) => class!(Bytes),
-            KindRef::ByteArray(_) => class!(ByteArray),
-            KindRef::Tuple => class!(Tuple),
-            KindRef::List => class!(List),
-            KindRef::Set => class!(Set),
-            KindRef::Dict => class!(Dict),
-            KindRef::Global(_) => class!(Global),
-            KindRef::StackGlobal => class!(StackGlobal),
-            KindRef::Call => class!(Call),
-            KindRef::New => class!(New),
-            KindRef::NewEx => class!(NewEx),
-            KindRef::Inst(_) => class!(Inst),
-            KindRef::Obj => class!(Obj),
-            KindRef::PersistentLine(_) => class!(PersistentLine),
-            KindRef::Persistent => class!(Persistent),
-            KindRef::Ext(_) => class!(Ext),
-            KindRef::Buffer(_) => class!(Buffer),
-            KindRef::ReadOnly => class!(ReadOnly),
-            _ => Class::Plain,
-        }
+        class_by_kind!(self of KindRef)
     }
 }
 

@@ -6,6 +6,7 @@ ghost use Rattle.pickle_ops.specs.Row.{row_of, kind_of};
 ghost use Rattle.pickle_ops.specs.Table.{int_kind};
 
 use crate::kind::Kind;
+use crate::kind_ref::truth_of;
 use crate::op::Op;
 use crate::opcodes;
 use crate::payload::Payload;
@@ -53,18 +54,15 @@ impl Row {
     }
 }
 
-/// The kind of the object that the line of INT makes: two spellings stand for truth values.
+/// The kind of the object that the line of INT makes.
 fn int_kind(line: Payload) -> Kind
     ensures { result ≡ int_kind line }
 {
-    let text = line.as_slice();
-    if text.len() == 2 && text[0] == b'0' && text[1] == b'0' {
-        return Kind::False;
+    match truth_of(line.as_slice()) {
+        Some(false) => Kind::False,
+        Some(true) => Kind::True,
+        None => Kind::IntLine(line),
     }
-    if text.len() == 2 && text[0] == b'0' && text[1] == b'1' {
-        return Kind::True;
-    }
-    Kind::IntLine(line)
 }
 
 impl Kind {

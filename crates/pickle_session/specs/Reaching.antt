@@ -29,10 +29,12 @@ undos (suc n) = command.Undo ∷ undos n
 -- what stays of the bytes that were opened, whatever the commands and the answers
 pub record OpenedStays : Type 0 where
   -- the oldest document has these bytes
-  pub kept : (many loose : Bool) (bytes : List ℕ) (cs : List Command) (q : SessionState) → IsReached many loose bytes cs q → version_bytes (oldest q.session) ≡ bytes
+  pub kept : (many loose : Bool) (bytes : List ℕ) (cs : List Command) (q : SessionState) → IsReached many loose bytes cs q
+      → version_bytes (oldest q.session) ≡ bytes
   -- at the start an Undo is accepted wherever there is something to undo
   pub accepted : (p : SessionState) (r : Reply) (t : Session) → p.session.cursor ≡ 0 → 0 < length p.session.undos → Answers command.Undo p r t
       → (r ≡ reply.Undone (place_in p.session.undos)) × (t ≡ undone p.session)
   -- an accepted Goto to the start, and then as many undos as there are edits, give these bytes again; nothing is left to undo
-  pub given : (many loose : Bool) (bytes : List ℕ) (cs : List Command) (q m t : SessionState) → IsReached many loose bytes cs q → Answers (command.Goto 0) q (reply.At 0) m.session
+  pub given : (many loose : Bool) (bytes : List ℕ) (cs : List Command) (q m t : SessionState) → IsReached many loose bytes cs q
+      → Answers (command.Goto 0) q (reply.At 0) m.session
       → Reaches (undos (length q.session.undos)) m t → (document_bytes t.session.document ≡ bytes) × (t.session.undos ≡ [])

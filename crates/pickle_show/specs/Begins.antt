@@ -1,7 +1,8 @@
 -- What bytes begin like that hold pickles inside. They are no pickle, and `picklestep scan` looks into them.
--- Source: own; the bytes are those of zip archives (APPNOTE 4.3.7, 4.3.16 and 8.5.4), gzip (RFC 1952), `.npy` (NEP 1), HDF5 (its format's superblock), bzip2, xz
--- (2.1.1.1 of its format), zstd (RFC 8878), tar (POSIX ustar), SQLite (1.3 of its format), lzma (its classic header), zlib (RFC 1950), joblib before
--- 0.10 (its `_ZFILE_PREFIX`), Berkeley DB's hashes and GNU dbm (their headers, in the order of the bytes on x86-64).
+-- Source: own; the bytes are those of zip archives (APPNOTE 4.3.7, 4.3.16 and 8.5.4), gzip (RFC 1952), `.npy` (NEP 1), HDF5 (its
+-- format's superblock), bzip2, xz (2.1.1.1 of its format), zstd (RFC 8878), tar (POSIX ustar), SQLite (1.3 of its format), lzma (its classic
+-- header), zlib (RFC 1950), joblib before 0.10 (its `_ZFILE_PREFIX`), Berkeley DB's hashes and GNU dbm (their headers, in the order of the
+-- bytes on x86-64).
 use Rattle.std.specs.Prelude.{ℕ, ◌&&◌, if◌then◌else◌, Bool, List, [], ◌∷◌, length, drop, nat_eq, nat_le, codes, Option, Some, None}
 use Rattle.std.specs.List.{starts_with}
 use Rattle.std.specs.Option.{option_map_or}

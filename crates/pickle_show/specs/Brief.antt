@@ -59,9 +59,13 @@ cut_after keyword q = keyword ⧺ cut_quoted q
 abbrev pub most_characters : ℕ
 most_characters = 64
 
--- the first characters of a text by their value, and how many more bytes there are; where one of them cannot be read, the first bytes
+-- the first characters of a text by their value, and how many more bytes there are
+abbrev pub cut_decoded : Decoded → List ℕ
+cut_decoded d = quoted d.value ⧺ over_text (length d.rest)
+
+-- the same, or where one of the characters cannot be read, the first bytes
 abbrev pub cut_value : Decoded → List ℕ → List ℕ
-cut_value d bytes = if d.good then quoted d.value ⧺ over_text (length d.rest) else cut_after (codes "raw ") bytes
+cut_value d bytes = if d.good then cut_decoded d else cut_after (codes "raw ") bytes
 
 unfoldable pub cut_text : Coding → List ℕ → List ℕ
 cut_text c bytes = cut_value (decode c most_characters bytes) bytes

@@ -66,7 +66,9 @@ entry_on offset m None s t = no_entry
 
 -- what item k comes to
 unfoldable pub entry_at : Manner → Contents → ℕ → CountedText
-entry_at how d k = entry_on (in_file how.holes (offset_of d k)) (naming_at how.detail d k) (item_at d k) (run (start d.many) (ops_of d) k) (run (start d.many) (ops_of d) (suc k))
+entry_at how d k =
+    entry_on (in_file how.holes (offset_of d k)) (naming_at how.detail d k) (item_at d k) (run (start d.many) (ops_of d) k)
+    (run (start d.many) (ops_of d) (suc k))
 
 -- what the first n items come to
 unfoldable pub entries : Manner → Contents → ℕ → CountedText

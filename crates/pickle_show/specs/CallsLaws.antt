@@ -89,7 +89,8 @@ IsShown d k s t = Makes s t ⊎ (Changes s t ⊎ (Adds d k t ⊎ Builds d k))
 
 -- an accepted item has a line exactly where it is shown
 abbrev pub LineExactly : Type 0
-LineExactly = (how : Manner) (d : Contents) (k : ℕ) (s t : State) → IsStep d k s t → ((entry_at how d k).text ≢ [] → IsShown d k s t) × (IsShown d k s t → (entry_at how d k).text ≢ [])
+LineExactly = (how : Manner) (d : Contents) (k : ℕ) (s t : State) → IsStep d k s t
+    → ((entry_at how d k).text ≢ [] → IsShown d k s t) × (IsShown d k s t → (entry_at how d k).text ≢ [])
 
 -- ---- the first pickle
 

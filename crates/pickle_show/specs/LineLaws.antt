@@ -64,7 +64,9 @@ ending_pieces (ending.Closed kept c) = if_any (kept_line kept) ++ if_any (closin
 ending_pieces (ending.Unsure offset) = unsure_line offset ∷ []
 
 abbrev pub last_pieces : Manner → Contents → CallsEnd → List (List ℕ)
-last_pieces how d e = if_any (begins_text (document_bytes d)) ++ (totals_line (entries how d e.place).imports (entries how d e.place).calls ∷ ending_pieces (ending_in how.holes e.ending))
+last_pieces how d e =
+    if_any (begins_text (document_bytes d))
+    ++ (totals_line (entries how d e.place).imports (entries how d e.place).calls ∷ ending_pieces (ending_in how.holes e.ending))
 
 -- cut behind its newlines, a text is the line of each item that has one, in order, and the last lines: no name and no text of a pickle makes
 -- a line of its own
@@ -126,7 +128,8 @@ import_said old (Some i) from name = if old then two_quoted i.from (member_of i.
 
 -- an accepted item that imports an object by names which can be read has exactly the line with these names
 abbrev pub LineOfImport : Type 0
-LineOfImport = (how : Manner) (d : Contents) (k : ℕ) (s t : State) (o : Object) (p : Pair) (from name : List ℕ) → IsStep d k s t → slice_get t.heap (length s.heap) ≡ Some o
+LineOfImport = (how : Manner) (d : Contents) (k : ℕ) (s t : State) (o : Object) (p : Pair) (from name : List ℕ) → IsStep d k s t
+    → slice_get t.heap (length s.heap) ≡ Some o
     → names_of t.heap o ≡ Some p → IsRead p.from from → IsRead p.name name
     → (entry_at how d k).text ≡ right_aligned 5 (decimal (in_file how.holes (offset_of d k))) ⧺ codes ": "
     ⧺ (codes "import " ⧺ import_said (naming_at how.detail d k).old (pair_renamed p) from name ⧺ codes " as " ⧺ id_text (length s.heap)) ⧺ newline
@@ -142,7 +145,8 @@ inst_said m heap p from name parts = codes "inst " ⧺ import_said m.old (pair_r
 
 -- an accepted item that imports a class by names which can be read, and calls it, has exactly the line with these names
 abbrev pub LineOfInst : Type 0
-LineOfInst = (how : Manner) (d : Contents) (k : ℕ) (s t : State) (o : Object) (p : Pair) (from name : List ℕ) → IsStep d k s t → slice_get t.heap (length s.heap) ≡ Some o
+LineOfInst = (how : Manner) (d : Contents) (k : ℕ) (s t : State) (o : Object) (p : Pair) (from name : List ℕ) → IsStep d k s t
+    → slice_get t.heap (length s.heap) ≡ Some o
     → inst_names o.kind ≡ Some p → IsRead p.from from → IsRead p.name name
     → (entry_at how d k).text ≡ right_aligned 5 (decimal (in_file how.holes (offset_of d k))) ⧺ codes ": "
     ⧺ (inst_said (naming_at how.detail d k) t.heap p from name o.parts ⧺ codes " as " ⧺ id_text (length s.heap)) ⧺ newline

@@ -94,7 +94,8 @@ reached from ops (suc n) = if is_some (run from ops (suc n)) then suc n else rea
 
 -- the listing, k being the greatest place that is reached: after all items, or with the refused item k as the last
 abbrev pub listing_to : Contents → ℕ → Option Operation → Option State → Output
-listing_to d k None (Some s) = record { text = lines d k ⧺ (end_lines d (finish_of d) ⧺ protocol_line (highest_protocol (take k (ops_of d)))); status = end_status (finish_of d) }
+listing_to d k None (Some s) =
+    record { text = lines d k ⧺ (end_lines d (finish_of d) ⧺ protocol_line (highest_protocol (take k (ops_of d)))); status = end_status (finish_of d) }
 listing_to d k (Some o) (Some s) =
     record { text = lines d (suc k) ⧺ (refused_lines (refusal_at o s) ⧺ protocol_line (highest_protocol (take (suc k) (ops_of d)))); status = 1 }
 listing_to d k o None = record { text = []; status = 0 }

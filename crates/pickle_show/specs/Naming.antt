@@ -139,15 +139,27 @@ abbrev pub said_names : Option ℕ → Pair → List ℕ
 said_names None p = pair_text p
 said_names (Some id) p = if is_text p.from && is_text p.name then pair_text p else id_text id
 
+-- what is imported now, where it is another import than the names say, and these; or these alone, where they are read as they are
+abbrev pub now_text : Bool → NewPair → Pair → List ℕ
+now_text old i p = if old then import_for i p else said_names None p
+
+-- what was imported as this object, where it was another import; or its names
+abbrev pub known_text : Bool → ℕ → NewPair → Pair → List ℕ
+known_text old id i p = if old then import_text i p else said_names (Some id) p
+
 -- another import than the names say: of what is imported now, both; of what was imported as this object, what it is, or where it is not
 -- known any more how names were read then, or the member is no text, its number
 abbrev pub renamed_text : Naming → Option ℕ → NewPair → Pair → List ℕ
-renamed_text m None i p = if m.old then import_for i p else said_names None p
-renamed_text m (Some id) i p = if nat_le m.since id && is_text p.name then (if m.old then import_text i p else said_names (Some id) p) else id_text id
+renamed_text m None i p = now_text m.old i p
+renamed_text m (Some id) i p = if nat_le m.since id && is_text p.name then known_text m.old id i p else id_text id
 
 abbrev pub names_by : Naming → Option ℕ → Option NewPair → Pair → List ℕ
 names_by m object None p = said_names object p
 names_by m object (Some i) p = renamed_text m object i p
+
+-- the same of a module that is read so
+abbrev pub names_from : Naming → Option ℕ → List ℕ → Pair → List ℕ
+names_from m object from p = names_by m object (renamed_by (Some from) (short_of p.name) (may_be_name p.name)) p
 
 -- names of what is imported now, or was as this object
 unfoldable pub names_text : Naming → Option ℕ → Pair → List ℕ

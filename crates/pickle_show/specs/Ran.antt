@@ -4,11 +4,17 @@ use Rattle.std.specs.Prelude.{◌≡◌, ℕ, ◌≤◌, Bool, List, length, Som
 use Rattle.pickle_io.specs.Device.{Told, Wrote}
 use Rattle.pickle_doc.specs.Document.{Contents, ReadsAs}
 use Rattle.pickle_doc.specs.Place.{ops_of, offset_of}
+use Rattle.pickle_doc.specs.Unread.{Unread}
 use Rattle.pickle_machine.specs.State.{State, start}
 use Rattle.pickle_machine.specs.Run.{run}
+use Rattle.pickle_machine.specs.Reading.{Reading}
 use Rattle.pickle_show.specs.Manner.{Manner}
 use Rattle.pickle_show.specs.declared.calls.Ran.{Ran}
 use Rattle.pickle_show.specs.Calls.{entries, naming_at, calls_end}
+
+-- a machine that reads its objects again from the bytes has read as many items as were run, and the source gives the bytes that are left
+abbrev pub GoesAlong : Reading → Unread → ℕ → Type 0
+GoesAlong machine unread place = (machine.rest ≡ unread.rest) × (machine.place ≡ place)
 
 -- the lines of the document that the bytes read as were written up to where they end; what they come to, and the state, the offset and
 -- the place behind the last item

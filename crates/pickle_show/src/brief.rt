@@ -1,12 +1,11 @@
 //! Objects in brief.
 
-ghost use Rattle.std.specs.Prelude.{◌≡◌, ◌≤◌, length};
-ghost use Rattle.pickle_io.specs.Text.{◌⧺◌, quoted};
+ghost use Rattle.std.specs.Prelude.{◌≡◌, ◌≤◌, ◌∷◌};
 ghost use Rattle.pickle_names.specs.Value.{decode};
 ghost use Rattle.pickle_ops.specs.KindRef.{kind_view};
 ghost use Rattle.pickle_names.specs.Reading.{IsReading};
 ghost use Rattle.pickle_io.specs.Device.{Writes, each};
-ghost use Rattle.pickle_show.specs.Brief.{over_text, cut_quoted, cut_after, cut_text, cut_long, shown_quoted, payload_after, shown_text, text_after, shown_long, long_after, kind_brief, brief_text, next_brief, comma_list, more_text, cut_list, shown_list, briefs_text, kind_value, value_text};
+ghost use Rattle.pickle_show.specs.Brief.{over_text, cut_quoted, cut_after, cut_decoded, cut_text, cut_long, shown_quoted, payload_after, shown_text, text_after, shown_long, long_after, kind_brief, brief_text, next_brief, comma_list, more_text, cut_list, shown_list, briefs_text, kind_value, value_text};
 
 use crate::front::front;
 use crate::name::{inner, write_global_after, write_stack_after};
@@ -65,7 +64,7 @@ fn write_cut_value<S: Page>(
     page: &mut S,
 ) -> Result<(), Failed>
     requires { IsReading coding 64 text.now reading }
-    ensures { Writes (S.told page.old) (S.told page.new) result (quoted (decode coding 64 text.now).value ⧺ over_text (length (decode coding 64 text.now).rest)) }
+    ensures { Writes (S.told page.old) (S.told page.new) result (cut_decoded (decode coding 64 text.now)) }
 {
     write_text_value(reading, coding, MOST_CHARACTERS, text, page)?;
     write_over(reading.left, page)
@@ -279,7 +278,7 @@ fn write_some<M: Inspect, S: Page>(
     rest: &[ObjId],
     page: &mut S,
 ) -> Result<(), Failed>
-    ensures { Writes (S.told page.old) (S.told page.new) result (brief_text naming (M.state machine.now).heap first ⧺ each (next_brief naming (M.state machine.now).heap) rest.now) }
+    ensures { Writes (S.told page.old) (S.told page.new) result (comma_list naming (M.state machine.now).heap (first ∷ rest.now)) }
 {
     write_brief(naming, machine, first, page)?;
     write_all_next(naming, machine, rest, page)

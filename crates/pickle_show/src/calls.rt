@@ -5,9 +5,9 @@ ghost use Rattle.pickle_machine.specs.State.{start};
 ghost use Rattle.pickle_show.specs.Source.{GivesDocument};
 ghost use Rattle.pickle_show.specs.CallsWritten.{CutsCalls};
 ghost use Rattle.pickle_show.specs.Manner.{manner};
-ghost use Rattle.pickle_show.specs.Ran.{IsRun};
+ghost use Rattle.pickle_show.specs.Ran.{IsRun, GoesAlong};
 ghost use Rattle.pickle_show.specs.Inside.Part.{IsPart};
-ghost use Rattle.pickle_show.specs.Inside.Walked.{Begun, HasWalked, GoesAlong};
+ghost use Rattle.pickle_show.specs.Inside.Walked.{Begun, HasWalked};
 
 use crate::calls_line::write_line;
 use crate::course::Course;
@@ -60,8 +60,11 @@ fn run_part<'a, I: ItemSource<'a>, S: Page>(
 ) -> Result<Part<SoFar<I>, Ran>, TextStop>
     requires walked { (begun : Begun) × HasWalked holes.now many begun I.unread (S.told page.old) machine.old.state from }
     requires along { GoesAlong machine.old (I.unread from.reader) from.place }
-    ensures ok { (begun : Begun) → HasWalked holes.now many begun I.unread (S.told page.old) machine.old.state from → IfOk result (IsPart (HasWalked holes.now many begun I.unread (S.told page.new) machine.new.state) (IsRun (manner begun.detail holes.now) many begun.rest begun.told (S.told page.new) machine.new.state)) }
-    ensures err { (begun : Begun) → HasWalked holes.now many begun I.unread (S.told page.old) machine.old.state from → IfErr result (CutsCalls (manner begun.detail holes.now) many begun.rest begun.told (S.told page.new)) }
+    ensures ok { (begun : Begun) → HasWalked holes.now many begun I.unread (S.told page.old) machine.old.state from
+        → IfOk result (IsPart (HasWalked holes.now many begun I.unread (S.told page.new) machine.new.state)
+        (IsRun (manner begun.detail holes.now) many begun.rest begun.told (S.told page.new) machine.new.state)) }
+    ensures err { (begun : Begun) → HasWalked holes.now many begun I.unread (S.told page.old) machine.old.state from
+        → IfErr result (CutsCalls (manner begun.detail holes.now) many begun.rest begun.told (S.told page.new)) }
     ensures along { IfOk result (IsPart (λ far. GoesAlong machine.new (I.unread far.reader) far.place) (λ _. ⊤)) }
     ensures less { IfOk result (IsPart (λ far. length (I.unread far.reader).rest < length (I.unread from.reader).rest) (λ _. ⊤)) }
 {
@@ -135,7 +138,8 @@ fn run_part<'a, I: ItemSource<'a>, S: Page>(
 }
 
 /// Writes the lines of the items that a source gives from the first on, as several pickles or as one, and not the last lines. The machine,
-/// which has done nothing yet and is over the same bytes, runs the items; each line is written when its item was stepped, and no item, no step and no line is kept.
+/// which has done nothing yet and is over the same bytes, runs the items; each line is written when its item was stepped, and no item, no
+/// step and no line is kept.
 /// The run ends at the end of the items, at an item that is refused, or where of several pickles STOP leaves a frame unfinished, since
 /// loaders disagree about what is behind it. The machine then stands behind the last item that was run. The source is to give a document
 /// that is not too large, with its frames. It is what is left of a file without these holes, and the lines have the offsets of the file.

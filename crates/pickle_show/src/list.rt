@@ -180,8 +180,11 @@ fn list_part<'a, I: ItemSource<'a>, S: Page>(
     page: &mut S,
 ) -> Result<Part<SoFar<I>, u8>, TextStop>
     requires { (begun : Begun) × HasListed many begun I.unread (S.told page.old) from }
-    ensures ok { (begun : Begun) → HasListed many begun I.unread (S.told page.old) from → IfOk result (IsPart (HasListed many begun I.unread (S.told page.new)) (IsListed many begun.unread.loose begun.unread.rest begun.told (S.told page.new))) }
-    ensures err { (begun : Begun) → HasListed many begun I.unread (S.told page.old) from → IfErr result (CutsListing many begun.unread.loose begun.unread.rest begun.told (S.told page.new)) }
+    ensures ok { (begun : Begun) → HasListed many begun I.unread (S.told page.old) from
+        → IfOk result (IsPart (HasListed many begun I.unread (S.told page.new))
+        (IsListed many begun.unread.loose begun.unread.rest begun.told (S.told page.new))) }
+    ensures err { (begun : Begun) → HasListed many begun I.unread (S.told page.old) from
+        → IfErr result (CutsListing many begun.unread.loose begun.unread.rest begun.told (S.told page.new)) }
     ensures less { IfOk result (IsPart (λ far. length (I.unread far.reader).rest < length (I.unread from.reader).rest) (λ _. ⊤)) }
 {
     let SoFar {

@@ -1,13 +1,13 @@
 //! The names of objects.
 
-ghost use Rattle.std.specs.Prelude.{◌≡◌, ◌&&◌, if◌then◌else◌, IfSome, None, Some};
+ghost use Rattle.std.specs.Prelude.{◌≡◌, ◌&&◌, IfSome, None, Some};
 ghost use Rattle.std.specs.Option.{option_map, option_map_or};
 ghost use Rattle.pickle_io.specs.Device.{Writes};
 ghost use Rattle.pickle_io.specs.Text.{◌⧺◌};
 ghost use Rattle.pickle_names.specs.Renamed.{import_of};
 ghost use Rattle.pickle_ops.specs.KindRef.{kind_view};
 ghost use Rattle.pickle_show.specs.Brief.{kind_name, name_text};
-ghost use Rattle.pickle_show.specs.Naming.{inner, spelled_of, spelled_at, said_text, pair_text, is_text, said_names, short_of, may_be_name, by_both, renamed_by, pair_renamed, member_text, import_text, import_for, renamed_text, names_by, names_text, global_pair, inst_pair, stack_pair, spelled_view, pair_view, new_view, is_as_said};
+ghost use Rattle.pickle_show.specs.Naming.{inner, spelled_of, spelled_at, said_text, pair_text, is_text, said_names, short_of, may_be_name, by_both, renamed_by, pair_renamed, member_text, import_text, import_for, renamed_text, now_text, known_text, names_by, names_from, names_text, global_pair, inst_pair, stack_pair, spelled_view, pair_view, new_view, is_as_said};
 
 use crate::event::part;
 use crate::naming::Naming;
@@ -307,7 +307,7 @@ fn write_known<S: Page>(
     pair: NamePair<'_>,
     page: &mut S,
 ) -> Result<(), Failed>
-    ensures { Writes (S.told page.old) (S.told page.new) result (if old then import_text (new_view new.entry) (pair_view pair.entry) else said_names (Some id) (pair_view pair.entry)) }
+    ensures { Writes (S.told page.old) (S.told page.new) result (known_text old id (new_view new.entry) (pair_view pair.entry)) }
 {
     if old {
         write_import(new, pair, page)
@@ -323,7 +323,7 @@ fn write_now<S: Page>(
     pair: NamePair<'_>,
     page: &mut S,
 ) -> Result<(), Failed>
-    ensures { Writes (S.told page.old) (S.told page.new) result (if old then import_for (new_view new.entry) (pair_view pair.entry) else said_names None (pair_view pair.entry)) }
+    ensures { Writes (S.told page.old) (S.told page.new) result (now_text old (new_view new.entry) (pair_view pair.entry)) }
 {
     if old {
         write_import_for(new, pair, page)
@@ -378,7 +378,7 @@ fn write_decoded_of<S: Page>(
     pair: NamePair<'_>,
     page: &mut S,
 ) -> Result<(), Failed>
-    ensures { Writes (S.told page.old) (S.told page.new) result (names_by naming object (renamed_by (Some from.now) (short_of (option_map spelled_view pair.entry.name)) (may_be_name (option_map spelled_view pair.entry.name))) (pair_view pair.entry)) }
+    ensures { Writes (S.told page.old) (S.told page.new) result (names_from naming object from.now (pair_view pair.entry)) }
 {
     match short_of(pair.name) {
         Some(name) => {
@@ -400,7 +400,7 @@ fn write_names_of<S: Page>(
     pair: NamePair<'_>,
     page: &mut S,
 ) -> Result<(), Failed>
-    ensures { Writes (S.told page.old) (S.told page.new) result (names_by naming object (renamed_by (Some from.now) (short_of (option_map spelled_view pair.entry.name)) (may_be_name (option_map spelled_view pair.entry.name))) (pair_view pair.entry)) }
+    ensures { Writes (S.told page.old) (S.told page.new) result (names_from naming object from.now (pair_view pair.entry)) }
 {
     match plain_of(pair.name) {
         Some(name) => write_names_by(naming, object, by_both(renamed(from, name)), pair, page),

@@ -101,7 +101,7 @@ fn write_name<P: Page>(op: &OpRef<'_>, page: &mut P) -> Result<(), Failed>
 #[tactic(auto, using(pickle_io::proofs::Devices::text_steps))]
 fn write_arg_and_note<P: Page>(op: &OpRef<'_>, note: Note, page: &mut P) -> Result<(), Failed>
     requires { 160 ≤ P.room page.old }
-    ensures text { Writes (P.told page.old) (P.told page.new) result (left_aligned 10 (name_of op.now.opcode) ⧺ codes " " ⧺ unwrap_or (arg_text op.now) [] ⧺ codes " " ⧺ note_text note) }
+    ensures text { Writes (P.told page.old) (P.told page.new) result (described (name_of op.now.opcode) (Some (unwrap_or (arg_text op.now) [])) (Some note)) }
     ensures room { OnOk result (1 ≤ P.room page.new) }
 {
     push_filled(op.opcode(), page);
@@ -176,7 +176,8 @@ pub fn write_item<P: Page>(
 ) -> Result<(), Failed>
     requires row { row ≡ row_of op.now }
     requires marks { length lean.now.marked < 2 ^ 32 }
-    ensures { Writes (P.told page.old) (P.told page.new) result (item_line op.now offset.now (length lean.now.marked) (note_with op.now lean.now (last_element opened.now.items))) }
+    ensures { Writes (P.told page.old) (P.told page.new) result
+        (item_line op.now offset.now (length lean.now.marked) (note_with op.now lean.now (last_element opened.now.items))) }
 {
     write_head(op.opcode(), offset, lean.marks_len(), page)?;
     // No earlier: it is used at once, and takes no register while the head is written.

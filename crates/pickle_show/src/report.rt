@@ -155,7 +155,7 @@ struct SoFar<I> {
 
 /// Steps a machine over the items of one part, from how far it was stepped on. There are `total` bytes.
 #[inline(never)]
-fn run_part<'a, I: ItemSource<'a>>(
+fn walk_part<'a, I: ItemSource<'a>>(
     alloc: Global,
     many: bool,
     total: u64,
@@ -163,7 +163,9 @@ fn run_part<'a, I: ItemSource<'a>>(
     machine: &mut Machine,
 ) -> Result<Part<SoFar<I>, Closing>, TextStop>
     requires { (begun : Unread) × HasStepped many begun total I.unread machine.old.state from }
-    ensures closes { (begun : Unread) → HasStepped many begun total I.unread machine.old.state from → IfOk result (IsPart (HasStepped many begun total I.unread machine.new.state) (EndsIn many begun.loose begun.rest machine.new.state)) }
+    ensures closes { (begun : Unread) → HasStepped many begun total I.unread machine.old.state from
+        → IfOk result (IsPart (HasStepped many begun total I.unread machine.new.state)
+        (EndsIn many begun.loose begun.rest machine.new.state)) }
     ensures memory { IfErr result (λ e. e ≡ TextStop.Memory) }
     ensures less { IfOk result (IsPart (λ far. length (I.unread far.reader).rest < length (I.unread from.reader).rest) (λ _. ⊤)) }
 {
@@ -203,7 +205,7 @@ fn run_part<'a, I: ItemSource<'a>>(
 
 /// Steps a machine that has done nothing over the items that a source gives from the first on, as far as they have moves, and says
 /// how the run ended. `Memory` where there is no memory for a step.
-fn run_items<'a, I: ItemSource<'a>>(
+fn walk_items<'a, I: ItemSource<'a>>(
     alloc: Global,
     many: bool,
     source: I,
@@ -221,7 +223,7 @@ fn run_items<'a, I: ItemSource<'a>>(
         stop: false,
     };
     'parts: loop {
-        match run_part(alloc, many, total, far, machine)? {
+        match walk_part(alloc, many, total, far, machine)? {
             Part::More(next) => far = next,
             Part::End(closing) => return Ok(closing),
         }
@@ -248,7 +250,7 @@ pub fn report_of_items<'a, I: ItemSource<'a>, S: Page>(
     ensures memory { result ≡ Err TextStop.Memory → page.new ≡ page.old }
 {
     let mut machine = Machine::start(alloc, many);
-    let closing = run_items(alloc, many, source, &mut machine)?;
+    let closing = walk_items(alloc, many, source, &mut machine)?;
     let status = write_report(&machine, closing, page)?;
     Ok(status)
 }

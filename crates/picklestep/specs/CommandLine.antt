@@ -32,7 +32,13 @@ abbrev pub file_rule : Rule
 file_rule = record (new_rule (codes "FILE")) { required = true; action = Some Set }
 
 abbrev pub window_rule : Rule
-window_rule = record (new_rule (codes "window")) { long = Some (codes "window"); value_names = 1; parser = Some (parser.Signed (pos 1) (pos most_records)); action = Some Set }
+window_rule =
+    record (new_rule (codes "window")) {
+      long = Some (codes "window");
+      value_names = 1;
+      parser = Some (parser.Signed (pos 1) (pos most_records));
+      action = Some Set;
+    }
 
 abbrev pub save_rule : Rule
 save_rule = record (new_rule (codes "save")) { long = Some (codes "save"); value_names = 1; action = Some Set }
@@ -74,7 +80,8 @@ wants_subcommand a = record a { top = record a.top { subcommand_required = true 
 
 abbrev pub program : App
 program =
-    with_subcommand (with_subcommand (with_subcommand (with_subcommand (with_subcommand (wants_subcommand (new_app (codes "picklestep"))) (frames_app (codes "list")).top) (frames_app (codes "objects")).top) calls_app.top) debug_app.top) (on_file (codes "form")).top
+    with_subcommand (with_subcommand (with_subcommand (with_subcommand (with_subcommand (wants_subcommand (new_app (codes "picklestep")))
+    (frames_app (codes "list")).top) (frames_app (codes "objects")).top) calls_app.top) debug_app.top) (on_file (codes "form")).top
 
 -- ---- the task that matches name
 

@@ -48,7 +48,8 @@ pub record IsHeld (s after : SessionState) (status : ℕ) (input input' : Gives)
   pub calm : input'.failures ≡ input.failures
 
 -- it was held to its end, and then saving the document to the file of that name failed so; no other file took anything
-pub record IsLost (s after : SessionState) (save : Option (List ℕ)) {F O : Type 0} (r : Reports F O) (files files' : F) (input input' : Gives) (old new : Told) (e : Stop) : Type 0 where
+pub record IsLost (s after : SessionState) (save : Option (List ℕ)) {F O : Type 0} (r : Reports F O)
+    (files files' : F) (input input' : Gives) (old new : Told) (e : Stop) : Type 0 where
   pub path : List ℕ
   pub asked : save ≡ Some path
   pub lost : IsTrue (r.loses files path e)
@@ -72,7 +73,8 @@ abbrev pub path_of : Options → Option (List ℕ)
 path_of options = option_map string_bytes options.save
 
 -- it was held to its end with a session of the bytes, and its document saved where that is asked for
-pub record Talked (many loose : Bool) (bytes : List ℕ) (options : Options) {F O : Type 0} (r : Reports F O) (files files' : F) (input input' : Gives) (old new : Told) (status : ℕ) : Type 0 where
+pub record Talked (many loose : Bool) (bytes : List ℕ) (options : Options) {F O : Type 0} (r : Reports F O)
+    (files files' : F) (input input' : Gives) (old new : Told) (status : ℕ) : Type 0 where
   pub start : SessionState
   pub after : SessionState
   pub opens : Opens many loose bytes options start
@@ -80,7 +82,8 @@ pub record Talked (many loose : Bool) (bytes : List ℕ) (options : Options) {F 
   pub saves : Saves r.took (path_of options) files files' (document_bytes after.session.document)
 
 -- there was a session of the bytes, but nothing was saved
-pub record Fell (many loose : Bool) (bytes : List ℕ) (options : Options) {F O : Type 0} (r : Reports F O) (files files' : F) (input input' : Gives) (old new : Told) (e : Stop) : Type 0 where
+pub record Fell (many loose : Bool) (bytes : List ℕ) (options : Options) {F O : Type 0} (r : Reports F O)
+    (files files' : F) (input input' : Gives) (old new : Told) (e : Stop) : Type 0 where
   pub start : SessionState
   pub after : SessionState
   pub opens : Opens many loose bytes options start
@@ -114,7 +117,8 @@ TalksOfFile input options r files files' source source' old new result =
 -- ---- a task
 
 -- the text that it asks for was answered of the file that it names; nothing was read of the input, and nothing saved
-pub record WritesText (t : Task) {F O : Type 0} (r : Reports F O) (files files' : F) (source source' : Gives) (old new : Told) (result : Result ℕ Stop) : Type 0 where
+pub record WritesText (t : Task) {F O : Type 0} (r : Reports F O) (files files' : F) (source source' : Gives)
+    (old new : Told) (result : Result ℕ Stop) : Type 0 where
   pub answers : AnswersFile t r files old new result
   pub unread : source' ≡ source
   pub unsaved : files' ≡ files
@@ -122,6 +126,7 @@ pub record WritesText (t : Task) {F O : Type 0} (r : Reports F O) (files files' 
 abbrev pub CarriesOut : Task → {F O : Type 0} → Reports F O → F → F → Gives → Gives → Told → Told → Result ℕ Stop → Type 0
 CarriesOut (task.List input) r files files' source source' old new result = WritesText (task.List input) r files files' source source' old new result
 CarriesOut (task.Objects input) r files files' source source' old new result = WritesText (task.Objects input) r files files' source source' old new result
-CarriesOut (task.Calls input pickles) r files files' source source' old new result = WritesText (task.Calls input pickles) r files files' source source' old new result
+CarriesOut (task.Calls input pickles) r files files' source source' old new result =
+    WritesText (task.Calls input pickles) r files files' source source' old new result
 CarriesOut (task.Form input) r files files' source source' old new result = WritesText (task.Form input) r files files' source source' old new result
 CarriesOut (task.Debug input options) r files files' source source' old new result = TalksOfFile input options r files files' source source' old new result

@@ -46,7 +46,8 @@ pub record IsTextAfter (text : Text) (many loose : Bool) (bytes script written :
   pub answers : List ℕ
   pub answered : ℕ
   pub finishes : Finishes begun after answered (Some script) (Some rest) (took []) (took answers)
-  pub completes : CompletesText text after.session.document.many after.session.document.loose (document_bytes after.session.document) (took []) (took written) status
+  pub completes :
+      CompletesText text after.session.document.many after.session.document.loose (document_bytes after.session.document) (took []) (took written) status
 
 -- ---- the caller's memory
 

@@ -16,6 +16,7 @@ ComesTo p r q = ((r ≡ reply.At p.session.cursor) × (q.machine.state ≡ p.mac
 -- The bytes of its document, which a session saves, read as that document, identities apart; and where they are opened, with whatever
 -- past, and the cursor is sent to the same place, the machine is in the same state.
 pub record IsSavedWhole (p : SessionState) : Type 0 where
-  pub document : (d : Contents) → ReadsIn p.session.document.many p.session.document.loose (document_bytes p.session.document) d → SameApart p.session.document d
+  pub document : (d : Contents) → ReadsIn p.session.document.many p.session.document.loose (document_bytes p.session.document) d
+      → SameApart p.session.document d
   pub machine : (q r : SessionState) (answer : Reply) → IsOpenedIn p.session.document.many p.session.document.loose (document_bytes p.session.document) q
       → Answers (command.Goto p.session.cursor) q answer r.session → IsAtCursor r → ComesTo p answer r

@@ -1,8 +1,7 @@
 //! What a document shows, and edits that a table names.
 
-ghost use Rattle.std.specs.Prelude.{◌≡◌, ◌+◌, ◌≤◌, length, IfOk, OnErr};
-ghost use Rattle.pickle_doc.specs.Document.{Contents, items_of};
-ghost use Rattle.pickle_doc.specs.Swap.{EditLeads};
+ghost use Rattle.std.specs.Prelude.{◌≡◌, IfOk, OnErr};
+ghost use Rattle.pickle_doc.specs.Swap.{LeadsWithin};
 
 use pickle_doc::{DocFault, Document, Edit, EditFault, EditRecord, End, TailFault};
 use pickle_io::{Failed, Page, ToWrite, write_all, write_decimal};
@@ -248,8 +247,8 @@ pub fn swap_to(
     record: &mut EditRecord,
     want: Shown,
 ) -> Result<(), Wrong>
-    requires leads { (e : Contents) × EditLeads record.old document.old.contents e × (length (items_of e) ≤ length (items_of document.old.contents) + document.old.room) }
-    ensures back { (e : Contents) × EditLeads record.new document.new.contents e × (length (items_of e) ≤ length (items_of document.new.contents) + document.new.room) }
+    requires leads { LeadsWithin record.old document.old.contents document.old.room }
+    ensures back { LeadsWithin record.new document.new.contents document.new.room }
 {
     document.swap(record);
     shows(alloc, document, want)
@@ -268,7 +267,7 @@ fn edit_of(alloc: Global, edit: &Spelled) -> Result<Edit<Op>, OpFault> {
 
 /// Makes an edit. The record leads back, and there is room for that.
 pub fn make(alloc: Global, document: &mut Document, edit: &Spelled) -> Result<EditRecord, EditFault>
-    ensures back { IfOk result (λ r. (e : Contents) × EditLeads r document.new.contents e × (length (items_of e) ≤ length (items_of document.new.contents) + document.new.room)) }
+    ensures back { IfOk result (λ r. LeadsWithin r document.new.contents document.new.room) }
     ensures err { OnErr result (document.new ≡ document.old) }
 {
     let Ok(edit) = edit_of(alloc, edit) else {

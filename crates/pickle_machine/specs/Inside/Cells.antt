@@ -59,4 +59,10 @@ pub record HoldsStacks (cells : List ℕ) (height depth : ℕ) (row : List Mark)
 -- the sections that they hold
 abbrev pub view_of : List ℕ → ℕ → List Mark → List Mark → Bottom → List Bottom → Sections
 view_of cells height ms row bottom older =
-    record { top = drop (base_of bottom.height ms) (take height cells); marked = sections_of bottom.height ms cells; left = left_of bottom older cells row; cells = length cells; marks = length row }
+    record {
+      top = drop (base_of bottom.height ms) (take height cells);
+      marked = sections_of bottom.height ms cells;
+      left = left_of bottom older cells row;
+      cells = length cells;
+      marks = length row;
+    }

@@ -40,7 +40,8 @@ pub record IsKept (bytes kept : List ℕ) (offset : ℕ) (o : Object) : Type 0 w
 -- the numbers of the objects are kept one behind the other, those of the first from here on
 abbrev pub AreKept : List ℕ → List ℕ → ℕ → List Origin → List Object → Type 0
 AreKept bytes parts from [] [] = ⊤
-AreKept bytes parts from (d ∷ ds) (o ∷ os) = (from ≤ d.end) × (d.end ≤ length parts) × IsKept bytes (between from d.end parts) d.offset o × AreKept bytes parts d.end ds os
+AreKept bytes parts from (d ∷ ds) (o ∷ os) =
+    (from ≤ d.end) × (d.end ≤ length parts) × IsKept bytes (between from d.end parts) d.offset o × AreKept bytes parts d.end ds os
 AreKept bytes parts from [] (o ∷ os) = ⊥
 AreKept bytes parts from (d ∷ ds) [] = ⊥
 

@@ -25,7 +25,8 @@ pub record Progress (d : Contents) (k offset : ℕ) (s : State) (ms : List Marke
 
 -- of the document that the bytes are, k items were read, and have moves; this is the outline of the state that they
 -- reach, as the next move is taken on it, and the device took their lines
-pub record Listed (many loose : Bool) (bytes : List ℕ) (old new : Told) (rest : List ℕ) (left k offset : ℕ) (outlined : State) (opened : List ℕ) (highest : Option ℕ) : Type 0 where
+pub record Listed (many loose : Bool) (bytes : List ℕ) (old new : Told) (rest : List ℕ) (left k offset : ℕ)
+    (outlined : State) (opened : List ℕ) (highest : Option ℕ) : Type 0 where
   pub d : Contents
   pub reads : ReadsIn many loose bytes d
   pub stands : HasRead d k rest left
@@ -45,5 +46,6 @@ pub record Begun : Type 0 where
 abbrev pub HasListed : {I : Type 0} → Bool → Begun → (I → Unread) → Told → SoFar I → Type 0
 HasListed many begun unread told far =
     ((unread far.reader).loose ≡ begun.unread.loose)
-    × Listed many begun.unread.loose begun.unread.rest begun.told told (unread far.reader).rest (unread far.reader).left far.place far.offset far.lean far.opened.items far.highest
+    × Listed many begun.unread.loose begun.unread.rest begun.told told (unread far.reader).rest (unread far.reader).left
+    far.place far.offset far.lean far.opened.items far.highest
     × (length begun.unread.rest ≤ size_limit)

@@ -8,7 +8,6 @@ use Rattle.pickle_doc.specs.Unread.{Unread}
 use Rattle.pickle_holes.specs.declared.hole.Hole.{Hole}
 use Rattle.pickle_machine.specs.State.{State, start}
 use Rattle.pickle_machine.specs.Run.{run}
-use Rattle.pickle_machine.specs.Reading.{Reading}
 use Rattle.pickle_show.specs.declared.calls.SoFar.{SoFar}
 use Rattle.pickle_show.specs.declared.course.Course.{Course}
 use Rattle.pickle_show.specs.declared.naming.Detail.{Detail}
@@ -28,7 +27,8 @@ pub record Progress (how : Manner) (d : Contents) (k offset : ℕ) (s : State) (
   pub left : course.left ≡ left_at d k
 
 -- of the document that the bytes are, k items were read and stepped, their lines were written, and the last of them is STOP or not
-pub record Walked (how : Manner) (many : Bool) (bytes : List ℕ) (old new : Told) (rest : List ℕ) (left k offset : ℕ) (s : State) (course : Course) (last : Bool) : Type 0 where
+pub record Walked (how : Manner) (many : Bool) (bytes : List ℕ) (old new : Told) (rest : List ℕ) (left k offset : ℕ)
+    (s : State) (course : Course) (last : Bool) : Type 0 where
   pub d : Contents
   pub reads : ReadsAs many bytes d
   pub stands : HasRead d k rest left
@@ -47,9 +47,6 @@ pub record Begun : Type 0 where
 abbrev pub HasWalked : {I : Type 0} → List Hole → Bool → Begun → (I → Unread) → Told → State → SoFar I → Type 0
 HasWalked holes many begun unread told s far =
     ((unread far.reader).loose ≡ false)
-    × Walked (manner begun.detail holes) many begun.rest begun.told told (unread far.reader).rest (unread far.reader).left far.place far.offset s far.course far.stop
+    × Walked (manner begun.detail holes) many begun.rest begun.told told (unread far.reader).rest (unread far.reader).left
+    far.place far.offset s far.course far.stop
     × (length begun.rest ≤ size_limit)
-
--- a machine that reads its objects again from the bytes has read as many items as were run, and the source gives the bytes that are left
-abbrev pub GoesAlong : Reading → Unread → ℕ → Type 0
-GoesAlong machine unread place = (machine.rest ≡ unread.rest) × (machine.place ≡ place)

@@ -1,5 +1,6 @@
 use Rattle.std.proofs.Common.{length}
-use Rattle.pickle_show.specs.Inside.Walked.{HasWalked, GoesAlong}
+use Rattle.pickle_show.specs.Ran.{GoesAlong}
+use Rattle.pickle_show.specs.Inside.Walked.{HasWalked}
 use Rattle.pickle_show.proofs.calls.run_items.Given as goal
 
 abbrev pub invariant-parts : goal.invariant-parts

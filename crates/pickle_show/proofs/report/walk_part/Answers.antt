@@ -7,7 +7,7 @@ use Rattle.pickle_doc.specs.Fitting.{left_behind}
 use Rattle.pickle_doc.specs.Unread.{IsNextItem, Unread}
 use Rattle.pickle_show.proofs.Stepping.{place_small, place_within, refused_ends, tail_ends, tail_within, moved, goes_on, stop_ends}
 use Rattle.pickle_show.proofs.Parts.{shorter}
-use Rattle.pickle_show.proofs.report.run_part.Goals as goal
+use Rattle.pickle_show.proofs.report.walk_part.Goals as goal
 
 pub items-init : goal.items-init
 items-init g c = ((λ b h. (h.0, h.1)), omega arith)

@@ -2,7 +2,7 @@
 use Rattle.std.proofs.Common.{◌≡◌, ◌+◌, ◌≤◌, length}
 use Rattle.pickle_doc.specs.Unread.{Unread}
 use Rattle.pickle_show.specs.Inside.Stepped.{Stepped, HasStepped}
-use Rattle.pickle_show.proofs.report.run_part.Given as goal
+use Rattle.pickle_show.proofs.report.walk_part.Given as goal
 
 abbrev pub invariant-items : goal.invariant-items
 invariant-items g l =
